@@ -1,0 +1,15 @@
+-- Counts of bytes and of faults. A count has 64 bits and stands still at its last value.
+use Rattle.std.specs.Prelude.{ℕ, ◌+◌, ◌-◌, ◌^◌, ◌≤◌, min, max}
+
+-- the last value of a count
+abbrev pub last_count : ℕ
+last_count = 2 ^ 64 - 1
+
+-- a count after n more: it rises by n, or to its last value and no further
+abbrev pub risen : ℕ → ℕ → ℕ
+risen old n = max old (min (old + n) last_count)
+
+-- the count rose, or stands at its last value
+pub record Rose (old new : ℕ) : Type 0 where
+  pub never_falls : old ≤ new
+  pub stands_at_last : new ≤ old → last_count ≤ new
