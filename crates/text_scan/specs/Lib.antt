@@ -1,0 +1,4 @@
+pub mod Comments
+pub mod Forms
+pub mod Reading
+pub mod Steps
