@@ -1,0 +1,52 @@
+-- The types of a program as plain data: names, constructors and the kinds of their fields. The code keeps them in
+-- vectors.
+use Rattle.std.specs.Prelude.{◌≡◌, ℕ, ◌≤◌, Bool, true, List, [], map, length, flat_map, slice_get, Option, Some, None}
+use Rattle.std.specs.List.{AllByRecursion}
+use Rattle.camelot_values.specs.declared.kinds.Kind.{Kind}
+use Rattle.camelot_values.specs.declared.kinds.Con.{Con}
+use Rattle.camelot_values.specs.declared.kinds.TypeDef.{TypeDef}
+
+-- a constructor: its name, whether it needs no cell, and the kinds of its fields
+pub record Constructor : Type 0 where
+  pub name : List ℕ
+  pub inline : Bool
+  pub fields : List Kind
+
+-- a type: its name and its constructors
+pub record DataType : Type 0 where
+  pub name : List ℕ
+  pub cons : List Constructor
+
+abbrev pub constructor_of : Con → Constructor
+constructor_of c = record { name = c.name; inline = c.inline; fields = c.fields.items }
+
+abbrev pub data_type_of : TypeDef → DataType
+data_type_of t = record { name = t.name; cons = map constructor_of t.cons.items }
+
+-- all constructors, numbered through the types in order
+abbrev pub constructors : List DataType → List Constructor
+constructors types = flat_map (λ t. t.cons) types
+
+-- the name of a constructor by its number
+abbrev name_or_nothing : Option Constructor → List ℕ
+name_or_nothing None = []
+name_or_nothing (Some c) = c.name
+
+abbrev pub constructor_name : List DataType → ℕ → List ℕ
+constructor_name types c = name_or_nothing (slice_get (constructors types) c)
+
+-- at most 4 fields, and none without a cell
+pub record IsConstructor (c : Constructor) : Type 0 where
+  pub few_fields : length c.fields ≤ 4
+  pub inline_is_bare : c.inline ≡ true → c.fields ≡ []
+
+-- from 1 to 64 constructors
+pub record IsDataType (t : DataType) : Type 0 where
+  pub some_cons : 1 ≤ length t.cons
+  pub few_cons : length t.cons ≤ 64
+  pub each : AllByRecursion IsConstructor t.cons
+
+-- at most 64 types
+pub record AreTypes (types : List DataType) : Type 0 where
+  pub few_types : length types ≤ 64
+  pub each : AllByRecursion IsDataType types

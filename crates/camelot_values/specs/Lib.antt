@@ -1,0 +1,7 @@
+-- Values, their text, operators, and what a run comes to.
+pub mod Value
+pub mod Items
+pub mod Kinds
+pub mod Operator
+pub mod Outcome
+pub mod Text

@@ -1,0 +1,12 @@
+//! Kinds and values of Camelot and Grail, and values as text.
+#![tactic(auto)]
+
+mod kinds;
+mod outcome;
+mod text;
+mod value;
+
+pub use kinds::{Con, Kind, TypeDef, Types, Word};
+pub use outcome::law_of_sequence;
+pub use text::print;
+pub use value::{Flat, Item};

@@ -1,0 +1,3 @@
+-- Grail code as plain data, and what it means.
+pub mod Code
+pub mod Meaning

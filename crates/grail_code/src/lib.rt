@@ -1,0 +1,7 @@
+//! Grail code: a bytecode of lets and jumps that can be read as a functional program (Beringer, MacKenzie and
+//! Stark, "Grail: a functional form for imperative mobile code", 2003), with what it means.
+#![tactic(auto)]
+
+mod code;
+
+pub use code::{Block, CaseArm, CaseCell, Code, Func, Let, Op, Place, PrimCode, Term};
