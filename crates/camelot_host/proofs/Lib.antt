@@ -1,0 +1,15 @@
+pub mod Lexing
+pub mod Numbers
+pub mod Parsing
+pub mod Cutting
+pub mod Arguments
+pub mod Ints
+pub mod FunctionLaws
+pub mod PartLaws
+pub mod Missing
+pub mod ScriptLaws
+pub mod Joining
+pub mod Lowering
+pub mod Running
+pub mod Serving
+pub mod Answering
