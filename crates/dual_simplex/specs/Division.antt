@@ -1,0 +1,34 @@
+-- Greatest common divisors, after Euclid, Elements VII, 2.
+use Rattle.std.specs.Prelude.{ℕ, zero, suc, ℤ, List, [], ◌∷◌, Bool, true, ◌&&◌, nat_eq, ◌%◌, if◌then◌else◌, unsigned_abs, ⊤, ◌*◌}
+use Prim.Native.Nat.{◌∣◌}
+
+-- `h` divides each number of a list
+abbrev pub divides_all : ℕ → List ℤ → Bool
+divides_all h [] = true
+divides_all h (x ∷ xs) = nat_eq (unsigned_abs x % h) 0 && divides_all h xs
+
+-- the greatest number up to `n` that divides each number of a list; 1 is the least
+abbrev pub greatest_up_to : ℕ → List ℤ → ℕ
+greatest_up_to zero xs = 1
+greatest_up_to (suc n) xs = if divides_all (suc n) xs then suc n else greatest_up_to n xs
+
+-- the greatest common divisor of a number, which isn't 0, and of those of a list. The code takes it by Euclid's algorithm.
+abbrev pub common_divisor : ℤ → List ℤ → ℕ
+common_divisor first rest = greatest_up_to (unsigned_abs first) (first ∷ rest)
+
+-- the same as a fact
+abbrev pub DividesAll : ℕ → List ℤ → Type 0
+DividesAll h [] = ⊤
+DividesAll h (x ∷ xs) = (h ∣ unsigned_abs x) × DividesAll h xs
+
+-- `g` divides `a` and `b`, and whatever divides a multiple of both, by the same number, divides that multiple of `g`.
+-- So each common divisor of `a` and `b` divides `g`.
+pub record IsGreatestCommon (a b g : ℕ) : Type 0 where
+  pub left : g ∣ a
+  pub right : g ∣ b
+  pub greatest : (h v : ℕ) → h ∣ (v * a) → h ∣ (v * b) → h ∣ (v * g)
+
+-- `g` is the greatest common divisor of `start` and of all numbers of a list
+pub record SharesWith (start : ℕ) (xs : List ℤ) (g : ℕ) : Type 0 where
+  pub divides : (h : ℕ) → h ∣ g → (h ∣ start) × DividesAll h xs
+  pub greatest : (h : ℕ) → h ∣ start → DividesAll h xs → h ∣ g

@@ -1,0 +1,11 @@
+pub mod Division
+pub mod Equation
+pub mod Tableau
+pub mod Answer
+pub mod Systems
+pub mod Lines
+pub mod Run
+pub mod Feasible
+pub mod Promises
+pub mod Choices
+pub mod Reduced
