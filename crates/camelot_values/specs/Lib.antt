@@ -2,6 +2,8 @@
 pub mod Value
 pub mod Items
 pub mod Kinds
+pub mod Names
+pub mod Heap
 pub mod Operator
 pub mod Outcome
 pub mod Text

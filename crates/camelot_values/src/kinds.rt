@@ -1,4 +1,7 @@
-ghost use Rattle.std.specs.Prelude.{◌≡◌, ℕ, List};
+ghost use Rattle.std.specs.Prelude.{◌≡◌, ℕ, List, ◌↔◌, IsTrue};
+ghost use Rattle.std.specs.Option.{option_map};
+ghost use Rattle.camelot_values.specs.Kinds.{data_type_of};
+ghost use Rattle.camelot_values.specs.Heap.{has_boxed};
 
 use std::marker::Model;
 
@@ -77,9 +80,22 @@ impl Model for Types {
     ghost invariant = { λ t. AreTypes (map data_type_of t.defs.items) };
 }
 
+// Whether some constructor of the type needs a cell.
+fn has_boxed(def: &TypeDef) -> bool
+    ensures { result ≡ has_boxed (data_type_of def.now) }
+{
+    'cons: for con in &def.cons {
+        if !con.inline {
+            return true;
+        }
+    }
+    false
+}
+
 impl Types {
     ghost use Rattle.std.specs.Prelude.{map};
-    ghost use Rattle.camelot_values.specs.Kinds.{data_type_of, AreTypes};
+    ghost use Rattle.camelot_values.specs.Kinds.{data_type_of, constructor_of, AreTypes, constructor, type_of};
+    ghost use Rattle.camelot_values.specs.Heap.{is_heap, Reaches};
 
     /// These types: at most 64, each with 1 to 64 constructors of at most 4 fields.
     pub fn new(defs: Vec<TypeDef>) -> Types
@@ -94,5 +110,52 @@ impl Types {
         ensures { map data_type_of result.now ≡ self.now }
     {
         &self.defs
+    }
+
+    #[tactic(auto, using(crate::proofs::KindLaws::con_here, crate::proofs::KindLaws::con_later))]
+    /// The constructor of this number, or None where there is no such number.
+    pub fn con(&self, con: u32) -> Option<&Con>
+        ensures { option_map (λ c. constructor_of c.now) result ≡ constructor self.now con }
+    {
+        let mut place = con as usize;
+        'types: for def in &self.defs {
+            if place < def.cons.len() {
+                return Some(&def.cons[place]);
+            }
+            place -= def.cons.len();
+        }
+        None
+    }
+
+    #[tactic(auto, using(crate::proofs::KindLaws::type_here, crate::proofs::KindLaws::type_later))]
+    /// The number of the type that the constructor of this number belongs to, or None where there is no such number.
+    pub fn type_of(&self, con: u32) -> Option<u32>
+        ensures { result ≡ type_of self.now con }
+    {
+        let mut place = con as usize;
+        let mut number = 0;
+        'types: for def in &self.defs {
+            if place < def.cons.len() {
+                return Some(number);
+            }
+            place -= def.cons.len();
+            number += 1;
+        }
+        None
+    }
+
+    /// Whether values of this kind take cells, so that a variable of it may be used at most once: a diamond, or a
+    /// type with a boxed constructor. A kind whose type isn't there is none.
+    pub fn is_heap(&self, kind: Kind) -> bool
+        ensures { result ≡ is_heap self.now kind }
+    {
+        match kind {
+            Kind::Int | Kind::Flag => false,
+            Kind::Dia => true,
+            Kind::Of(number) => match self.defs.get(number as usize) {
+                Some(def) => has_boxed(def),
+                None => false,
+            },
+        }
     }
 }

@@ -1,3 +1,5 @@
--- Grail code as plain data, and what it means.
+-- Grail code as plain data, its spelling, when it is well formed, and what it means.
 pub mod Code
+pub mod Spelling
+pub mod WellFormed
 pub mod Meaning

@@ -1,0 +1,51 @@
+-- Which kinds have values that take cells, and which constructors stand in the values of a kind. A type with no boxed
+-- constructor needs no cell; every other type, and the diamond, is a heap type (Hofmann 2000), whose values are used
+-- at most once.
+use Rattle.std.specs.Prelude.{◌≡◌, ℕ, not, Bool, true, false, List, [], ◌∷◌, flat_map, slice_get, Contains, Option, Some, None, IsTrue}
+use Rattle.std.specs.List.{list_any}
+use Rattle.std.specs.Option.{option_map_or}
+use Rattle.camelot_values.specs.declared.kinds.Kind.{Kind}
+use Rattle.camelot_values.specs.declared.kinds.Kind.TheVariants.{Int, Flag, Dia, Of}
+use Rattle.camelot_values.specs.Kinds.{Constructor, DataType, type_of}
+
+-- some constructor is boxed
+abbrev pub has_boxed : DataType → Bool
+has_boxed t = list_any (λ c. not c.inline) t.cons
+
+-- a type that isn't there is no heap type
+abbrev pub is_heap_type : List DataType → ℕ → Bool
+is_heap_type types t = option_map_or has_boxed (slice_get types t) false
+
+abbrev pub is_heap : List DataType → Kind → Bool
+is_heap types Int = false
+is_heap types Flag = false
+is_heap types Dia = true
+is_heap types (Of t) = is_heap_type types t
+
+-- the kinds of all fields of a type's constructors
+abbrev pub fields_of : DataType → List Kind
+fields_of t = flat_map (λ c. c.fields) t.cons
+
+abbrev pub fields_at : List DataType → ℕ → List Kind
+fields_at types t = option_map_or fields_of (slice_get types t) []
+
+-- type u is one step behind type t: some constructor of t has a field of u
+abbrev pub HoldsType : List DataType → ℕ → ℕ → Type 0
+HoldsType types t u = Contains (fields_at types t) (Of u)
+
+-- from type t over these types, each a field of the one before, to type u
+abbrev pub LeadsTo : List DataType → ℕ → List ℕ → ℕ → Type 0
+LeadsTo types t [] u = t ≡ u
+LeadsTo types t (v ∷ path) u = HoldsType types t v × LeadsTo types v path u
+
+-- the constructor belongs to a heap type that stands in type t itself or in its fields, followed to the end
+pub record ReachesFrom (types : List DataType) (t con : ℕ) : Type 0 where
+  pub path : List ℕ
+  pub last : ℕ
+  pub leads : LeadsTo types t path last
+  pub heap : IsTrue (is_heap_type types last)
+  pub owned : type_of types con ≡ Some last
+
+abbrev pub Reaches : List DataType → Kind → ℕ → Type 0
+Reaches types (Of t) con = ReachesFrom types t con
+Reaches types kind con = ⊥

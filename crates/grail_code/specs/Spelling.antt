@@ -1,0 +1,221 @@
+-- The spelling of Grail code in bytes, format `GRL1`: four bytes that name the format, then the types and the functions.
+-- It is a function of the code, and each count is followed by exactly so many things. `docs/GRAIL.md` tells it in words.
+use Rattle.std.specs.Prelude.{◌≡◌, ℕ, zero, suc, ◌+◌, ◌/◌, ◌%◌, ◌≤◌, ◌<◌, nat_lt, if◌then◌else◌, Bool, true, false, List, [], ◌∷◌, ◌++◌, length, take, flat_map, FitsSigned}
+use Rattle.std.specs.List.{AllByRecursion}
+use Rattle.std.specs.Int.{w32, cast_unsigned}
+use Rattle.camelot_values.specs.Names.{IsLowerName, IsUpperName}
+use Rattle.camelot_values.specs.Kinds.{Constructor, DataType}
+use Rattle.camelot_values.specs.Operator as operator
+use Rattle.camelot_values.specs.Operator.{Operator}
+use Rattle.camelot_values.specs.declared.kinds.Kind.{Kind}
+use Rattle.camelot_values.specs.declared.kinds.Kind.TheVariants as kind
+use Rattle.grail_code.specs.declared.code.Place.{Place}
+use Rattle.grail_code.specs.declared.code.Place.TheVariants as place
+use Rattle.grail_code.specs.declared.code.CaseCell.{CaseCell}
+use Rattle.grail_code.specs.declared.code.CaseCell.TheVariants as cell
+use Rattle.grail_code.specs.Code.{Operation, Lit, Flag, Copy, Prim, Make, Call, Binding, Arm, Exit, Ret, Tail, Goto, If, Case, BasicBlock, Function, Program}
+
+-- A whole number below 2 ^ 35 in LEB128, in as few bytes as it takes (DWARF Debugging Information Format, section 7.6):
+-- seven bits a byte, the low ones first, with the high bit set on all bytes but the last. The first argument is how many
+-- bytes may still follow this one.
+abbrev pub leb128 : ℕ → ℕ → List ℕ
+leb128 zero n = n ∷ []
+leb128 (suc more) n = if nat_lt n 128 then n ∷ [] else ((128 + n % 128) ∷ leb128 more (n / 128))
+
+unfoldable pub number : ℕ → List ℕ
+number n = leb128 4 n
+
+-- how many things there are, and then each in order
+abbrev pub counted : {A : Type 0} → (A → List ℕ) → List A → List ℕ
+counted spell xs = number (length xs) ++ flat_map spell xs
+
+-- its length and its bytes
+abbrev pub name : List ℕ → List ℕ
+name word = number (length word) ++ word
+
+abbrev pub kind_code : Kind → ℕ
+kind_code kind.Int = 0
+kind_code kind.Flag = 1
+kind_code kind.Dia = 2
+kind_code (kind.Of t) = 3 + t
+
+abbrev pub kind_bytes : Kind → List ℕ
+kind_bytes q = number (kind_code q)
+
+-- an inline constructor has no fields
+abbrev pub con_bytes : Constructor → List ℕ
+con_bytes c = name c.name ++ (if c.inline then 1 ∷ [] else (0 ∷ counted kind_bytes c.fields))
+
+abbrev pub type_bytes : DataType → List ℕ
+type_bytes t = name t.name ++ counted con_bytes t.cons
+
+abbrev pub operator_code : Operator → ℕ
+operator_code operator.Add = 0
+operator_code operator.Sub = 1
+operator_code operator.Mul = 2
+operator_code operator.Eq = 3
+operator_code operator.Ne = 4
+operator_code operator.Lt = 5
+operator_code operator.Le = 6
+operator_code operator.Gt = 7
+operator_code operator.Ge = 8
+
+abbrev pub place_bytes : Place → List ℕ
+place_bytes place.Inline = 0 ∷ []
+place_bytes place.New = 1 ∷ []
+place_bytes (place.Reuse x) = 2 ∷ number x
+
+abbrev pub operation_bytes : Operation → List ℕ
+operation_bytes (Lit z) = 0 ∷ number (cast_unsigned w32 z)
+operation_bytes (Flag b) = 1 ∷ (if b then 1 else 0) ∷ []
+operation_bytes (Copy x) = 2 ∷ number x
+operation_bytes (Prim op x y) = 3 ∷ operator_code op ∷ (number x ++ number y)
+operation_bytes (Make c args p) = 4 ∷ (number c ++ counted number args ++ place_bytes p)
+operation_bytes (Call f args) = 5 ∷ (number f ++ counted number args)
+
+abbrev pub let_bytes : Binding → List ℕ
+let_bytes l = number l.target ++ operation_bytes l.op
+
+abbrev pub cell_bytes : CaseCell → List ℕ
+cell_bytes cell.Inline = 0 ∷ []
+cell_bytes cell.Free = 1 ∷ []
+cell_bytes (cell.Keep x) = 2 ∷ number x
+
+abbrev pub arm_bytes : Arm → List ℕ
+arm_bytes a = counted number a.fields ++ cell_bytes a.cell ++ number a.target
+
+abbrev pub exit_bytes : Exit → List ℕ
+exit_bytes (Ret x) = 0 ∷ number x
+exit_bytes (Tail f args) = 1 ∷ (number f ++ counted number args)
+exit_bytes (Goto b) = 2 ∷ number b
+exit_bytes (If x first second) = 3 ∷ (number x ++ number first ++ number second)
+exit_bytes (Case x arms) = 4 ∷ (number x ++ counted arm_bytes arms)
+
+abbrev pub block_bytes : BasicBlock → List ℕ
+block_bytes b = counted number b.params ++ counted let_bytes b.lets ++ exit_bytes b.exit
+
+abbrev pub function_bytes : Function → List ℕ
+function_bytes f = name f.name ++ counted kind_bytes f.params ++ kind_bytes f.result ++ counted kind_bytes f.locals ++ counted block_bytes f.blocks
+
+-- the bytes `GRL1`
+abbrev pub format : List ℕ
+format = 71 ∷ 82 ∷ 76 ∷ 49 ∷ []
+
+abbrev pub spelling : Program → List ℕ
+spelling p = format ++ counted type_bytes p.types ++ counted function_bytes p.funcs
+
+-- ---- what has a spelling: each number and each count is within its own limit
+
+-- from `least` to `most` things, each of which has a spelling
+pub record AreCounted {A : Type 0} (Fits : A → Type 0) (least most : ℕ) (xs : List A) : Type 0 where
+  pub enough : least ≤ length xs
+  pub few : length xs ≤ most
+  pub each : AllByRecursion Fits xs
+
+abbrev pub IsLocal : ℕ → Type 0
+IsLocal x = x ≤ 255
+
+abbrev pub IsBlockNumber : ℕ → Type 0
+IsBlockNumber b = b ≤ 255
+
+abbrev pub FitsKind : Kind → Type 0
+FitsKind q = kind_code q ≤ 66
+
+pub record FitsCon (c : Constructor) : Type 0 where
+  pub name : IsUpperName c.name
+  pub fields : AreCounted FitsKind 0 4 c.fields
+  pub inline_is_bare : c.inline ≡ true → c.fields ≡ []
+
+pub record FitsType (t : DataType) : Type 0 where
+  pub name : IsLowerName t.name
+  pub cons : AreCounted FitsCon 1 64 t.cons
+
+abbrev pub FitsPlace : Place → Type 0
+FitsPlace (place.Reuse x) = IsLocal x
+FitsPlace p = Unit {0}
+
+abbrev pub FitsOperation : Operation → Type 0
+FitsOperation (Lit z) = FitsSigned w32 z
+FitsOperation (Flag b) = Unit {0}
+FitsOperation (Copy x) = IsLocal x
+FitsOperation (Prim op x y) = IsLocal x × IsLocal y
+FitsOperation (Make c args p) = (c ≤ 4095) × AreCounted IsLocal 0 4 args × FitsPlace p
+FitsOperation (Call f args) = (f ≤ 63) × AreCounted IsLocal 0 16 args
+
+pub record FitsLet (l : Binding) : Type 0 where
+  pub target : IsLocal l.target
+  pub op : FitsOperation l.op
+
+abbrev pub FitsCell : CaseCell → Type 0
+FitsCell (cell.Keep x) = IsLocal x
+FitsCell c = Unit {0}
+
+pub record FitsArm (a : Arm) : Type 0 where
+  pub fields : AreCounted IsLocal 0 4 a.fields
+  pub cell : FitsCell a.cell
+  pub target : IsBlockNumber a.target
+
+abbrev pub FitsExit : Exit → Type 0
+FitsExit (Ret x) = IsLocal x
+FitsExit (Tail f args) = (f ≤ 63) × AreCounted IsLocal 0 16 args
+FitsExit (Goto b) = IsBlockNumber b
+FitsExit (If x first second) = IsLocal x × IsBlockNumber first × IsBlockNumber second
+FitsExit (Case x arms) = IsLocal x × AreCounted FitsArm 0 64 arms
+
+pub record FitsBlock (b : BasicBlock) : Type 0 where
+  pub params : AreCounted IsLocal 0 256 b.params
+  pub lets : AreCounted FitsLet 0 256 b.lets
+  pub exit : FitsExit b.exit
+
+pub record FitsFunction (f : Function) : Type 0 where
+  pub name : IsLowerName f.name
+  pub params : AreCounted FitsKind 1 16 f.params
+  pub result : FitsKind f.result
+  pub locals : AreCounted FitsKind 0 240 f.locals
+  pub blocks : AreCounted FitsBlock 1 256 f.blocks
+
+-- the code that has a spelling
+pub record FitsCode (p : Program) : Type 0 where
+  pub types : AreCounted FitsType 0 64 p.types
+  pub funcs : AreCounted FitsFunction 0 64 p.funcs
+
+-- ---- what bytes are
+
+-- what a text of bytes may be
+pub data Decoded : Type 0 where
+  -- the spelling of this code
+  Spelled : Program → Decoded
+  -- the beginning of a spelling that goes on
+  Front : Decoded
+  -- neither; the longest part from the left that begins a spelling has so many bytes
+  Broken : (at : ℕ) → Decoded
+
+pub record IsSpelling (program : Program) (bytes : List ℕ) : Type 0 where
+  pub fits : FitsCode program
+  pub is : bytes ≡ spelling program
+
+-- some code's spelling begins with these bytes
+pub record BeginsCode (bytes : List ℕ) : Type 0 where
+  pub program : Program
+  pub fits : FitsCode program
+  pub rest : List ℕ
+  pub is : spelling program ≡ bytes ++ rest
+
+-- some code's spelling begins with these bytes and goes on
+pub record IsFront (bytes : List ℕ) : Type 0 where
+  pub program : Program
+  pub fits : FitsCode program
+  pub next : ℕ
+  pub rest : List ℕ
+  pub is : spelling program ≡ bytes ++ (next ∷ rest)
+
+-- the longest part from the left that begins some code's spelling has so many bytes, and isn't the whole
+pub record IsLongestBegin (bytes : List ℕ) (at : ℕ) : Type 0 where
+  pub less : at < length bytes
+  pub begins : BeginsCode (take at bytes)
+  pub longest : (n : ℕ) → n ≤ length bytes → BeginsCode (take n bytes) → n ≤ at
+
+abbrev pub Means : List ℕ → Decoded → Type 0
+Means bytes (Spelled p) = IsSpelling p bytes
+Means bytes Front = IsFront bytes
+Means bytes (Broken at) = IsLongestBegin bytes at
