@@ -6,4 +6,5 @@ pub mod Names
 pub mod Heap
 pub mod Operator
 pub mod Outcome
+pub mod Runs
 pub mod Text

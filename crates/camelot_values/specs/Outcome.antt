@@ -57,6 +57,11 @@ abbrev pub known : {A : Type 0} → Option A → Outcome A
 known None = Stuck
 known (Some v) = Done v 0 0 0
 
+-- what follows, over what is there
+abbrev pub given : {A B : Type 0} → Option A → (A → Outcome B) → Outcome B
+given None next = Stuck
+given (Some x) next = next x
+
 -- a function's body, as the call that enters it: one call more
 abbrev pub entered : {A : Type 0} → Outcome A → Outcome A
 entered o = after 1 0 0 o
