@@ -10,6 +10,7 @@ use Rattle.std.proofs.lemmas.List.{length-replicate, length-map}
 use Rattle.std.proofs.lemmas.List.Elements.{Contains-get_or}
 use Rattle.camelot_values.specs.Value as value
 use Rattle.camelot_values.specs.Value.{Value}
+use Rattle.camelot_values.specs.Kinds.{DataType}
 use Rattle.camelot_values.specs.declared.kinds.Kind.TheVariants as kind
 use Rattle.camelot_values.specs.Operator.{Add, operate}
 use Rattle.camelot_values.specs.Outcome.{Outcome, Done, Stuck, after, first_then, known, entered}
@@ -17,7 +18,8 @@ use Rattle.camelot_values.proofs.OutcomeLaws.{after_nothing, at_once_then, then_
 use Rattle.grail_code.specs.Code as code
 use Rattle.grail_code.specs.Code.{Prim, Binding, Ret}
 use Rattle.grail_code.specs.Meaning as grail
-use Rattle.grail_code.specs.Meaning.{Enter, Locals, put, arguments, operands, lets_run, exit_run}
+use Rattle.camelot_values.specs.Runs.{Enter}
+use Rattle.grail_code.specs.Meaning.{Locals, put, arguments, operands, lets_run}
 use Rattle.camelot_host.specs.FirstScript.{Spells, SpellFurther, IsFunctionText, AreDistinct, part_expr, sum_expr, fun_of}
 use Rattle.camelot_host.specs.Lexemes.{Lexeme, Word, Symbol}
 use Rattle.camelot_host.specs.Source as source
@@ -91,7 +93,7 @@ add_runs k (Some v) scope names ps go h = at_once_then k v go ∙ h v
 
 -- the end of a sum's block
 abbrev ends : Enter → ℕ → ℕ → ℕ → Locals → Outcome Value
-ends enter w x left env = exit_run enter (Ret x) left w env
+ends enter w x left env = known (env x)
 
 further_runs : (enter : Enter) (count : ℕ) (names : List (List ℕ)) (scope : Scope) (ps : List Part) (s n : ℕ) (env : Locals) (o : Option Value) (k w : ℕ)
     → Holds count names scope env → env s ≡ o → s < n → count ≤ n → AllByRecursion (IsKnown count) ps
@@ -146,11 +148,11 @@ both_enter : (b c : Bool) (x y : Outcome Value) → b ≡ c → x ≡ y → (if 
 both_enter b c x y e h = ap (λ d. if d then x else Stuck) e ∙ ap (λ z. if c then z else Stuck) h
 
 -- the body of a sum's code, with so many parameters
-body_runs : (enter : Enter) (enter' : source.Enter) (f : Function) (count k w : ℕ) (args : List Value)
+body_runs : (types : List DataType) (enter : Enter) (enter' : source.Enter) (f : Function) (count k w : ℕ) (args : List Value)
     → count ≡ length (names_of f.params.items) → AreDistinct (names_of f.params.items) → IsKnown count f.first → AllByRecursion (IsKnown count) f.more.items
-    → grail.body_run enter (Some (sum_function f.name.now count (sum_lets count f.first f.more.items) (sum_local count f.first f.more.items))) k w args
+    → grail.body_run types enter (Some (sum_function f.name.now count (sum_lets count f.first f.more.items) (sum_local count f.first f.more.items))) k w args
     ≡ source.body_run enter' (Some (fun_of (function_of f))) k w args
-body_runs enter enter' f count k w args is distinct first more =
+body_runs types enter enter' f count k w args is distinct first more =
     let names : List (List ℕ) = names_of f.params.items in
     let scope : Scope = bind_all names args in
     let holds : Holds count names scope (arguments args) = record { each = λ i less. arguments_hold names args distinct i (omega arith) } in
@@ -175,7 +177,7 @@ run_same f count limit zero args is distinct first more = refl
 run_same f count limit (suc k) args is distinct first more =
     let p : code.Program = sum_code f.name.now count f.first f.more.items in
     let fun : source.Fun = fun_of (function_of f) in
-    ap entered (body_runs (grail.calls p limit k) (source.calls (fun ∷ []) limit k) f count k 0 args is distinct first more
+    ap entered (body_runs p.types (grail.calls p limit k) (source.calls (fun ∷ []) limit k) f count k 0 args is distinct first more
     ∙ ap (λ o. source.body_run (source.calls (fun ∷ []) limit k) o k 0 args) (sym (find_only fun)))
 
 the_code : (f : Function) (p : code.Program) (g : code.Function) (count local : ℕ) (lets : List Binding) (more : List Part)

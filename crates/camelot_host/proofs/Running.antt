@@ -11,10 +11,12 @@ use Rattle.camelot_values.specs.Outcome.{Outcome, Stuck, first_then, known, ente
 use Rattle.camelot_values.proofs.OutcomeLaws.{at_once_then}
 use Rattle.grail_code.specs.Code.{Operation, Lit, Prim, Binding, Exit, Ret, BasicBlock, Function, Program, function_of, program_of}
 use Rattle.camelot_values.specs.Operator as operator
-use Rattle.grail_code.specs.Meaning.{Enter, Locals, put, arguments, operands, op_run, lets_run, exit_run, block_run, blocks_run, body_run, calls, run_of}
+use Rattle.camelot_values.specs.Runs.{Enter}
+use Rattle.camelot_values.specs.Kinds.{DataType}
+use Rattle.grail_code.specs.Meaning.{Locals, Later, jump_run, put, arguments, operands, op_run, lets_run, exit_run, block_run, blocks_run, body_run, calls, run_of}
 use Rattle.grail_code.specs.declared.code.Code.{Code}
 use Rattle.grail_code.specs.declared.code.Func.{Func}
-use Rattle.camelot_host.specs.Lowered.{IsSumOperation, BindInOrder, IsSumBlock, OnlyOne, IsSumFunction, IsSumCode, RanTo, and_then, operation_value, locals_after, exit_value, block_value, first_block_value, function_value, Gives}
+use Rattle.camelot_host.specs.Lowered.{IsRet, IsSumOperation, BindInOrder, IsSumBlock, OnlyOne, IsSumFunction, IsSumCode, RanTo, and_then, operation_value, locals_after, exit_value, block_value, first_block_value, function_value, Gives}
 use Rattle.camelot_host.specs.declared.runner.RunError.{RunError}
 use Rattle.camelot_host.specs.declared.runner.RunError.TheVariants as error
 
@@ -73,22 +75,22 @@ lets_value enter (b ∷ bs) zs k w next order =
 
 -- ---- a block, a function, a program
 
-exit_is : (enter : Enter) (k w : ℕ) (exit : Exit) (zs : List ℤ) → exit_run enter exit k w (ints zs) ≡ known (option_map Int (exit_value zs exit))
-exit_is enter k w (Ret x) zs = ap known (slice_get-map Int zs x)
-exit_is enter k w exit zs = refl
+exit_is : (types : List DataType) (enter : Enter) (later : Later) (k w : ℕ) (exit : Exit) (zs : List ℤ) → IsRet exit → exit_run types enter later exit k w (ints zs) ≡ known (option_map Int (exit_value zs exit))
+exit_is types enter later k w (Ret x) zs is = ap known (slice_get-map Int zs x)
+exit_is types enter later k w exit zs is = absurd is
 
-end_is : (enter : Enter) (k w : ℕ) (exit : Exit) (o : Option (List ℤ)) → go_on o (exit_run enter exit k w) ≡ known (option_map Int (and_then o (λ zs. exit_value zs exit)))
-end_is enter k w exit None = refl
-end_is enter k w exit (Some zs) = exit_is enter k w exit zs
+end_is : (types : List DataType) (enter : Enter) (later : Later) (k w : ℕ) (exit : Exit) (o : Option (List ℤ)) → IsRet exit → go_on o (exit_run types enter later exit k w) ≡ known (option_map Int (and_then o (λ zs. exit_value zs exit)))
+end_is types enter later k w exit None is = refl
+end_is types enter later k w exit (Some zs) is = exit_is types enter later k w exit zs is
 
-block_is : (enter : Enter) (b : BasicBlock) (k w : ℕ) (args : List ℤ) → BindInOrder (length args) b.lets → block_run enter b k w (ints args) ≡ known (option_map Int (block_value args b))
-block_is enter b k w args order =
-    lets_value enter b.lets args k w (λ left last. exit_run enter b.exit left w last) order ∙ end_is enter k w b.exit (locals_after args b.lets)
+block_is : (types : List DataType) (enter : Enter) (later : Later) (b : BasicBlock) (k w : ℕ) (args : List ℤ) → IsSumBlock (length args) b → block_run types enter later b k w (ints args) ≡ known (option_map Int (block_value args b))
+block_is types enter later b k w args sum =
+    lets_value enter b.lets args k w (λ left last. exit_run types enter later b.exit left w last) sum.lets ∙ end_is types enter later k w b.exit (locals_after args b.lets) sum.exit
 
-blocks_are : (enter : Enter) (bs : List BasicBlock) (k w : ℕ) (args : List ℤ) → OnlyOne (IsSumBlock (length args)) bs → blocks_run enter bs k w (ints args) ≡ known (option_map Int (first_block_value args bs))
-blocks_are enter [] k w args only = absurd only
-blocks_are enter (b ∷ []) k w args only = block_is enter b k w args only.lets
-blocks_are enter (b ∷ c ∷ bs) k w args only = absurd only
+blocks_are : (types : List DataType) (enter : Enter) (bs : List BasicBlock) (k w : ℕ) (args : List ℤ) → OnlyOne (IsSumBlock (length args)) bs → blocks_run types enter bs k w (ints args) ≡ known (option_map Int (first_block_value args bs))
+blocks_are types enter [] k w args only = absurd only
+blocks_are types enter (b ∷ []) k w args only = block_is types enter (jump_run types enter 1 []) b k w args only
+blocks_are types enter (b ∷ c ∷ bs) k w args only = absurd only
 
 if_full : (n m : ℕ) (x : Outcome Value) (o : Option ℤ) → (n ≡ m → x ≡ known (option_map Int o)) → (if n == m then x else Stuck) ≡ known (option_map Int (if n == m then o else None))
 if_full n m x o h = by_cases (n == m) (λ t. h (grind (arith, nat_tests)))
@@ -97,15 +99,15 @@ if_full n m x o h = by_cases (n == m) (λ t. h (grind (arith, nat_tests)))
     by_cases true k = k refl
     by_cases false k = refl
 
-function_is : (enter : Enter) (f : Function) (k w : ℕ) (args : List ℤ) → IsSumFunction f → body_run enter (Some f) k w (map Int args) ≡ known (option_map Int (function_value args f))
-function_is enter f k w args only =
-    ap (λ n. if n == length f.params then blocks_run enter f.blocks k w (ints args) else Stuck) (length-map args Int)
-    ∙ if_full (length args) (length f.params) (blocks_run enter f.blocks k w (ints args)) (first_block_value args f.blocks)
-    (λ e. blocks_are enter f.blocks k w args (subst (λ n. OnlyOne (IsSumBlock n) f.blocks) (sym e) only))
+function_is : (types : List DataType) (enter : Enter) (f : Function) (k w : ℕ) (args : List ℤ) → IsSumFunction f → body_run types enter (Some f) k w (map Int args) ≡ known (option_map Int (function_value args f))
+function_is types enter f k w args only =
+    ap (λ n. if n == length f.params then blocks_run types enter f.blocks k w (ints args) else Stuck) (length-map args Int)
+    ∙ if_full (length args) (length f.params) (blocks_run types enter f.blocks k w (ints args)) (first_block_value args f.blocks)
+    (λ e. blocks_are types enter f.blocks k w args (subst (λ n. OnlyOne (IsSumBlock n) f.blocks) (sym e) only))
 
 program_is : (f : Function) (p : Program) (limit k : ℕ) (args : List ℤ) → p.funcs ≡ f ∷ [] → IsSumFunction f → run_of p limit 0 (suc k) (map Int args) ≡ entered (known (option_map Int (function_value args f)))
 program_is f p limit k args funcs only =
-    ap entered (ap (λ fs. body_run (calls p limit k) (slice_get fs 0) k 0 (map Int args)) funcs ∙ function_is (calls p limit k) f k 0 args only)
+    ap entered (ap (λ fs. body_run p.types (calls p limit k) (slice_get fs 0) k 0 (map Int args)) funcs ∙ function_is p.types (calls p limit k) f k 0 args only)
 
 -- ---- what the call of the runner promises
 

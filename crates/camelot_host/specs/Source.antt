@@ -1,12 +1,13 @@
 -- The part of the source language that first scripts use, and what it means. The meaning has the form of the whole
 -- language's: big-step evaluation by Hofmann and Jost's rules (2003) with counters in place of a heap, and a clock for the
 -- calls (Owens, Myreen, Kumar, Tan 2016). It knows no cells, frames or locals.
-use Rattle.std.specs.Prelude.{ℕ, zero, suc, Bool, true, false, cond, ◌==◌, ◌&&◌, not, if◌then◌else◌, ℤ, List, [], ◌∷◌, length, Option, Some, None}
+use Rattle.std.specs.Prelude.{ℕ, zero, suc, Bool, true, false, cond, ◌==◌, if◌then◌else◌, ℤ, List, [], ◌∷◌, length, Option, Some, None}
 use Rattle.std.specs.Str.{bytes_eq}
 use Rattle.camelot_values.specs.Value as value
 use Rattle.camelot_values.specs.Value.{Value}
 use Rattle.camelot_values.specs.Operator.{Operator, operate}
 use Rattle.camelot_values.specs.Outcome.{Outcome, Fuel, Deep, Stuck, first_then, at_once, known, entered}
+use Rattle.camelot_values.specs.Runs.{is_too_deep}
 
 pub data Expr : Type 0 where
   Num : ℤ → Expr
@@ -56,10 +57,6 @@ find_fun (f ∷ fs) name = if bytes_eq f.name name then Some f else find_fun fs 
 abbrev pub body_run : Enter → Option Fun → ℕ → ℕ → List Value → Outcome Value
 body_run enter None fuel waits args = Stuck
 body_run enter (Some f) fuel waits args = if length args == length f.params then eval enter f.body fuel waits true (bind_all f.params args) else Stuck
-
--- the call is one too many to wait
-abbrev pub is_too_deep : ℕ → ℕ → Bool → Bool
-is_too_deep limit waits tail = not tail && (waits == limit)
 
 -- A call of a function takes one unit of fuel, which is looked at first, and then the depth. The clock makes the
 -- recursion structural: it is at least the fuel, and changes nothing.
