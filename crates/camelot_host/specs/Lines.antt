@@ -25,7 +25,7 @@ done_line job value calls peak bound =
 -- the line of a job that ran, with its fuel and its bound, by what the run came to
 abbrev pub job_line : (ℕ → List ℕ) → List ℕ → ℕ → ℕ → Outcome Value → List ℕ
 job_line names job fuel bound (Done v calls peak low) = done_line job (value_text names v) calls peak bound
-job_line names job fuel bound (Fuel peak) = codes "job " ++ job ++ codes " fuel " ++ decimal fuel ++ codes " peak " ++ decimal peak ++ codes " bound " ++ decimal bound ++ codes "\n"
+job_line names job fuel bound (Fuel calls peak) = codes "job " ++ job ++ codes " fuel " ++ decimal fuel ++ codes " peak " ++ decimal peak ++ codes " bound " ++ decimal bound ++ codes "\n"
 job_line names job fuel bound (Deep peak) = codes "job " ++ job ++ codes " deep peak " ++ decimal peak ++ codes " bound " ++ decimal bound ++ codes "\n"
 job_line names job fuel bound Stuck = []
 

@@ -61,8 +61,8 @@ body_run enter (Some f) fuel waits args = if length args == length f.params then
 -- A call of a function takes one unit of fuel, which is looked at first, and then the depth. The clock makes the
 -- recursion structural: it is at least the fuel, and changes nothing.
 abbrev pub calls : List Fun → ℕ → ℕ → Enter
-calls program limit clock zero waits tail name args = Fuel 0
-calls program limit zero (suc fuel) waits tail name args = Fuel 0
+calls program limit clock zero waits tail name args = Fuel 0 0
+calls program limit zero (suc fuel) waits tail name args = Fuel 0 0
 calls program limit (suc clock) (suc fuel) waits tail name args = if is_too_deep limit waits tail then Deep 0
     else entered (body_run (calls program limit clock) (find_fun program name) fuel (cond tail waits (suc waits)) args)
 

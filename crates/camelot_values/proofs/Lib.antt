@@ -1,3 +1,4 @@
 pub mod ItemLaws
 pub mod KindLaws
 pub mod OutcomeLaws
+pub mod RunLaws

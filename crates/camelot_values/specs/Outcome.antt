@@ -8,8 +8,8 @@ use Rattle.std.specs.Prelude.{ℕ, ◌+◌, ◌-◌, ℤ, pos, ◌-ℤ◌, Optio
 pub data Outcome (A : Type 0) : Type 0 where
   -- a value, how many functions were entered, the peak, and how far the net is below the peak
   Done : A → (calls peak low : ℕ) → Outcome A
-  -- a call found no fuel left
-  Fuel : (peak : ℕ) → Outcome A
+  -- a call found no fuel left: how many functions were entered until then, and the peak
+  Fuel : (calls peak : ℕ) → Outcome A
   -- a call found as many calls waiting as may wait
   Deep : (peak : ℕ) → Outcome A
   -- the run has no meaning here, as where an unknown name is read or a form isn't given a meaning yet
@@ -22,7 +22,7 @@ net peak low = pos peak -ℤ pos low
 -- the peak of a run that came to this, and its calls and its net where it came to a value
 abbrev pub peak_of : {A : Type 0} → Outcome A → ℕ
 peak_of (Done v calls peak low) = peak
-peak_of (Fuel peak) = peak
+peak_of (Fuel calls peak) = peak
 peak_of (Deep peak) = peak
 peak_of Stuck = 0
 
@@ -37,14 +37,14 @@ net_of o = pos 0
 -- an outcome that comes after one of so many calls, this peak and this distance below it
 abbrev pub after : {A : Type 0} → ℕ → ℕ → ℕ → Outcome A → Outcome A
 after calls peak low (Done v calls' peak' low') = Done v (calls + calls') (peak + (peak' - low)) (low' + (low - peak'))
-after calls peak low (Fuel peak') = Fuel (peak + (peak' - low))
+after calls peak low (Fuel calls' peak') = Fuel (calls + calls') (peak + (peak' - low))
 after calls peak low (Deep peak') = Deep (peak + (peak' - low))
 after calls peak low Stuck = Stuck
 
 -- first this, with so much fuel, then that, with the fuel that is left: where the first stops, the whole stops
 abbrev pub first_then : {A B : Type 0} → ℕ → Outcome A → (ℕ → A → Outcome B) → Outcome B
 first_then fuel (Done v calls peak low) next = after calls peak low (next (fuel - calls) v)
-first_then fuel (Fuel peak) next = Fuel peak
+first_then fuel (Fuel calls peak) next = Fuel calls peak
 first_then fuel (Deep peak) next = Deep peak
 first_then fuel Stuck next = Stuck
 

@@ -3,3 +3,4 @@ pub mod Code
 pub mod Spelling
 pub mod WellFormed
 pub mod Meaning
+pub mod Fuel

@@ -1,0 +1,30 @@
+//! Laws of the meaning of code, as the contracts of functions that do nothing.
+ghost use Rattle.std.specs.Prelude.{◌≡◌, ℕ, ◌≤◌, ◌<◌, Bool, List};
+ghost use Rattle.camelot_values.specs.Value.{Value};
+ghost use Rattle.camelot_values.specs.Outcome.{Done, Fuel, Deep};
+ghost use Rattle.grail_code.specs.Code.{Program};
+ghost use Rattle.grail_code.specs.Fuel.{StopsOnFuel};
+ghost use Rattle.grail_code.specs.Meaning.{calls, run_of};
+
+/// A clock beyond the fuel changes nothing of what a call means.
+#[tactic(auto, using(crate::proofs::Clock::clock_is))]
+pub fn law_of_clock()
+    ensures { (program : Program) (limit clock fuel waits : ℕ) (tail : Bool) (func : ℕ) (args : List Value) → fuel ≤ clock
+        → calls program limit clock fuel waits tail func args ≡ calls program limit fuel fuel waits tail func args }
+{}
+
+/// A run that stops on fuel has entered as many functions as it had fuel, and one that comes to a value at most as many.
+/// A run that comes to a value does so with just the fuel of its calls, and with any more; with less it stops on fuel, at
+/// no higher a peak. More fuel doesn't help a run that went too deep.
+#[tactic(auto, using(crate::proofs::Clock::used_is, crate::proofs::Clock::within_is, crate::proofs::Clock::enough_is, crate::proofs::Clock::short_is, crate::proofs::Clock::deep_is))]
+pub fn law_of_fuel()
+    ensures used { (program : Program) (limit func fuel calls peak : ℕ) (args : List Value) → run_of program limit func fuel args ≡ Fuel calls peak → calls ≡ fuel }
+    ensures within { (program : Program) (limit func fuel : ℕ) (args : List Value) (v : Value) (calls peak low : ℕ)
+        → run_of program limit func fuel args ≡ Done v calls peak low → calls ≤ fuel }
+    ensures enough { (program : Program) (limit func fuel other : ℕ) (args : List Value) (v : Value) (calls peak low : ℕ)
+        → run_of program limit func fuel args ≡ Done v calls peak low → calls ≤ other → run_of program limit func other args ≡ Done v calls peak low }
+    ensures short { (program : Program) (limit func fuel other : ℕ) (args : List Value) (v : Value) (calls peak low : ℕ)
+        → run_of program limit func fuel args ≡ Done v calls peak low → other < calls → StopsOnFuel other peak (run_of program limit func other args) }
+    ensures deep { (program : Program) (limit func fuel other : ℕ) (args : List Value) (peak : ℕ)
+        → run_of program limit func fuel args ≡ Deep peak → fuel ≤ other → run_of program limit func other args ≡ Deep peak }
+{}
