@@ -2,3 +2,4 @@ pub mod ItemLaws
 pub mod KindLaws
 pub mod OutcomeLaws
 pub mod RunLaws
+pub mod SearchLaws

@@ -1,7 +1,7 @@
 -- Which kinds have values that take cells, and which constructors stand in the values of a kind. A type with no boxed
 -- constructor needs no cell; every other type, and the diamond, is a heap type (Hofmann 2000), whose values are used
 -- at most once.
-use Rattle.std.specs.Prelude.{◌≡◌, ℕ, not, Bool, true, false, List, [], ◌∷◌, flat_map, slice_get, Contains, Option, Some, None, IsTrue}
+use Rattle.std.specs.Prelude.{◌≡◌, ℕ, not, Bool, true, false, List, [], ◌∷◌, flat_map, slice_get, ◌==◌, Option, Some, None, IsTrue}
 use Rattle.std.specs.List.{list_any}
 use Rattle.std.specs.Option.{option_map_or}
 use Rattle.camelot_values.specs.declared.kinds.Kind.{Kind}
@@ -29,20 +29,28 @@ fields_of t = flat_map (λ c. c.fields) t.cons
 abbrev pub fields_at : List DataType → ℕ → List Kind
 fields_at types t = option_map_or fields_of (slice_get types t) []
 
+-- the kind is that of type u
+abbrev pub is_of : ℕ → Kind → Bool
+is_of u (Of t) = t == u
+is_of u kind = false
+
 -- type u is one step behind type t: some constructor of t has a field of u
 abbrev pub HoldsType : List DataType → ℕ → ℕ → Type 0
-HoldsType types t u = Contains (fields_at types t) (Of u)
+HoldsType types t u = IsTrue (list_any (is_of u) (fields_at types t))
 
 -- from type t over these types, each a field of the one before, to type u
 abbrev pub LeadsTo : List DataType → ℕ → List ℕ → ℕ → Type 0
 LeadsTo types t [] u = t ≡ u
 LeadsTo types t (v ∷ path) u = HoldsType types t v × LeadsTo types v path u
 
+-- type u stands in type t itself or in its fields, followed to the end
+abbrev pub IsLedTo : List DataType → ℕ → ℕ → Type 0
+IsLedTo types t u = (path : List ℕ) × LeadsTo types t path u
+
 -- the constructor belongs to a heap type that stands in type t itself or in its fields, followed to the end
 pub record ReachesFrom (types : List DataType) (t con : ℕ) : Type 0 where
-  pub path : List ℕ
   pub last : ℕ
-  pub leads : LeadsTo types t path last
+  pub leads : IsLedTo types t last
   pub heap : IsTrue (is_heap_type types last)
   pub owned : type_of types con ≡ Some last
 

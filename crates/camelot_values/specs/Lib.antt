@@ -4,6 +4,7 @@ pub mod Items
 pub mod Kinds
 pub mod Names
 pub mod Heap
+pub mod Search
 pub mod Operator
 pub mod Outcome
 pub mod Runs

@@ -3,6 +3,7 @@ ghost use Rattle.std.specs.Option.{option_map};
 ghost use Rattle.camelot_values.specs.Kinds.{data_type_of};
 ghost use Rattle.camelot_values.specs.Heap.{has_boxed};
 
+use super::reach::{MOST_TYPES, leads};
 use std::marker::Model;
 
 /// A name: its bytes.
@@ -112,8 +113,8 @@ impl Types {
         &self.defs
     }
 
-    #[tactic(auto, using(crate::proofs::KindLaws::con_here, crate::proofs::KindLaws::con_later))]
     /// The constructor of this number, or None where there is no such number.
+    #[tactic(auto, using(crate::proofs::KindLaws::con_here, crate::proofs::KindLaws::con_later))]
     pub fn con(&self, con: u32) -> Option<&Con>
         ensures { option_map (λ c. constructor_of c.now) result ≡ constructor self.now con }
     {
@@ -127,8 +128,8 @@ impl Types {
         None
     }
 
-    #[tactic(auto, using(crate::proofs::KindLaws::type_here, crate::proofs::KindLaws::type_later))]
     /// The number of the type that the constructor of this number belongs to, or None where there is no such number.
+    #[tactic(auto, using(crate::proofs::KindLaws::type_here, crate::proofs::KindLaws::type_later))]
     pub fn type_of(&self, con: u32) -> Option<u32>
         ensures { result ≡ type_of self.now con }
     {
@@ -157,5 +158,27 @@ impl Types {
                 None => false,
             },
         }
+    }
+
+    /// Whether the constructor of this number belongs to a heap type that stands in this kind itself or in its fields,
+    /// followed to the end. A kind whose type isn't there reaches nothing.
+    #[tactic(auto, using(crate::proofs::SearchLaws::is_within_types, crate::proofs::SearchLaws::reaches_none, crate::proofs::SearchLaws::reaches_inline, crate::proofs::SearchLaws::reaches_nowhere, crate::proofs::SearchLaws::reaches_by))]
+    pub fn reaches(&self, kind: Kind, con: u32) -> bool
+        ensures { IsTrue result ↔ Reaches self.now kind con }
+    {
+        let types = &self.defs;
+        let Kind::Of(first) = kind else {
+            return false;
+        };
+        let Some(last) = self.type_of(con) else {
+            return false;
+        };
+        if first as usize >= MOST_TYPES {
+            return false;
+        }
+        if !self.is_heap(Kind::Of(last)) {
+            return false;
+        }
+        leads(types, first as usize, last as usize)
     }
 }

@@ -3,6 +3,7 @@
 
 mod kinds;
 mod outcome;
+mod reach;
 mod text;
 mod value;
 
