@@ -5,7 +5,7 @@ use Rattle.std.specs.Option.{option_map}
 use Rattle.std.proofs.lemmas.Option.{slice_get-map, slice_get_read}
 use Rattle.std.proofs.lemmas.List.{length-map}
 use Rattle.std.proofs.lemmas.Bool.Decides.{nat_tests}
-use Rattle.camelot_values.specs.Kinds.{Constructor, DataType, constructor_of, data_type_of, constructors, constructor, type_from}
+use Rattle.camelot_values.specs.Kinds.{Constructor, DataType, constructor_of, data_type_of, constructors, constructor, type_from, place_of}
 use Rattle.camelot_values.specs.declared.kinds.Con.{Con}
 use Rattle.camelot_values.specs.declared.kinds.TypeDef.{TypeDef}
 
@@ -64,3 +64,19 @@ type_later defs i place number d o h k e =
     ∙ ap (λ n. type_from n rest (place - length (data_type_of t).cons)) (add-one number)
     ∙ sym (ap (λ b. if b then Some number else type_from (suc number) rest (place - length (data_type_of t).cons)) (test_false place (length (data_type_of t).cons) (omega (arith, count_is t))))
     ∙ ap (λ ts. type_from number ts place) (sym (types_at defs i d h)) ∙ e
+
+pub place_here : (defs : List TypeDef) (i place : ℕ) (d : TypeDef) (o : Option ℕ) → i < length defs → place < vec_len (get_or defs i d).cons
+    → place_of (map data_type_of (drop i defs)) place ≡ o → Some place ≡ o
+place_here defs i place d o h k e =
+    let t = get_or defs i d in
+    sym (ap (λ b. if b then Some place else place_of (map data_type_of (drop (i + 1) defs)) (place - length (data_type_of t).cons)) (test_true place (length (data_type_of t).cons) (omega (arith, count_is t))))
+    ∙ ap (λ ts. place_of ts place) (sym (types_at defs i d h)) ∙ e
+
+pub place_later : (defs : List TypeDef) (i place : ℕ) (d : TypeDef) (o : Option ℕ) → i < length defs → vec_len (get_or defs i d).cons ≤ place
+    → place_of (map data_type_of (drop i defs)) place ≡ o → place_of (map data_type_of (drop (i + 1) defs)) (place - vec_len (get_or defs i d).cons) ≡ o
+place_later defs i place d o h k e =
+    let t = get_or defs i d in
+    let rest = map data_type_of (drop (i + 1) defs) in
+    ap (λ n. place_of rest (place - n)) (sym (count_is t))
+    ∙ sym (ap (λ b. if b then Some place else place_of rest (place - length (data_type_of t).cons)) (test_false place (length (data_type_of t).cons) (omega (arith, count_is t))))
+    ∙ ap (λ ts. place_of ts place) (sym (types_at defs i d h)) ∙ e

@@ -95,7 +95,7 @@ fn has_boxed(def: &TypeDef) -> bool
 
 impl Types {
     ghost use Rattle.std.specs.Prelude.{map};
-    ghost use Rattle.camelot_values.specs.Kinds.{data_type_of, constructor_of, AreTypes, constructor, type_of};
+    ghost use Rattle.camelot_values.specs.Kinds.{data_type_of, constructor_of, AreTypes, constructor, type_of, place_of};
     ghost use Rattle.camelot_values.specs.Heap.{is_heap, Reaches};
 
     /// These types: at most 64, each with 1 to 64 constructors of at most 4 fields.
@@ -141,6 +141,21 @@ impl Types {
             }
             place -= def.cons.len();
             number += 1;
+        }
+        None
+    }
+
+    /// The place of the constructor of this number among those of its type, or None where there is no such number.
+    #[tactic(auto, using(crate::proofs::KindLaws::place_here, crate::proofs::KindLaws::place_later))]
+    pub fn place_of(&self, con: u32) -> Option<u32>
+        ensures { result ≡ place_of self.now con }
+    {
+        let mut place = con;
+        'types: for def in &self.defs {
+            if (place as usize) < def.cons.len() {
+                return Some(place);
+            }
+            place -= def.cons.len() as u32;
         }
         None
     }

@@ -16,7 +16,7 @@ use Rattle.grail_code.specs.declared.code.CaseCell.{CaseCell}
 use Rattle.grail_code.specs.declared.code.CaseCell.TheVariants as cell
 use Rattle.grail_code.specs.Code.{Operation, Lit, Flag, Copy, Prim, Make, Call, Binding, Arm, Exit, Ret, Tail, Goto, If, Case, BasicBlock, Function, Program}
 use Rattle.grail_code.specs.Fuel.{StopsOnFuel}
-use Rattle.grail_code.specs.Meaning.{Locals, Later, put, arguments, narrowed, values_of, operands, built, op_run, lets_run, put_all, cell_run, arm_run, arm_at, case_run, exit_run, block_run, jump_run, blocks_run, body_run, calls, run_of}
+use Rattle.grail_code.specs.Meaning.{Locals, Later, put, arguments, narrowed, values_of, operands, built, op_run, lets_run, put_all, cell_run, arm_run, arm_at, case_run, exit_run, block_run, jump_run, blocks_run, body_run, calls, entering, run_of}
 
 abbrev Relation : Type 1
 Relation = ℕ → ℕ → Outcome Value → Outcome Value → Type 0
@@ -219,3 +219,15 @@ short_is p limit f k j args v c q l e h =
 
 pub deep_is : (p : Program) (limit f k j : ℕ) (args : List Value) (q : ℕ) → run_of p limit f k args ≡ Deep q → k ≤ j → run_of p limit f j args ≡ Deep q
 deep_is p limit f k j args q e h = let g : Goes k (Deep q) (run_of p limit f j args) = subst (λ o. Goes k o (run_of p limit f j args)) e (more_fuel p limit f k j args h) in g
+
+-- ---- calls without a clock
+
+-- one step of a call, where the calls in the body are those with their own fuel as clock
+pub unfolds : (p : Program) (limit k w : ℕ) (t : Bool) (f : ℕ) (args : List Value) → calls p limit (suc k) (suc k) w t f args
+    ≡ (if is_too_deep limit w t then Deep 0 else entered (body_run p.types (entering p limit) (slice_get p.funcs f) k (cond t w (suc w)) args))
+unfolds p limit k w t f args =
+    ap (λ o. if is_too_deep limit w t then Deep 0 else entered o)
+    (body_related (Equal k) Same (same_is_closed k) p.types (calls p limit k) (entering p limit) own (slice_get p.funcs f) k k (cond t w (suc w)) args (refl, omega arith))
+  where
+    own : Related (Equal k) Same (calls p limit k) (entering p limit)
+    own i j u s g vs e = clock_is p limit k i u s g vs e.1 ∙ ap (λ n. calls p limit n n u s g vs) e.0

@@ -1,16 +1,22 @@
 //! Laws of the meaning of code, as the contracts of functions that do nothing.
-ghost use Rattle.std.specs.Prelude.{◌≡◌, ℕ, ◌≤◌, ◌<◌, Bool, List};
+ghost use Rattle.std.specs.Prelude.{◌≡◌, ℕ, suc, ◌≤◌, ◌<◌, Bool, cond, if◌then◌else◌, List, slice_get};
 ghost use Rattle.camelot_values.specs.Value.{Value};
-ghost use Rattle.camelot_values.specs.Outcome.{Done, Fuel, Deep};
+ghost use Rattle.camelot_values.specs.Outcome.{Done, Fuel, Deep, entered};
+ghost use Rattle.camelot_values.specs.Runs.{is_too_deep};
 ghost use Rattle.grail_code.specs.Code.{Program};
 ghost use Rattle.grail_code.specs.Fuel.{StopsOnFuel};
-ghost use Rattle.grail_code.specs.Meaning.{calls, run_of};
+ghost use Rattle.grail_code.specs.Meaning.{body_run, calls, entering, run_of};
 
-/// A clock beyond the fuel changes nothing of what a call means.
-#[tactic(auto, using(crate::proofs::Clock::clock_is))]
+/// A clock beyond the fuel changes nothing of what a call means. So the clock can be forgotten: a call without fuel stops,
+/// and one with fuel enters its function with one unit less, where the calls in the body mean what calls mean.
+#[tactic(auto, using(crate::proofs::Clock::clock_is, crate::proofs::Clock::unfolds))]
 pub fn law_of_clock()
-    ensures { (program : Program) (limit clock fuel waits : ℕ) (tail : Bool) (func : ℕ) (args : List Value) → fuel ≤ clock
+    ensures clock { (program : Program) (limit clock fuel waits : ℕ) (tail : Bool) (func : ℕ) (args : List Value) → fuel ≤ clock
         → calls program limit clock fuel waits tail func args ≡ calls program limit fuel fuel waits tail func args }
+    ensures empty { (program : Program) (limit waits func : ℕ) (tail : Bool) (args : List Value) → entering program limit 0 waits tail func args ≡ Fuel 0 0 }
+    ensures unfolds { (program : Program) (limit fuel waits func : ℕ) (tail : Bool) (args : List Value) → entering program limit (suc fuel) waits tail func args
+        ≡ (if is_too_deep limit waits tail then Deep 0
+            else entered (body_run program.types (entering program limit) (slice_get program.funcs func) fuel (cond tail waits (suc waits)) args)) }
 {}
 
 /// A run that stops on fuel has entered as many functions as it had fuel, and one that comes to a value at most as many.

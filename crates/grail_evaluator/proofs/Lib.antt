@@ -1,0 +1,3 @@
+pub mod CallLaws
+pub mod LocalLaws
+pub mod StepLaws

@@ -1,0 +1,4 @@
+-- The evaluator beside the meaning of code.
+pub mod Trees
+pub mod Locals
+pub mod Outcomes
