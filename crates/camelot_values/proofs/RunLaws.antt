@@ -11,7 +11,7 @@ pub record Closed (Fine : ℕ → ℕ → Type 0) (R : ℕ → ℕ → Outcome V
   pub free : (j k : ℕ) (v : Value) (p l : ℕ) → R j k (Done v 0 p l) (Done v 0 p l)
   pub stuck : (j k : ℕ) → R j k Stuck Stuck
   pub sequence : (j k : ℕ) (o o' : Outcome Value) (next next' : ℕ → Value → Outcome Value) → Fine j k → R j k o o'
-    → ((c : ℕ) (v : Value) → R (j - c) (k - c) (next (j - c) v) (next' (k - c) v)) → R j k (first_then j o next) (first_then k o' next')
+      → ((c : ℕ) (v : Value) → R (j - c) (k - c) (next (j - c) v) (next' (k - c) v)) → R j k (first_then j o next) (first_then k o' next')
   pub moved : (j k p l : ℕ) (o o' : Outcome Value) → R j k o o' → R j k (after 0 p l o) (after 0 p l o')
 
 -- ---- the same run

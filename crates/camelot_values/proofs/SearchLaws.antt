@@ -94,15 +94,18 @@ begin_fields types first place marks s w = record {
   where
     within : place < length marks
     within = slice_get_within marks place Waiting w
+
     old : (u : ℕ) → slice_get (slice_set marks place Done) u ≡ Some New → slice_get marks u ≡ Some New
     old u e = by_place u e (same_place place u)
       where
         by_place : (u : ℕ) → slice_get (slice_set marks place Done) u ≡ Some New → (place ≡ u) ⊎ (place ≡ u → ⊥) → slice_get marks u ≡ Some New
         by_place u e (inl p) = let f : Some Done ≡ Some New = sym (get_set_same marks place Done (slice_get_within marks place Waiting w)) ∙ ap (slice_get (slice_set marks place Done)) p ∙ e in absurd cc
         by_place u e (inr n) = sym (get_set_other marks place u Done n) ∙ e
+
     sound : (u : ℕ) (m : Mark) → slice_get (slice_set marks place Done) u ≡ Some m → (m ≡ New → ⊥) → (place ≡ u) ⊎ (place ≡ u → ⊥) → IsLedTo types first u
     sound u m e n (inl p) = subst (IsLedTo types first) p (s.sound place Waiting w (λ x. absurd cc))
     sound u m e n (inr p) = s.sound u m (sym (get_set_other marks place u Done p) ∙ e) n
+
     closed : (t u : ℕ) → slice_get (slice_set marks place Done) t ≡ Some Done → HoldsType types t u → slice_get marks u ≡ Some New → (place ≡ t) ⊎ (place ≡ t → ⊥) → (t ≡ place) × IsTrue (list_any (is_of u) (fields_at types place))
     closed t u d h e (inl p) = (sym p, subst (λ x. HoldsType types x u) (sym p) h)
     closed t u d h e (inr n) = absurd (s.closed t u (sym (get_set_other marks place t Done n) ∙ d) h e)
@@ -127,9 +130,11 @@ wait_met types first place u left marks b new = record {
         either : (c : Bool) → IsTrue (list_any (is_of y) left) → IsTrue (c || list_any (is_of y) left)
         either true h = refl
         either false h = h
+
     old : (y : ℕ) → slice_get (slice_set marks u Waiting) y ≡ Some New → (u ≡ y) ⊎ (u ≡ y → ⊥) → (slice_get marks y ≡ Some New) × (u ≡ y → ⊥)
     old y e (inl p) = let f : Some Waiting ≡ Some New = sym (get_set_same marks u Waiting (slice_get_within marks u New new)) ∙ ap (slice_get (slice_set marks u Waiting)) p ∙ e in absurd cc
     old y e (inr n) = (sym (get_set_other marks u y Waiting n) ∙ e, n)
+
     sound : (y : ℕ) (m : Mark) → slice_get (slice_set marks u Waiting) y ≡ Some m → (m ≡ New → ⊥) → (u ≡ y) ⊎ (u ≡ y → ⊥) → IsLedTo types first y
     sound y m e n (inl p) =
         let self : (u == u) ≡ true = grind (arith, nat_tests) in
@@ -137,6 +142,7 @@ wait_met types first place u left marks b new = record {
         let l = b.here in
         subst (IsLedTo types first) p (l.0 ++ (u ∷ []), one_more types first l.0 place u l.1 held)
     sound y m e n (inr p) = b.sound y m (sym (get_set_other marks u y Waiting p) ∙ e) n
+
     closed : (t y : ℕ) → slice_get (slice_set marks u Waiting) t ≡ Some Done → HoldsType types t y → slice_get (slice_set marks u Waiting) y ≡ Some New → (u ≡ t) ⊎ (u ≡ t → ⊥) → (u ≡ y) ⊎ (u ≡ y → ⊥) → (t ≡ place) × IsTrue (list_any (is_of y) left)
     closed t y d h e (inl p) q = let f : Some Waiting ≡ Some Done = sym (get_set_same marks u Waiting (slice_get_within marks u New new)) ∙ ap (slice_get (slice_set marks u Waiting)) p ∙ d in absurd cc
     closed t y d h e (inr p) q =
@@ -162,6 +168,7 @@ wait_old types first place q left marks b met_before = record {
     later : (y : ℕ) (c : Bool) → IsTrue (list_any (is_of y) left) → IsTrue (c || list_any (is_of y) left)
     later y true h = refl
     later y false h = h
+
     other : (y : ℕ) → slice_get marks y ≡ Some New → (c : Bool) → is_of y q ≡ c → IsTrue (c || list_any (is_of y) left) → IsTrue (list_any (is_of y) left)
     other y e true is h = absurd (met_before y is e)
     other y e false is h = h
@@ -174,6 +181,7 @@ wait_one types first place (Of u) left marks b = by_mark (slice_get marks u) ref
   where
     seen : (o : Option Mark) → slice_get marks u ≡ o → (o ≡ Some New → ⊥) → (y : ℕ) → IsTrue (is_of y (Of u)) → slice_get marks y ≡ Some New → ⊥
     seen o e n y h f = let p : u ≡ y = grind (arith, nat_tests, h) in n (sym e ∙ ap (slice_get marks) p ∙ f)
+
     by_mark : (o : Option Mark) → slice_get marks u ≡ o → Between types first place left (met o u marks)
     by_mark None e = wait_old types first place (Of u) left marks b (seen None e (λ x. absurd cc))
     by_mark (Some New) e = wait_met types first place u left marks b e
@@ -251,9 +259,11 @@ starts_new types n first size h = record {
   where
     here : slice_get (slice_set (replicate n New) first Waiting) first ≡ Some Waiting
     here = get_set_same (replicate n New) first Waiting (omega (arith, length_new n))
+
     sound : (u : ℕ) (m : Mark) → slice_get (slice_set (replicate n New) first Waiting) u ≡ Some m → (m ≡ New → ⊥) → (first ≡ u) ⊎ (first ≡ u → ⊥) → IsLedTo types first u
     sound u m e o (inl p) = ([], p)
     sound u m e o (inr p) = absurd (o (all_new n u m (sym (get_set_other (replicate n New) first u Waiting p) ∙ e)))
+
     none : (t : ℕ) → slice_get (slice_set (replicate n New) first Waiting) t ≡ Some Done → (first ≡ t) ⊎ (first ≡ t → ⊥) → ⊥
     none t d (inl p) = let f : Some Waiting ≡ Some Done = sym (get_set_same (replicate n New) first Waiting (omega (arith, length_new n))) ∙ ap (slice_get (slice_set (replicate n New) first Waiting)) p ∙ d in absurd cc
     none t d (inr p) = let f : Done ≡ New = all_new n t Done (sym (get_set_other (replicate n New) first t Waiting p) ∙ d) in absurd cc

@@ -29,4 +29,3 @@ pub record Searched (types : List DataType) (first : ℕ) (marks : List Mark) : 
   pub begun : slice_get marks first ≡ Some New → ⊥
   pub sound : (u : ℕ) (m : Mark) → slice_get marks u ≡ Some m → (m ≡ New → ⊥) → IsLedTo types first u
   pub closed : (t u : ℕ) → slice_get marks t ≡ Some Done → HoldsType types t u → slice_get marks u ≡ Some New → ⊥
-
