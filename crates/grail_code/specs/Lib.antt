@@ -1,5 +1,6 @@
 -- Grail code as plain data, its spelling, when it is well formed, and what it means.
 pub mod Code
 pub mod Spelling
+pub mod Reader
 pub mod WellFormed
 pub mod Meaning

@@ -3,5 +3,6 @@
 #![tactic(auto)]
 
 mod code;
+mod reader;
 
 pub use code::{Block, CaseArm, CaseCell, Code, Func, Let, Op, Place, PrimCode, Term};
