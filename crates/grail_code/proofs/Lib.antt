@@ -1,1 +1,2 @@
 pub mod SpellingParts
+pub mod SpellingCode

@@ -285,7 +285,7 @@ tag_law limit positive = retold _ _ _ (λ n. n < limit) (λ n. n ∷ []) (λ n h
 
 -- ---- things in a row
 
-abbrev InRow : {A : Type 0} → (A → Type 0) → ℕ → List A → Type 0
+abbrev pub InRow : {A : Type 0} → (A → Type 0) → ℕ → List A → Type 0
 InRow F n xs = (length xs ≡ n) × AllByRecursion F xs
 
 row_from : {A : Type 0} (F : A → Type 0) (n : ℕ) (xs : List A) → InRow F (suc n) xs → Made (λ (p : A × List A). F p.0 × InRow F n p.1) (λ p. p.0 ∷ p.1) xs

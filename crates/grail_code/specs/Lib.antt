@@ -2,5 +2,6 @@
 pub mod Code
 pub mod Spelling
 pub mod Reader
+pub mod CodeReader
 pub mod WellFormed
 pub mod Meaning
