@@ -1,2 +1,4 @@
 pub mod SpellingParts
 pub mod SpellingCode
+pub mod SpellingMeans
+pub mod SpellingLoops

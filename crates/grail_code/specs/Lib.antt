@@ -3,5 +3,6 @@ pub mod Code
 pub mod Spelling
 pub mod Reader
 pub mod CodeReader
+pub mod Decoding
 pub mod WellFormed
 pub mod Meaning

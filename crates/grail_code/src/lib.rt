@@ -3,6 +3,8 @@
 #![tactic(auto)]
 
 mod code;
+mod fault;
 mod reader;
 
 pub use code::{Block, CaseArm, CaseCell, Code, Func, Let, Op, Place, PrimCode, Term};
+pub use fault::DecodeFault;
