@@ -7,7 +7,7 @@ use Rattle.std.proofs.lemmas.List.Concat.{flat_map-cons}
 use Rattle.std.proofs.lemmas.Int.{of_z-to_z, to_z-of_z}
 use Rattle.std.proofs.Math.Facts.{sfits_to_z, Fits-of_z}
 use Rattle.camelot_values.specs.Names.{is_lower, is_upper, is_tail, has_form, IsName}
-use Rattle.camelot_values.specs.Kinds.{Constructor, DataType}
+use Rattle.camelot_values.specs.Kinds.{Constructor, DataType, IsConstructor, IsDataType, AreTypes}
 use Rattle.camelot_values.specs.Operator as operator
 use Rattle.camelot_values.specs.Operator.{Operator}
 use Rattle.camelot_values.specs.declared.kinds.Kind.{Kind}
@@ -21,7 +21,7 @@ use Rattle.grail_code.specs.Spelling as s
 use Rattle.grail_code.specs.Spelling.{number, counted, name, AreCounted, IsLocal, FitsKind, FitsCon, FitsType, FitsPlace, FitsOperation, FitsLet, FitsCell, FitsArm, FitsExit, FitsBlock, FitsFunction, FitsCode}
 use Rattle.grail_code.specs.Reader.{Read, Done, then_read, map_read, pair_at, byte_at, tag_at, leb_at, times_at, counted_at}
 use Rattle.grail_code.specs.CodeReader.{tail_at, word_at, name_at, numbered_kind, kind_at, fields_at, layout_at, con_at, type_at, local_at, numbered_operator, operator_at, place_rest, place_at, lit_at, flag_at, copy_at, prim_at, make_at, call_at, op_rest, op_at, let_at, cell_rest, cell_at, arm_at, ret_at, tail_call_at, goto_at, if_at, case_at, exit_rest, exit_at, block_at, header_at, func_at, headed_at, tables_at, code_at}
-use Rattle.grail_code.proofs.SpellingParts.{Lawful, Made, retold, made, pair, bind, constant, byte_law, headed, tagged, tag_law, InRow, row_law, number_law, counted_law}
+use Rattle.grail_code.proofs.SpellingParts.{Lawful, Tells, Made, retold, made, pair, bind, constant, byte_law, headed, tagged, tag_law, InRow, row_law, number_law, counted_law}
 
 -- ---- names
 
@@ -586,3 +586,19 @@ pub code_law : Lawful FitsCode s.spelling code_at
 unfolding code_at tables_bytes
 code_law = retold _ _ _ FitsCode s.spelling (λ p h. h) (λ p h. h) (λ p h. refl)
     (headed_law FitsCode _ _ 71 (headed_law FitsCode _ _ 82 (headed_law FitsCode _ _ 76 (headed_law FitsCode tables_bytes tables_at 49 tables_law))))
+
+-- ---- what the code's own types ask for
+
+cons_fit : (cs : List Constructor) → AllByRecursion FitsCon cs → AllByRecursion IsConstructor cs
+cons_fit [] h = tt
+cons_fit (c ∷ cs) h = (record { few_fields = h.0.fields.few; inline_is_bare = h.0.inline_is_bare }, cons_fit cs h.1)
+
+each_fits : (ts : List DataType) → AllByRecursion FitsType ts → AllByRecursion IsDataType ts
+each_fits [] h = tt
+each_fits (t ∷ ts) h = (record { some_cons = h.0.cons.enough; few_cons = h.0.cons.few; each = cons_fit t.cons h.0.cons.each }, each_fits ts h.1)
+
+types_told : (ts : List DataType) (rest bytes : List ℕ) (o : Read (List DataType)) → o ≡ Done ts rest → Tells (AreCounted FitsType 0 64) (counted s.type_bytes) bytes o → AreTypes ts
+types_told ts rest bytes o e h = let k = subst (Tells (AreCounted FitsType 0 64) (counted s.type_bytes) bytes) e h in record { few_types = k.0.few; each = each_fits ts k.0.each }
+
+pub types_fit : (bytes rest : List ℕ) (ts : List DataType) → counted_at type_at 0 64 bytes ≡ Done ts rest → AreTypes ts
+types_fit bytes rest ts e = types_told ts rest bytes (counted_at type_at 0 64 bytes) e ((counted_law FitsType s.type_bytes type_at 0 64 (lit≤ tt) (lit≤ tt) type_law).tells bytes)

@@ -9,7 +9,7 @@ use Rattle.grail_code.specs.declared.fault.DecodeFault.TheVariants as fault
 use Rattle.grail_code.specs.Code.{Program, program_of}
 use Rattle.grail_code.specs.Reader.{Read, Done, More, Stop}
 use Rattle.grail_code.specs.CodeReader.{code_at}
-use Rattle.grail_code.specs.Decoding.{IsSo, Says, whole}
+use Rattle.grail_code.specs.Decoding.{IsSo, Says, whole, Sees}
 use Rattle.grail_code.specs.Spelling.{spelling, FitsCode, Decoded, Spelled, Front, Broken, IsSpelling, BeginsCode, IsFront, IsLongestBegin, Means}
 use Rattle.grail_code.proofs.SpellingParts.{Lawful, Begins, Stops, Tells, Same, one_way}
 use Rattle.grail_code.proofs.SpellingCode.{code_law}
@@ -119,29 +119,22 @@ means_one bytes (Broken m) (Broken n) h k = ap Broken (longest_once bytes m n h 
 
 -- ---- what decoding answers
 
--- the answer is what was read, unless memory ran out
-abbrev pub sees : Result Code DecodeFault → Decoded → Type 0
-sees (Ok code) o = o ≡ Spelled (program_of code)
-sees (Err fault.Short) o = o ≡ Front
-sees (Err (fault.Bad at)) o = o ≡ Broken at
-sees (Err fault.Memory) o = Unit {0}
-
-is_so : (bytes : List ℕ) (r : Result Code DecodeFault) (o : Decoded) → Means bytes o → sees r o → IsSo bytes r
+is_so : (bytes : List ℕ) (r : Result Code DecodeFault) (o : Decoded) → Means bytes o → Sees r o → IsSo bytes r
 is_so bytes (Ok code) o h e = subst (Means bytes) e h
 is_so bytes (Err fault.Short) o h e = subst (Means bytes) e h
 is_so bytes (Err (fault.Bad at)) o h e = subst (Means bytes) e h
 is_so bytes (Err fault.Memory) o h e = tt
 
-says_same : (r : Result Code DecodeFault) (o : Decoded) → sees r o → Says r o
+says_same : (r : Result Code DecodeFault) (o : Decoded) → Sees r o → Says r o
 says_same (Ok code) o e = subst (Says (Ok code)) (sym e) refl
 says_same (Err fault.Short) o e = subst (Says (Err fault.Short)) (sym e) tt
 says_same (Err (fault.Bad at)) o e = subst (Says (Err (fault.Bad at))) (sym e) refl
 says_same (Err fault.Memory) o e = tt
 
 -- the answer is so
-pub found_so : (bytes : List ℕ) (r : Result Code DecodeFault) → sees r (whole bytes (code_at bytes)) → IsSo bytes r
+pub found_so : (bytes : List ℕ) (r : Result Code DecodeFault) → Sees r (whole bytes (code_at bytes)) → IsSo bytes r
 found_so bytes r e = is_so bytes r (whole bytes (code_at bytes)) (means_whole bytes) e
 
 -- what the bytes mean is answered
-pub means_said : (bytes : List ℕ) (r : Result Code DecodeFault) (o : Decoded) → sees r (whole bytes (code_at bytes)) → Means bytes o → Says r o
+pub means_said : (bytes : List ℕ) (r : Result Code DecodeFault) (o : Decoded) → Sees r (whole bytes (code_at bytes)) → Means bytes o → Says r o
 means_said bytes r o e h = subst (Says r) (means_one bytes (whole bytes (code_at bytes)) o (means_whole bytes) h) (says_same r (whole bytes (code_at bytes)) e)

@@ -7,6 +7,8 @@ use Rattle.camelot_values.specs.Operator as operator
 use Rattle.camelot_values.specs.Operator.{Operator}
 use Rattle.camelot_values.specs.declared.kinds.Kind.{Kind}
 use Rattle.camelot_values.specs.declared.kinds.Kind.TheVariants as kind
+use Rattle.grail_code.specs.declared.decoder.names.Letter.{Letter}
+use Rattle.grail_code.specs.declared.decoder.names.Letter.TheVariants as letter
 use Rattle.grail_code.specs.declared.code.Place.{Place}
 use Rattle.grail_code.specs.declared.code.Place.TheVariants as place
 use Rattle.grail_code.specs.declared.code.CaseCell.{CaseCell}
@@ -15,6 +17,11 @@ use Rattle.grail_code.specs.Code.{Operation, Lit, Flag, Copy, Prim, Make, Call, 
 use Rattle.grail_code.specs.Reader.{Read, Done, then_read, map_read, pair_at, byte_at, tag_at, leb_at, times_at, counted_at}
 
 -- ---- names
+
+-- whether a name may begin with this byte
+abbrev pub starts_name : Letter → ℕ → Bool
+starts_name letter.Lower = is_lower
+starts_name letter.Upper = is_upper
 
 unfoldable pub tail_at : List ℕ → Read ℕ
 tail_at bytes = byte_at is_tail bytes

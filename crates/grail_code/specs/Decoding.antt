@@ -28,3 +28,10 @@ whole bytes (Done p []) = Spelled p
 whole bytes (Done p (b ∷ rest)) = Broken (length bytes - length (b ∷ rest))
 whole bytes More = Front
 whole bytes (Stop left) = Broken (length bytes - left)
+
+-- the answer is what was read, unless memory ran out
+abbrev pub Sees : Result Code DecodeFault → Decoded → Type 0
+Sees (Ok code) o = o ≡ Spelled (program_of code)
+Sees (Err fault.Short) o = o ≡ Front
+Sees (Err (fault.Bad at)) o = o ≡ Broken at
+Sees (Err fault.Memory) o = Unit {0}

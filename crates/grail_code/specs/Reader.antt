@@ -1,8 +1,8 @@
 -- Reading bytes from the left, as functions on lists. A reader answers a value and the bytes behind it, or where it
 -- stopped. What is bad is told by how many bytes are left from there on, so that readers in a row hand it on unchanged.
 use Rattle.std.specs.Prelude.{◌≡◌, ℕ, zero, suc, ◌+◌, ◌-◌, ◌*◌, ◌/◌, min, nat_lt, if◌then◌else◌, Bool, List, [], ◌∷◌, length, Result, Ok, Err}
-use Rattle.grail_code.specs.declared.reader.Halt.{Halt}
-use Rattle.grail_code.specs.declared.reader.Halt.TheVariants as halt
+use Rattle.grail_code.specs.declared.decoder.reader.Halt.{Halt}
+use Rattle.grail_code.specs.declared.decoder.reader.Halt.TheVariants as halt
 
 pub data Read (A : Type 0) : Type 0 where
   -- a value, and the bytes behind it

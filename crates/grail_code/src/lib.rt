@@ -3,8 +3,9 @@
 #![tactic(auto)]
 
 mod code;
+mod decoder;
 mod fault;
-mod reader;
 
 pub use code::{Block, CaseArm, CaseCell, Code, Func, Let, Op, Place, PrimCode, Term};
+pub use decoder::decode;
 pub use fault::DecodeFault;

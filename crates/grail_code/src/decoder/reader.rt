@@ -1,7 +1,7 @@
 //! Reading from the left. Each reader takes bytes, and answers a value with the bytes behind it.
 
 ghost use Rattle.std.specs.Prelude.{◌≡◌, ℕ, ◌≤◌, List, length, map, vec_len, IfOk};
-ghost use Rattle.grail_code.specs.declared.reader.Halt.TheVariants.{Memory};
+ghost use Rattle.grail_code.specs.declared.decoder.reader.Halt.TheVariants.{Memory};
 ghost use Rattle.grail_code.specs.Reader.{Read, Gives, leb_at, times_at, counted_at};
 
 use std::alloc::{AllocError, AllocFailed, Global};

@@ -1,7 +1,7 @@
 use Rattle.std.proofs.Common.{◌≡◌, ◌-◌, map, vec_len}
 use Rattle.grail_code.specs.Reader.{times_at}
 use Rattle.grail_code.proofs.SpellingLoops.{with_front}
-use Rattle.grail_code.proofs.reader.times.Given as goal
+use Rattle.grail_code.proofs.decoder.reader.times.Given as goal
 
 abbrev pub invariant-things : goal.invariant-things
 invariant-things g l = record {
