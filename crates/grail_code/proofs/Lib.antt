@@ -2,3 +2,4 @@ pub mod SpellingParts
 pub mod SpellingCode
 pub mod SpellingMeans
 pub mod SpellingLoops
+pub mod SpellingNames

@@ -138,3 +138,6 @@ found_so bytes r e = is_so bytes r (whole bytes (code_at bytes)) (means_whole by
 -- what the bytes mean is answered
 pub means_said : (bytes : List ℕ) (r : Result Code DecodeFault) (o : Decoded) → Sees r (whole bytes (code_at bytes)) → Means bytes o → Says r o
 means_said bytes r o e h = subst (Says r) (means_one bytes (whole bytes (code_at bytes)) o (means_whole bytes) h) (says_same r (whole bytes (code_at bytes)) e)
+
+pub means_some : (bytes : List ℕ) → (o : Decoded) × Means bytes o
+means_some bytes = (whole bytes (code_at bytes), means_whole bytes)

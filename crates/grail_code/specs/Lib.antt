@@ -6,3 +6,4 @@ pub mod CodeReader
 pub mod Decoding
 pub mod WellFormed
 pub mod Meaning
+pub mod ByName

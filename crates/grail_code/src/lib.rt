@@ -5,6 +5,7 @@
 mod code;
 mod decoder;
 mod fault;
+pub mod laws;
 
 pub use code::{Block, CaseArm, CaseCell, Code, Func, Let, Op, Place, PrimCode, Term};
 pub use decoder::decode;
