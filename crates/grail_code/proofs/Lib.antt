@@ -3,3 +3,4 @@ pub mod SpellingCode
 pub mod SpellingMeans
 pub mod SpellingLoops
 pub mod SpellingNames
+pub mod SpellingWrites

@@ -4,9 +4,11 @@
 
 mod code;
 mod decoder;
+mod encoder;
 mod fault;
 pub mod laws;
 
 pub use code::{Block, CaseArm, CaseCell, Code, Func, Let, Op, Place, PrimCode, Term};
 pub use decoder::decode;
+pub use encoder::encode;
 pub use fault::DecodeFault;
