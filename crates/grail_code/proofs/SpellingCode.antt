@@ -60,9 +60,9 @@ unfolding word_at
 word_law is_first letter good zero some = absurd (omega arith)
 word_law is_first letter good (suc n) some =
     made (Letters is_first n) (λ p. (p.0 ∷ []) ++ flat_map (λ b. b ∷ []) p.1) (pair_at (byte_at is_first) (times_at tail_at n)) (IsWord is_first (suc n)) (λ word. word) (λ p. p.0 ∷ p.1)
-      (λ p h. (ap suc h.1.0, rw (h.0) (tails_all p.1 h.1.1))) (word_from is_first n) (λ p h. ap (λ w. p.0 ∷ w) (as_they_are p.1))
-      (pair (λ b. is_first b ≡ true) (λ b. b ∷ []) (byte_at is_first) (InRow (λ b. is_tail b ≡ true) n) (λ xs. flat_map (λ b. b ∷ []) xs) (times_at tail_at n)
-        (byte_law is_first letter good) (row_law (λ b. is_tail b ≡ true) (λ b. b ∷ []) tail_at tail_law n))
+    (λ p h. (ap suc h.1.0, rw (h.0) (tails_all p.1 h.1.1))) (word_from is_first n) (λ p h. ap (λ w. p.0 ∷ w) (as_they_are p.1))
+    (pair (λ b. is_first b ≡ true) (λ b. b ∷ []) (byte_at is_first) (InRow (λ b. is_tail b ≡ true) n) (λ xs. flat_map (λ b. b ∷ []) xs) (times_at tail_at n)
+    (byte_law is_first letter good) (row_law (λ b. is_tail b ≡ true) (λ b. b ∷ []) tail_at tail_law n))
 
 some_letters : (is_first : ℕ → Bool) (word : List ℕ) → IsTrue (has_form is_first word) → 1 ≤ length word
 some_letters is_first [] h = absurd cc
@@ -72,8 +72,8 @@ name_law : (is_first : ℕ → Bool) (letter : ℕ) → is_first letter ≡ true
 unfolding name_at
 name_law is_first letter good =
     retold _ _ _ (IsName is_first) name (λ w h. record { form = h.1.1; short = h.0.1 }) (λ w h. ((some_letters is_first w h.form, h.short), (refl, h.form))) (λ w h. refl)
-      (bind (λ n. (1 ≤ n) × (n ≤ 64)) number (leb_at 4 1 64) (λ n w. IsWord is_first n w) (λ n w. w) (λ n rest. word_at is_first n rest) length
-        (number_law 1 64 (lit≤ tt) (lit≤ tt)) (λ n w h. h.0) (λ n h. word_law is_first letter good n h.0))
+    (bind (λ n. (1 ≤ n) × (n ≤ 64)) number (leb_at 4 1 64) (λ n w. IsWord is_first n w) (λ n w. w) (λ n rest. word_at is_first n rest) length
+    (number_law 1 64 (lit≤ tt) (lit≤ tt)) (λ n w h. h.0) (λ n h. word_law is_first letter good n h.0))
 
 lower_law : Lawful (IsName is_lower) name (name_at is_lower)
 lower_law = name_law is_lower 97 refl
@@ -345,7 +345,7 @@ unfolding make_at
 make_law = made MakeFits (λ p. number p.0 ++ (counted number p.1.0 ++ s.place_bytes p.1.1)) (pair_at (leb_at 4 0 4095) (pair_at (counted_at local_at 0 4) place_at)) (OpFits 4) op_tail (λ p. Make p.0 p.1.0 p.1.1)
     (λ p h. ((h.0, h.1.0, h.1.1), refl)) make_from (λ p h. sym (append_assoc (number p.0) (counted number p.1.0) (s.place_bytes p.1.1)))
     (pair (λ n. n ≤ 4095) number (leb_at 4 0 4095) (λ (p : List ℕ × Place). AreCounted IsLocal 0 4 p.0 × FitsPlace p.1) (λ p. counted number p.0 ++ s.place_bytes p.1) (pair_at (counted_at local_at 0 4) place_at) (upto_law 4095)
-      (pair (AreCounted IsLocal 0 4) (counted number) (counted_at local_at 0 4) FitsPlace s.place_bytes place_at (locals_law 4) place_law))
+    (pair (AreCounted IsLocal 0 4) (counted number) (counted_at local_at 0 4) FitsPlace s.place_bytes place_at (locals_law 4) place_law))
 
 call_from : (op : Operation) → OpFits 5 op → Made CallFits (λ p. Call p.0 p.1) op
 call_from (Call f args) h = record { value = (f, args); fits = h.0; is = refl }
@@ -427,7 +427,7 @@ arm_law = made (λ (p : List ℕ × (CaseCell × ℕ)). AreCounted IsLocal 0 4 p
     (λ a h. record { value = (a.fields, (a.cell, a.target)); fits = (h.fields, (h.cell, h.target)); is = refl })
     (λ p h. sym (append_assoc (counted number p.0) (s.cell_bytes p.1.0) (number p.1.1)))
     (pair (AreCounted IsLocal 0 4) (counted number) (counted_at local_at 0 4) (λ (p : CaseCell × ℕ). FitsCell p.0 × IsLocal p.1) (λ p. s.cell_bytes p.0 ++ number p.1) (pair_at cell_at local_at) (locals_law 4)
-      (pair FitsCell s.cell_bytes cell_at IsLocal number local_at cell_law local_law))
+    (pair FitsCell s.cell_bytes cell_at IsLocal number local_at cell_law local_law))
 
 abbrev exit_tag : Exit → ℕ
 exit_tag (Ret x) = 0
@@ -535,7 +535,7 @@ block_law = made BlockParts (λ p. counted number p.0 ++ (counted s.let_bytes p.
     (λ b h. record { value = (b.params, (b.lets, b.exit)); fits = (h.params, (h.lets, h.exit)); is = refl })
     (λ p h. sym (append_assoc (counted number p.0) (counted s.let_bytes p.1.0) (s.exit_bytes p.1.1)))
     (pair (AreCounted IsLocal 0 256) (counted number) (counted_at local_at 0 256) (λ (p : List Binding × Exit). AreCounted FitsLet 0 256 p.0 × FitsExit p.1) (λ p. counted s.let_bytes p.0 ++ s.exit_bytes p.1) (pair_at (counted_at let_at 0 256) exit_at) (locals_law 256)
-      (pair (AreCounted FitsLet 0 256) (counted s.let_bytes) (counted_at let_at 0 256) FitsExit s.exit_bytes exit_at (counted_law FitsLet s.let_bytes let_at 0 256 (lit≤ tt) (lit≤ tt) let_law) exit_law))
+    (pair (AreCounted FitsLet 0 256) (counted s.let_bytes) (counted_at let_at 0 256) FitsExit s.exit_bytes exit_at (counted_law FitsLet s.let_bytes let_at 0 256 (lit≤ tt) (lit≤ tt) let_law) exit_law))
 
 abbrev Header : Type 0
 Header = List Kind × (Kind × List Kind)
@@ -565,7 +565,7 @@ func_law = made FuncParts (λ p. name p.0 ++ (header_bytes p.1.0 ++ counted s.bl
     (λ f h. record { value = (f.name, ((f.params, (f.result, f.locals)), f.blocks)); fits = (h.name, ((h.params, (h.result, h.locals)), h.blocks)); is = refl })
     (λ p h. five (name p.0) (counted s.kind_bytes p.1.0.0) (s.kind_bytes p.1.0.1.0) (counted s.kind_bytes p.1.0.1.1) (counted s.block_bytes p.1.1))
     (pair (IsName is_lower) name (name_at is_lower) (λ (p : Header × List BasicBlock). HeaderFits p.0 × AreCounted FitsBlock 1 256 p.1) (λ p. header_bytes p.0 ++ counted s.block_bytes p.1) (pair_at header_at (counted_at block_at 1 256)) lower_law
-      (pair HeaderFits header_bytes header_at (AreCounted FitsBlock 1 256) (counted s.block_bytes) (counted_at block_at 1 256) header_law (counted_law FitsBlock s.block_bytes block_at 1 256 (lit≤ tt) (lit≤ tt) block_law)))
+    (pair HeaderFits header_bytes header_at (AreCounted FitsBlock 1 256) (counted s.block_bytes) (counted_at block_at 1 256) header_law (counted_law FitsBlock s.block_bytes block_at 1 256 (lit≤ tt) (lit≤ tt) block_law)))
 
 tables_bytes : Program → List ℕ
 tables_bytes p = counted s.type_bytes p.types ++ counted s.function_bytes p.funcs
@@ -575,7 +575,7 @@ unfolding tables_at tables_bytes
 tables_law = made (λ (p : List DataType × List Function). AreCounted FitsType 0 64 p.0 × AreCounted FitsFunction 0 64 p.1) (λ p. counted s.type_bytes p.0 ++ counted s.function_bytes p.1) (pair_at (counted_at type_at 0 64) (counted_at func_at 0 64)) FitsCode tables_bytes
     (λ p. record { types = p.0; funcs = p.1 }) (λ p h. record { types = h.0; funcs = h.1 }) (λ c h. record { value = (c.types, c.funcs); fits = (h.types, h.funcs); is = refl }) (λ p h. refl)
     (pair (AreCounted FitsType 0 64) (counted s.type_bytes) (counted_at type_at 0 64) (AreCounted FitsFunction 0 64) (counted s.function_bytes) (counted_at func_at 0 64)
-      (counted_law FitsType s.type_bytes type_at 0 64 (lit≤ tt) (lit≤ tt) type_law) (counted_law FitsFunction s.function_bytes func_at 0 64 (lit≤ tt) (lit≤ tt) func_law))
+    (counted_law FitsType s.type_bytes type_at 0 64 (lit≤ tt) (lit≤ tt) type_law) (counted_law FitsFunction s.function_bytes func_at 0 64 (lit≤ tt) (lit≤ tt) func_law))
 
 headed_law : {A : Type 0} (F : A → Type 0) (spell : A → List ℕ) (r : List ℕ → Read A) (b : ℕ) → Lawful F spell r → Lawful F (λ x. b ∷ spell x) (headed_at b r)
 unfolding headed_at

@@ -51,8 +51,8 @@ longest_is bytes good after bad parts begins never =
       begins = subst BeginsCode (sym front) begins;
       longest = λ n le k. elim (cases_lt (length good) n) [
         | inl lt ↦
-          let taken : take n bytes ≡ good ++ (bad ∷ take (n - suc (length good)) after) = ap (take n) parts ∙ further good after bad n lt in
-          absurd (never k.program (take (n - suc (length good)) after ++ k.rest) k.fits (k.is ∙ ap (λ w. w ++ k.rest) taken ∙ append_assoc good (bad ∷ take (n - suc (length good)) after) k.rest))
+            let taken : take n bytes ≡ good ++ (bad ∷ take (n - suc (length good)) after) = ap (take n) parts ∙ further good after bad n lt in
+            absurd (never k.program (take (n - suc (length good)) after ++ k.rest) k.fits (k.is ∙ ap (λ w. w ++ k.rest) taken ∙ append_assoc good (bad ∷ take (n - suc (length good)) after) k.rest))
         | inr ge ↦ ge
       ];
     } in
@@ -64,7 +64,7 @@ begins_code bytes h = record { program = h.value; fits = h.fits; rest = h.rest; 
 stops_there : (bytes : List ℕ) (left : ℕ) → Stops FitsCode spelling bytes left → IsLongestBegin bytes (length bytes - left)
 stops_there bytes left h =
     subst (λ k. IsLongestBegin bytes (length bytes - k)) (sym h.left_is)
-      (longest_is bytes h.good h.after h.bad h.parts (begins_code h.good h.begins) (λ q rest fits e. h.never q [] rest fits (append-nil (spelling q) ∙ e)))
+    (longest_is bytes h.good h.after h.bad h.parts (begins_code h.good h.begins) (λ q rest fits e. h.never q [] rest fits (append-nil (spelling q) ∙ e)))
 
 means_read : (bytes : List ℕ) (o : Read Program) → code_at bytes ≡ o → Tells FitsCode spelling bytes o → Means bytes (whole bytes o)
 means_read bytes (Done p []) e h = record { fits = h.0; is = h.1 ∙ append-nil (spelling p) }

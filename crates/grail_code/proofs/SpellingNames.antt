@@ -24,12 +24,12 @@ named_first code i f name lt e same before = record { named = named code.funcs.i
 pub none_more : (code : Code) (i : ℕ) (f : Func) (name : List ℕ) → i < length code.funcs.items → f ≡ get_or code.funcs.items i f → (f.name ≡ name → ⊥)
     → ((earlier : ℕ) → earlier < i → HasName (program_of code) earlier name → ⊥) → (earlier : ℕ) → earlier < i + 1 → HasName (program_of code) earlier name → ⊥
 none_more code i f name lt e other before earlier below has = elim (cases_lt earlier i) [
-    | inl less ↦ before earlier less has
-    | inr ge ↦
+  | inl less ↦ before earlier less has
+  | inr ge ↦
       let at : earlier ≡ i = omega arith in
       let both : Some f.name ≡ Some name = sym (named code.funcs.items i f lt e) ∙ subst (λ k. HasName (program_of code) k name) at has in
       other cc
-  ]
+]
 
 past : (fs : List Func) (i : ℕ) (name : List ℕ) → length fs ≤ i → option_map (λ f. f.name) (slice_get (map function_of fs) i) ≡ Some name → ⊥
 past fs i name le has = let e : None ≡ Some name = sym (ap (option_map (λ (f : Func). f.name)) (slice_get_past fs i le)) ∙ sym (name_at fs i) ∙ has in absurd cc
@@ -37,6 +37,6 @@ past fs i name le has = let e : None ≡ Some name = sym (ap (option_map (λ (f 
 pub none_at_all : (code : Code) (i : ℕ) (name : List ℕ) → length code.funcs.items ≤ i → ((earlier : ℕ) → earlier < i → HasName (program_of code) earlier name → ⊥)
     → (number : ℕ) → HasName (program_of code) number name → ⊥
 none_at_all code i name le before number has = elim (cases_lt number i) [
-    | inl lt ↦ before number lt has
-    | inr ge ↦ past code.funcs.items number name (omega arith) has
-  ]
+  | inl lt ↦ before number lt has
+  | inr ge ↦ past code.funcs.items number name (omega arith) has
+]

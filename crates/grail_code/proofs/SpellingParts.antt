@@ -96,9 +96,9 @@ section_then F s r G t get law gets bytes x rest fx e (Stop left) h =
         is = subst (λ y. s y ++ t y b.value ≡ (s x ++ h.good) ++ b.rest) k whole;
       };
       never = λ c p q fits d.
-        let regrouped : s (get c) ++ (t (get c) c ++ p) ≡ s x ++ (h.good ++ (h.bad ∷ q)) = sym (append_assoc (s (get c)) (t (get c) c) p) ∙ d ∙ append_assoc (s x) h.good (h.bad ∷ q) in
-        let one = one_way F s r law (get c) x (t (get c) c ++ p) (h.good ++ (h.bad ∷ q)) fits.0 fx regrouped in
-        h.never c p q (subst (λ y. G y c) one.value fits.1) (subst (λ y. t y c ++ p ≡ h.good ++ (h.bad ∷ q)) one.value one.rest);
+          let regrouped : s (get c) ++ (t (get c) c ++ p) ≡ s x ++ (h.good ++ (h.bad ∷ q)) = sym (append_assoc (s (get c)) (t (get c) c) p) ∙ d ∙ append_assoc (s x) h.good (h.bad ∷ q) in
+          let one = one_way F s r law (get c) x (t (get c) c ++ p) (h.good ++ (h.bad ∷ q)) fits.0 fx regrouped in
+          h.never c p q (subst (λ y. G y c) one.value fits.1) (subst (λ y. t y c ++ p ≡ h.good ++ (h.bad ∷ q)) one.value one.rest);
     }
 
 begins_then : {A C : Type 0} (F : A → Type 0) (s : A → List ℕ) (G : A → C → Type 0) (t : A → C → List ℕ) (q : A → List ℕ → Read C) (get : C → A)
@@ -137,7 +137,7 @@ pub bind : {A C : Type 0} (F : A → Type 0) (s : A → List ℕ) (r : List ℕ 
 bind F s r G t q get law gets laws = record {
   tells = λ bytes. then_tells F s r G t q get law gets laws bytes (r bytes) (law.tells bytes);
   again = λ c rest fits.
-    ap (λ w. then_read (r w) q) (append_assoc (s (get c)) (t (get c) c) rest)
+      ap (λ w. then_read (r w) q) (append_assoc (s (get c)) (t (get c) c) rest)
       ∙ ap (λ o. then_read o q) (law.again (get c) (t (get c) c ++ rest) fits.0)
       ∙ (laws (get c) fits.0).again c rest fits.1;
 }
@@ -190,8 +190,8 @@ made_tells F s H t con to from spells bytes (Stop left) h =
       parts = h.parts;
       begins = record { value = con b.value; fits = to b.value b.fits; rest = b.rest; is = sym (spells b.value b.fits) ∙ b.is };
       never = λ c p q fits d.
-        let m = from c fits in
-        h.never m.value p q m.fits (ap (λ w. w ++ p) (spells m.value m.fits ∙ ap t m.is) ∙ d);
+          let m = from c fits in
+          h.never m.value p q m.fits (ap (λ w. w ++ p) (spells m.value m.fits ∙ ap t m.is) ∙ d);
     }
 
 pub made : {A C : Type 0} (F : A → Type 0) (s : A → List ℕ) (r : List ℕ → Read A) (H : C → Type 0) (t : C → List ℕ) (con : A → C)
@@ -200,8 +200,8 @@ pub made : {A C : Type 0} (F : A → Type 0) (s : A → List ℕ) (r : List ℕ 
 made F s r H t con to from spells law = record {
   tells = λ bytes. made_tells F s H t con to from spells bytes (r bytes) (law.tells bytes);
   again = λ c rest fits.
-    let m = from c fits in
-    ap (λ w. map_read con (r (w ++ rest))) (sym (spells m.value m.fits ∙ ap t m.is))
+      let m = from c fits in
+      ap (λ w. map_read con (r (w ++ rest))) (sym (spells m.value m.fits ∙ ap t m.is))
       ∙ ap (map_read con) (law.again m.value rest m.fits)
       ∙ ap (λ y. Done y rest) m.is;
 }
@@ -212,9 +212,9 @@ pub pair : {A B : Type 0} (F : A → Type 0) (s : A → List ℕ) (r : List ℕ 
     → Lawful F s r → Lawful G t q → Lawful (λ (p : A × B). F p.0 × G p.1) (λ p. s p.0 ++ t p.1) (pair_at r q)
 pair {A} {B} F s r G t q law other =
     let after : (x : A) → F x → Lawful (λ (p : A × B). G p.1 × (p.0 ≡ x)) (λ p. t p.1) (λ rest. map_read (λ y. (x, y)) (q rest)) =
-      λ x fx. made G t q (λ (p : A × B). G p.1 × (p.0 ≡ x)) (λ p. t p.1) (λ y. (x, y)) (λ y gy. (gy, refl)) (λ p h. record { value = p.1; fits = h.0; is = ap (λ (z : A). (z, p.1)) (sym h.1) }) (λ y gy. refl) other in
+    λ x fx. made G t q (λ (p : A × B). G p.1 × (p.0 ≡ x)) (λ p. t p.1) (λ y. (x, y)) (λ y gy. (gy, refl)) (λ p h. record { value = p.1; fits = h.0; is = ap (λ (z : A). (z, p.1)) (sym h.1) }) (λ y gy. refl) other in
     retold _ _ _ (λ (p : A × B). F p.0 × G p.1) (λ p. s p.0 ++ t p.1) (λ p h. (h.0, h.1.0)) (λ p h. (h.0, (h.1, refl))) (λ p h. refl)
-      (bind F s r (λ x p. G p.1 × (p.0 ≡ x)) (λ x p. t p.1) (λ x rest. map_read (λ y. (x, y)) (q rest)) (λ p. p.0) law (λ x p h. h.1) after)
+    (bind F s r (λ x p. G p.1 × (p.0 ≡ x)) (λ x p. t p.1) (λ x rest. map_read (λ y. (x, y)) (q rest)) (λ p. p.0) law (λ x p h. h.1) after)
 
 -- ---- bytes
 
@@ -265,7 +265,7 @@ pub headed : {A : Type 0} (F : A → Type 0) (s : A → List ℕ) (r : List ℕ 
 headed {A} F s r b law =
     let behind_it : (c : ℕ) → (c == b) ≡ true → Lawful (λ x. F x × (b ≡ c)) s r = λ c h. retold F s r (λ x. F x × (b ≡ c)) s (λ x k. (k, sym (eqb-true c b h))) (λ x k. k.0) (λ x k. refl) law in
     retold _ _ _ F (λ x. b ∷ s x) (λ x h. h.1.0) (λ x h. (eqb-same b, (h, refl))) (λ x h. refl)
-      (bind (λ c. (c == b) ≡ true) (λ c. c ∷ []) (byte_at (λ c. c == b)) (λ c x. F x × (b ≡ c)) (λ c x. s x) (λ c rest. r rest) (λ x. b) (byte_law (λ c. c == b) b (eqb-same b)) (λ c x h. h.1) behind_it)
+    (bind (λ c. (c == b) ≡ true) (λ c. c ∷ []) (byte_at (λ c. c == b)) (λ c x. F x × (b ≡ c)) (λ c x. s x) (λ c rest. r rest) (λ x. b) (byte_law (λ c. c == b) b (eqb-same b)) (λ c x h. h.1) behind_it)
 
 -- ---- a tag, and what follows it
 
@@ -276,8 +276,8 @@ pub tagged : {C : Type 0} (Fits : C → Type 0) (spell tail : C → List ℕ) (t
 unfolding tag_at
 tagged Fits spell tail tag limit rest positive small spells laws =
     retold _ _ _ Fits spell (λ c h. h.1.0) (λ c h. (lt-ltb (tag c) limit (small c), (h, refl))) (λ c h. sym (spells c))
-      (bind (λ b. nat_lt b limit ≡ true) (λ b. b ∷ []) (byte_at (λ b. nat_lt b limit)) (λ n c. Fits c × (tag c ≡ n)) (λ n c. tail c) rest tag
-        (byte_law (λ b. nat_lt b limit) 0 (lt-ltb 0 limit positive)) (λ n c h. h.1) (λ n h. laws n (ltb-true n limit h)))
+    (bind (λ b. nat_lt b limit ≡ true) (λ b. b ∷ []) (byte_at (λ b. nat_lt b limit)) (λ n c. Fits c × (tag c ≡ n)) (λ n c. tail c) rest tag
+    (byte_law (λ b. nat_lt b limit) 0 (lt-ltb 0 limit positive)) (λ n c h. h.1) (λ n h. laws n (ltb-true n limit h)))
 
 pub tag_law : (limit : ℕ) → 0 < limit → Lawful (λ n. n < limit) (λ n. n ∷ []) (tag_at limit)
 unfolding tag_at
@@ -297,8 +297,8 @@ unfolding times_at
 row_law F s r law zero = constant (InRow F 0) (λ xs. flat_map s xs) [] (refl, tt) (λ xs h. sym (nil_from_length xs h.0)) refl
 row_law {A} F s r law (suc n) =
     made (λ (p : A × List A). F p.0 × InRow F n p.1) (λ p. s p.0 ++ flat_map s p.1) (pair_at r (times_at r n)) (InRow F (suc n)) (λ xs. flat_map s xs) (λ p. p.0 ∷ p.1)
-      (λ p h. (ap suc h.1.0, (h.0, h.1.1))) (row_from F n) (λ p h. sym (flat_map-cons s p.0 p.1))
-      (pair F s r (InRow F n) (λ xs. flat_map s xs) (times_at r n) law (row_law F s r law n))
+    (λ p h. (ap suc h.1.0, (h.0, h.1.1))) (row_from F n) (λ p h. sym (flat_map-cons s p.0 p.1))
+    (pair F s r (InRow F n) (λ xs. flat_map s xs) (times_at r n) law (row_law F s r law n))
 
 -- ---- numbers
 
@@ -349,17 +349,17 @@ behind_law more least most b small h ih false e =
     let p = h.below in
     let q = h.byte in
     made (λ n. (1 ≤ n) × (n ≤ (most - (b - 128)) / 128)) (leb128 more) (leb_at more 1 ((most - (b - 128)) / 128)) (Behind most false b) (behind more false) (λ high. b - 128 + 128 * high)
-      (λ n k. let k0 = k.0 in let k1 = k.1 in (omega arith, omega arith, omega arith))
-      (λ n k. let k0 = k.0 in let k1 = k.1 in let k2 = k.2 in record { value = n / 128; fits = (omega arith, omega arith); is = omega arith })
-      (λ n k. ap (leb128 more) (omega arith))
-      (ih 1 ((most - (b - 128)) / 128) (omega arith) (omega arith))
+    (λ n k. let k0 = k.0 in let k1 = k.1 in (omega arith, omega arith, omega arith))
+    (λ n k. let k0 = k.0 in let k1 = k.1 in let k2 = k.2 in record { value = n / 128; fits = (omega arith, omega arith); is = omega arith })
+    (λ n k. ap (leb128 more) (omega arith))
+    (ih 1 ((most - (b - 128)) / 128) (omega arith) (omega arith))
 
 -- the head of a number can begin one
 head_fits : (least most n : ℕ) → least ≤ 1 → least ≤ n → n ≤ most → CanBegin least most (head n)
 head_fits least most n small low high = elim (cases_lt n 128) [
-    | inl lt ↦ rw (lt-ltb n 128 lt) (record { below = high; byte = omega arith; enough = λ k. low })
-    | inr le ↦ rw (le-ltb n 128 le) (record { below = omega arith; byte = omega arith; enough = λ k. absurd (omega arith) })
-  ]
+  | inl lt ↦ rw (lt-ltb n 128 lt) (record { below = high; byte = omega arith; enough = λ k. low })
+  | inr le ↦ rw (le-ltb n 128 le) (record { below = omega arith; byte = omega arith; enough = λ k. absurd (omega arith) })
+]
 
 head_is : (most b n : ℕ) (v : Bool) → nat_lt b 128 ≡ v → Behind most v b n → head n ≡ b
 head_is most b n true e h = let k : n < 128 = rw h (ltb-true b 128 e) in rw (lt-ltb n 128 k) h
@@ -367,9 +367,9 @@ head_is most b n false e h = rw (le-ltb n 128 h.0) h.2
 
 behind_fits : (most n : ℕ) → n ≤ most → Behind most (nat_lt (head n) 128) (head n) n
 behind_fits most n high = elim (cases_lt n 128) as (λ k. Behind most (nat_lt (head n) 128) (head n) n) [
-    | inl lt ↦ rw (lt-ltb n 128 lt, lt-ltb n 128 lt) refl
-    | inr le ↦ rw (le-ltb n 128 le, le-ltb (128 + n % 128) 128 (omega arith)) (le, high, refl)
-  ]
+  | inl lt ↦ rw (lt-ltb n 128 lt, lt-ltb n 128 lt) refl
+  | inr le ↦ rw (le-ltb n 128 le, le-ltb (128 + n % 128) 128 (omega arith)) (le, high, refl)
+]
 
 number_within : (least most b n : ℕ) (v : Bool) → least ≤ 1 → nat_lt b 128 ≡ v → CanBegin least most b → Behind most v b n → (least ≤ n) × (n ≤ most)
 number_within least most b n true small e h k = let lt = ltb-true b 128 e in rw k (h.enough lt, h.below)
@@ -377,9 +377,9 @@ number_within least most b n false small e h k = let k0 = k.0 in let k1 = k.1 in
 
 spelled_so : (more n : ℕ) → (head n ∷ []) ++ behind more (nat_lt (head n) 128) n ≡ leb128 (suc more) n
 spelled_so more n = elim (cases_lt n 128) as (λ k. (head n ∷ []) ++ behind more (nat_lt (head n) 128) n ≡ leb128 (suc more) n) [
-    | inl lt ↦ rw (lt-ltb n 128 lt, lt-ltb n 128 lt) refl
-    | inr le ↦ rw (le-ltb n 128 le, le-ltb (128 + n % 128) 128 (omega arith)) refl
-  ]
+  | inl lt ↦ rw (lt-ltb n 128 lt, lt-ltb n 128 lt) refl
+  | inr le ↦ rw (le-ltb n 128 le, le-ltb (128 + n % 128) 128 (omega arith)) refl
+]
 
 -- the tests in the order of the code
 in_order : (more least most b : ℕ) (rest : List ℕ) (v1 v2 v3 : Bool) → nat_lt (min most 255) b ≡ v1 → nat_lt b 128 ≡ v2 → nat_lt b least ≡ v3
@@ -399,9 +399,9 @@ same_last : (least most : ℕ) (bytes : List ℕ) → byte_at (λ b. if nat_lt m
 unfolding byte_at leb_at
 same_last least most [] = refl
 same_last least most (b ∷ rest) = elim (nat_lt most b) as (λ v. (if (if v then false else if nat_lt b least then false else true) then Done b rest else Stop (suc (length rest))) ≡ (if v then Stop (suc (length rest)) else if nat_lt b least then Stop (suc (length rest)) else Done b rest)) [
-    | true ↦ refl
-    | false ↦ elim (nat_lt b least) as (λ v. (if (if v then false else true) then Done b rest else Stop (suc (length rest))) ≡ (if v then Stop (suc (length rest)) else Done b rest)) [ true ↦ refl | false ↦ refl ]
-  ]
+  | true ↦ refl
+  | false ↦ elim (nat_lt b least) as (λ v. (if (if v then false else true) then Done b rest else Stop (suc (length rest))) ≡ (if v then Stop (suc (length rest)) else Done b rest)) [ true ↦ refl | false ↦ refl ]
+]
 
 last_within : (least most n : ℕ) (v1 v2 : Bool) → nat_lt most n ≡ v1 → nat_lt n least ≡ v2 → (if v1 then false else if v2 then false else true) ≡ true → (least ≤ n) × (n ≤ most)
 last_within least most n true v2 e1 e2 h = absurd cc
@@ -416,20 +416,20 @@ pub leb_law : (more least most : ℕ) → least ≤ 1 → least ≤ most → Law
 leb_law zero least most small some =
     let ok : ℕ → Bool = λ b. if nat_lt most b then false else if nat_lt b least then false else true in
     same (λ n. (least ≤ n) × (n ≤ most)) (leb128 0) (byte_at ok) (leb_at 0 least most) (same_last least most)
-      (retold _ _ _ (λ n. (least ≤ n) × (n ≤ most)) (leb128 0) (λ n h. last_within least most n (nat_lt most n) (nat_lt n least) refl refl h) (λ n h. last_fits least most n h.0 h.1) (λ n h. refl)
-        (byte_law ok least (last_fits least most least (omega arith) some)))
+    (retold _ _ _ (λ n. (least ≤ n) × (n ≤ most)) (leb128 0) (λ n h. last_within least most n (nat_lt most n) (nat_lt n least) refl refl h) (λ n h. last_fits least most n h.0 h.1) (λ n h. refl)
+    (byte_law ok least (last_fits least most least (omega arith) some)))
 leb_law (suc more) least most small some =
     let ih : (l m : ℕ) → l ≤ 1 → l ≤ m → Lawful (λ n. (l ≤ n) × (n ≤ m)) (leb128 more) (leb_at more l m) = leb_law more in
     let gives : (b : ℕ) → can_begin least most b ≡ true → CanBegin least most b = λ b h. can_begin_gives least most b (nat_lt (min most 255) b) (nat_lt b 128) (nat_lt b least) refl refl refl h in
     same (λ n. (least ≤ n) × (n ≤ most)) (leb128 (suc more)) (λ bytes. then_read (byte_at (can_begin least most) bytes) (λ b rest. behind_at more most (nat_lt b 128) b rest)) (leb_at (suc more) least most) (same_number more least most)
-      (retold _ _ _ (λ n. (least ≤ n) × (n ≤ most)) (leb128 (suc more))
-        (λ n h. number_within least most (head n) n (nat_lt (head n) 128) small refl (gives (head n) h.0) h.1)
-        (λ n h. (begins_when least most (head n) (head_fits least most n small h.0 h.1), behind_fits most n h.1))
-        (λ n h. spelled_so more n)
-        (bind (λ b. can_begin least most b ≡ true) (λ b. b ∷ []) (byte_at (can_begin least most)) (λ b n. Behind most (nat_lt b 128) b n) (λ b n. behind more (nat_lt b 128) n) (λ b rest. behind_at more most (nat_lt b 128) b rest) head
-          (byte_law (can_begin least most) (head least) (begins_when least most (head least) (head_fits least most least small (omega arith) some)))
-          (λ b n h. head_is most b n (nat_lt b 128) refl h)
-          (λ b h. behind_law more least most b small (gives b h) ih (nat_lt b 128) refl)))
+    (retold _ _ _ (λ n. (least ≤ n) × (n ≤ most)) (leb128 (suc more))
+    (λ n h. number_within least most (head n) n (nat_lt (head n) 128) small refl (gives (head n) h.0) h.1)
+    (λ n h. (begins_when least most (head n) (head_fits least most n small h.0 h.1), behind_fits most n h.1))
+    (λ n h. spelled_so more n)
+    (bind (λ b. can_begin least most b ≡ true) (λ b. b ∷ []) (byte_at (can_begin least most)) (λ b n. Behind most (nat_lt b 128) b n) (λ b n. behind more (nat_lt b 128) n) (λ b rest. behind_at more most (nat_lt b 128) b rest) head
+    (byte_law (can_begin least most) (head least) (begins_when least most (head least) (head_fits least most least small (omega arith) some)))
+    (λ b n h. head_is most b n (nat_lt b 128) refl h)
+    (λ b h. behind_law more least most b small (gives b h) ih (nat_lt b 128) refl)))
 
 pub number_law : (least most : ℕ) → least ≤ 1 → least ≤ most → Lawful (λ n. (least ≤ n) × (n ≤ most)) number (leb_at 4 least most)
 unfolding number
@@ -441,5 +441,5 @@ pub counted_law : {A : Type 0} (F : A → Type 0) (s : A → List ℕ) (r : List
 unfolding counted_at
 counted_law {A} F s r least most small some law =
     retold _ _ _ (AreCounted F least most) (counted s) (λ xs h. record { enough = h.0.0; few = h.0.1; each = h.1.1 }) (λ xs h. ((h.enough, h.few), (refl, h.each))) (λ xs h. refl)
-      (bind (λ n. (least ≤ n) × (n ≤ most)) number (leb_at 4 least most) (λ n xs. InRow F n xs) (λ n xs. flat_map s xs) (λ n rest. times_at r n rest) length
-        (number_law least most small some) (λ n xs h. h.0) (λ n h. row_law F s r law n))
+    (bind (λ n. (least ≤ n) × (n ≤ most)) number (leb_at 4 least most) (λ n xs. InRow F n xs) (λ n xs. flat_map s xs) (λ n rest. times_at r n rest) length
+    (number_law least most small some) (λ n xs h. h.0) (λ n h. row_law F s r law n))

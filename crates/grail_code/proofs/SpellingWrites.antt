@@ -16,11 +16,11 @@ room (suc more) = 128 * room more
 more_room : (more n : ℕ) → n < room more → leb128 more n ≡ leb128 (suc more) n
 more_room zero n lt = rw (lt-ltb n 128 lt) refl
 more_room (suc more) n lt = elim (cases_lt n 128) [
-    | inl less ↦ rw (lt-ltb n 128 less) refl
-    | inr ge ↦
+  | inl less ↦ rw (lt-ltb n 128 less) refl
+  | inr ge ↦
       let ih : leb128 more (n / 128) ≡ leb128 (suc more) (n / 128) = more_room more (n / 128) (omega arith) in
       rw (le-ltb n 128 ge) (ap (λ w. (128 + n % 128) ∷ w) ih)
-  ]
+]
 
 opens : (more n : ℕ) → 128 ≤ n → leb128 (suc more) n ≡ (128 + n % 128) ∷ leb128 more (n / 128)
 opens more n ge = rw (le-ltb n 128 ge) refl

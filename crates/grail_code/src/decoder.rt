@@ -68,9 +68,13 @@ fn all(alloc: Global, bytes: &[u8]) -> Result<Code, DecodeFault>
 {
     match code_of(alloc, bytes) {
         Ok((code, [])) => Ok(code),
-        Ok((_, rest)) => Err(DecodeFault::Bad { at: bytes.len().saturating_sub(rest.len()) as u64 }),
+        Ok((_, rest)) => Err(DecodeFault::Bad {
+            at: bytes.len().saturating_sub(rest.len()) as u64,
+        }),
         Err(Halt::Short) => Err(DecodeFault::Short),
-        Err(Halt::Bad { left }) => Err(DecodeFault::Bad { at: bytes.len().saturating_sub(left) as u64 }),
+        Err(Halt::Bad { left }) => Err(DecodeFault::Bad {
+            at: bytes.len().saturating_sub(left) as u64,
+        }),
         Err(Halt::Memory) => Err(DecodeFault::Memory),
     }
 }

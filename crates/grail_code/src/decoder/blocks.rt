@@ -40,7 +40,11 @@ impl Decode for CaseArm {
         let (fields, rest) = list(alloc, 0, 4, bytes)?;
         let (cell, rest) = cell(rest)?;
         let (target, rest) = local(rest)?;
-        let arm = CaseArm { fields, cell, target };
+        let arm = CaseArm {
+            fields,
+            cell,
+            target,
+        };
         Ok((arm, rest))
     }
 }
@@ -146,7 +150,13 @@ impl Decode for Func {
         let (name, rest) = name(alloc, Letter::Lower, bytes)?;
         let ((params, result, locals), rest) = header(alloc, rest)?;
         let (blocks, rest) = list(alloc, 1, 256, rest)?;
-        let func = Func { name, params, result, locals, blocks };
+        let func = Func {
+            name,
+            params,
+            result,
+            locals,
+            blocks,
+        };
         Ok((func, rest))
     }
 }

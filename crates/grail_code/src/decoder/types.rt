@@ -63,7 +63,11 @@ impl Decode for Con {
     fn decode<'a>(alloc: Global, bytes: &'a [u8]) -> Result<(Con, &'a [u8]), Halt> {
         let (name, rest) = name(alloc, Letter::Upper, bytes)?;
         let ((inline, fields), rest) = layout(alloc, rest)?;
-        let con = Con { name, inline, fields };
+        let con = Con {
+            name,
+            inline,
+            fields,
+        };
         Ok((con, rest))
     }
 }
