@@ -8,8 +8,8 @@ use Rattle.grail_code.specs.declared.fault.DecodeFault.{DecodeFault}
 use Rattle.grail_code.specs.declared.fault.DecodeFault.TheVariants as fault
 use Rattle.grail_code.specs.Code.{Program, program_of}
 use Rattle.grail_code.specs.Reader.{Read, Done, More, Stop}
-use Rattle.grail_code.specs.CodeReader.{code_at}
-use Rattle.grail_code.specs.Decoding.{IsSo, Says, whole, Sees}
+use Rattle.grail_code.specs.CodeReader.{code_at, whole, Sees}
+use Rattle.grail_code.specs.Decoding.{IsSo, Says}
 use Rattle.grail_code.specs.Spelling.{spelling, FitsCode, Decoded, Spelled, Front, Broken, IsSpelling, BeginsCode, IsFront, IsLongestBegin, Means}
 use Rattle.grail_code.proofs.SpellingParts.{Lawful, Begins, Stops, Tells, Same, one_way}
 use Rattle.grail_code.proofs.SpellingCode.{code_law}

@@ -31,12 +31,12 @@ number_step n ge lt =
     let same : leb128 3 (n / 128) ≡ leb128 4 (n / 128) = more_room 3 (n / 128) (omega arith) in
     opens 3 n ge ∙ ap (λ w. (128 + n % 128) ∷ w) same
 
-pub number_more : (out now whole : List ℕ) (n : ℕ) → 128 ≤ n → n < 2 ^ 32 → now ≡ out ++ (128 + n % 128) ∷ [] → out ++ number n ≡ whole → now ++ number (n / 128) ≡ whole
-number_more out now whole n ge lt pushed so_far = ap (λ w. w ++ number (n / 128)) pushed ∙ append_assoc out ((128 + n % 128) ∷ []) (number (n / 128)) ∙ ap (λ w. out ++ w) (sym (number_step n ge lt)) ∙ so_far
+pub number_more : (out now first : List ℕ) (n value : ℕ) → 128 ≤ n → n < 2 ^ 32 → now ≡ out ++ (128 + n % 128) ∷ [] → out ++ number n ≡ first ++ number value → now ++ number (n / 128) ≡ first ++ number value
+number_more out now first n value ge lt pushed so_far = ap (λ w. w ++ number (n / 128)) pushed ∙ append_assoc out ((128 + n % 128) ∷ []) (number (n / 128)) ∙ ap (λ w. out ++ w) (sym (number_step n ge lt)) ∙ so_far
 
-pub number_last : (out now whole : List ℕ) (n : ℕ) → n < 128 → now ≡ out ++ n ∷ [] → out ++ number n ≡ whole → now ≡ whole
+pub number_small : (n : ℕ) → n < 128 → number n ≡ n ∷ []
 unfolding number
-number_last out now whole n lt pushed so_far = let e : leb128 4 n ≡ n ∷ [] = rw (lt-ltb n 128 lt) refl in pushed ∙ ap (λ w. out ++ w) (sym e) ∙ so_far
+number_small n lt = rw (lt-ltb n 128 lt) refl
 
 -- ---- things in a row
 

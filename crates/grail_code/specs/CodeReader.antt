@@ -1,5 +1,5 @@
 -- Reading the spelling of code from the left, part by part in the order of the spelling.
-use Rattle.std.specs.Prelude.{ℕ, zero, suc, ◌+◌, ◌==◌, Bool, true, false, List, [], ◌∷◌}
+use Rattle.std.specs.Prelude.{◌≡◌, ℕ, zero, suc, ◌+◌, ◌-◌, ◌==◌, Bool, true, false, List, [], ◌∷◌, length, Result, Ok, Err}
 use Rattle.std.specs.Int.{w32, cast_signed}
 use Rattle.camelot_values.specs.Names.{is_lower, is_upper, is_tail}
 use Rattle.camelot_values.specs.Kinds.{Constructor, DataType}
@@ -7,14 +7,18 @@ use Rattle.camelot_values.specs.Operator as operator
 use Rattle.camelot_values.specs.Operator.{Operator}
 use Rattle.camelot_values.specs.declared.kinds.Kind.{Kind}
 use Rattle.camelot_values.specs.declared.kinds.Kind.TheVariants as kind
+use Rattle.grail_code.specs.declared.code.Code.{Code}
+use Rattle.grail_code.specs.declared.fault.DecodeFault.{DecodeFault}
+use Rattle.grail_code.specs.declared.fault.DecodeFault.TheVariants as fault
 use Rattle.grail_code.specs.declared.decoder.names.Letter.{Letter}
 use Rattle.grail_code.specs.declared.decoder.names.Letter.TheVariants as letter
 use Rattle.grail_code.specs.declared.code.Place.{Place}
 use Rattle.grail_code.specs.declared.code.Place.TheVariants as place
 use Rattle.grail_code.specs.declared.code.CaseCell.{CaseCell}
 use Rattle.grail_code.specs.declared.code.CaseCell.TheVariants as cell
-use Rattle.grail_code.specs.Code.{Operation, Lit, Flag, Copy, Prim, Make, Call, Binding, Arm, Exit, Ret, Tail, Goto, If, Case, BasicBlock, Function, Program}
-use Rattle.grail_code.specs.Reader.{Read, Done, then_read, map_read, pair_at, byte_at, tag_at, leb_at, times_at, counted_at}
+use Rattle.grail_code.specs.Code.{Operation, Lit, Flag, Copy, Prim, Make, Call, Binding, Arm, Exit, Ret, Tail, Goto, If, Case, BasicBlock, Function, Program, program_of}
+use Rattle.grail_code.specs.Spelling.{Decoded, Spelled, Front, Broken}
+use Rattle.grail_code.specs.Reader.{Read, Done, More, Stop, then_read, map_read, pair_at, byte_at, tag_at, leb_at, times_at, counted_at}
 
 -- ---- names
 
@@ -179,3 +183,19 @@ tables_at bytes = map_read (λ p. record { types = p.0; funcs = p.1 }) (pair_at 
 
 unfoldable pub code_at : List ℕ → Read Program
 code_at bytes = headed_at 71 (headed_at 82 (headed_at 76 (headed_at 49 tables_at))) bytes
+
+-- ---- decoding
+
+-- what was read, where nothing may follow
+abbrev pub whole : List ℕ → Read Program → Decoded
+whole bytes (Done p []) = Spelled p
+whole bytes (Done p (b ∷ rest)) = Broken (length bytes - length (b ∷ rest))
+whole bytes More = Front
+whole bytes (Stop left) = Broken (length bytes - left)
+
+-- the answer is what was read, unless memory ran out
+abbrev pub Sees : Result Code DecodeFault → Decoded → Type 0
+Sees (Ok code) o = o ≡ Spelled (program_of code)
+Sees (Err fault.Short) o = o ≡ Front
+Sees (Err (fault.Bad at)) o = o ≡ Broken at
+Sees (Err fault.Memory) o = Unit {0}

@@ -122,22 +122,3 @@ pub struct Code {
     pub funcs: Vec<Func>,
     pub ghost few_funcs: { vec_len funcs ≤ 64 },
 }
-
-impl Code {
-    ghost use Rattle.std.specs.Prelude.{ℕ, IfSome, IfNone};
-    ghost use Rattle.grail_code.specs.Code.{program_of};
-    ghost use Rattle.grail_code.specs.ByName.{HasName, IsFirstNamed};
-
-    /// The number of the first function of this name, or None where no function has it.
-    pub fn func(&self, name: &[u8]) -> Option<u32>
-        ensures found { IfSome result (λ number. IsFirstNamed (program_of self.now) number name.now) }
-        ensures none { IfNone result ((number : ℕ) → HasName (program_of self.now) number name.now → ⊥) }
-    {
-        'funcs: for (number, func) in self.funcs.iter().enumerate() {
-            if func.name.bytes() == name {
-                return Some(number as u32);
-            }
-        }
-        None
-    }
-}

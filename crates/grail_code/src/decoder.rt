@@ -11,8 +11,8 @@ ghost use Rattle.camelot_values.specs.Kinds.{data_type_of, AreTypes};
 ghost use Rattle.grail_code.specs.Code.{program_of};
 ghost use Rattle.grail_code.specs.Spelling.{Decoded, Means};
 ghost use Rattle.grail_code.specs.Reader.{Gives, byte_at, counted_at};
-ghost use Rattle.grail_code.specs.CodeReader.{type_at, tables_at, code_at};
-ghost use Rattle.grail_code.specs.Decoding.{IsSo, Says, whole, Sees};
+ghost use Rattle.grail_code.specs.CodeReader.{type_at, tables_at, code_at, whole, Sees};
+ghost use Rattle.grail_code.specs.Decoding.{IsSo, Says};
 
 use crate::code::Code;
 use crate::fault::DecodeFault;

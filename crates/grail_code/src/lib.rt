@@ -2,6 +2,7 @@
 //! Stark, "Grail: a functional form for imperative mobile code", 2003), with what it means.
 #![tactic(auto)]
 
+mod by_name;
 mod code;
 mod decoder;
 mod encoder;

@@ -185,21 +185,29 @@ fn nothing_may_follow(rt: HostRuntime) -> Result<(), Fail> {
     Ok(())
 }
 
+/// At how many values of each byte `ADD` is still code, by a reader apart that was written from the grammar.
+const CODES: [u32; 28] = [
+    1, 1, 1, 1, 1, 1, 1, 26, 63, 63, 2, 67, 67, 67, 1, 67, 1, 1, 128, 128, 1, 128, 2, 9, 128, 128,
+    2, 128,
+];
+
 #[test]
 fn what_is_read_is_written_again(rt: HostRuntime) -> Result<(), Fail> {
-    let mut codes = 0;
-    for at in 0..ADD.len() {
+    for (place, expected) in CODES.iter().enumerate() {
+        let mut codes = 0u32;
         for value in 0..=255u8 {
             let mut bytes = ADD;
-            bytes[at] = value;
+            if let Some(byte) = bytes.get_mut(place) {
+                *byte = value;
+            }
             if let Ok(code) = decode(rt.alloc(), &bytes) {
                 let again = encode(rt.alloc(), &code)?;
-                assert_eq!(&rt; again.as_slice(), bytes.as_slice(), "{value} at {at}");
-                codes += 1;
+                assert_eq!(&rt; again.as_slice(), bytes.as_slice(), "{value} at {place}");
+                codes = codes.saturating_add(1);
             }
         }
+        assert_eq!(&rt; codes, *expected, "at {place}");
     }
-    assert!(&rt; 28 < codes);
     Ok(())
 }
 

@@ -7,6 +7,7 @@ ghost use Rattle.grail_code.specs.Spelling.{number, counted};
 use std::alloc::AllocError;
 
 /// Writes a whole number in LEB128, in as few bytes as it takes.
+#[tactic(auto, using(crate::proofs::SpellingWrites::number_more, crate::proofs::SpellingWrites::number_small))]
 pub fn number(out: &mut Vec<u8>, value: u32) -> Result<(), AllocError>
     ensures { OnOk result (out.new.items ≡ out.old.items ++ number value) }
 {
