@@ -1,1 +1,7 @@
 pub mod Clock
+pub mod SpellingParts
+pub mod SpellingCode
+pub mod SpellingMeans
+pub mod SpellingLoops
+pub mod SpellingNames
+pub mod SpellingWrites

@@ -1,6 +1,10 @@
 -- Grail code as plain data, its spelling, when it is well formed, and what it means.
 pub mod Code
 pub mod Spelling
+pub mod Reader
+pub mod CodeReader
+pub mod Decoding
 pub mod WellFormed
 pub mod Meaning
 pub mod Fuel
+pub mod ByName

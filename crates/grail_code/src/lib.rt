@@ -2,7 +2,18 @@
 //! Stark, "Grail: a functional form for imperative mobile code", 2003), with what it means.
 #![tactic(auto)]
 
+mod by_name;
 mod code;
+mod decoder;
+mod encoder;
+mod fault;
+pub mod laws;
 pub mod meaning;
 
 pub use code::{Block, CaseArm, CaseCell, Code, Func, Let, Op, Place, PrimCode, Term};
+pub use decoder::decode;
+pub use encoder::encode;
+pub use fault::DecodeFault;
+
+#[cfg(test)]
+mod tests;

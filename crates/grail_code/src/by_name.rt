@@ -1,0 +1,28 @@
+ghost use Rattle.std.specs.Prelude.{◌≡◌, ℕ, nat_eq, IfSome, IfNone};
+ghost use Rattle.std.specs.List.{position};
+ghost use Rattle.std.specs.Cmp.Lexicographic.{pointwise};
+ghost use Rattle.grail_code.specs.Code.{program_of};
+ghost use Rattle.grail_code.specs.ByName.{HasName, IsFirstNamed};
+
+use crate::code::Code;
+
+impl Code {
+    // The place of the first function that has the name.
+    fn place_of(&self, name: &[u8]) -> Option<usize>
+        ensures { result ≡ position (λ func. pointwise nat_eq func.name name.now) self.now.funcs.items }
+    {
+        self.funcs.iter().position(|func| func.name.bytes() == name)
+    }
+
+    /// The number of the first function of this name, or None where no function has it.
+    #[tactic(auto, using(crate::proofs::SpellingNames::first_below))]
+    pub fn func(&self, name: &[u8]) -> Option<u32>
+        ensures found { IfSome result (λ number. IsFirstNamed (program_of self.now) number name.now) }
+        ensures none { IfNone result ((number : ℕ) → HasName (program_of self.now) number name.now → ⊥) }
+    {
+        match self.place_of(name) {
+            Some(place) => Some(place as u32),
+            None => None,
+        }
+    }
+}

@@ -1,0 +1,95 @@
+//! Code from its spelling, read from left to right.
+
+mod blocks;
+mod lets;
+mod names;
+mod reader;
+mod types;
+
+ghost use Rattle.std.specs.Prelude.{◌≡◌, ◌==◌, List};
+ghost use Rattle.camelot_values.specs.Kinds.{data_type_of, AreTypes};
+ghost use Rattle.grail_code.specs.Code.{program_of};
+ghost use Rattle.grail_code.specs.Spelling.{Decoded, Means};
+ghost use Rattle.grail_code.specs.Reader.{Gives, byte_at, counted_at};
+ghost use Rattle.grail_code.specs.CodeReader.{type_at, tables_at, code_at, whole, Sees};
+ghost use Rattle.grail_code.specs.Decoding.{IsSo, Says};
+
+use crate::code::Code;
+use crate::fault::DecodeFault;
+use camelot_values::{TypeDef, Types};
+use reader::{Halt, list};
+use std::alloc::Global;
+
+// A byte that always stands here. What follows it is answered.
+#[tactic(auto, unfolding(crate::specs::Reader::byte_at))]
+fn fixed(byte: u8, bytes: &[u8]) -> Result<&[u8], Halt>
+    ensures { Gives (λ rest. (byte, rest.now)) result (byte_at (λ b. b == byte) bytes.now) }
+{
+    match bytes {
+        [] => Err(Halt::Short),
+        [first, rest @ ..] if *first == byte => Ok(rest),
+        [_, ..] => Err(Halt::Bad { left: bytes.len() }),
+    }
+}
+
+// The types.
+#[tactic(auto, using(crate::proofs::SpellingCode::types_fit))]
+fn types_of(alloc: Global, bytes: &[u8]) -> Result<(Types, &[u8]), Halt>
+    ensures { Gives (λ x. (x.0, x.1.now)) result (counted_at type_at 0 64 bytes.now) }
+{
+    let (defs, rest) = list::<TypeDef>(alloc, 0, 64, bytes)?;
+    Ok((Types::new(defs), rest))
+}
+
+#[tactic(auto, unfolding(crate::specs::CodeReader::tables_at))]
+fn tables_of(alloc: Global, bytes: &[u8]) -> Result<(Code, &[u8]), Halt>
+    ensures { Gives (λ x. (program_of x.0, x.1.now)) result (tables_at bytes.now) }
+{
+    let (types, rest) = types_of(alloc, bytes)?;
+    let (funcs, rest) = list(alloc, 0, 64, rest)?;
+    Ok((Code { types, funcs }, rest))
+}
+
+// The code that stands first.
+#[tactic(auto, unfolding(crate::specs::CodeReader::code_at, crate::specs::CodeReader::headed_at))]
+fn code_of(alloc: Global, bytes: &[u8]) -> Result<(Code, &[u8]), Halt>
+    ensures { Gives (λ x. (program_of x.0, x.1.now)) result (code_at bytes.now) }
+{
+    let rest = fixed(b'G', bytes)?;
+    let rest = fixed(b'R', rest)?;
+    let rest = fixed(b'L', rest)?;
+    let rest = fixed(b'1', rest)?;
+    tables_of(alloc, rest)
+}
+
+// The code that the bytes spell, all of them.
+fn all(alloc: Global, bytes: &[u8]) -> Result<Code, DecodeFault>
+    ensures { Sees result (whole bytes.now (code_at bytes.now)) }
+{
+    match code_of(alloc, bytes) {
+        Ok((code, [])) => Ok(code),
+        Ok((_, rest)) => Err(DecodeFault::Bad {
+            at: bytes.len().saturating_sub(rest.len()) as u64,
+        }),
+        Err(Halt::Short) => Err(DecodeFault::Short),
+        Err(Halt::Bad { left }) => Err(DecodeFault::Bad {
+            at: bytes.len().saturating_sub(left) as u64,
+        }),
+        Err(Halt::Memory) => Err(DecodeFault::Memory),
+    }
+}
+
+/// The code that the bytes spell.
+///
+/// `Short` comes exactly where the bytes begin some code's spelling and end before it does, and `Bad` exactly where
+/// they are neither a spelling nor the beginning of one. `at` is the length of the longest part from the left that
+/// begins a spelling. Names that are repeated, and kinds whose type isn't there, have spellings as well.
+#[tactic(auto, using(crate::proofs::SpellingMeans::found_so, crate::proofs::SpellingMeans::means_said))]
+pub fn decode(alloc: Global, bytes: &[u8]) -> Result<Code, DecodeFault>
+    // What is answered is so.
+    ensures found { IsSo bytes.now result }
+    // What the bytes are is answered, unless memory runs out.
+    ensures exact { (o : Decoded) → Means bytes.now o → Says result o }
+{
+    all(alloc, bytes)
+}

@@ -1,0 +1,102 @@
+ghost use Rattle.std.specs.Prelude.{◌≡◌, ◌++◌, ◌∷◌, map, ◌≤◌, OnOk};
+ghost use Rattle.grail_code.specs.Code.{Arm, BasicBlock, Function, arm_of, exit_of, block_of, function_of};
+ghost use Rattle.grail_code.specs.Spelling.{number, counted, arm_bytes, cell_bytes, exit_bytes, block_bytes, function_bytes, AreCounted, FitsArm, FitsExit, FitsBlock, FitsFunction};
+
+use super::lets::{call, tagged};
+use super::types::name;
+use super::writer::{Encode, list, number};
+use crate::code::{Block, CaseArm, CaseCell, Func, Term};
+use std::alloc::AllocError;
+
+fn cell(out: &mut Vec<u8>, cell: CaseCell) -> Result<(), AllocError>
+    ensures { OnOk result (out.new.items ≡ out.old.items ++ cell_bytes cell) }
+{
+    match cell {
+        CaseCell::Inline => out.push(0)?,
+        CaseCell::Free => out.push(1)?,
+        CaseCell::Keep(diamond) => {
+            out.push(2)?;
+            number(out, diamond)?;
+        }
+    }
+    Ok(())
+}
+
+impl Encode for CaseArm {
+    ghost Plain = { Arm };
+
+    ghost plain = { arm_of };
+
+    ghost Fits = { FitsArm };
+
+    ghost spell = { arm_bytes };
+
+    fn encode(&self, out: &mut Vec<u8>) -> Result<(), AllocError> {
+        list(out, &self.fields)?;
+        cell(out, self.cell)?;
+        number(out, self.target)
+    }
+}
+
+fn branch(out: &mut Vec<u8>, cond: u32, yes: u32, no: u32) -> Result<(), AllocError>
+    ensures { OnOk result (out.new.items ≡ out.old.items ++ (3 ∷ (number cond ++ number yes ++ number no))) }
+{
+    tagged(out, 3, cond)?;
+    number(out, yes)?;
+    number(out, no)
+}
+
+fn case(out: &mut Vec<u8>, on: u32, arms: &[CaseArm]) -> Result<(), AllocError>
+    requires { AreCounted FitsArm 0 64 (map arm_of arms.now) }
+    ensures { OnOk result (out.new.items ≡ out.old.items ++ (4 ∷ (number on ++ counted arm_bytes (map arm_of arms.now)))) }
+{
+    tagged(out, 4, on)?;
+    list(out, arms)
+}
+
+fn term(out: &mut Vec<u8>, term: &Term) -> Result<(), AllocError>
+    requires { FitsExit (exit_of term.now) }
+    ensures { OnOk result (out.new.items ≡ out.old.items ++ exit_bytes (exit_of term.now)) }
+{
+    match term {
+        Term::Ret(from) => tagged(out, 0, *from),
+        Term::Tail { func, args } => call(out, 1, *func, args),
+        Term::Goto(target) => tagged(out, 2, *target),
+        Term::If { cond, yes, no } => branch(out, *cond, *yes, *no),
+        Term::Case { on, arms } => case(out, *on, arms),
+    }
+}
+
+impl Encode for Block {
+    ghost Plain = { BasicBlock };
+
+    ghost plain = { block_of };
+
+    ghost Fits = { FitsBlock };
+
+    ghost spell = { block_bytes };
+
+    fn encode(&self, out: &mut Vec<u8>) -> Result<(), AllocError> {
+        list(out, &self.params)?;
+        list(out, &self.lets)?;
+        term(out, &self.term)
+    }
+}
+
+impl Encode for Func {
+    ghost Plain = { Function };
+
+    ghost plain = { function_of };
+
+    ghost Fits = { FitsFunction };
+
+    ghost spell = { function_bytes };
+
+    fn encode(&self, out: &mut Vec<u8>) -> Result<(), AllocError> {
+        name(out, &self.name)?;
+        list(out, &self.params)?;
+        self.result.encode(out)?;
+        list(out, &self.locals)?;
+        list(out, &self.blocks)
+    }
+}
