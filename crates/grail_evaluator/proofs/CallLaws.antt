@@ -33,8 +33,8 @@ pub call_is : (p : Program) (limit fuel w more f : ℕ) (t : Bool) (args : List 
 call_is p limit fuel w more f t args body r unfolds some deep waits is sees =
     subst (Sees r)
     (ap entered (is ∙ ap (λ n. body_run p.types (entering p limit) (slice_get p.funcs f) (fuel - 1) n args) waits)
-        ∙ ap (λ b. if b then meaning.Deep 0 else entered (body_run p.types (entering p limit) (slice_get p.funcs f) (fuel - 1) (cond t w (suc w)) args)) (sym deep)
-        ∙ sym unfolds ∙ ap (λ n. entering p limit n w t f args) some)
+    ∙ ap (λ b. if b then meaning.Deep 0 else entered (body_run p.types (entering p limit) (slice_get p.funcs f) (fuel - 1) (cond t w (suc w)) args)) (sym deep)
+    ∙ sym unfolds ∙ ap (λ n. entering p limit n w t f args) some)
     sees
 
 pub body_is : (types : List DataType) (enter : Enter) (fs : List Func) (i k w : ℕ) (f : Func) (args : List Value) (r : Result own.Outcome RunError) → slice_get fs i ≡ Some f
@@ -83,7 +83,7 @@ jump_here types enter first target k w b bs env new r is same sees =
     let here : (target == first) ≡ true = grind (arith, nat_tests, is) in
     subst (Sees r)
     (ap (λ n. block_run types enter (jump_run types enter n bs) b k w new) (omega arith) ∙ ap (λ e. block_run types enter (jump_run types enter (suc first) bs) b k w e) same
-        ∙ ap (λ t. if t then block_run types enter (jump_run types enter (suc first) bs) b k w (narrowed b.params env) else jump_run types enter (suc first) bs target k w env) (sym here))
+    ∙ ap (λ t. if t then block_run types enter (jump_run types enter (suc first) bs) b k w (narrowed b.params env) else jump_run types enter (suc first) bs target k w env) (sym here))
     sees
 
 pub jump_on : (types : List DataType) (enter : Enter) (first target k w : ℕ) (b : BasicBlock) (bs : List BasicBlock) (env : Locals) (r : Result own.Outcome RunError) → (target ≡ first → ⊥)
@@ -92,5 +92,5 @@ jump_on types enter first target k w b bs env r other sees =
     let on : (target == first) ≡ false = grind (arith, nat_tests, other) in
     subst (Sees r)
     (ap (λ n. jump_run types enter n bs target k w env) (omega arith)
-        ∙ ap (λ t. if t then block_run types enter (jump_run types enter (suc first) bs) b k w (narrowed b.params env) else jump_run types enter (suc first) bs target k w env) (sym on))
+    ∙ ap (λ t. if t then block_run types enter (jump_run types enter (suc first) bs) b k w (narrowed b.params env) else jump_run types enter (suc first) bs target k w env) (sym on))
     sees

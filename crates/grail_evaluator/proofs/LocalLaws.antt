@@ -152,7 +152,7 @@ one_argument_more old new args i t u h is same n e =
     ∙ ap (λ f. put f i (plain t)) e
     ∙ put_argument (take i (plain_all args)) i (plain t) (sym (length-take-le i (plain_all args) (omega (arith, length-map args plain))))
     ∙ ap arguments (ap (λ v. take i (plain_all args) ++ (v ∷ [])) (same ∙ ap plain is ∙ sym (get_or-map plain args i u (plain u) h))
-        ∙ sym (take-suc (plain_all args) i (plain u) (omega (arith, length-map args plain))) ∙ ap (λ n. take n (plain_all args)) (sym (add-one i)))
+    ∙ sym (take-suc (plain_all args) i (plain u) (omega (arith, length-map args plain))) ∙ ap (λ n. take n (plain_all args)) (sym (add-one i)))
 
 pub all_arguments : (bs : List Bound) (args : List Tree) (i : ℕ) → length args ≤ i → env_of bs ≡ arguments (take i (plain_all args)) → env_of bs ≡ arguments (plain_all args)
 all_arguments bs args i h e = e ∙ ap arguments (take_all i (plain_all args) (omega (arith, length-map args plain)))

@@ -29,9 +29,14 @@ pub enum Outcome {
         low: u64,
     },
     /// A call found no fuel left.
-    Fuel { calls: u64, peak: u64 },
+    Fuel {
+        calls: u64,
+        peak: u64,
+    },
     /// A call found as many calls waiting as may wait.
-    Deep { peak: u64 },
+    Deep {
+        peak: u64,
+    },
     /// The code has no meaning on these arguments.
     Stuck,
 }
@@ -159,13 +164,7 @@ impl Evaluator<'_> {
     // The body of the function of this number on these arguments.
     #[cycle(run)]
     #[tactic(auto, using(crate::proofs::CallLaws::body_is, crate::proofs::CallLaws::no_body))]
-    fn body(
-        &self,
-        fuel: u64,
-        waits: u64,
-        func: u32,
-        args: Vec<Tree>,
-    ) -> Result<Outcome, RunError>
+    fn body(&self, fuel: u64, waits: u64, func: u32, args: Vec<Tree>) -> Result<Outcome, RunError>
         ensures { Sees result (body_run (program_of self.now.code.now).types (entering (program_of self.now.code.now) self.now.limit) (slice_get (map function_of self.now.code.now.funcs.items) func) fuel waits (plain_all args.items)) }
     {
         match self.code.funcs.get(func as usize) {
@@ -247,7 +246,9 @@ impl Evaluator<'_> {
     {
         match lets {
             [] => self.onward(fuel, waits, env, term, first, later),
-            [binding, more @ ..] => self.one_let(fuel, waits, env, binding, more, term, first, later),
+            [binding, more @ ..] => self.one_let(
+                fuel, waits, env, binding, more, term, first, later,
+            ),
         }
     }
 
@@ -290,13 +291,7 @@ impl Evaluator<'_> {
 
     // What a let binds.
     #[cycle(run)]
-    fn operation(
-        &self,
-        fuel: u64,
-        waits: u64,
-        env: &[Bound],
-        op: &Op,
-    ) -> Result<Outcome, RunError>
+    fn operation(&self, fuel: u64, waits: u64, env: &[Bound], op: &Op) -> Result<Outcome, RunError>
         ensures { Sees result (op_run (entering (program_of self.now.code.now) self.now.limit) fuel waits (env_of env.now) (operation_of op.now)) }
     {
         match op {

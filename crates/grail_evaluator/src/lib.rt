@@ -3,15 +3,12 @@
 //! run on cells, by the machine.
 #![tactic(auto)]
 
-
-
-
-
 mod evaluator;
 mod locals;
 mod steps;
+#[cfg(test)]
+mod tests;
 mod tree;
-
 
 pub use evaluator::{Outcome, RunError, run};
 pub use tree::Tree;

@@ -75,11 +75,7 @@ fn keep(
 }
 
 /// The bindings of these locals alone.
-pub(crate) fn narrow(
-    alloc: Global,
-    env: &[Bound],
-    params: &[u32],
-) -> Result<Vec<Bound>, AllocError>
+pub(crate) fn narrow(alloc: Global, env: &[Bound], params: &[u32]) -> Result<Vec<Bound>, AllocError>
     ensures { IfOk result (λ bounds. env_of bounds.items ≡ narrowed params.now (env_of env.now)) }
 {
     let mut all = Vec::new(alloc);
