@@ -9,3 +9,4 @@ pub mod Operator
 pub mod Outcome
 pub mod Runs
 pub mod Text
+pub mod Typing

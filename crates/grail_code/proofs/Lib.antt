@@ -5,3 +5,4 @@ pub mod SpellingMeans
 pub mod SpellingLoops
 pub mod SpellingNames
 pub mod SpellingWrites
+pub mod Sound

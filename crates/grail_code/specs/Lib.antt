@@ -7,4 +7,5 @@ pub mod Decoding
 pub mod WellFormed
 pub mod Meaning
 pub mod Fuel
+pub mod Soundness
 pub mod ByName

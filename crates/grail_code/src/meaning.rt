@@ -1,10 +1,12 @@
 //! Laws of the meaning of code, as the contracts of functions that do nothing.
-ghost use Rattle.std.specs.Prelude.{◌≡◌, ℕ, suc, ◌≤◌, ◌<◌, Bool, cond, if◌then◌else◌, List, slice_get};
+ghost use Rattle.std.specs.Prelude.{◌≡◌, ℕ, suc, ◌≤◌, ◌<◌, Bool, cond, if◌then◌else◌, List, Some, slice_get};
 ghost use Rattle.camelot_values.specs.Value.{Value};
 ghost use Rattle.camelot_values.specs.Outcome.{Done, Fuel, Deep, entered};
 ghost use Rattle.camelot_values.specs.Runs.{is_too_deep};
-ghost use Rattle.grail_code.specs.Code.{Program};
+ghost use Rattle.grail_code.specs.Code.{Function, Program};
 ghost use Rattle.grail_code.specs.Fuel.{StopsOnFuel};
+ghost use Rattle.grail_code.specs.Soundness.{ArgumentsFit, HaveBlocks, IsSound};
+ghost use Rattle.grail_code.specs.WellFormed.{IsWellFormed};
 ghost use Rattle.grail_code.specs.Meaning.{body_run, calls, entering, run_of};
 
 /// A clock beyond the fuel changes nothing of what a call means. So the clock can be forgotten: a call without fuel stops,
@@ -33,4 +35,13 @@ pub fn law_of_fuel()
         → run_of program limit func fuel args ≡ Done v calls peak low → other < calls → StopsOnFuel other peak (run_of program limit func other args) }
     ensures deep { (program : Program) (limit func fuel other : ℕ) (args : List Value) (peak : ℕ)
         → run_of program limit func fuel args ≡ Deep peak → fuel ≤ other → run_of program limit func other args ≡ Deep peak }
+{}
+
+/// Well-formed code on fitting arguments is never stuck, whatever the fuel and the limit of waiting calls: a run comes to a
+/// value of the function's result kind, or stops on fuel or depth. So every local that is read has a value of its kind, each jump
+/// has a block, and each value that is taken apart an arm.
+#[tactic(auto, using(crate::proofs::Sound::never_stuck))]
+pub fn law_of_soundness()
+    ensures { (program : Program) (limit func fuel : ℕ) (args : List Value) (f : Function) → IsWellFormed program → HaveBlocks program
+        → slice_get program.funcs func ≡ Some f → ArgumentsFit program.types f.params args → IsSound program.types f.result (run_of program limit func fuel args) }
 {}
