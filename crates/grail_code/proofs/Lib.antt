@@ -1,6 +1,11 @@
+-- The theory of the spelling, from its parts up.
 pub mod SpellingParts
+pub mod SpellingTypes
+pub mod SpellingLets
 pub mod SpellingCode
 pub mod SpellingMeans
+-- The loops of the decoder and of the encoder.
 pub mod SpellingLoops
-pub mod SpellingNames
 pub mod SpellingWrites
+-- Functions by name.
+pub mod NamedFuncs
