@@ -6,7 +6,7 @@ use Rattle.camelot_values.specs.Names.{is_tail}
 use Rattle.grail_code.specs.CodeReader.{tail_at}
 use Rattle.grail_code.specs.declared.decoder.reader.Halt.{Halt}
 use Rattle.grail_code.specs.declared.decoder.reader.Halt.TheVariants as halt
-use Rattle.grail_code.specs.Reader.{Read, Done, More, Stop, then_read, map_read, pair_at, byte_at, times_at, Halts}
+use Rattle.grail_code.specs.Reader.{Read, Done, More, Stop, map_read, byte_at, times_at, Halts}
 
 unfoldable pub with_front : {A : Type 0} → List A → Read (List A) → Read (List A)
 with_front front o = map_read (λ xs. front ++ xs) o

@@ -1,17 +1,17 @@
 -- What bytes are, and that they are only one thing.
-use Rattle.std.proofs.Common.{◌≡◌, ℕ, zero, suc, ◌+◌, ◌-◌, ◌<◌, ◌≤◌, List, [], ◌∷◌, ◌++◌, length, take, drop, Result, Ok, Err, refl, sym, ap, subst, ◌∙◌, append_assoc, append-nil, length-append, inl, inr, arith}
+use Rattle.std.proofs.Common.{◌≡◌, ℕ, suc, ◌+◌, ◌-◌, ◌<◌, List, [], ◌∷◌, ◌++◌, length, take, Result, Ok, Err, refl, sym, ap, subst, ◌∙◌, append_assoc, append-nil, length-append, inl, inr, arith}
 use Rattle.std.proofs.lemmas.List.{take_at, take_all}
 use Rattle.std.proofs.Math.Seq.{take-append-add}
 use Rattle.std.proofs.lemmas.Bool.{cases_lt}
 use Rattle.grail_code.specs.declared.code.Code.{Code}
 use Rattle.grail_code.specs.declared.fault.DecodeFault.{DecodeFault}
 use Rattle.grail_code.specs.declared.fault.DecodeFault.TheVariants as fault
-use Rattle.grail_code.specs.Code.{Program, program_of}
+use Rattle.grail_code.specs.Code.{Program}
 use Rattle.grail_code.specs.Reader.{Read, Done, More, Stop}
 use Rattle.grail_code.specs.CodeReader.{code_at, whole, Sees}
 use Rattle.grail_code.specs.Decoding.{IsSo, Says}
 use Rattle.grail_code.specs.Spelling.{spelling, FitsCode, Decoded, Spelled, Front, Broken, IsSpelling, BeginsCode, IsFront, IsLongestBegin, Means}
-use Rattle.grail_code.proofs.SpellingParts.{Lawful, Begins, Stops, Tells, Same, one_way}
+use Rattle.grail_code.proofs.SpellingParts.{Begins, Stops, Tells, one_way}
 use Rattle.grail_code.proofs.SpellingCode.{code_law}
 
 -- ---- the laws of spellings

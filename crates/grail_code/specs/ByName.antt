@@ -1,7 +1,7 @@
 -- Functions by their names.
-use Rattle.std.specs.Prelude.{◌≡◌, ℕ, ◌<◌, List, slice_get, Option, Some, None}
+use Rattle.std.specs.Prelude.{◌≡◌, ℕ, ◌<◌, List, slice_get, Some}
 use Rattle.std.specs.Option.{option_map}
-use Rattle.grail_code.specs.Code.{Function, Program}
+use Rattle.grail_code.specs.Code.{Program}
 
 -- the function of this number has this name
 abbrev pub HasName : Program → ℕ → List ℕ → Type 0

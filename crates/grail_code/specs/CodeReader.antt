@@ -1,5 +1,5 @@
 -- Reading the spelling of code from the left, part by part in the order of the spelling.
-use Rattle.std.specs.Prelude.{◌≡◌, ℕ, zero, suc, ◌+◌, ◌-◌, ◌==◌, Bool, true, false, List, [], ◌∷◌, length, Result, Ok, Err}
+use Rattle.std.specs.Prelude.{◌≡◌, ℕ, zero, suc, ◌-◌, ◌==◌, Bool, true, false, List, [], ◌∷◌, length, Result, Ok, Err}
 use Rattle.std.specs.Int.{w32, cast_signed}
 use Rattle.camelot_values.specs.Names.{is_lower, is_upper, is_tail}
 use Rattle.camelot_values.specs.Kinds.{Constructor, DataType}

@@ -3,7 +3,7 @@ use Rattle.std.specs.Prelude.{◌≡◌, ℕ, List, Result, Ok, Err}
 use Rattle.grail_code.specs.declared.code.Code.{Code}
 use Rattle.grail_code.specs.declared.fault.DecodeFault.{DecodeFault}
 use Rattle.grail_code.specs.declared.fault.DecodeFault.TheVariants as fault
-use Rattle.grail_code.specs.Code.{Program, program_of}
+use Rattle.grail_code.specs.Code.{program_of}
 use Rattle.grail_code.specs.Spelling.{Decoded, Spelled, Front, Broken, IsSpelling, IsFront, IsLongestBegin}
 
 -- Each answer is so. Nothing is said of the bytes where memory ran out.

@@ -15,7 +15,7 @@ impl Code {
     }
 
     /// The number of the first function of this name, or None where no function has it.
-    #[tactic(auto, using(crate::proofs::SpellingNames::first_below))]
+    #[tactic(auto, using(crate::proofs::NamedFuncs::first_below))]
     pub fn func(&self, name: &[u8]) -> Option<u32>
         ensures found { IfSome result (λ number. IsFirstNamed (program_of self.now) number name.now) }
         ensures none { IfNone result ((number : ℕ) → HasName (program_of self.now) number name.now → ⊥) }

@@ -33,7 +33,7 @@ fn fixed(byte: u8, bytes: &[u8]) -> Result<&[u8], Halt>
 }
 
 // The types.
-#[tactic(auto, using(crate::proofs::SpellingCode::types_fit))]
+#[tactic(auto, using(crate::proofs::SpellingTypes::types_fit))]
 fn types_of(alloc: Global, bytes: &[u8]) -> Result<(Types, &[u8]), Halt>
     ensures { Gives (λ x. (x.0, x.1.now)) result (counted_at type_at 0 64 bytes.now) }
 {

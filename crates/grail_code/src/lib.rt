@@ -1,5 +1,7 @@
 //! Grail code: a bytecode of lets and jumps that can be read as a functional program (Beringer, MacKenzie and
-//! Stark, "Grail: a functional form for imperative mobile code", 2003), with what it means.
+//! Stark, "Grail: a functional form for imperative mobile code", 2003), with what it means and its spelling in bytes.
+//!
+//! The spelling is `specs/Spelling.antt`, and its laws are the contracts of [`laws`].
 #![tactic(auto)]
 
 mod by_name;

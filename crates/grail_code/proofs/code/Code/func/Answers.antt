@@ -1,4 +1,4 @@
-use Rattle.grail_code.proofs.SpellingNames.{first_at, none_at}
+use Rattle.grail_code.proofs.NamedFuncs.{first_at, none_at}
 use Rattle.grail_code.proofs.code.Code.func.Goals as goal
 
 pub returns-in-Some-clause-found : goal.returns-in-Some-clause-found

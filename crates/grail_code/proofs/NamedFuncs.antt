@@ -1,6 +1,6 @@
 -- The first function of a name.
-use Rattle.std.proofs.Common.{◌≡◌, ℕ, zero, suc, ◌+◌, ◌<◌, ◌≤◌, List, [], ◌∷◌, length, get_or, map, Option, Some, None, refl, sym, ap, subst, ◌∙◌, inl, inr, arith}
-use Rattle.std.specs.Prelude.{slice_get, nat_eq, nat_lt, if◌then◌else◌, Bool, true, false}
+use Rattle.std.proofs.Common.{◌≡◌, ℕ, zero, suc, ◌<◌, ◌≤◌, List, [], ◌∷◌, length, get_or, map, Some, None, refl, sym, ap, ◌∙◌, inl, inr, arith}
+use Rattle.std.specs.Prelude.{slice_get, nat_eq, nat_lt, if◌then◌else◌, Bool, false}
 use Rattle.std.specs.List.{position, position_or_len}
 use Rattle.std.proofs.lemmas.List.Quantifiers.{position-Some}
 use Rattle.std.proofs.lemmas.List.Sums.{fails_before_first}
@@ -10,8 +10,7 @@ use Rattle.std.specs.Option.{option_map}
 use Rattle.std.proofs.lemmas.Bool.{cases_lt, lt-ltb}
 use Rattle.std.proofs.lemmas.Option.{slice_get-get_or, slice_get_past}
 use Rattle.grail_code.specs.declared.code.Func.{Func}
-use Rattle.grail_code.specs.declared.code.Code.{Code}
-use Rattle.grail_code.specs.Code.{function_of, program_of}
+use Rattle.grail_code.specs.Code.{function_of}
 use Rattle.grail_code.specs.ByName.{HasName, IsFirstNamed}
 
 name_at : (fs : List Func) (i : ℕ) → option_map (λ f. f.name) (slice_get (map function_of fs) i) ≡ option_map (λ f. f.name) (slice_get fs i)
