@@ -1,0 +1,3 @@
+-- The check of code as a walk, and what its faults of use mean.
+pub mod Finding
+pub mod Walk
