@@ -1,5 +1,6 @@
-ghost use Rattle.std.specs.Prelude.{◌≡◌, Some, None, IfOk, MatchResult};
+ghost use Rattle.std.specs.Prelude.{◌≡◌, ◌↔◌, Some, None, IsTrue, is_ok, IfOk, MatchResult};
 ghost use Rattle.grail_code.specs.Code.{program_of};
+ghost use Rattle.grail_code.specs.WellFormed.{IsWellFormed};
 ghost use Rattle.grail_check.specs.Finding.{Answers};
 ghost use Rattle.grail_check.specs.Walk.{table_fault, first_fault};
 
@@ -33,9 +34,11 @@ fn walk(alloc: Global, code: &Code) -> Result<(), Stop>
     check_functions(alloc, code)
 }
 
-/// Whether the code is well formed, and if not, the first check that fails.
+/// Whether the code is well formed, and if not, the first check that fails. An answer in place of which memory ran out is
+/// neither.
 pub fn check_code(alloc: Global, code: &Code) -> Result<Result<(), CodeFault>, AllocError>
     ensures first_fault { IfOk result (λ answer. MatchResult answer (λ _. first_fault (program_of code.now) ≡ None) (λ fault. first_fault (program_of code.now) ≡ Some fault)) }
+    ensures well_formed { IfOk result (λ answer. IsTrue (is_ok answer) ↔ IsWellFormed (program_of code.now)) }
 {
     match walk(alloc, code) {
         Ok(()) => Ok(Ok(())),
