@@ -10,6 +10,8 @@ mod functions;
 mod lets;
 mod locals;
 mod names;
+#[cfg(test)]
+mod tests;
 mod types;
 
 pub use check::check_code;
