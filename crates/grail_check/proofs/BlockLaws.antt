@@ -1,23 +1,22 @@
 -- The checks of a function's blocks pass exactly where all of its blocks fit.
-use Rattle.std.proofs.Common.{◌≡◌, ℕ, zero, suc, ◌<◌, Bool, true, false, List, [], ◌∷◌, ◌++◌, length, map, Option, Some, None, refl, sym, ap, ◌∙◌, subst, arith}
-use Rattle.std.specs.Prelude.{◌&&◌, IsTrue, IsSomeAnd, slice_get, flat_map}
+use Rattle.std.proofs.Common.{◌≡◌, ℕ, zero, suc, true, List, [], ◌∷◌, ◌++◌, length, map, Some, None, refl, sym, ap, ◌∙◌, subst, arith}
+use Rattle.std.specs.Prelude.{◌&&◌, slice_get, flat_map}
 use Rattle.std.specs.List.{list_all, AllByRecursion, range_with_len}
-use Rattle.std.specs.Option.{option_or, option_map_or}
-use Rattle.camelot_values.specs.Kinds.{Constructor, DataType}
+use Rattle.std.specs.Option.{option_map_or}
+use Rattle.camelot_values.specs.Kinds.{DataType}
 use Rattle.camelot_values.specs.declared.kinds.Kind.{Kind}
 use Rattle.camelot_values.specs.declared.kinds.Kind.TheVariants as kind
 use Rattle.grail_code.specs.Code.{Binding, Arm, Exit, Ret, Tail, Goto, If, Case, BasicBlock, Function, Program}
-use Rattle.grail_code.specs.WellFormed.{local_kinds, kind_of, HaveKinds, is_heap_local, Ascend, LetFits, Gives, bound_by, ArmsFit, data_type, ExitFits, Event, Use, Bind, operands_of, let_events, exit_uses, params_of, jump_events, ways, block_events, IsUsedWell, UsesWell, BlockFits, BlocksFit}
-use Rattle.grail_check.specs.declared.fault.CodeKind.{CodeKind}
+use Rattle.grail_code.specs.WellFormed.{kind_of, HaveKinds, is_heap_local, Ascend, LetFits, Gives, bound_by, ArmsFit, data_type, ExitFits, Event, Bind, operands_of, let_events, exit_uses, params_of, jump_events, ways, block_events, IsUsedWell, BlockFits, BlocksFit}
 use Rattle.grail_check.specs.declared.fault.CodeKind.TheVariants as fault
 use Rattle.grail_check.specs.declared.locals.Local.{Local}
 use Rattle.grail_check.specs.declared.locals.Mark.{Mark}
-use Rattle.grail_check.specs.Walk.{unless, first_of, at_place, locals_of, is_local, is_heap_at, unbound, bind_all, let_fault, after_let, after_lets, exit_fault, ascends_from, entry_fits, block_header_fault, lets_fault, at_start, block_fault, blocks_fault}
-use Rattle.grail_check.proofs.Checks.{or_first, or_second, or_none, none_fails, all_pass, unless_true, true_unless, nothing_there, nowhere, both, join, all_then, all_both}
+use Rattle.grail_check.specs.Walk.{unless, at_place, locals_of, is_local, is_heap_at, unbound, let_fault, after_let, after_lets, exit_fault, ascends_from, entry_fits, block_header_fault, lets_fault, at_start, block_fault, blocks_fault}
+use Rattle.grail_check.proofs.Checks.{or_first, or_second, or_none, none_fails, all_pass, unless_true, true_unless, nothing_there, nowhere, both, join, all_both}
 use Rattle.grail_check.proofs.Distinct.{ascends_is, is_ascending_all, first_numbers, are_first_numbers}
 use Rattle.grail_check.proofs.Playing.{after, Plays, plays_front, plays_back, plays_both, after_both, length_after, used_well, plays_well, IsWithin, AreWithin}
 use Rattle.grail_check.proofs.LetLaws.{heap_is, count_is, kind_at_is, kind_there, kinds_there, the_kinds_had, some_and, uses, after_a_let, let_passes, pass_let, operands_there}
-use Rattle.grail_check.proofs.ExitLaws.{AreBelow, there_below, below_there, binds_play, after_binds, way, arm_way, data_there, ExitPlays, exit_passes, pass_exit}
+use Rattle.grail_check.proofs.ExitLaws.{AreBelow, there_below, below_there, binds_play, after_binds, arm_way, data_there, exit_passes, pass_exit}
 use Rattle.std.proofs.lemmas.List.{length-replicate}
 
 -- ---- the header
@@ -42,9 +41,10 @@ pass_header : (types : List DataType) (f : Function) (number : ℕ) (params : Li
     → block_header_fault f (locals_of types f) number params ≡ None
 pass_header types f number params w a e =
     let locals = locals_of types f in
-    all_pass (unless (list_all (is_local locals) params) fault.NoSuchEntry ∷ unless (ascends_from 0 params && entry_fits f number params) fault.Header ∷ [])
-      (true_unless (list_all (is_local locals) params) fault.NoSuchEntry (below_there locals params w),
-      (true_unless (ascends_from 0 params && entry_fits f number params) fault.Header (join (ascends_from 0 params) (entry_fits f number params) (is_ascending_all params a) (is_entry f number params e)), tt))
+    all_pass (unless (list_all (is_local locals) params) fault.NoSuchEntry ∷ unless (ascends_from 0 params && entry_fits f number params) fault.Header ∷ []) (
+      true_unless (list_all (is_local locals) params) fault.NoSuchEntry (below_there locals params w),
+      (true_unless (ascends_from 0 params && entry_fits f number params) fault.Header (join (ascends_from 0 params) (entry_fits f number params) (is_ascending_all params a) (is_entry f number params e)), tt),
+    )
 
 -- ---- lets
 
@@ -63,9 +63,9 @@ pass_lets p f func number place marks [] fits h = refl
 pass_lets p f func number place marks (l ∷ ls) fits h =
     let locals = locals_of p.types f in
     or_none (at_place func number place (let_fault p locals marks l)) _
-      (nowhere func number place (let_fault p locals marks l) (pass_let p f marks l fits.0 (plays_front locals marks (let_events l) (flat_map let_events ls) h)))
-      (pass_lets p f func number (suc place) (after_let locals marks l) ls fits.1
-        (subst (λ m. Plays locals m (flat_map let_events ls)) (after_a_let locals marks l) (plays_back locals marks (let_events l) (flat_map let_events ls) h)))
+    (nowhere func number place (let_fault p locals marks l) (pass_let p f marks l fits.0 (plays_front locals marks (let_events l) (flat_map let_events ls) h)))
+    (pass_lets p f func number (suc place) (after_let locals marks l) ls fits.1
+    (subst (λ m. Plays locals m (flat_map let_events ls)) (after_a_let locals marks l) (plays_back locals marks (let_events l) (flat_map let_events ls) h)))
 
 after_all_lets : (locals : List Local) (marks : List Mark) (ls : List Binding) → after locals marks (flat_map let_events ls) ≡ after_lets locals marks ls
 after_all_lets locals marks [] = refl
@@ -115,17 +115,18 @@ all_ways : (types : List DataType) (f : Function) (b : BasicBlock) (ws : List (L
     → AllByRecursion (λ w. IsUsedWell (is_heap_local types f) (block_events b ++ w)) ws
 all_ways types f b [] h k = tt
 all_ways types f b (w ∷ ws) h k =
-    let locals = locals_of types f in
-    (subst (λ t. IsUsedWell t (block_events b ++ w)) (heap_path types f)
-      (used_well locals (block_events b ++ w) (plays_both locals (unbound locals) (block_events b) w h (subst (λ m. Plays locals m w) (sym (after_block locals b)) k.0))),
-    all_ways types f b ws h k.1)
+    let locals = locals_of types f in (
+      subst (λ t. IsUsedWell t (block_events b ++ w)) (heap_path types f)
+          (used_well locals (block_events b ++ w) (plays_both locals (unbound locals) (block_events b) w h (subst (λ m. Plays locals m w) (sym (after_block locals b)) k.0))),
+      all_ways types f b ws h k.1,
+    )
 
 pub block_passes : (p : Program) (f : Function) (func number : ℕ) (b : BasicBlock) → ((n : ℕ) → Ascend (params_of f n)) → block_fault p f (locals_of p.types f) func number b ≡ None → BlockFits p f number b
 block_passes p f func number b asc h =
     let locals = locals_of p.types f in
     let end = at_end locals b in
     let a = none_fails (at_place func number 0 (block_header_fault f locals number b.params) ∷ lets_fault p locals func number 1 (at_start locals b) b.lets
-      ∷ at_place func number (suc (length b.lets)) (exit_fault p f locals number end b.exit) ∷ []) h in
+    ∷ at_place func number (suc (length b.lets)) (exit_fault p f locals number end b.exit) ∷ []) h in
     let header = header_passes p.types f number b.params (nothing_there func number 0 (block_header_fault f locals number b.params) a.0) in
     let lets = lets_pass p f func number 1 (at_start locals b) b.lets a.1.0 in
     let exit = exit_passes p f number end b.exit asc (end_length locals b) (nothing_there func number (suc (length b.lets)) (exit_fault p f locals number end b.exit) a.1.1.0) in
@@ -160,8 +161,8 @@ lets_within p f (l ∷ ls) h =
     let n = length locals in
     let (k, e, g) = some_and (kind_of f l.target) (Gives p f l.op) h.0 in
     all_both (IsWithin n) (let_events l) (flat_map let_events ls)
-      (all_both (IsWithin n) (uses (operands_of l.op)) (Bind l.target ∷ []) (uses_within n (operands_of l.op) (there_below locals (operands_of l.op) (operands_there p f l.op k g))) (tt, tt))
-      (lets_within p f ls h.1)
+    (all_both (IsWithin n) (uses (operands_of l.op)) (Bind l.target ∷ []) (uses_within n (operands_of l.op) (there_below locals (operands_of l.op) (operands_there p f l.op k g))) (tt, tt))
+    (lets_within p f ls h.1)
 
 one_below : (p : Program) (f : Function) (x : ℕ) (k : Kind) → kind_of f x ≡ Some k → AreBelow (length (locals_of p.types f)) (x ∷ [])
 one_below p f x k e = (kind_there (locals_of p.types f) x k (kind_at_is p.types f x k e), tt)
@@ -205,15 +206,21 @@ pass_block p f func number b params fits =
     let end = at_end locals b in
     let last = uses (exit_uses b.exit) in
     let i : AreWithin n (block_events b) = all_both (IsWithin n) (front_events b) last
-      (all_both (IsWithin n) (map Bind b.params) (flat_map let_events b.lets) (binds_within n b.params) (lets_within p f b.lets fits.lets)) (uses_within n (exit_uses b.exit) (exit_below p f number b.exit fits.exit)) in
+    (all_both (IsWithin n) (map Bind b.params) (flat_map let_events b.lets) (binds_within n b.params) (lets_within p f b.lets fits.lets)) (uses_within n (exit_uses b.exit) (exit_below p f number b.exit fits.exit)) in
     let plays = plays_well locals (block_events b) i (subst (λ t. IsUsedWell t (block_events b)) (sym (heap_path p.types f)) fits.uses.inside) in
     let front = plays_front locals (unbound locals) (front_events b) last plays in
     all_pass (at_place func number 0 (block_header_fault f locals number b.params) ∷ lets_fault p locals func number 1 (at_start locals b) b.lets
-      ∷ at_place func number (suc (length b.lets)) (exit_fault p f locals number end b.exit) ∷ [])
-      (nowhere func number 0 (block_header_fault f locals number b.params) (pass_header p.types f number b.params (subst (λ m. AreBelow m b.params) (sym (count_is p.types f)) fits.params) fits.ascending fits.entry),
-      (pass_lets p f func number 1 (at_start locals b) b.lets fits.lets (plays_lets locals b front),
-      (nowhere func number (suc (length b.lets)) (exit_fault p f locals number end b.exit)
-        (pass_exit p f number end b.exit (fits.exit, events_end locals b last plays, ways_all p.types f b (ways f b.exit) i (ways_within f n b.exit params) fits.uses.onward)), tt)))
+    ∷ at_place func number (suc (length b.lets)) (exit_fault p f locals number end b.exit) ∷ []) (
+      nowhere func number 0 (block_header_fault f locals number b.params) (pass_header p.types f number b.params (subst (λ m. AreBelow m b.params) (sym (count_is p.types f)) fits.params) fits.ascending fits.entry),
+      (
+        pass_lets p f func number 1 (at_start locals b) b.lets fits.lets (plays_lets locals b front),
+        (
+          nowhere func number (suc (length b.lets)) (exit_fault p f locals number end b.exit)
+              (pass_exit p f number end b.exit (fits.exit, events_end locals b last plays, ways_all p.types f b (ways f b.exit) i (ways_within f n b.exit params) fits.uses.onward)),
+          tt,
+        ),
+      ),
+    )
 
 -- ---- the blocks of a function
 
@@ -226,15 +233,17 @@ blocks_ascend : (p : Program) (f : Function) (func number : ℕ) (bs : List Basi
 blocks_ascend p f func number [] h = tt
 blocks_ascend p f func number (b ∷ bs) h =
     let locals = locals_of p.types f in
-    let k = or_first (at_place func number 0 (block_header_fault f locals number b.params)) _ (or_first (block_fault p f locals func number b) (blocks_fault p f locals func (suc number) bs) h) in
-    ((header_passes p.types f number b.params (nothing_there func number 0 (block_header_fault f locals number b.params) k)).1,
-    blocks_ascend p f func (suc number) bs (or_second (block_fault p f locals func number b) _ h))
+    let k = or_first (at_place func number 0 (block_header_fault f locals number b.params)) _ (or_first (block_fault p f locals func number b) (blocks_fault p f locals func (suc number) bs) h) in (
+      (header_passes p.types f number b.params (nothing_there func number 0 (block_header_fault f locals number b.params) k)).1,
+      blocks_ascend p f func (suc number) bs (or_second (block_fault p f locals func number b) _ h),
+    )
 
 each_passes : (p : Program) (f : Function) (func number : ℕ) (bs : List BasicBlock) → ((n : ℕ) → Ascend (params_of f n)) → blocks_fault p f (locals_of p.types f) func number bs ≡ None → BlocksFit p f number bs
 each_passes p f func number [] asc h = tt
 each_passes p f func number (b ∷ bs) asc h = (
-    block_passes p f func number b asc (or_first _ (blocks_fault p f (locals_of p.types f) func (suc number) bs) h),
-    each_passes p f func (suc number) bs asc (or_second (block_fault p f (locals_of p.types f) func number b) _ h))
+  block_passes p f func number b asc (or_first _ (blocks_fault p f (locals_of p.types f) func (suc number) bs) h),
+  each_passes p f func (suc number) bs asc (or_second (block_fault p f (locals_of p.types f) func number b) _ h),
+)
 
 pub blocks_pass : (p : Program) (f : Function) (func : ℕ) → blocks_fault p f (locals_of p.types f) func 0 f.blocks ≡ None → BlocksFit p f 0 f.blocks
 blocks_pass p f func h = each_passes p f func 0 f.blocks (λ n. params_at Ascend f.blocks n tt (blocks_ascend p f func 0 f.blocks h)) h

@@ -1,13 +1,12 @@
 -- Checks in a row, and tests of numbers, lists and names.
-use Rattle.std.proofs.Common.{◌≡◌, ℕ, zero, suc, ◌+◌, ◌<◌, ◌≤◌, Bool, true, false, List, [], ◌∷◌, ◌++◌, length, map, Option, Some, None, refl, sym, ap, ◌∙◌, subst, arith}
-use Rattle.std.specs.Prelude.{◌&&◌, ◌==◌, ◌↔◌, not, nat_lt, nat_le, ⊤, slice_get}
-use Rattle.std.specs.List.{list_all, list_any, AllByRecursion}
+use Rattle.std.proofs.Common.{◌≡◌, ℕ, ◌<◌, Bool, true, false, List, [], ◌∷◌, ◌++◌, map, Option, Some, None, refl, arith}
+use Rattle.std.specs.Prelude.{◌&&◌, ◌==◌, nat_lt}
+use Rattle.std.specs.List.{list_all, AllByRecursion}
 use Rattle.std.specs.Option.{option_or, option_map}
-use Rattle.std.proofs.lemmas.Bool.{eqb-true, ltb-true, lt-ltb, leb-true}
+use Rattle.std.proofs.lemmas.Bool.{eqb-true, ltb-true, lt-ltb}
 use Rattle.std.proofs.lemmas.Bool.Decides.{nat_tests}
 use Rattle.grail_check.specs.declared.fault.CodeKind.{CodeKind}
-use Rattle.grail_check.specs.declared.fault.CodeFault.{CodeFault}
-use Rattle.grail_check.specs.Walk.{unless, first_of, at_place, is_among}
+use Rattle.grail_check.specs.Walk.{unless, first_of, at_place}
 
 -- ---- checks in a row
 

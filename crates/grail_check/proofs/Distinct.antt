@@ -1,10 +1,10 @@
 -- Lists in which nothing stands twice, and lists of numbers that ascend.
-use Rattle.std.proofs.Common.{◌≡◌, ℕ, zero, suc, ◌+◌, ◌<◌, ◌≤◌, Bool, true, false, List, [], ◌∷◌, ◌++◌, length, map, refl, sym, ap, ◌∙◌, subst, arith, append_assoc}
-use Rattle.std.specs.Prelude.{◌&&◌, ◌||◌, ◌==◌, not, nat_le, nat_eq}
+use Rattle.std.proofs.Common.{◌≡◌, ℕ, zero, suc, ◌+◌, ◌<◌, ◌≤◌, Bool, true, false, List, [], ◌∷◌, ◌++◌, refl, sym, ap, ◌∙◌, subst, arith, append_assoc}
+use Rattle.std.specs.Prelude.{◌||◌, ◌==◌, not, nat_le, nat_eq}
 use Rattle.std.specs.List.{list_any, AllByRecursion, range_with_len}
 use Rattle.std.specs.Str.{bytes_eq}
-use Rattle.std.specs.Cmp.Lexicographic.{same_text, other_text}
-use Rattle.std.proofs.lemmas.Bool.{leb-true, eqb-true}
+use Rattle.std.specs.Cmp.Lexicographic.{same_text}
+use Rattle.std.proofs.lemmas.Bool.{leb-true}
 use Rattle.std.proofs.lemmas.Bool.Decides.{nat_tests}
 use Rattle.grail_code.specs.WellFormed.{AreDistinct, Ascend}
 use Rattle.grail_check.specs.Walk.{is_among, are_distinct, stands, ascends_from, counts_from}
@@ -122,7 +122,7 @@ is_counted from zero to e = is_same from to (omega arith)
 is_counted from (suc n) to e =
     let s : suc from ≡ from + 1 = omega arith in
     join (from == from) (counts_from (suc from) to (range_with_len (from + 1) n)) (is_same from from refl)
-      (subst (λ m. counts_from (suc from) to (range_with_len m n) ≡ true) s (is_counted (suc from) n to (omega arith)))
+    (subst (λ m. counts_from (suc from) to (range_with_len m n) ≡ true) s (is_counted (suc from) n to (omega arith)))
 
 pub first_numbers : (n : ℕ) (xs : List ℕ) → counts_from 0 n xs ≡ true → xs ≡ range_with_len 0 n
 first_numbers n xs h = counts_is 0 n n xs (omega arith) h
@@ -172,11 +172,12 @@ new_distinct ws h w before between rest q =
 distinct_new_from : (earlier ws : List (List ℕ)) → AreDistinct (earlier ++ ws) → AreNew earlier ws
 distinct_new_from earlier [] h = tt
 distinct_new_from earlier (w ∷ ws) h = (
-    never_true (stands earlier w) (λ k.
+  never_true (stands earlier w) (λ k.
       let q = some_place (bytes_eq w) earlier k in
       let e : w ≡ q.item = same_name w q.item q.holds in
       h w q.before q.rest ws (ap (λ l. l ++ w ∷ ws) (q.is ∙ ap (λ x. q.before ++ x ∷ q.rest) (sym e)) ∙ append_assoc q.before (w ∷ q.rest) (w ∷ ws))),
-    distinct_new_from (earlier ++ w ∷ []) ws (subst AreDistinct (sym (append_assoc earlier (w ∷ []) ws)) h))
+  distinct_new_from (earlier ++ w ∷ []) ws (subst AreDistinct (sym (append_assoc earlier (w ∷ []) ws)) h),
+)
 
 pub distinct_new : (ws : List (List ℕ)) → AreDistinct ws → AreNew [] ws
 distinct_new ws h = distinct_new_from [] ws h

@@ -1,26 +1,24 @@
 -- The checks of a block's end pass exactly where it fits and its uses do, and those of each way on from it.
-use Rattle.std.proofs.Common.{◌≡◌, ℕ, zero, suc, ◌<◌, Bool, true, false, List, [], ◌∷◌, ◌++◌, length, map, Option, Some, None, refl, sym, ap, ◌∙◌, subst, arith, inl, inr, ◌⊎◌}
-use Rattle.std.specs.Prelude.{◌&&◌, ◌||◌, ◌==◌, IsTrue, IsSomeAnd, not, slice_get, slice_set, nat_lt, if◌then◌else◌}
-use Rattle.std.specs.List.{list_all, list_any, AllByRecursion}
-use Rattle.std.specs.Option.{option_or, option_map, option_map_or}
+use Rattle.std.proofs.Common.{◌≡◌, ℕ, suc, ◌<◌, Bool, true, false, List, [], ◌∷◌, ◌++◌, length, map, Option, Some, None, refl, sym, ap, ◌∙◌, subst, arith, inl, inr, ◌⊎◌}
+use Rattle.std.specs.Prelude.{◌&&◌, ◌||◌, ◌==◌, IsSomeAnd, slice_get, nat_lt, if◌then◌else◌}
+use Rattle.std.specs.List.{list_all, AllByRecursion}
 use Rattle.std.proofs.lemmas.List.{length-set}
 use Rattle.camelot_values.specs.Kinds.{Constructor, DataType}
 use Rattle.camelot_values.specs.declared.kinds.Kind.{Kind}
 use Rattle.camelot_values.specs.declared.kinds.Kind.TheVariants as kind
 use Rattle.grail_code.specs.declared.code.CaseCell.{CaseCell}
 use Rattle.grail_code.specs.declared.code.CaseCell.TheVariants as cell
-use Rattle.grail_code.specs.Code.{Arm, Exit, Ret, Tail, Goto, If, Case, BasicBlock, Function, Program}
-use Rattle.grail_code.specs.WellFormed.{kind_of, HaveKinds, AreDistinct, Ascend, JumpFits, CellFits, kept, bound_by, ArmFits, ArmsFit, data_type, ExitFits, Event, Use, Bind, exit_uses, params_of, jump_events, ways}
-use Rattle.grail_check.specs.declared.fault.CodeKind.{CodeKind}
+use Rattle.grail_code.specs.Code.{Arm, Exit, Ret, Tail, Goto, If, Case, Function, Program}
+use Rattle.grail_code.specs.WellFormed.{kind_of, HaveKinds, Ascend, CellFits, kept, bound_by, ArmsFit, data_type, ExitFits, Event, Use, Bind, exit_uses, params_of, jump_events, ways}
 use Rattle.grail_check.specs.declared.fault.CodeKind.TheVariants as fault
 use Rattle.grail_check.specs.declared.locals.Local.{Local}
 use Rattle.grail_check.specs.declared.locals.Mark.{Mark}
 use Rattle.grail_check.specs.declared.locals.Mark.TheVariants as mark
-use Rattle.grail_check.specs.Walk.{unless, first_of, locals_of, is_local, kind_at, same_kind, has_kind, have_kinds, bind, bind_all, spend, spend_all, mark_fault, operand_fault, arguments_fault, is_block, is_among, use_fault, uses_fault, jump_fault, callee_fault, tail_fault, arm_is_there, fields_count, arms_count, cell_fits, cells_fit, kept_fits, arms_have_kinds, are_distinct, arms_jump_fault, arms_fault, case_fault, ret_fault, goto_fault, if_fault, exit_fault}
-use Rattle.grail_check.proofs.Checks.{or_first, or_second, or_none, none_fails, all_pass, unless_true, true_unless, both, join, all_true, true_all, all_then, all_both, all_front, all_back, below, is_below, same, is_same}
+use Rattle.grail_check.specs.Walk.{unless, locals_of, is_local, kind_at, same_kind, has_kind, have_kinds, bind, bind_all, spend, mark_fault, operand_fault, arguments_fault, is_block, is_among, use_fault, uses_fault, jump_fault, callee_fault, arm_is_there, fields_count, arms_count, cell_fits, cells_fit, kept_fits, arms_have_kinds, are_distinct, arms_jump_fault, arms_fault, exit_fault}
+use Rattle.grail_check.proofs.Checks.{or_first, or_second, or_none, none_fails, all_pass, unless_true, true_unless, both, join, all_true, true_all, all_then, all_both, below, is_below, same, is_same}
 use Rattle.grail_check.proofs.Distinct.{distinct_is, is_distinct, ascend_parts}
-use Rattle.grail_check.proofs.Playing.{step, after, IsReady, Plays, plays_front, plays_back, plays_both, set_same, ready_after_bind, ready_after_spend, ready_before_bind, spend_keeps, spend_one, length_step}
-use Rattle.grail_check.proofs.LetLaws.{kind_is, count_is, kinds_same, same_kinds_true, has_the_kind, the_kind_it_has, kind_there, kinds_there, mark_ready, ready_mark, uses, operand_passes, pass_operand, arguments_pass, pass_arguments, have_the_kinds, the_kinds_had, kind_of_is, kind_at_is, not_true, true_not, some_and, and_some}
+use Rattle.grail_check.proofs.Playing.{after, IsReady, Plays, plays_back, plays_both, set_same, ready_after_bind, ready_before_bind, spend_keeps, spend_one, length_step}
+use Rattle.grail_check.proofs.LetLaws.{kind_is, kinds_same, same_kinds_true, has_the_kind, the_kind_it_has, kind_there, kinds_there, mark_ready, ready_mark, uses, operand_passes, pass_operand, arguments_pass, pass_arguments, have_the_kinds, the_kinds_had, kind_of_is, kind_at_is, not_true, true_not, some_and}
 
 -- ---- what an arm binds
 
@@ -59,10 +57,12 @@ ready_among : (xs : List ℕ) (marks : List Mark) (x : ℕ) → IsReady (bind_al
 ready_among [] marks x h = inr h
 ready_among (y ∷ ys) marks x h =
     elim (ready_among ys (bind marks y) x h) as (λ c. (is_among (y ∷ ys) x ≡ true) ⊎ IsReady marks x) [
-      inl a ↦ inl (or_right (y == x) (is_among ys x) a)
+      | inl a ↦ inl (or_right (y == x) (is_among ys x) a)
       | inr r ↦ elim (ready_before_bind marks y x r) as (λ c. (is_among (y ∷ ys) x ≡ true) ⊎ IsReady marks x) [
-        inl s ↦ inr s
-        | inr e ↦ inl (or_left (y == x) (is_among ys x) (is_same y x e)) ] ]
+        | inl s ↦ inr s
+        | inr e ↦ inl (or_left (y == x) (is_among ys x) (is_same y x e))
+      ]
+    ]
 
 pub binds_play : (locals : List Local) (marks : List Mark) (xs : List ℕ) → Plays locals marks (map Bind xs)
 binds_play locals marks [] = tt
@@ -191,8 +191,9 @@ arms_jump : (f : Function) (locals : List Local) (marks : List Mark) (arms : Lis
     → AllByRecursion (λ a. arm_is_there f locals a ≡ true) arms → arms_jump_fault f marks arms ≡ None → AllByRecursion (λ w. Plays locals marks w) (map (arm_way f) arms)
 arms_jump f locals marks [] asc e t h = tt
 arms_jump f locals marks (a ∷ arms) asc e t h = (
-    jump_passes f locals marks (bound_by a) a.target (asc a.target) (subst (λ n. AreBelow n (bound_by a)) (sym e) (bound_below f locals a t.0)) (or_first _ _ h),
-    arms_jump f locals marks arms asc e t.1 (or_second (jump_fault f marks (bound_by a) a.target) _ h))
+  jump_passes f locals marks (bound_by a) a.target (asc a.target) (subst (λ n. AreBelow n (bound_by a)) (sym e) (bound_below f locals a t.0)) (or_first _ _ h),
+  arms_jump f locals marks arms asc e t.1 (or_second (jump_fault f marks (bound_by a) a.target) _ h),
+)
 
 jump_arms : (f : Function) (locals : List Local) (marks : List Mark) (arms : List Arm) → AllByRecursion (λ w. Plays locals marks w) (map (arm_way f) arms) → arms_jump_fault f marks arms ≡ None
 jump_arms f locals marks [] h = refl
@@ -221,13 +222,15 @@ arms_are types f number (a ∷ arms) (c ∷ cs) t =
     let j = both (have_kinds locals a.fields c.fields) (kept_fits locals a.cell) k.0 in
     let d = both (are_distinct (bound_by a)) (list_all (λ a. are_distinct (bound_by a)) arms) t.distinct in
     let w = both (arm_is_there f locals a) (list_all (arm_is_there f locals) arms) t.named in
-    let g = both (nat_lt number a.target) (list_all (λ a. nat_lt number a.target) arms) t.forward in
-    (record {
-      fields = have_the_kinds types f a.fields c.fields (the_kinds locals a.fields c.fields (same (length a.fields) (length c.fields) n.0) j.0);
-      cell = cell_is types f c.inline a.cell l.0 j.1;
-      distinct = distinct_is (bound_by a) d.0;
-      jump = (below number a.target g.0, below a.target (length f.blocks) (there f locals a w.0).target);
-    }, arms_are types f number arms cs (record { count = omega arith; fields = n.1; cells = l.1; kinds = k.1; distinct = d.1; named = w.1; forward = g.1 }))
+    let g = both (nat_lt number a.target) (list_all (λ a. nat_lt number a.target) arms) t.forward in (
+      record {
+        fields = have_the_kinds types f a.fields c.fields (the_kinds locals a.fields c.fields (same (length a.fields) (length c.fields) n.0) j.0);
+        cell = cell_is types f c.inline a.cell l.0 j.1;
+        distinct = distinct_is (bound_by a) d.0;
+        jump = (below number a.target g.0, below a.target (length f.blocks) (there f locals a w.0).target);
+      },
+      arms_are types f number arms cs (record { count = omega arith; fields = n.1; cells = l.1; kinds = k.1; distinct = d.1; named = w.1; forward = g.1 }),
+    )
 
 are_arms : (types : List DataType) (f : Function) (number : ℕ) (arms : List Arm) (cs : List Constructor) → ArmsFit f number cs arms → Tests types f number arms cs
 are_arms types f number [] [] h = record { count = refl; fields = refl; cells = refl; kinds = refl; distinct = refl; named = refl; forward = refl }
@@ -247,7 +250,7 @@ are_arms types f number (a ∷ arms) (c ∷ cs) h =
       kinds = join (have_kinds locals a.fields c.fields && kept_fits locals a.cell) (arms_have_kinds locals arms cs) (join (have_kinds locals a.fields c.fields) (kept_fits locals a.cell) k.1 l.1) t.kinds;
       distinct = join (are_distinct (bound_by a)) (list_all (λ a. are_distinct (bound_by a)) arms) (is_distinct (bound_by a) h.0.distinct) t.distinct;
       named = join (arm_is_there f locals a) (list_all (arm_is_there f locals) arms)
-        (join (list_all (is_local locals) a.fields && list_all (is_local locals) (kept a.cell)) (is_block f a.target)
+          (join (list_all (is_local locals) a.fields && list_all (is_local locals) (kept a.cell)) (is_block f a.target)
           (join (list_all (is_local locals) a.fields) (list_all (is_local locals) (kept a.cell)) (kinds_there locals a.fields c.fields q) l.2)
           (is_below a.target (length f.blocks) j.1)) t.named;
       forward = join (nat_lt number a.target) (list_all (λ a. nat_lt number a.target) arms) (is_below number a.target j.0) t.forward;
@@ -266,18 +269,20 @@ arms_pass p f number marks x None arms asc e named forward h = cc
 arms_pass p f number marks x (Some t) arms asc e named forward h =
     let locals = locals_of p.types f in
     let c = none_fails (unless (arms_count arms t.cons) fault.Arms ∷ mark_fault (slice_get marks x) ∷ unless (cells_fit arms t.cons) fault.Place ∷ unless (arms_have_kinds locals arms t.cons) fault.Kind
-      ∷ unless (list_all (λ a. are_distinct (bound_by a)) arms) fault.Header ∷ arms_jump_fault f (spend locals marks x) arms ∷ []) h in
-    let n = both (length arms == length t.cons) (fields_count arms t.cons) (unless_true (arms_count arms t.cons) fault.Arms c.0) in
-    (arms_are p.types f number arms t.cons (record {
-      count = same (length arms) (length t.cons) n.0;
-      fields = n.1;
-      cells = unless_true (cells_fit arms t.cons) fault.Place c.1.1.0;
-      kinds = unless_true (arms_have_kinds locals arms t.cons) fault.Kind c.1.1.1.0;
-      distinct = unless_true (list_all (λ a. are_distinct (bound_by a)) arms) fault.Header c.1.1.1.1.0;
-      named = named;
-      forward = forward;
-    }), mark_ready (slice_get marks x) c.1.0,
-    arms_jump f locals (spend locals marks x) arms asc (length_step locals marks (Use x) ∙ e) (all_true (arm_is_there f locals) arms named) c.1.1.1.1.1.0)
+    ∷ unless (list_all (λ a. are_distinct (bound_by a)) arms) fault.Header ∷ arms_jump_fault f (spend locals marks x) arms ∷ []) h in
+    let n = both (length arms == length t.cons) (fields_count arms t.cons) (unless_true (arms_count arms t.cons) fault.Arms c.0) in (
+      arms_are p.types f number arms t.cons (record {
+        count = same (length arms) (length t.cons) n.0;
+        fields = n.1;
+        cells = unless_true (cells_fit arms t.cons) fault.Place c.1.1.0;
+        kinds = unless_true (arms_have_kinds locals arms t.cons) fault.Kind c.1.1.1.0;
+        distinct = unless_true (list_all (λ a. are_distinct (bound_by a)) arms) fault.Header c.1.1.1.1.0;
+        named = named;
+        forward = forward;
+      }),
+      mark_ready (slice_get marks x) c.1.0,
+      arms_jump f locals (spend locals marks x) arms asc (length_step locals marks (Use x) ∙ e) (all_true (arm_is_there f locals) arms named) c.1.1.1.1.1.0,
+    )
 
 pass_arms : (p : Program) (f : Function) (number : ℕ) (marks : List Mark) (x : ℕ) (t : DataType) (arms : List Arm) → ArmsFit f number t.cons arms → IsReady marks x
     → WaysPlay (locals_of p.types f) (spend (locals_of p.types f) marks x) (map (arm_way f) arms) → arms_fault f (locals_of p.types f) marks x (Some t) arms ≡ None
@@ -285,13 +290,22 @@ pass_arms p f number marks x t arms fits r w =
     let locals = locals_of p.types f in
     let q = are_arms p.types f number arms t.cons fits in
     all_pass (unless (arms_count arms t.cons) fault.Arms ∷ mark_fault (slice_get marks x) ∷ unless (cells_fit arms t.cons) fault.Place ∷ unless (arms_have_kinds locals arms t.cons) fault.Kind
-      ∷ unless (list_all (λ a. are_distinct (bound_by a)) arms) fault.Header ∷ arms_jump_fault f (spend locals marks x) arms ∷ [])
-      (true_unless (arms_count arms t.cons) fault.Arms (join (length arms == length t.cons) (fields_count arms t.cons) (is_same (length arms) (length t.cons) q.count) q.fields),
-      (ready_mark (slice_get marks x) r,
-      (true_unless (cells_fit arms t.cons) fault.Place q.cells,
-      (true_unless (arms_have_kinds locals arms t.cons) fault.Kind q.kinds,
-      (true_unless (list_all (λ a. are_distinct (bound_by a)) arms) fault.Header q.distinct,
-      (jump_arms f locals (spend locals marks x) arms w, tt))))))
+    ∷ unless (list_all (λ a. are_distinct (bound_by a)) arms) fault.Header ∷ arms_jump_fault f (spend locals marks x) arms ∷ []) (
+      true_unless (arms_count arms t.cons) fault.Arms (join (length arms == length t.cons) (fields_count arms t.cons) (is_same (length arms) (length t.cons) q.count) q.fields),
+      (
+        ready_mark (slice_get marks x) r,
+        (
+          true_unless (cells_fit arms t.cons) fault.Place q.cells,
+          (
+            true_unless (arms_have_kinds locals arms t.cons) fault.Kind q.kinds,
+            (
+              true_unless (list_all (λ a. are_distinct (bound_by a)) arms) fault.Header q.distinct,
+              (jump_arms f locals (spend locals marks x) arms w, tt),
+            ),
+          ),
+        ),
+      ),
+    )
 
 callee_passes : (p : Program) (f : Function) (marks : List Mark) (o : Option Function) (args : List ℕ) → callee_fault f (locals_of p.types f) marks o args ≡ None
     → IsSomeAnd o (λ callee. HaveKinds f args callee.params × (callee.result ≡ f.result)) × Plays (locals_of p.types f) marks (uses args)
@@ -308,10 +322,11 @@ pass_callee : (p : Program) (f : Function) (marks : List Mark) (o : Option Funct
 pass_callee p f marks None args h w = absurd h
 pass_callee p f marks (Some callee) args h w =
     let locals = locals_of p.types f in
-    let q = the_kinds_had p.types f args callee.params h.0 in
-    (all_pass (arguments_fault locals marks args callee.params ∷ unless (same_kind callee.result f.result) fault.Kind ∷ [])
-      (pass_arguments locals marks args callee.params q w, (true_unless (same_kind callee.result f.result) fault.Kind (same_kinds_true callee.result f.result h.1), tt)),
-    kinds_there locals args callee.params q)
+    let q = the_kinds_had p.types f args callee.params h.0 in (
+      all_pass (arguments_fault locals marks args callee.params ∷ unless (same_kind callee.result f.result) fault.Kind ∷ [])
+          (pass_arguments locals marks args callee.params q w, (true_unless (same_kind callee.result f.result) fault.Kind (same_kinds_true callee.result f.result h.1), tt)),
+      kinds_there locals args callee.params q,
+    )
 
 -- a jump that binds nothing
 plain_jump : (f : Function) (locals : List Local) (marks : List Mark) (b : ℕ) → Ascend (params_of f b) → jump_fault f marks [] b ≡ None → Plays locals marks (jump_events f b)
@@ -343,18 +358,19 @@ exit_passes p f number marks (Goto b) asc q h =
 exit_passes p f number marks (If x first second) asc q h =
     let locals = locals_of p.types f in
     let a = none_fails (unless (is_local locals x && is_block f first && is_block f second) fault.NoSuchEntry ∷ unless (nat_lt number first && nat_lt number second) fault.Backward
-      ∷ operand_fault locals marks x kind.Flag ∷ jump_fault f (spend locals marks x) [] first ∷ jump_fault f (spend locals marks x) [] second ∷ []) h in
+    ∷ operand_fault locals marks x kind.Flag ∷ jump_fault f (spend locals marks x) [] first ∷ jump_fault f (spend locals marks x) [] second ∷ []) h in
     let t = both (is_local locals x && is_block f first) (is_block f second) (unless_true (is_local locals x && is_block f first && is_block f second) fault.NoSuchEntry a.0) in
     let u = both (is_local locals x) (is_block f first) t.0 in
     let g = both (nat_lt number first) (nat_lt number second) (unless_true (nat_lt number first && nat_lt number second) fault.Backward a.1.0) in
-    let o = operand_passes locals marks x kind.Flag a.1.1.0 in
-    ((kind_of_is p.types f x kind.Flag o.1, (below number first g.0, below first (length f.blocks) u.1), (below number second g.1, below second (length f.blocks) t.1)),
-    (o.0, tt),
-    (plain_jump f locals (spend locals marks x) first (asc first) a.1.1.1.0, (plain_jump f locals (spend locals marks x) second (asc second) a.1.1.1.1.0, tt)))
+    let o = operand_passes locals marks x kind.Flag a.1.1.0 in (
+      (kind_of_is p.types f x kind.Flag o.1, (below number first g.0, below first (length f.blocks) u.1), (below number second g.1, below second (length f.blocks) t.1)),
+      (o.0, tt),
+      (plain_jump f locals (spend locals marks x) first (asc first) a.1.1.1.0, (plain_jump f locals (spend locals marks x) second (asc second) a.1.1.1.1.0, tt)),
+    )
 exit_passes p f number marks (Case x arms) asc q h =
     let locals = locals_of p.types f in
     let a = none_fails (unless (is_local locals x && list_all (arm_is_there f locals) arms) fault.NoSuchEntry ∷ unless (list_all (λ a. nat_lt number a.target) arms) fault.Backward
-      ∷ arms_fault f locals marks x (data_type p.types (kind_at locals x)) arms ∷ []) h in
+    ∷ arms_fault f locals marks x (data_type p.types (kind_at locals x)) arms ∷ []) h in
     let t = both (is_local locals x) (list_all (arm_is_there f locals) arms) (unless_true (is_local locals x && list_all (arm_is_there f locals) arms) fault.NoSuchEntry a.0) in
     let b = arms_pass p f number marks x (data_type p.types (kind_at locals x)) arms asc q t.1 (unless_true (list_all (λ a. nat_lt number a.target) arms) fault.Backward a.1.0) a.1.1.0 in
     (subst (λ o. IsSomeAnd (data_type p.types o) (λ t. ArmsFit f number t.cons arms)) (kind_is p.types f x) b.0, (b.1, tt), b.2)
@@ -368,34 +384,42 @@ pass_exit p f number marks (Ret x) (fits, plays, onward) =
     let locals = locals_of p.types f in
     let k = kind_at_is p.types f x f.result fits in
     all_pass (unless (is_local locals x) fault.NoSuchEntry ∷ operand_fault locals marks x f.result ∷ [])
-      (true_unless (is_local locals x) fault.NoSuchEntry (is_below x (length locals) (kind_there locals x f.result k)), (pass_operand locals marks x f.result plays.0 k, tt))
+    (true_unless (is_local locals x) fault.NoSuchEntry (is_below x (length locals) (kind_there locals x f.result k)), (pass_operand locals marks x f.result plays.0 k, tt))
 pass_exit p f number marks (Tail func args) (fits, plays, onward) =
     let locals = locals_of p.types f in
     let c = pass_callee p f marks (slice_get p.funcs func) args fits plays in
     all_pass (unless (list_all (is_local locals) args) fault.NoSuchEntry ∷ callee_fault f locals marks (slice_get p.funcs func) args ∷ [])
-      (true_unless (list_all (is_local locals) args) fault.NoSuchEntry c.1, (c.0, tt))
+    (true_unless (list_all (is_local locals) args) fault.NoSuchEntry c.1, (c.0, tt))
 pass_exit p f number marks (Goto b) (fits, plays, onward) =
     let locals = locals_of p.types f in
     all_pass (unless (is_block f b) fault.NoSuchEntry ∷ unless (nat_lt number b) fault.Backward ∷ jump_fault f marks [] b ∷ [])
-      (true_unless (is_block f b) fault.NoSuchEntry (is_below b (length f.blocks) fits.1), (true_unless (nat_lt number b) fault.Backward (is_below number b fits.0), (jump_plain f locals marks b onward.0, tt)))
+    (true_unless (is_block f b) fault.NoSuchEntry (is_below b (length f.blocks) fits.1), (true_unless (nat_lt number b) fault.Backward (is_below number b fits.0), (jump_plain f locals marks b onward.0, tt)))
 pass_exit p f number marks (If x first second) (fits, plays, onward) =
     let locals = locals_of p.types f in
     let k = kind_at_is p.types f x kind.Flag fits.0 in
     all_pass (unless (is_local locals x && is_block f first && is_block f second) fault.NoSuchEntry ∷ unless (nat_lt number first && nat_lt number second) fault.Backward
-      ∷ operand_fault locals marks x kind.Flag ∷ jump_fault f (spend locals marks x) [] first ∷ jump_fault f (spend locals marks x) [] second ∷ [])
-      (true_unless (is_local locals x && is_block f first && is_block f second) fault.NoSuchEntry
-        (join (is_local locals x && is_block f first) (is_block f second) (join (is_local locals x) (is_block f first) (is_below x (length locals) (kind_there locals x kind.Flag k)) (is_below first (length f.blocks) fits.1.1)) (is_below second (length f.blocks) fits.2.1)),
-      (true_unless (nat_lt number first && nat_lt number second) fault.Backward (join (nat_lt number first) (nat_lt number second) (is_below number first fits.1.0) (is_below number second fits.2.0)),
-      (pass_operand locals marks x kind.Flag plays.0 k,
-      (jump_plain f locals (spend locals marks x) first onward.0, (jump_plain f locals (spend locals marks x) second onward.1.0, tt)))))
+    ∷ operand_fault locals marks x kind.Flag ∷ jump_fault f (spend locals marks x) [] first ∷ jump_fault f (spend locals marks x) [] second ∷ []) (
+      true_unless (is_local locals x && is_block f first && is_block f second) fault.NoSuchEntry
+          (join (is_local locals x && is_block f first) (is_block f second) (join (is_local locals x) (is_block f first) (is_below x (length locals) (kind_there locals x kind.Flag k)) (is_below first (length f.blocks) fits.1.1)) (is_below second (length f.blocks) fits.2.1)),
+      (
+        true_unless (nat_lt number first && nat_lt number second) fault.Backward (join (nat_lt number first) (nat_lt number second) (is_below number first fits.1.0) (is_below number second fits.2.0)),
+        (
+          pass_operand locals marks x kind.Flag plays.0 k,
+          (jump_plain f locals (spend locals marks x) first onward.0, (jump_plain f locals (spend locals marks x) second onward.1.0, tt)),
+        ),
+      ),
+    )
 pass_exit p f number marks (Case x arms) (fits, plays, onward) =
     let locals = locals_of p.types f in
     let (t, e, h) = some_and (data_type p.types (kind_of f x)) (λ t. ArmsFit f number t.cons arms) fits in
     let (k, r) = data_there p.types (kind_of f x) t e in
     let q = are_arms p.types f number arms t.cons h in
     all_pass (unless (is_local locals x && list_all (arm_is_there f locals) arms) fault.NoSuchEntry ∷ unless (list_all (λ a. nat_lt number a.target) arms) fault.Backward
-      ∷ arms_fault f locals marks x (data_type p.types (kind_at locals x)) arms ∷ [])
-      (true_unless (is_local locals x && list_all (arm_is_there f locals) arms) fault.NoSuchEntry
-        (join (is_local locals x) (list_all (arm_is_there f locals) arms) (is_below x (length locals) (kind_there locals x k (kind_at_is p.types f x k r))) q.named),
-      (true_unless (list_all (λ a. nat_lt number a.target) arms) fault.Backward q.forward,
-      (subst (λ o. arms_fault f locals marks x o arms ≡ None) (sym (ap (data_type p.types) (kind_is p.types f x) ∙ e)) (pass_arms p f number marks x t arms h plays.0 onward), tt)))
+    ∷ arms_fault f locals marks x (data_type p.types (kind_at locals x)) arms ∷ []) (
+      true_unless (is_local locals x && list_all (arm_is_there f locals) arms) fault.NoSuchEntry
+          (join (is_local locals x) (list_all (arm_is_there f locals) arms) (is_below x (length locals) (kind_there locals x k (kind_at_is p.types f x k r))) q.named),
+      (
+        true_unless (list_all (λ a. nat_lt number a.target) arms) fault.Backward q.forward,
+        (subst (λ o. arms_fault f locals marks x o arms ≡ None) (sym (ap (data_type p.types) (kind_is p.types f x) ∙ e)) (pass_arms p f number marks x t arms h plays.0 onward), tt),
+      ),
+    )

@@ -1,28 +1,25 @@
 -- The checks of one let pass exactly where it fits and its uses do.
-use Rattle.std.proofs.Common.{◌≡◌, ℕ, zero, suc, ◌<◌, Bool, true, false, List, [], ◌∷◌, ◌++◌, length, map, Option, Some, None, refl, sym, ap, ◌∙◌, subst, arith}
-use Rattle.std.specs.Prelude.{◌&&◌, ◌==◌, IsTrue, IsSomeAnd, not, slice_get, nat_lt}
-use Rattle.std.specs.List.{list_all, AllByRecursion}
-use Rattle.std.specs.Option.{option_or, option_map, option_map_or}
+use Rattle.std.proofs.Common.{◌≡◌, ℕ, suc, ◌<◌, Bool, true, false, List, [], ◌∷◌, ◌++◌, length, map, Option, Some, None, refl, sym, ap, ◌∙◌, subst, arith}
+use Rattle.std.specs.Prelude.{◌&&◌, ◌==◌, IsSomeAnd, not, slice_get}
+use Rattle.std.specs.List.{list_all}
+use Rattle.std.specs.Option.{option_map, option_map_or}
 use Rattle.std.proofs.lemmas.List.{length-map}
 use Rattle.std.proofs.lemmas.Option.{slice_get-map, slice_get_within}
 use Rattle.camelot_values.specs.Kinds.{Constructor, DataType, constructor, type_of}
 use Rattle.camelot_values.specs.Heap.{is_heap}
-use Rattle.camelot_values.specs.Operator.{Operator}
 use Rattle.camelot_values.specs.declared.kinds.Kind.{Kind}
 use Rattle.camelot_values.specs.declared.kinds.Kind.TheVariants as kind
 use Rattle.grail_code.specs.declared.code.Place.{Place}
 use Rattle.grail_code.specs.declared.code.Place.TheVariants as place
 use Rattle.grail_code.specs.Code.{Operation, Lit, Flag, Copy, Prim, Make, Call, Binding, Function, Program}
 use Rattle.grail_code.specs.WellFormed.{local_kinds, kind_of, HaveKinds, is_heap_local, operator_kind, PlaceFits, Gives, LetFits, Event, Use, Bind, taken, operands_of, let_events}
-use Rattle.grail_check.specs.declared.fault.CodeKind.{CodeKind}
 use Rattle.grail_check.specs.declared.fault.CodeKind.TheVariants as fault
 use Rattle.grail_check.specs.declared.locals.Local.{Local}
 use Rattle.grail_check.specs.declared.locals.Mark.{Mark}
 use Rattle.grail_check.specs.declared.locals.Mark.TheVariants as mark
-use Rattle.grail_check.specs.Walk.{unless, first_of, local_of, locals_of, is_local, kind_at, is_heap_at, same_kind, same_kinds, has_kind, bind, spend, spend_all, mark_fault, operand_fault, operands_fault, arguments_fault, taken_fault, place_fits, target_fault, make_fault, call_fault, copy_fault, operator_fault, operation_fault, let_fault, after_let, after_lets}
-use Rattle.grail_check.proofs.Checks.{or_first, or_second, or_none, none_fails, all_pass, unless_true, true_unless, both, join, all_true, true_all, all_then, below, is_below, same, is_same, all_both}
-use Rattle.grail_check.proofs.MarkLaws.{spend_both}
-use Rattle.grail_check.proofs.Playing.{step, after, IsReady, Goes, Plays, plays_front, plays_back, plays_both, after_both, IsWithin, AreWithin}
+use Rattle.grail_check.specs.Walk.{unless, local_of, locals_of, is_local, kind_at, is_heap_at, same_kind, same_kinds, has_kind, bind, spend, spend_all, mark_fault, operand_fault, operands_fault, arguments_fault, taken_fault, place_fits, target_fault, make_fault, call_fault, operation_fault, let_fault, after_let}
+use Rattle.grail_check.proofs.Checks.{or_first, or_second, or_none, none_fails, all_pass, unless_true, true_unless, both, join, is_below, same, is_same}
+use Rattle.grail_check.proofs.Playing.{after, IsReady, Plays, plays_front, plays_back, plays_both, after_both}
 
 -- ---- kinds
 
@@ -165,7 +162,7 @@ pub pass_arguments : (locals : List Local) (marks : List Mark) (xs : List ℕ) (
 pass_arguments locals marks xs ks e h =
     let a = pass_operands locals marks xs ks e h in
     all_pass (unless (length xs == length ks) fault.Arms ∷ operands_fault locals marks xs ks ∷ [])
-      (true_unless (length xs == length ks) fault.Arms (is_same (length xs) (length ks) a.0), (a.1, tt))
+    (true_unless (length xs == length ks) fault.Arms (is_same (length xs) (length ks) a.0), (a.1, tt))
 
 uses_both : (xs ys : List ℕ) → uses (xs ++ ys) ≡ uses xs ++ uses ys
 uses_both [] ys = refl
@@ -253,7 +250,7 @@ pass_make types f marks x (Some c) owner args at k e h plays =
     let b = both_play locals marks args (taken at) plays in
     let d = pass_place types f (spend_all locals marks args) c.inline at h.1 b.1 in
     all_pass (arguments_fault locals marks args c.fields ∷ taken_fault locals (spend_all locals marks args) at ∷ unless (place_fits c.inline at) fault.Place ∷ target_fault locals x owner ∷ [])
-      (pass_arguments locals marks args c.fields (the_kinds_had types f args c.fields h.0) b.0, (d.0, (true_unless (place_fits c.inline at) fault.Place d.1, (pass_target locals x owner k e h.2, tt))))
+    (pass_arguments locals marks args c.fields (the_kinds_had types f args c.fields h.0) b.0, (d.0, (true_unless (place_fits c.inline at) fault.Place d.1, (pass_target locals x owner k e h.2, tt))))
 
 abbrev CallFits : Function → List ℕ → Kind → Function → Type 0
 CallFits f args k callee = HaveKinds f args callee.params × (k ≡ callee.result)
@@ -277,7 +274,7 @@ pass_call types f marks x None args k e h plays = absurd h
 pass_call types f marks x (Some callee) args k e h plays =
     let locals = locals_of types f in
     all_pass (arguments_fault locals marks args callee.params ∷ target_fault locals x (Some callee.result) ∷ [])
-      (pass_arguments locals marks args callee.params (the_kinds_had types f args callee.params h.0) plays, (pass_target locals x (Some callee.result) k e (ap Some (sym h.1)), tt))
+    (pass_arguments locals marks args callee.params (the_kinds_had types f args callee.params h.0) plays, (pass_target locals x (Some callee.result) k e (ap Some (sym h.1)), tt))
 
 -- the local that is bound has a kind that the operation gives
 abbrev Binds_kind : Program → Function → ℕ → Operation → Type 0
@@ -317,15 +314,18 @@ pass_operation p f marks x (Flag b) (k, e, g) h = pass_target (locals_of p.types
 pass_operation p f marks x (Copy y) (k, e, g) h =
     let locals = locals_of p.types f in
     all_pass (mark_fault (slice_get marks y) ∷ target_fault locals x (kind_at locals y) ∷ [])
-      (ready_mark (slice_get marks y) h.0, (pass_target locals x (kind_at locals y) k e (kind_at_is p.types f y k g), tt))
+    (ready_mark (slice_get marks y) h.0, (pass_target locals x (kind_at locals y) k e (kind_at_is p.types f y k g), tt))
 pass_operation p f marks x (Prim op left right) (k, e, g) h =
     let locals = locals_of p.types f in
     let a : kind_of f left ≡ Some kind.Int = cc (g.0) in
     let b : kind_of f right ≡ Some kind.Int = cc (g.0) in
-    all_pass (operand_fault locals marks left kind.Int ∷ operand_fault locals (spend locals marks left) right kind.Int ∷ target_fault locals x (Some (operator_kind op)) ∷ [])
-      (pass_operand locals marks left kind.Int h.0 (kind_at_is p.types f left kind.Int a),
-      (pass_operand locals (spend locals marks left) right kind.Int h.1.0 (kind_at_is p.types f right kind.Int b),
-      (pass_target locals x (Some (operator_kind op)) k e (ap Some (sym g.1)), tt)))
+    all_pass (operand_fault locals marks left kind.Int ∷ operand_fault locals (spend locals marks left) right kind.Int ∷ target_fault locals x (Some (operator_kind op)) ∷ []) (
+      pass_operand locals marks left kind.Int h.0 (kind_at_is p.types f left kind.Int a),
+      (
+        pass_operand locals (spend locals marks left) right kind.Int h.1.0 (kind_at_is p.types f right kind.Int b),
+        (pass_target locals x (Some (operator_kind op)) k e (ap Some (sym g.1)), tt),
+      ),
+    )
 pass_operation p f marks x (Make con args at) (k, e, g) h = pass_make p.types f marks x (constructor p.types con) (option_map kind.Of (type_of p.types con)) args at k e g h
 pass_operation p f marks x (Call func args) (k, e, g) h = pass_call p.types f marks x (slice_get p.funcs func) args k e g h
 
@@ -366,7 +366,8 @@ pass_let p f marks l fits plays =
     let locals = locals_of p.types f in
     let (k, e, g) = some_and (kind_of f l.target) (Gives p f l.op) fits in
     let q = kind_at_is p.types f l.target k e in
-    all_pass (unless (is_local locals l.target && list_all (is_local locals) (operands_of l.op)) fault.NoSuchEntry ∷ operation_fault p locals marks l.target l.op ∷ [])
-      (true_unless (is_local locals l.target && list_all (is_local locals) (operands_of l.op)) fault.NoSuchEntry
-        (join (is_local locals l.target) (list_all (is_local locals) (operands_of l.op)) (is_below l.target (length locals) (kind_there locals l.target k q)) (operands_there p f l.op k g)),
-      (pass_operation p f marks l.target l.op (k, q, g) (plays_front locals marks (uses (operands_of l.op)) (Bind l.target ∷ []) plays), tt))
+    all_pass (unless (is_local locals l.target && list_all (is_local locals) (operands_of l.op)) fault.NoSuchEntry ∷ operation_fault p locals marks l.target l.op ∷ []) (
+      true_unless (is_local locals l.target && list_all (is_local locals) (operands_of l.op)) fault.NoSuchEntry
+          (join (is_local locals l.target) (list_all (is_local locals) (operands_of l.op)) (is_below l.target (length locals) (kind_there locals l.target k q)) (operands_there p f l.op k g)),
+      (pass_operation p f marks l.target l.op (k, q, g) (plays_front locals marks (uses (operands_of l.op)) (Bind l.target ∷ []) plays), tt),
+    )

@@ -1,6 +1,6 @@
 -- A walk along the events of a block with the state of each local, and the rules of binding and use that it stands for.
-use Rattle.std.proofs.Common.{◌≡◌, ℕ, zero, suc, ◌+◌, ◌<◌, ◌≤◌, Bool, true, false, List, [], ◌∷◌, ◌++◌, length, map, Option, Some, None, refl, sym, ap, ◌∙◌, subst, arith, inl, inr, ◌⊎◌, append_assoc}
-use Rattle.std.specs.Prelude.{IsTrue, slice_get, slice_set, replicate, if◌then◌else◌}
+use Rattle.std.proofs.Common.{◌≡◌, ℕ, zero, suc, ◌<◌, Bool, true, false, List, [], ◌∷◌, ◌++◌, length, Some, refl, sym, ap, ◌∙◌, subst, arith, inl, inr, ◌⊎◌}
+use Rattle.std.specs.Prelude.{slice_get, slice_set, replicate, if◌then◌else◌}
 use Rattle.std.specs.List.{AllByRecursion}
 use Rattle.std.proofs.lemmas.List.{length-set, length-replicate}
 use Rattle.grail_code.specs.WellFormed.{Event, Use, Bind, Binds, IsUsedWell}
@@ -123,11 +123,12 @@ was_bound : (locals : List Local) (x : ℕ) (marks : List Mark) (before rest : L
 was_bound locals x marks [] rest h = inl h.0
 was_bound locals x marks (Use y ∷ before) rest h =
     elim (was_bound locals x (spend locals marks y) before rest h.1) as (λ c. IsReady marks x ⊎ Binds x (Use y ∷ before))
-      [ inl r ↦ inl (spend_keeps locals marks y x r) | inr b ↦ inr (later x (Use y) before b) ]
+    [ inl r ↦ inl (spend_keeps locals marks y x r) | inr b ↦ inr (later x (Use y) before b) ]
 was_bound locals x marks (Bind y ∷ before) rest h =
-    elim (was_bound locals x (bind marks y) before rest h.1) as (λ c. IsReady marks x ⊎ Binds x (Bind y ∷ before))
-      [ inl r ↦ elim (ready_before_bind marks y x r) as (λ c. IsReady marks x ⊎ Binds x (Bind y ∷ before)) [ inl s ↦ inl s | inr q ↦ inr (here y x before q) ]
-      | inr b ↦ inr (later x (Bind y) before b) ]
+    elim (was_bound locals x (bind marks y) before rest h.1) as (λ c. IsReady marks x ⊎ Binds x (Bind y ∷ before)) [
+      | inl r ↦ elim (ready_before_bind marks y x r) as (λ c. IsReady marks x ⊎ Binds x (Bind y ∷ before)) [ inl s ↦ inl s | inr q ↦ inr (here y x before q) ]
+      | inr b ↦ inr (later x (Bind y) before b)
+    ]
 
 bound_inside : (x : ℕ) (before : List Event) (marks : List Mark) → (IsReady marks x → ⊥) → IsReady marks x ⊎ Binds x before → Binds x before
 bound_inside x before marks n (inl r) = absurd (n r)
@@ -139,11 +140,11 @@ spent_now locals marks x e h = never_ready marks x (subst (λ b. IsReady (if b t
 pub used_well : (locals : List Local) (events : List Event) → Plays locals (unbound locals) events → IsUsedWell (is_heap_at locals) events
 used_well locals events h = record {
   bound = λ x before rest q. bound_inside x before (unbound locals) (none_ready (length locals) x)
-    (was_bound locals x (unbound locals) before rest (subst (Plays locals (unbound locals)) q h));
+      (was_bound locals x (unbound locals) before rest (subst (Plays locals (unbound locals)) q h));
   once = λ x before between rest heap q.
-    let k = plays_back locals (unbound locals) before (Use x ∷ (between ++ Use x ∷ rest)) (subst (Plays locals (unbound locals)) q h) in
-    let marks = after locals (unbound locals) before in
-    bound_inside x between (spend locals marks x) (spent_now locals marks x heap) (was_bound locals x (spend locals marks x) between rest k.1);
+      let k = plays_back locals (unbound locals) before (Use x ∷ (between ++ Use x ∷ rest)) (subst (Plays locals (unbound locals)) q h) in
+      let marks = after locals (unbound locals) before in
+      bound_inside x between (spend locals marks x) (spent_now locals marks x heap) (was_bound locals x (spend locals marks x) between rest k.1);
 }
 
 -- ---- what holds the walk finds
@@ -183,25 +184,30 @@ pub spend_one : (locals : List Local) (marks : List Mark) (x y : ℕ) → IsRead
 spend_one locals marks x y h =
     let P : Bool → Type 0 = λ b. is_heap_at locals x ≡ b → IsReady (if b then slice_set marks x mark.Spent else marks) y ⊎ ((x ≡ y) × (is_heap_at locals x ≡ true)) in
     (elim (is_heap_at locals x) as P [
-      true ↦ (λ q. elim (ready_after_spend marks x y h) as (λ c. IsReady (slice_set marks x mark.Spent) y ⊎ ((x ≡ y) × (is_heap_at locals x ≡ true))) [ inl r ↦ inl r | inr e ↦ inr (e, q) ])
-      | false ↦ (λ q. inl h) ]) refl
+      | true ↦ (λ q. elim (ready_after_spend marks x y h) as (λ c. IsReady (slice_set marks x mark.Spent) y ⊎ ((x ≡ y) × (is_heap_at locals x ≡ true))) [ inl r ↦ inl r | inr e ↦ inr (e, q) ])
+      | false ↦ (λ q. inl h)
+    ]) refl
 
 fine_use : (locals : List Local) (marks : List Mark) (x : ℕ) (es : List Event) → Fine marks (Use x ∷ es) → Once locals (Use x ∷ es) → Fine (spend locals marks x) es
 fine_use locals marks x es fine once y before rest q =
     let whole : Use x ∷ es ≡ (Use x ∷ before) ++ Use y ∷ rest = ap (λ l. Use x ∷ l) q in
     elim (fine y (Use x ∷ before) rest whole) as (λ c. IsReady (spend locals marks x) y ⊎ Binds y before) [
-      inl r ↦ elim (spend_one locals marks x y r) as (λ c. IsReady (spend locals marks x) y ⊎ Binds y before) [
-        inl s ↦ inl s
-        | inr (e, heap) ↦ inr (subst (λ z. Binds z before) e (once x [] before rest heap (whole ∙ ap (λ z. Use x ∷ (before ++ Use z ∷ rest)) (sym e)))) ]
-      | inr b ↦ inr (behind_use y x before b) ]
+      | inl r ↦ elim (spend_one locals marks x y r) as (λ c. IsReady (spend locals marks x) y ⊎ Binds y before) [
+        | inl s ↦ inl s
+        | inr (e, heap) ↦ inr (subst (λ z. Binds z before) e (once x [] before rest heap (whole ∙ ap (λ z. Use x ∷ (before ++ Use z ∷ rest)) (sym e))))
+      ]
+      | inr b ↦ inr (behind_use y x before b)
+    ]
 
 fine_bind : (marks : List Mark) (x : ℕ) (es : List Event) → Fine marks (Bind x ∷ es) → AreWithin (length marks) es → Fine (bind marks x) es
 fine_bind marks x es fine inside y before rest q =
     elim (fine y (Bind x ∷ before) rest (ap (λ l. Bind x ∷ l) q)) as (λ c. IsReady (bind marks x) y ⊎ Binds y before) [
-      inl r ↦ inl (ready_after_bind marks x y r)
+      | inl r ↦ inl (ready_after_bind marks x y r)
       | inr b ↦ elim (behind_bind y x before b) as (λ c. IsReady (bind marks x) y ⊎ Binds y before) [
-        inl e ↦ inl (subst (λ z. IsReady (bind marks z) y) (sym e) (set_same marks y mark.Ready (within (length marks) y before rest (subst (AreWithin (length marks)) q inside))))
-        | inr c ↦ inr c ] ]
+        | inl e ↦ inl (subst (λ z. IsReady (bind marks z) y) (sym e) (set_same marks y mark.Ready (within (length marks) y before rest (subst (AreWithin (length marks)) q inside))))
+        | inr c ↦ inr c
+      ]
+    ]
 
 once_behind : (locals : List Local) (e : Event) (es : List Event) → Once locals (e ∷ es) → Once locals es
 once_behind locals e es once x before between rest heap q = once x (e ∷ before) between rest heap (ap (λ l. e ∷ l) q)
@@ -213,13 +219,15 @@ ready_first x marks (inr b) = absurd (not_bound x b)
 goes_on : (locals : List Local) (marks : List Mark) (es : List Event) → AreWithin (length marks) es → Fine marks es → Once locals es → Plays locals marks es
 goes_on locals marks [] inside fine once = tt
 goes_on locals marks (Use x ∷ es) inside fine once = (
-    ready_first x marks (fine x [] es refl),
-    goes_on locals (spend locals marks x) es (subst (λ n. AreWithin n es) (sym (length_step locals marks (Use x))) inside.1) (fine_use locals marks x es fine once) (once_behind locals (Use x) es once))
+  ready_first x marks (fine x [] es refl),
+  goes_on locals (spend locals marks x) es (subst (λ n. AreWithin n es) (sym (length_step locals marks (Use x))) inside.1) (fine_use locals marks x es fine once) (once_behind locals (Use x) es once),
+)
 goes_on locals marks (Bind x ∷ es) inside fine once = (
-    tt,
-    goes_on locals (bind marks x) es (subst (λ n. AreWithin n es) (sym (length_step locals marks (Bind x))) inside.1) (fine_bind marks x es fine inside.1) (once_behind locals (Bind x) es once))
+  tt,
+  goes_on locals (bind marks x) es (subst (λ n. AreWithin n es) (sym (length_step locals marks (Bind x))) inside.1) (fine_bind marks x es fine inside.1) (once_behind locals (Bind x) es once),
+)
 
 pub plays_well : (locals : List Local) (events : List Event) → AreWithin (length locals) events → IsUsedWell (is_heap_at locals) events → Plays locals (unbound locals) events
 plays_well locals events inside well =
     goes_on locals (unbound locals) events (subst (λ n. AreWithin n events) (sym (length-replicate (length locals) mark.Unbound)) inside)
-      (λ x before rest q. inr (well.bound x before rest q)) (λ x before between rest heap q. well.once x before between rest heap q)
+    (λ x before rest q. inr (well.bound x before rest q)) (λ x before between rest heap q. well.once x before between rest heap q)

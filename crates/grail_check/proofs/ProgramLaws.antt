@@ -1,17 +1,15 @@
 -- The walk finds no fault exactly in well-formed code.
-use Rattle.std.proofs.Common.{◌≡◌, ℕ, zero, suc, ◌<◌, Bool, true, false, List, [], ◌∷◌, ◌++◌, length, map, Option, Some, None, refl, sym, ap, ◌∙◌, subst, append_assoc, append-nil}
-use Rattle.std.specs.Prelude.{◌&&◌, ◌↔◌, IsTrue, not, nat_lt, flat_map}
+use Rattle.std.proofs.Common.{◌≡◌, ℕ, suc, Bool, true, false, List, [], ◌∷◌, ◌++◌, length, map, Some, None, refl, sym, ap, subst, append_assoc, append-nil}
+use Rattle.std.specs.Prelude.{◌&&◌, ◌↔◌, IsTrue, not}
 use Rattle.std.specs.List.{list_all, AllByRecursion}
-use Rattle.std.specs.Option.{option_or}
 use Rattle.camelot_values.specs.Kinds.{Constructor, DataType, constructors}
 use Rattle.camelot_values.specs.declared.kinds.Kind.{Kind}
 use Rattle.camelot_values.specs.declared.kinds.Kind.TheVariants as kind
 use Rattle.grail_code.specs.Code.{Function, Program}
-use Rattle.grail_code.specs.WellFormed.{AreDistinct, IsKnownKind, local_kinds, FunctionFits, IsWellFormed}
-use Rattle.grail_check.specs.declared.fault.CodeKind.{CodeKind}
+use Rattle.grail_code.specs.WellFormed.{IsKnownKind, FunctionFits, IsWellFormed}
 use Rattle.grail_check.specs.declared.fault.CodeKind.TheVariants as fault
 use Rattle.grail_check.specs.declared.fault.CodeFault.{CodeFault}
-use Rattle.grail_check.specs.Walk.{unless, first_of, at_place, stands, is_known, locals_of, blocks_fault, header_fault, function_fault, functions_fault, constructor_fault, constructors_fault, type_fault, types_fault, table_fault, first_fault}
+use Rattle.grail_check.specs.Walk.{unless, at_place, stands, is_known, locals_of, blocks_fault, header_fault, function_fault, functions_fault, constructor_fault, constructors_fault, type_fault, types_fault, table_fault, first_fault}
 use Rattle.grail_check.proofs.Checks.{or_first, or_second, or_none, none_fails, all_pass, unless_true, true_unless, nothing_there, nowhere, both, join, all_true, true_all, all_then, all_both, all_front, all_back, below, is_below}
 use Rattle.grail_check.proofs.Distinct.{AreNew, new_distinct, distinct_new}
 use Rattle.grail_check.proofs.BlockLaws.{blocks_pass, pass_blocks}
@@ -43,28 +41,35 @@ function_passes p func new f h =
     let types = p.types in
     let a = none_fails (at_place func 0 0 (header_fault types new f) ∷ blocks_fault p f (locals_of types f) func 0 f.blocks ∷ []) h in
     let b = none_fails (unless new fault.Name ∷ unless (list_all (is_known types) f.params && is_known types f.result && list_all (is_known types) f.locals) fault.NoSuchEntry ∷ [])
-      (nothing_there func 0 0 (header_fault types new f) a.0) in
+    (nothing_there func 0 0 (header_fault types new f) a.0) in
     let c = both (list_all (is_known types) f.params && is_known types f.result) (list_all (is_known types) f.locals)
-      (unless_true (list_all (is_known types) f.params && is_known types f.result && list_all (is_known types) f.locals) fault.NoSuchEntry b.1.0) in
-    let d = both (list_all (is_known types) f.params) (is_known types f.result) c.0 in
-    (unless_true new fault.Name b.0, record {
-      kinds = all_both (IsKnownKind types) f.params f.locals (all_known types f.params d.0) (all_known types f.locals c.1);
-      result = known_is types f.result d.1;
-      blocks = blocks_pass p f func a.1.0;
-    })
+    (unless_true (list_all (is_known types) f.params && is_known types f.result && list_all (is_known types) f.locals) fault.NoSuchEntry b.1.0) in
+    let d = both (list_all (is_known types) f.params) (is_known types f.result) c.0 in (
+      unless_true new fault.Name b.0,
+      record {
+        kinds = all_both (IsKnownKind types) f.params f.locals (all_known types f.params d.0) (all_known types f.locals c.1);
+        result = known_is types f.result d.1;
+        blocks = blocks_pass p f func a.1.0;
+      },
+    )
 
 pass_function : (p : Program) (func : ℕ) (new : Bool) (f : Function) → new ≡ true → FunctionFits p f → function_fault p func new f ≡ None
 pass_function p func new f e fits =
     let types = p.types in
-    all_pass (at_place func 0 0 (header_fault types new f) ∷ blocks_fault p f (locals_of types f) func 0 f.blocks ∷ [])
-      (nowhere func 0 0 (header_fault types new f)
-        (all_pass (unless new fault.Name ∷ unless (list_all (is_known types) f.params && is_known types f.result && list_all (is_known types) f.locals) fault.NoSuchEntry ∷ [])
-          (true_unless new fault.Name e,
-          (true_unless (list_all (is_known types) f.params && is_known types f.result && list_all (is_known types) f.locals) fault.NoSuchEntry
-            (join (list_all (is_known types) f.params && is_known types f.result) (list_all (is_known types) f.locals)
-              (join (list_all (is_known types) f.params) (is_known types f.result) (known_all types f.params (all_front (IsKnownKind types) f.params f.locals fits.kinds)) (is_known_kind types f.result fits.result))
-              (known_all types f.locals (all_back (IsKnownKind types) f.params f.locals fits.kinds))), tt))),
-      (pass_blocks p f func fits.blocks, tt))
+    all_pass (at_place func 0 0 (header_fault types new f) ∷ blocks_fault p f (locals_of types f) func 0 f.blocks ∷ []) (
+      nowhere func 0 0 (header_fault types new f)
+          (all_pass (unless new fault.Name ∷ unless (list_all (is_known types) f.params && is_known types f.result && list_all (is_known types) f.locals) fault.NoSuchEntry ∷ []) (
+            true_unless new fault.Name e,
+            (
+              true_unless (list_all (is_known types) f.params && is_known types f.result && list_all (is_known types) f.locals) fault.NoSuchEntry
+                  (join (list_all (is_known types) f.params && is_known types f.result) (list_all (is_known types) f.locals)
+                  (join (list_all (is_known types) f.params) (is_known types f.result) (known_all types f.params (all_front (IsKnownKind types) f.params f.locals fits.kinds)) (is_known_kind types f.result fits.result))
+                  (known_all types f.locals (all_back (IsKnownKind types) f.params f.locals fits.kinds))),
+              tt,
+            ),
+          )),
+      (pass_blocks p f func fits.blocks, tt),
+    )
 
 abbrev names : List Function → List (List ℕ)
 names fs = map (λ f. f.name) fs
@@ -117,9 +122,9 @@ pass_cons types earlier [] h k = refl
 pass_cons types earlier (c ∷ cs) h k =
     let new = not (stands earlier c.name) in
     or_none (constructor_fault types new c) _
-      (all_pass (unless new fault.Name ∷ unless (list_all (is_known types) c.fields) fault.NoSuchEntry ∷ [])
-        (true_unless new fault.Name h.0, (true_unless (list_all (is_known types) c.fields) fault.NoSuchEntry (known_all types c.fields k.0), tt)))
-      (pass_cons types (earlier ++ c.name ∷ []) cs h.1 k.1)
+    (all_pass (unless new fault.Name ∷ unless (list_all (is_known types) c.fields) fault.NoSuchEntry ∷ [])
+    (true_unless new fault.Name h.0, (true_unless (list_all (is_known types) c.fields) fault.NoSuchEntry (known_all types c.fields k.0), tt)))
+    (pass_cons types (earlier ++ c.name ∷ []) cs h.1 k.1)
 
 abbrev type_names : List DataType → List (List ℕ)
 type_names ts = map (λ t. t.name) ts
@@ -131,10 +136,11 @@ types_pass types earlier cons (t ∷ ts) h =
     let new = not (stands earlier t.name) in
     let a = none_fails (unless new fault.Name ∷ constructors_fault types cons t.cons ∷ []) (or_first (type_fault types new cons t) _ h) in
     let b = cons_pass types cons t.cons a.1.0 in
-    let c = types_pass types (earlier ++ t.name ∷ []) (cons ++ con_names t.cons) ts (or_second (type_fault types new cons t) _ h) in
-    ((unless_true new fault.Name a.0, c.0),
-    subst (AreNew cons) (sym (names_both t.cons (constructors ts))) (new_both cons (con_names t.cons) (con_names (constructors ts)) b.0 c.1),
-    all_both (IsKnownCon types) t.cons (constructors ts) b.1 c.2)
+    let c = types_pass types (earlier ++ t.name ∷ []) (cons ++ con_names t.cons) ts (or_second (type_fault types new cons t) _ h) in (
+      (unless_true new fault.Name a.0, c.0),
+      subst (AreNew cons) (sym (names_both t.cons (constructors ts))) (new_both cons (con_names t.cons) (con_names (constructors ts)) b.0 c.1),
+      all_both (IsKnownCon types) t.cons (constructors ts) b.1 c.2,
+    )
 
 pass_types : (types : List DataType) (earlier cons : List (List ℕ)) (ts : List DataType)
     → AreNew earlier (type_names ts) → AreNew cons (con_names (constructors ts)) → AllByRecursion (IsKnownCon types) (constructors ts) → types_fault types earlier cons ts ≡ None
@@ -143,9 +149,9 @@ pass_types types earlier cons (t ∷ ts) h k l =
     let new = not (stands earlier t.name) in
     let b = both_new cons (con_names t.cons) (con_names (constructors ts)) (subst (AreNew cons) (names_both t.cons (constructors ts)) k) in
     or_none (type_fault types new cons t) _
-      (all_pass (unless new fault.Name ∷ constructors_fault types cons t.cons ∷ [])
-        (true_unless new fault.Name h.0, (pass_cons types cons t.cons b.0 (all_front (IsKnownCon types) t.cons (constructors ts) l), tt)))
-      (pass_types types (earlier ++ t.name ∷ []) (cons ++ con_names t.cons) ts h.1 b.1 (all_back (IsKnownCon types) t.cons (constructors ts) l))
+    (all_pass (unless new fault.Name ∷ constructors_fault types cons t.cons ∷ [])
+    (true_unless new fault.Name h.0, (pass_cons types cons t.cons b.0 (all_front (IsKnownCon types) t.cons (constructors ts) l), tt)))
+    (pass_types types (earlier ++ t.name ∷ []) (cons ++ con_names t.cons) ts h.1 b.1 (all_back (IsKnownCon types) t.cons (constructors ts) l))
 
 -- ---- programs
 

@@ -16,7 +16,7 @@ use Rattle.grail_code.specs.declared.code.Place.TheVariants as place
 use Rattle.grail_code.specs.declared.code.CaseCell.{CaseCell}
 use Rattle.grail_code.specs.declared.code.CaseCell.TheVariants as cell
 use Rattle.grail_code.specs.Code.{Operation, Lit, Flag, Copy, Prim, Make, Call, Binding, Arm, Exit, Ret, Tail, Goto, If, Case, BasicBlock, Function, Program}
-use Rattle.grail_code.specs.WellFormed.{local_kinds, operator_kind, operands_of, taken, kept, bound_by, params_of, data_type}
+use Rattle.grail_code.specs.WellFormed.{local_kinds, operator_kind, operands_of, kept, bound_by, params_of, data_type}
 use Rattle.grail_check.specs.declared.fault.CodeKind.{CodeKind}
 use Rattle.grail_check.specs.declared.fault.CodeKind.TheVariants as fault
 use Rattle.grail_check.specs.declared.fault.CodeFault.{CodeFault}

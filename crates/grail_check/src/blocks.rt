@@ -43,12 +43,7 @@ fn entry_fits(func: &Func, number: u32, params: &[u32]) -> bool
 }
 
 // The parameters of a block.
-fn check_params(
-    func: &Func,
-    locals: &[Local],
-    number: u32,
-    params: &[u32],
-) -> Result<(), CodeKind>
+fn check_params(func: &Func, locals: &[Local], number: u32, params: &[u32]) -> Result<(), CodeKind>
     ensures { Finds result (block_header_fault (function_of func.now) locals.now number params.now) }
 {
     require(are_locals(locals, params), CodeKind::NoSuchEntry)?;

@@ -4,30 +4,30 @@ ghost use Rattle.grail_code.specs.WellFormed.{IsWellFormed};
 ghost use Rattle.grail_check.specs.Finding.{Answers};
 ghost use Rattle.grail_check.specs.Walk.{table_fault, first_fault};
 
-use super::fault::{CodeFault, KindStop, Stop};
+use super::fault::{CodeFault, Stop};
 use super::functions::check_functions;
 use super::types::check_types;
 use grail_code::Code;
 use std::alloc::{AllocError, Global};
 
 // A fault of the types has the number of functions in place of a function.
-fn check_table(alloc: Global, code: &Code) -> Result<(), Stop>
+fn check_table(alloc: Global, code: &Code) -> Result<(), Stop<CodeFault>>
     ensures { Answers result (table_fault (program_of code.now)) }
 {
     match check_types(alloc, &code.types) {
         Ok(()) => Ok(()),
-        Err(KindStop::Fault(kind)) => Err(Stop::Fault(CodeFault {
+        Err(Stop::Fault(kind)) => Err(Stop::Fault(CodeFault {
             func: code.funcs.len() as u32,
             block: 0,
             place: 0,
             kind,
         })),
-        Err(KindStop::Memory) => Err(Stop::Memory),
+        Err(Stop::Memory) => Err(Stop::Memory),
     }
 }
 
 // The whole walk.
-fn walk(alloc: Global, code: &Code) -> Result<(), Stop>
+fn walk(alloc: Global, code: &Code) -> Result<(), Stop<CodeFault>>
     ensures { Answers result (first_fault (program_of code.now)) }
 {
     check_table(alloc, code)?;

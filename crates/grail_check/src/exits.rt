@@ -13,8 +13,8 @@ use super::arms::{
 use super::fault::CodeKind;
 use super::lets::are_locals;
 use super::locals::{
-    Local, Mark, check_arguments, check_mark, check_operand, is_local, kind_at, require,
-    same_kind, spend,
+    Local, Mark, check_arguments, check_mark, check_operand, is_local, kind_at, require, same_kind,
+    spend,
 };
 use camelot_values::{Kind, TypeDef, Types};
 use grail_code::{CaseArm, CaseCell, Code, Func, Term};
@@ -146,12 +146,7 @@ fn check_case(
 }
 
 // The function's result.
-fn check_ret(
-    func: &Func,
-    locals: &[Local],
-    marks: &mut [Mark],
-    local: u32,
-) -> Result<(), CodeKind>
+fn check_ret(func: &Func, locals: &[Local], marks: &mut [Mark], local: u32) -> Result<(), CodeKind>
     ensures { Finds result (ret_fault (function_of func.now) locals.now marks.old local) }
 {
     require(is_local(locals, local), CodeKind::NoSuchEntry)?;

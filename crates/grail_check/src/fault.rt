@@ -1,6 +1,5 @@
 ghost use Rattle.std.specs.Prelude.{◌≡◌};
-ghost use Rattle.grail_check.specs.declared.fault.Stop.TheVariants as stop;
-ghost use Rattle.grail_check.specs.declared.fault.KindStop.TheVariants as kind_stop;
+ghost use Rattle.grail_check.specs.declared.fault.Stop.TheVariants.{Fault, Memory};
 
 use std::alloc::{AllocError, AllocFailed};
 use std::fmt;
@@ -57,60 +56,43 @@ pub struct CodeFault {
     pub kind: CodeKind,
 }
 
-/// Why the check stops.
-#[derive(Clone, Copy, Debug, PartialEq, Eq)]
-pub(crate) enum Stop {
+/// Why a check stops.
+#[derive(Clone, Copy, Debug)]
+pub(crate) enum Stop<F> {
     /// The code isn't well formed.
-    Fault(CodeFault),
+    Fault(F),
     /// Memory ran out.
     Memory,
 }
 
-impl From<CodeFault> for Stop {
-    ghost from_gives = { λ fault s. s ≡ stop.Fault fault };
+impl From<CodeFault> for Stop<CodeFault> {
+    ghost from_gives = { λ fault stop. stop ≡ Fault fault };
 
-    fn from(fault: CodeFault) -> Stop {
+    fn from(fault: CodeFault) -> Stop<CodeFault> {
         Stop::Fault(fault)
     }
 }
 
-impl From<AllocError> for Stop {
-    ghost from_gives = { λ _ s. s ≡ stop.Memory };
+impl From<CodeKind> for Stop<CodeKind> {
+    ghost from_gives = { λ kind stop. stop ≡ Fault kind };
 
-    fn from(_error: AllocError) -> Stop {
+    fn from(kind: CodeKind) -> Stop<CodeKind> {
+        Stop::Fault(kind)
+    }
+}
+
+impl<F> From<AllocError> for Stop<F> {
+    ghost from_gives = { λ _ stop. stop ≡ Memory };
+
+    fn from(_error: AllocError) -> Stop<F> {
         Stop::Memory
     }
 }
 
-impl<T: Drop> From<AllocFailed<T>> for Stop {
-    ghost from_gives = { λ _ s. s ≡ stop.Memory };
+impl<F, T: Drop> From<AllocFailed<T>> for Stop<F> {
+    ghost from_gives = { λ _ stop. stop ≡ Memory };
 
-    fn from(_failed: AllocFailed<T>) -> Stop {
+    fn from(_failed: AllocFailed<T>) -> Stop<F> {
         Stop::Memory
-    }
-}
-
-/// Why the check of the types stops.
-#[derive(Clone, Copy, Debug, PartialEq, Eq)]
-pub(crate) enum KindStop {
-    /// A type isn't well formed.
-    Fault(CodeKind),
-    /// Memory ran out.
-    Memory,
-}
-
-impl From<CodeKind> for KindStop {
-    ghost from_gives = { λ kind s. s ≡ kind_stop.Fault kind };
-
-    fn from(kind: CodeKind) -> KindStop {
-        KindStop::Fault(kind)
-    }
-}
-
-impl From<AllocError> for KindStop {
-    ghost from_gives = { λ _ s. s ≡ kind_stop.Memory };
-
-    fn from(_error: AllocError) -> KindStop {
-        KindStop::Memory
     }
 }

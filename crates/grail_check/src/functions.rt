@@ -74,7 +74,7 @@ fn check_function(
     number: u32,
     new: bool,
     func: &Func,
-) -> Result<(), Stop>
+) -> Result<(), Stop<CodeFault>>
     ensures { Answers result (function_fault (program_of code.now) number new (function_of func.now)) }
 {
     check_header(&code.types, new, func).map_err(|kind| CodeFault {
@@ -89,7 +89,7 @@ fn check_function(
 }
 
 /// Checks the functions one after the other.
-pub(crate) fn check_functions(alloc: Global, code: &Code) -> Result<(), Stop>
+pub(crate) fn check_functions(alloc: Global, code: &Code) -> Result<(), Stop<CodeFault>>
     ensures { Answers result (functions_fault (program_of code.now) 0 [] (program_of code.now).funcs) }
 {
     let mut names = IndexSet::new(alloc);

@@ -144,17 +144,75 @@ fn finds_the_first_fault(rt: HostRuntime) -> Result<(), Fail> {
     let alloc = rt.alloc();
     let rows = [
         (DUP, ""),
-        (Dup { result: Kind::Of(1), ..DUP }, "nosuchentry function 0 block 0 place 0"),
-        (Dup { first_cell: CaseCell::Free, ..DUP }, "place function 0 block 0 place 1"),
-        (Dup { first_target: 0, ..DUP }, "backward function 0 block 0 place 1"),
-        (Dup { last_arg: 4, ..DUP }, "spent function 0 block 2 place 3"),
-        (Dup { call_arg: 1, ..DUP }, "unbound function 0 block 2 place 1"),
-        (Dup { call_arg: 2, ..DUP }, "kind function 0 block 2 place 1"),
-        (Dup { second_fields: &[2], ..DUP }, "arms function 0 block 0 place 1"),
-        (Dup { second_params: &[3, 2], ..DUP }, "header function 0 block 2 place 0"),
-        (Dup { second_con: b"Nil", ..DUP }, "name function 1 block 0 place 0"),
-        (Dup { second_params: &[2, 9], ..DUP }, "unbound function 0 block 0 place 1"),
-        (Dup { first_cell: CaseCell::Free, second_fields: &[2], ..DUP }, "arms function 0 block 0 place 1"),
+        (
+            Dup {
+                result: Kind::Of(1),
+                ..DUP
+            },
+            "nosuchentry function 0 block 0 place 0",
+        ),
+        (
+            Dup {
+                first_cell: CaseCell::Free,
+                ..DUP
+            },
+            "place function 0 block 0 place 1",
+        ),
+        (
+            Dup {
+                first_target: 0,
+                ..DUP
+            },
+            "backward function 0 block 0 place 1",
+        ),
+        (
+            Dup { last_arg: 4, ..DUP },
+            "spent function 0 block 2 place 3",
+        ),
+        (
+            Dup { call_arg: 1, ..DUP },
+            "unbound function 0 block 2 place 1",
+        ),
+        (
+            Dup { call_arg: 2, ..DUP },
+            "kind function 0 block 2 place 1",
+        ),
+        (
+            Dup {
+                second_fields: &[2],
+                ..DUP
+            },
+            "arms function 0 block 0 place 1",
+        ),
+        (
+            Dup {
+                second_params: &[3, 2],
+                ..DUP
+            },
+            "header function 0 block 2 place 0",
+        ),
+        (
+            Dup {
+                second_con: b"Nil",
+                ..DUP
+            },
+            "name function 1 block 0 place 0",
+        ),
+        (
+            Dup {
+                second_params: &[2, 9],
+                ..DUP
+            },
+            "unbound function 0 block 0 place 1",
+        ),
+        (
+            Dup {
+                first_cell: CaseCell::Free,
+                second_fields: &[2],
+                ..DUP
+            },
+            "arms function 0 block 0 place 1",
+        ),
     ];
     for (dup, want) in &rows {
         let code = dup_code(alloc, dup)?;

@@ -1,9 +1,9 @@
 ghost use Rattle.std.specs.Prelude.{◌≡◌, ◌++◌, [], OnOk, map};
 ghost use Rattle.camelot_values.specs.Kinds.{constructor_of, data_type_of};
-ghost use Rattle.grail_check.specs.Finding.{Finds, Refuses};
+ghost use Rattle.grail_check.specs.Finding.{Finds, Answers};
 ghost use Rattle.grail_check.specs.Walk.{stands, constructor_fault, constructors_fault, type_fault, types_fault};
 
-use super::fault::{CodeKind, KindStop};
+use super::fault::{CodeKind, Stop};
 use super::functions::are_known;
 use super::locals::require;
 use super::names::is_new;
@@ -24,8 +24,8 @@ fn check_cons<'a>(
     types: &Types,
     names: &mut IndexSet<&'a [u8]>,
     cons: &'a [Con],
-) -> Result<(), KindStop>
-    ensures found { Refuses result (constructors_fault types.now (map (λ word. word.now) names.old.keys) (map constructor_of cons.now)) }
+) -> Result<(), Stop<CodeKind>>
+    ensures found { Answers result (constructors_fault types.now (map (λ word. word.now) names.old.keys) (map constructor_of cons.now)) }
     ensures names { OnOk result (map (λ word. word.now) names.new.keys ≡ map (λ word. word.now) names.old.keys ++ map (λ c. c.name) (map constructor_of cons.now)) }
 {
     'cons: for con in cons {
@@ -41,8 +41,8 @@ fn check_type<'a>(
     new: bool,
     cons: &mut IndexSet<&'a [u8]>,
     def: &'a TypeDef,
-) -> Result<(), KindStop>
-    ensures found { Refuses result (type_fault types.now new (map (λ word. word.now) cons.old.keys) (data_type_of def.now)) }
+) -> Result<(), Stop<CodeKind>>
+    ensures found { Answers result (type_fault types.now new (map (λ word. word.now) cons.old.keys) (data_type_of def.now)) }
     ensures names { OnOk result (map (λ word. word.now) cons.new.keys ≡ map (λ word. word.now) cons.old.keys ++ map (λ c. c.name) (data_type_of def.now).cons) }
 {
     require(new, CodeKind::Name)?;
@@ -50,8 +50,8 @@ fn check_type<'a>(
 }
 
 /// Checks the types one after the other.
-pub(crate) fn check_types(alloc: Global, types: &Types) -> Result<(), KindStop>
-    ensures { Refuses result (types_fault types.now [] [] types.now) }
+pub(crate) fn check_types(alloc: Global, types: &Types) -> Result<(), Stop<CodeKind>>
+    ensures { Answers result (types_fault types.now [] [] types.now) }
 {
     let mut names = IndexSet::new(alloc);
     let mut cons = IndexSet::new(alloc);

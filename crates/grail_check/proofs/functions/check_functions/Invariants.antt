@@ -1,4 +1,4 @@
-use Rattle.std.proofs.Common.{◌≡◌, [], List, ℕ, drop, map}
+use Rattle.std.proofs.Common.{◌≡◌, [], drop, map}
 use Rattle.grail_code.specs.Code.{function_of, program_of}
 use Rattle.grail_check.specs.Walk.{functions_fault}
 use Rattle.grail_check.proofs.functions.check_functions.Given as goal
