@@ -29,7 +29,7 @@ is_entry : (f : Function) (number : ℕ) (params : List ℕ) → (number ≡ 0 �
 is_entry f zero params h = are_first_numbers (length f.params) params (h refl)
 is_entry f (suc number) params h = refl
 
-header_passes : (types : List DataType) (f : Function) (number : ℕ) (params : List ℕ) → block_header_fault f (locals_of types f) number params ≡ None
+pub header_passes : (types : List DataType) (f : Function) (number : ℕ) (params : List ℕ) → block_header_fault f (locals_of types f) number params ≡ None
     → AreBelow (length (locals_of types f)) params × Ascend params × (number ≡ 0 → params ≡ range_with_len 0 (length f.params))
 header_passes types f number params h =
     let locals = locals_of types f in
@@ -67,7 +67,7 @@ pass_lets p f func number place marks (l ∷ ls) fits h =
     (pass_lets p f func number (suc place) (after_let locals marks l) ls fits.1
     (subst (λ m. Plays locals m (flat_map let_events ls)) (after_a_let locals marks l) (plays_back locals marks (let_events l) (flat_map let_events ls) h)))
 
-after_all_lets : (locals : List Local) (marks : List Mark) (ls : List Binding) → after locals marks (flat_map let_events ls) ≡ after_lets locals marks ls
+pub after_all_lets : (locals : List Local) (marks : List Mark) (ls : List Binding) → after locals marks (flat_map let_events ls) ≡ after_lets locals marks ls
 after_all_lets locals marks [] = refl
 after_all_lets locals marks (l ∷ ls) = after_both locals marks (let_events l) (flat_map let_events ls)
     ∙ ap (λ m. after locals m (flat_map let_events ls)) (after_a_let locals marks l) ∙ after_all_lets locals (after_let locals marks l) ls
@@ -90,7 +90,7 @@ plays_lets locals b h = subst (λ m. Plays locals m (flat_map let_events b.lets)
     (plays_back locals (unbound locals) (map Bind b.params) (flat_map let_events b.lets) h)
 
 -- the state at the end of a block
-abbrev at_end : List Local → BasicBlock → List Mark
+abbrev pub at_end : List Local → BasicBlock → List Mark
 at_end locals b = after_lets locals (at_start locals b) b.lets
 
 end_events : (locals : List Local) (b : BasicBlock) (es : List Event) → Plays locals (unbound locals) (front_events b) → Plays locals (at_end locals b) es → Plays locals (unbound locals) (front_events b ++ es)
@@ -105,7 +105,7 @@ after_block locals b = after_both locals (unbound locals) (front_events b) (uses
 heap_path : (types : List DataType) (f : Function) → is_heap_at (locals_of types f) ≡ is_heap_local types f
 heap_path types f = λ i x. heap_is types f x i
 
-end_length : (locals : List Local) (b : BasicBlock) → length (at_end locals b) ≡ length locals
+pub end_length : (locals : List Local) (b : BasicBlock) → length (at_end locals b) ≡ length locals
 end_length locals b = ap length (sym (after_front locals b)) ∙ length_after locals (unbound locals) (front_events b) ∙ length-replicate (length locals) _
 
 -- ---- a block

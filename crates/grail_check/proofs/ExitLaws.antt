@@ -77,7 +77,7 @@ after_binds locals marks (x ∷ xs) = after_binds locals (bind marks x) xs
 abbrev AreReady : List Mark → List ℕ → Type 0
 AreReady marks xs = AllByRecursion (λ x. IsReady marks x) xs
 
-use_passes : (marks : List Mark) (bound : List ℕ) (x : ℕ) → AreBelow (length marks) bound → use_fault marks bound x ≡ None → IsReady (bind_all marks bound) x
+pub use_passes : (marks : List Mark) (bound : List ℕ) (x : ℕ) → AreBelow (length marks) bound → use_fault marks bound x ≡ None → IsReady (bind_all marks bound) x
 use_passes marks bound x w h = by_test (is_among bound x) refl h
   where
     by_test : (b : Bool) → is_among bound x ≡ b → (if b then None else mark_fault (slice_get marks x)) ≡ None → IsReady (bind_all marks bound) x
@@ -179,7 +179,7 @@ there f locals a h =
     let q = both (list_all (is_local locals) a.fields) (list_all (is_local locals) (kept a.cell)) p.0 in
     record { fields = q.0; kept_one = q.1; target = p.1 }
 
-bound_below : (f : Function) (locals : List Local) (a : Arm) → arm_is_there f locals a ≡ true → AreBelow (length locals) (bound_by a)
+pub bound_below : (f : Function) (locals : List Local) (a : Arm) → arm_is_there f locals a ≡ true → AreBelow (length locals) (bound_by a)
 bound_below f locals a h =
     let t = there f locals a h in
     all_both (λ x. x < length locals) a.fields (kept a.cell) (there_below locals a.fields t.fields) (there_below locals (kept a.cell) t.kept_one)

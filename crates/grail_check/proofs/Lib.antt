@@ -4,6 +4,7 @@ pub mod Distinct
 pub mod ExitLaws
 pub mod LetLaws
 pub mod MarkLaws
+pub mod Misusing
 pub mod NameLaws
 pub mod Playing
 pub mod ProgramLaws

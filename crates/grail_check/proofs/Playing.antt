@@ -167,15 +167,15 @@ within : (n x : ℕ) (before rest : List Event) → AreWithin n (before ++ Use x
 within n x [] rest h = h.0
 within n x (e ∷ before) rest h = within n x before rest h.1
 
-not_bound : (x : ℕ) → Binds x [] → ⊥
+pub not_bound : (x : ℕ) → Binds x [] → ⊥
 not_bound x ([], rest, q) = cc
 not_bound x (e ∷ before, rest, q) = cc
 
-behind_use : (x y : ℕ) (es : List Event) → Binds x (Use y ∷ es) → Binds x es
+pub behind_use : (x y : ℕ) (es : List Event) → Binds x (Use y ∷ es) → Binds x es
 behind_use x y es ([], rest, q) = cc
 behind_use x y es (e ∷ before, rest, q) = let k : es ≡ before ++ Bind x ∷ rest = cc in (before, rest, k)
 
-behind_bind : (x y : ℕ) (es : List Event) → Binds x (Bind y ∷ es) → (y ≡ x) ⊎ Binds x es
+pub behind_bind : (x y : ℕ) (es : List Event) → Binds x (Bind y ∷ es) → (y ≡ x) ⊎ Binds x es
 behind_bind x y es ([], rest, q) = let k : y ≡ x = cc in inl k
 behind_bind x y es (e ∷ before, rest, q) = let k : es ≡ before ++ Bind x ∷ rest = cc in inr (before, rest, k)
 

@@ -7,6 +7,7 @@ mod check;
 mod exits;
 mod fault;
 mod functions;
+pub mod laws;
 mod lets;
 mod locals;
 mod names;
