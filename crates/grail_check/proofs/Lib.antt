@@ -1,0 +1,10 @@
+pub mod BlockLaws
+pub mod Checks
+pub mod Distinct
+pub mod ExitLaws
+pub mod LetLaws
+pub mod MarkLaws
+pub mod Misusing
+pub mod NameLaws
+pub mod Playing
+pub mod ProgramLaws

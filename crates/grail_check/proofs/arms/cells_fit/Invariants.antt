@@ -1,0 +1,8 @@
+use Rattle.std.proofs.Common.{◌≡◌, drop, map}
+use Rattle.camelot_values.specs.Kinds.{constructor_of}
+use Rattle.grail_code.specs.Code.{arm_of}
+use Rattle.grail_check.specs.Walk.{cells_fit}
+use Rattle.grail_check.proofs.arms.cells_fit.Given as goal
+
+abbrev pub invariant-arms : goal.invariant-arms
+invariant-arms l = cells_fit (map arm_of (drop l.index l.arms)) (map constructor_of (drop l.index l.cons)) ≡ cells_fit (map arm_of l.arms) (map constructor_of l.cons)

@@ -1,0 +1,4 @@
+-- The check of code as a walk, and what its faults of use mean.
+pub mod Finding
+pub mod Misuse
+pub mod Walk

@@ -1,0 +1,48 @@
+ghost use Rattle.std.specs.Prelude.{◌≡◌, ◌↔◌, Some, None, IsTrue, is_ok, IfOk, MatchResult};
+ghost use Rattle.grail_code.specs.Code.{program_of};
+ghost use Rattle.grail_code.specs.WellFormed.{IsWellFormed};
+ghost use Rattle.grail_check.specs.Finding.{Answers};
+ghost use Rattle.grail_check.specs.Walk.{table_fault, first_fault};
+
+use super::fault::{CodeFault, Stop};
+use super::functions::check_functions;
+use super::types::check_types;
+use grail_code::Code;
+use std::alloc::{AllocError, Global};
+
+// A fault of the types has the number of functions in place of a function.
+fn check_table(alloc: Global, code: &Code) -> Result<(), Stop<CodeFault>>
+    ensures { Answers result (table_fault (program_of code.now)) }
+{
+    match check_types(alloc, &code.types) {
+        Ok(()) => Ok(()),
+        Err(Stop::Fault(kind)) => Err(Stop::Fault(CodeFault {
+            func: code.funcs.len() as u32,
+            block: 0,
+            place: 0,
+            kind,
+        })),
+        Err(Stop::Memory) => Err(Stop::Memory),
+    }
+}
+
+// The whole walk.
+fn walk(alloc: Global, code: &Code) -> Result<(), Stop<CodeFault>>
+    ensures { Answers result (first_fault (program_of code.now)) }
+{
+    check_table(alloc, code)?;
+    check_functions(alloc, code)
+}
+
+/// Whether the code is well formed, and if not, the first check that fails. An answer in place of which memory ran out is
+/// neither.
+pub fn check_code(alloc: Global, code: &Code) -> Result<Result<(), CodeFault>, AllocError>
+    ensures first_fault { IfOk result (λ answer. MatchResult answer (λ _. first_fault (program_of code.now) ≡ None) (λ fault. first_fault (program_of code.now) ≡ Some fault)) }
+    ensures well_formed { IfOk result (λ answer. IsTrue (is_ok answer) ↔ IsWellFormed (program_of code.now)) }
+{
+    match walk(alloc, code) {
+        Ok(()) => Ok(Ok(())),
+        Err(Stop::Fault(fault)) => Ok(Err(fault)),
+        Err(Stop::Memory) => Err(AllocError),
+    }
+}

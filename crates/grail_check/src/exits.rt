@@ -1,0 +1,208 @@
+ghost use Rattle.std.specs.Prelude.{◌≡◌, ◌++◌, [], map, slice_get, Some};
+ghost use Rattle.std.specs.Option.{option_map};
+ghost use Rattle.camelot_values.specs.Kinds.{data_type_of};
+ghost use Rattle.grail_code.specs.Code.{arm_of, exit_of, function_of, program_of};
+ghost use Rattle.grail_code.specs.WellFormed.{kept, data_type};
+ghost use Rattle.grail_check.specs.Finding.{Finds};
+ghost use Rattle.grail_check.specs.Walk.{uses_fault, jump_fault, arms_jump_fault, tail_fault, arms_fault, case_fault, ret_fault, goto_fault, if_fault, exit_fault};
+
+use super::arms::{
+    arms_are_there, arms_bind_once, arms_count, arms_go_on, arms_have_kinds, cells_fit, is_block,
+    keeps,
+};
+use super::fault::CodeKind;
+use super::lets::are_locals;
+use super::locals::{
+    Local, Mark, check_arguments, check_mark, check_operand, is_local, kind_at, require, same_kind,
+    spend,
+};
+use camelot_values::{Kind, TypeDef, Types};
+use grail_code::{CaseArm, CaseCell, Code, Func, Term};
+
+// Checks that these locals can be used where an arm has bound its fields and the diamond of its cell.
+fn check_uses(
+    marks: &[Mark],
+    fields: &[u32],
+    cell: CaseCell,
+    locals: &[u32],
+) -> Result<(), CodeKind>
+    ensures { Finds result (uses_fault marks.now (fields.now ++ kept cell) locals.now) }
+{
+    'locals: for local in locals {
+        if !fields.contains(local) && !keeps(cell, *local) {
+            check_mark(marks, *local)?;
+        }
+    }
+    Ok(())
+}
+
+// A jump, after an arm has bound its fields and the diamond of its cell.
+fn check_jump(
+    func: &Func,
+    marks: &[Mark],
+    fields: &[u32],
+    cell: CaseCell,
+    target: u32,
+) -> Result<(), CodeKind>
+    ensures { Finds result (jump_fault (function_of func.now) marks.now (fields.now ++ kept cell) target) }
+{
+    match func.blocks.get(target as usize) {
+        Some(block) => check_uses(marks, fields, cell, &block.params),
+        None => Ok(()),
+    }
+}
+
+// A jump that binds nothing.
+fn check_plain_jump(func: &Func, marks: &[Mark], target: u32) -> Result<(), CodeKind>
+    ensures { Finds result (jump_fault (function_of func.now) marks.now [] target) }
+{
+    check_jump(func, marks, &[], CaseCell::Inline, target)
+}
+
+// The jumps of arms, one after the other.
+fn check_arm_jumps(func: &Func, marks: &[Mark], arms: &[CaseArm]) -> Result<(), CodeKind>
+    ensures { Finds result (arms_jump_fault (function_of func.now) marks.now (map arm_of arms.now)) }
+{
+    'arms: for arm in arms {
+        check_jump(func, marks, &arm.fields, arm.cell, arm.target)?;
+    }
+    Ok(())
+}
+
+// The type of this kind, where it is a data type.
+fn data_type(types: &Types, kind: Option<Kind>) -> Option<&TypeDef>
+    ensures { option_map (λ t. data_type_of t.now) result ≡ data_type types.now kind }
+{
+    match kind {
+        Some(Kind::Of(number)) => types.defs().get(number as usize),
+        _ => None,
+    }
+}
+
+// The function of this number, where there is one.
+fn callee(code: &Code, number: u32) -> Option<&Func>
+    ensures { option_map (λ f. function_of f.now) result ≡ slice_get (program_of code.now).funcs number }
+{
+    code.funcs.get(number as usize)
+}
+
+// A call in place of the rest of the function.
+fn check_tail(
+    func: &Func,
+    locals: &[Local],
+    marks: &mut [Mark],
+    callee: Option<&Func>,
+    args: &[u32],
+) -> Result<(), CodeKind>
+    ensures { Finds result (tail_fault (function_of func.now) locals.now marks.old (option_map (λ f. function_of f.now) callee.entry) args.now) }
+{
+    require(are_locals(locals, args), CodeKind::NoSuchEntry)?;
+    let Some(callee) = callee else {
+        return Err(CodeKind::NoSuchEntry);
+    };
+    check_arguments(locals, marks, args, &callee.params)?;
+    require(same_kind(callee.result, func.result), CodeKind::Kind)
+}
+
+// The arms of a case on a local of this type.
+fn check_arms(
+    func: &Func,
+    locals: &[Local],
+    marks: &mut [Mark],
+    on: u32,
+    def: &TypeDef,
+    arms: &[CaseArm],
+) -> Result<(), CodeKind>
+    ensures { Finds result (arms_fault (function_of func.now) locals.now marks.old on (Some (data_type_of def.now)) (map arm_of arms.now)) }
+{
+    require(arms_count(arms, &def.cons), CodeKind::Arms)?;
+    check_mark(marks, on)?;
+    require(cells_fit(arms, &def.cons), CodeKind::Place)?;
+    require(arms_have_kinds(locals, arms, &def.cons), CodeKind::Kind)?;
+    require(arms_bind_once(arms), CodeKind::Header)?;
+    spend(locals, marks, on);
+    check_arm_jumps(func, marks, arms)
+}
+
+// A choice by the constructor of a value of this type.
+fn check_case(
+    func: &Func,
+    locals: &[Local],
+    number: u32,
+    marks: &mut [Mark],
+    on: u32,
+    def: Option<&TypeDef>,
+    arms: &[CaseArm],
+) -> Result<(), CodeKind>
+    ensures { Finds result (case_fault (function_of func.now) locals.now number marks.old on (option_map (λ t. data_type_of t.now) def.entry) (map arm_of arms.now)) }
+{
+    let there = is_local(locals, on) && arms_are_there(func, locals, arms);
+    require(there, CodeKind::NoSuchEntry)?;
+    require(arms_go_on(number, arms), CodeKind::Backward)?;
+    match def {
+        Some(def) => check_arms(func, locals, marks, on, def, arms),
+        None => Err(CodeKind::Kind),
+    }
+}
+
+// The function's result.
+fn check_ret(func: &Func, locals: &[Local], marks: &mut [Mark], local: u32) -> Result<(), CodeKind>
+    ensures { Finds result (ret_fault (function_of func.now) locals.now marks.old local) }
+{
+    require(is_local(locals, local), CodeKind::NoSuchEntry)?;
+    check_operand(locals, marks, local, func.result)
+}
+
+// A jump to one block.
+fn check_goto(func: &Func, number: u32, marks: &[Mark], target: u32) -> Result<(), CodeKind>
+    ensures { Finds result (goto_fault (function_of func.now) number marks.now target) }
+{
+    require(is_block(func, target), CodeKind::NoSuchEntry)?;
+    require(number < target, CodeKind::Backward)?;
+    check_plain_jump(func, marks, target)
+}
+
+// A choice of two blocks by a truth value.
+fn check_if(
+    func: &Func,
+    locals: &[Local],
+    number: u32,
+    marks: &mut [Mark],
+    cond: u32,
+    yes: u32,
+    no: u32,
+) -> Result<(), CodeKind>
+    ensures { Finds result (if_fault (function_of func.now) locals.now number marks.old cond yes no) }
+{
+    let there = is_local(locals, cond) && is_block(func, yes) && is_block(func, no);
+    require(there, CodeKind::NoSuchEntry)?;
+    require(number < yes && number < no, CodeKind::Backward)?;
+    check_operand(locals, marks, cond, Kind::Flag)?;
+    check_plain_jump(func, marks, yes)?;
+    check_plain_jump(func, marks, no)
+}
+
+/// Checks the end of a block.
+pub(crate) fn check_exit(
+    code: &Code,
+    func: &Func,
+    locals: &[Local],
+    number: u32,
+    marks: &mut [Mark],
+    term: &Term,
+) -> Result<(), CodeKind>
+    ensures { Finds result (exit_fault (program_of code.now) (function_of func.now) locals.now number marks.old (exit_of term.now)) }
+{
+    match term {
+        Term::Ret(local) => check_ret(func, locals, marks, *local),
+        Term::Tail { func: number, args } => {
+            check_tail(func, locals, marks, callee(code, *number), args)
+        }
+        Term::Goto(target) => check_goto(func, number, marks, *target),
+        Term::If { cond, yes, no } => check_if(func, locals, number, marks, *cond, *yes, *no),
+        Term::Case { on, arms } => {
+            let def = data_type(&code.types, kind_at(locals, *on));
+            check_case(func, locals, number, marks, *on, def, arms)
+        }
+    }
+}

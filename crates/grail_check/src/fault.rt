@@ -1,0 +1,98 @@
+ghost use Rattle.std.specs.Prelude.{◌≡◌};
+ghost use Rattle.grail_check.specs.declared.fault.Stop.TheVariants.{Fault, Memory};
+
+use std::alloc::{AllocError, AllocFailed};
+use std::fmt;
+use thiserror::Error;
+
+/// What is wrong at a place of code.
+#[derive(Clone, Copy, Debug, PartialEq, Eq)]
+pub enum CodeKind {
+    /// A local, constructor, function, block or type that isn't there is named.
+    NoSuchEntry,
+    /// A jump leads to its own block or an earlier one.
+    Backward,
+    /// A local is used that isn't bound there.
+    Unbound,
+    /// A local of a heap kind is used that was used since it was bound.
+    Spent,
+    /// A local is of another kind than is needed.
+    Kind,
+    /// The number of arguments, arms or fields is wrong.
+    Arms,
+    /// A constructor is built or matched inline that isn't inline, or the other way round.
+    Place,
+    /// The parameters of a block don't ascend, or aren't the function's in its first block; or an arm binds a local twice.
+    Header,
+    /// A type, constructor or function has the name of an earlier one.
+    Name,
+}
+
+impl fmt::Display for CodeKind {
+    fn fmt<W: fmt::Write>(&self, f: &mut fmt::Formatter<W>) -> fmt::Result {
+        f.write_str(match self {
+            CodeKind::NoSuchEntry => "nosuchentry",
+            CodeKind::Backward => "backward",
+            CodeKind::Unbound => "unbound",
+            CodeKind::Spent => "spent",
+            CodeKind::Kind => "kind",
+            CodeKind::Arms => "arms",
+            CodeKind::Place => "place",
+            CodeKind::Header => "header",
+            CodeKind::Name => "name",
+        })
+    }
+}
+
+/// The first check of code that fails, with its place. Functions and blocks are counted from 0; place 0 is a header, place
+/// `i` the `i`-th let of the block, counted from 1, and the place after the last let the block's end. A fault of the types
+/// has the number of functions as `func`, and block and place 0.
+#[derive(Clone, Copy, Debug, PartialEq, Eq, Error)]
+#[error("{kind} function {func} block {block} place {place}")]
+pub struct CodeFault {
+    pub func: u32,
+    pub block: u32,
+    pub place: u32,
+    pub kind: CodeKind,
+}
+
+/// Why a check stops.
+#[derive(Clone, Copy, Debug)]
+pub(crate) enum Stop<F> {
+    /// The code isn't well formed.
+    Fault(F),
+    /// Memory ran out.
+    Memory,
+}
+
+impl From<CodeFault> for Stop<CodeFault> {
+    ghost from_gives = { λ fault stop. stop ≡ Fault fault };
+
+    fn from(fault: CodeFault) -> Stop<CodeFault> {
+        Stop::Fault(fault)
+    }
+}
+
+impl From<CodeKind> for Stop<CodeKind> {
+    ghost from_gives = { λ kind stop. stop ≡ Fault kind };
+
+    fn from(kind: CodeKind) -> Stop<CodeKind> {
+        Stop::Fault(kind)
+    }
+}
+
+impl<F> From<AllocError> for Stop<F> {
+    ghost from_gives = { λ _ stop. stop ≡ Memory };
+
+    fn from(_error: AllocError) -> Stop<F> {
+        Stop::Memory
+    }
+}
+
+impl<F, T: Drop> From<AllocFailed<T>> for Stop<F> {
+    ghost from_gives = { λ _ stop. stop ≡ Memory };
+
+    fn from(_failed: AllocFailed<T>) -> Stop<F> {
+        Stop::Memory
+    }
+}

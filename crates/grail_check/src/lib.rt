@@ -1,0 +1,19 @@
+//! The check of Grail code: whether code is well formed, and the first place where it isn't.
+#![tactic(auto)]
+
+mod arms;
+mod blocks;
+mod check;
+mod exits;
+mod fault;
+mod functions;
+pub mod laws;
+mod lets;
+mod locals;
+mod names;
+#[cfg(test)]
+mod tests;
+mod types;
+
+pub use check::check_code;
+pub use fault::{CodeFault, CodeKind};
