@@ -2,6 +2,8 @@
 //! and the table has seconds.
 #![tactic(auto)]
 
+ghost use Rattle.std.specs.Prelude.{◌<◌};
+
 use grail_check::check_code;
 use grail_code::decode;
 use std::alloc::{AllocError, Global};
@@ -29,7 +31,9 @@ fn name(out: &mut Vec<u8>, letters: &[u8], place: u32) -> Result<(), AllocError>
 }
 
 /// The end of a block: a jump to the next one, or for the last one a return.
-fn end(out: &mut Vec<u8>, block: u32, blocks: u32) -> Result<(), AllocError> {
+fn end(out: &mut Vec<u8>, block: u32, blocks: u32) -> Result<(), AllocError>
+    requires { block < blocks }
+{
     if block + 1 < blocks {
         out.push(2)?;
         number(out, block + 1)
@@ -113,7 +117,13 @@ fn report(rt: &HostRuntime, timed: bool, family: &str, bytes: &[u8]) -> io::Resu
         Err(fault) => print!(rt; "{fault}")?,
     }
     if timed {
-        println!(rt; " | {}.{:06} | {}.{:06} |", reading / 1000000, reading % 1000000, checking / 1000000, checking % 1000000)
+        println!(rt;
+            " | {}.{:06} | {}.{:06} |",
+            reading / 1000000,
+            reading % 1000000,
+            checking / 1000000,
+            checking % 1000000
+        )
     } else {
         println!(rt; " | | |")
     }
@@ -133,15 +143,36 @@ const SIXTEEN: [u8; 16] = [0, 1, 2, 3, 4, 5, 6, 7, 8, 9, 10, 11, 12, 13, 14, 15]
 /// The small codes, whose table is always the same.
 fn small(rt: &HostRuntime) -> io::Result<()> {
     let alloc = rt.alloc();
-    report(rt, false, "sums", &functions(alloc, [2, 4, 25], &[0], &SUM)?)?;
-    report(rt, false, "calls", &functions(alloc, [2, 4, 5], &SIXTEEN, &CALL)?)?;
-    report(rt, false, "blocks", &functions(alloc, [2, 100, 0], &[0], &SUM)?)?;
+    report(
+        rt,
+        false,
+        "sums",
+        &functions(alloc, [2, 4, 25], &[0], &SUM)?,
+    )?;
+    report(
+        rt,
+        false,
+        "calls",
+        &functions(alloc, [2, 4, 5], &SIXTEEN, &CALL)?,
+    )?;
+    report(
+        rt,
+        false,
+        "blocks",
+        &functions(alloc, [2, 100, 0], &[0], &SUM)?,
+    )?;
     report(rt, false, "names", &types(alloc, 2)?)
 }
 
 /// The large codes, up to the most that the limits of code allow, with seconds.
 fn large(rt: &HostRuntime) -> io::Result<()> {
     let alloc = rt.alloc();
+    for count in [1, 8, 64] {
+        report(rt, true, "names", &types(alloc, count)?)?;
+    }
+    for sizes in [[1, 256, 0], [8, 256, 0], [64, 256, 0]] {
+        report(rt, true, "blocks", &functions(alloc, sizes, &[0], &SUM)?)?;
+    }
     for sizes in [
         [1, 1, 200],
         [1, 16, 256],
@@ -152,14 +183,19 @@ fn large(rt: &HostRuntime) -> io::Result<()> {
     ] {
         report(rt, true, "sums", &functions(alloc, sizes, &[0], &SUM)?)?;
     }
-    for sizes in [[1, 1, 50], [1, 16, 256], [1, 256, 256], [8, 256, 256], [64, 256, 256]] {
-        report(rt, true, "calls", &functions(alloc, sizes, &SIXTEEN, &CALL)?)?;
-    }
-    for sizes in [[1, 256, 0], [8, 256, 0], [64, 256, 0]] {
-        report(rt, true, "blocks", &functions(alloc, sizes, &[0], &SUM)?)?;
-    }
-    for count in [1, 8, 64] {
-        report(rt, true, "names", &types(alloc, count)?)?;
+    for sizes in [
+        [1, 1, 50],
+        [1, 16, 256],
+        [1, 256, 256],
+        [8, 256, 256],
+        [64, 256, 256],
+    ] {
+        report(
+            rt,
+            true,
+            "calls",
+            &functions(alloc, sizes, &SIXTEEN, &CALL)?,
+        )?;
     }
     Ok(())
 }
