@@ -2,7 +2,7 @@
 use Rattle.std.proofs.Common.{◌≡◌, ℕ, ◌<◌, Bool, true, false, List, [], ◌∷◌, ◌++◌, map, Option, Some, None, refl, arith}
 use Rattle.std.specs.Prelude.{◌&&◌, ◌==◌, nat_lt}
 use Rattle.std.specs.List.{list_all, AllByRecursion}
-use Rattle.std.specs.Option.{option_or, option_map}
+use Rattle.std.specs.Option.{option_or}
 use Rattle.std.proofs.lemmas.Bool.{eqb-true, ltb-true, lt-ltb}
 use Rattle.std.proofs.lemmas.Bool.Decides.{nat_tests}
 use Rattle.grail_check.specs.declared.fault.CodeKind.{CodeKind}
@@ -104,7 +104,3 @@ same x y h = eqb-true x y h
 
 pub is_same : (x y : ℕ) → x ≡ y → (x == y) ≡ true
 is_same x y h = grind (arith, nat_tests)
-
-pub same_options : {A B : Type 0} (f : A → B) (x : B) (o : Option A) → option_map f o ≡ Some x → (a : A) × (o ≡ Some a) × (f a ≡ x)
-same_options f x None h = cc
-same_options f x (Some a) h = (a, refl, cc)

@@ -204,16 +204,6 @@ hit_strikes locals marks xs k h = record {
   inside = uses_bind_nothing (length locals) h.front;
 }
 
-strikes_front : (locals : List Local) (marks : List Mark) (xs ys : List Event) (k : CodeKind) → Strikes locals marks xs k → Strikes locals marks (xs ++ ys) k
-strikes_front locals marks xs ys k h = record {
-  front = h.front;
-  local = h.local;
-  rest = h.rest ++ ys;
-  is = ap (λ l. l ++ ys) h.is ∙ append_assoc h.front (Use h.local ∷ h.rest) ys;
-  marked = h.marked;
-  inside = h.inside;
-}
-
 strikes_back : (locals : List Local) (marks : List Mark) (xs ys : List Event) (k : CodeKind) → BindWithin (length locals) xs → Strikes locals (after locals marks xs) ys k → Strikes locals marks (xs ++ ys) k
 strikes_back locals marks xs ys k w h = record {
   front = xs ++ h.front;

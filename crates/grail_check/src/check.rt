@@ -34,8 +34,7 @@ fn walk(alloc: Global, code: &Code) -> Result<(), Stop<CodeFault>>
     check_functions(alloc, code)
 }
 
-/// Whether the code is well formed, and if not, the first check that fails. An answer in place of which memory ran out is
-/// neither.
+/// Whether the code is well formed, and if not, the first check of the walk that fails; `AllocError` where memory runs out.
 pub fn check_code(alloc: Global, code: &Code) -> Result<Result<(), CodeFault>, AllocError>
     ensures first_fault { IfOk result (λ answer. MatchResult answer (λ _. first_fault (program_of code.now) ≡ None) (λ fault. first_fault (program_of code.now) ≡ Some fault)) }
     ensures well_formed { IfOk result (λ answer. IsTrue (is_ok answer) ↔ IsWellFormed (program_of code.now)) }

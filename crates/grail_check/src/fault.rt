@@ -2,46 +2,38 @@ ghost use Rattle.std.specs.Prelude.{◌≡◌};
 ghost use Rattle.grail_check.specs.declared.fault.Stop.TheVariants.{Fault, Memory};
 
 use std::alloc::{AllocError, AllocFailed};
-use std::fmt;
 use thiserror::Error;
 
 /// What is wrong at a place of code.
-#[derive(Clone, Copy, Debug, PartialEq, Eq)]
+#[derive(Clone, Copy, Debug, PartialEq, Eq, Error)]
 pub enum CodeKind {
     /// A local, constructor, function, block or type that isn't there is named.
+    #[error("nosuchentry")]
     NoSuchEntry,
     /// A jump leads to its own block or an earlier one.
+    #[error("backward")]
     Backward,
     /// A local is used that isn't bound there.
+    #[error("unbound")]
     Unbound,
     /// A local of a heap kind is used that was used since it was bound.
+    #[error("spent")]
     Spent,
-    /// A local is of another kind than is needed.
+    /// A local is of another kind than is needed, as that of a case which is of no data type.
+    #[error("kind")]
     Kind,
     /// The number of arguments, arms or fields is wrong.
+    #[error("arms")]
     Arms,
     /// A constructor is built or matched inline that isn't inline, or the other way round.
+    #[error("place")]
     Place,
     /// The parameters of a block don't ascend, or aren't the function's in its first block; or an arm binds a local twice.
+    #[error("header")]
     Header,
     /// A type, constructor or function has the name of an earlier one.
+    #[error("name")]
     Name,
-}
-
-impl fmt::Display for CodeKind {
-    fn fmt<W: fmt::Write>(&self, f: &mut fmt::Formatter<W>) -> fmt::Result {
-        f.write_str(match self {
-            CodeKind::NoSuchEntry => "nosuchentry",
-            CodeKind::Backward => "backward",
-            CodeKind::Unbound => "unbound",
-            CodeKind::Spent => "spent",
-            CodeKind::Kind => "kind",
-            CodeKind::Arms => "arms",
-            CodeKind::Place => "place",
-            CodeKind::Header => "header",
-            CodeKind::Name => "name",
-        })
-    }
 }
 
 /// The first check of code that fails, with its place. Functions and blocks are counted from 0; place 0 is a header, place
