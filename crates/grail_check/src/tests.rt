@@ -1,6 +1,6 @@
 use crate::check_code;
 use camelot_values::{Con, Kind, TypeDef, Types, Word};
-use grail_code::{Block, CaseArm, CaseCell, Code, Func, Let, Op, Place, Term};
+use grail_code::{Block, CaseArm, CaseCell, Code, Func, Let, Op, Place, Term, decode, encode};
 use std::alloc::{AllocError, Global};
 use std::process::Abort;
 use std::test::Fail;
@@ -274,5 +274,64 @@ fn finds_what_is_used_twice(rt: HostRuntime) -> Result<(), Fail> {
         let code = both_code(alloc, args, *target)?;
         answers(&rt, alloc, &code, want)?;
     }
+    Ok(())
+}
+
+/// `let add (a : int) (b : int) : int = a + b` as code.
+const ADD: [u8; 28] = [
+    0x47, 0x52, 0x4c, 0x31, 0x00, 0x01, 0x03, 0x61, 0x64, 0x64, 0x02, 0x00, 0x00, 0x00, 0x01, 0x00,
+    0x01, 0x02, 0x00, 0x01, 0x01, 0x02, 0x03, 0x00, 0x00, 0x01, 0x00, 0x02,
+];
+
+/// The code of `dup` in bytes.
+const DUP_BYTES: [u8; 90] = [
+    0x47, 0x52, 0x4c, 0x31, 0x01, 0x05, 0x69, 0x6c, 0x69, 0x73, 0x74, 0x02, 0x03, 0x4e, 0x69, 0x6c,
+    0x01, 0x04, 0x43, 0x6f, 0x6e, 0x73, 0x00, 0x02, 0x00, 0x03, 0x01, 0x03, 0x64, 0x75, 0x70, 0x01,
+    0x03, 0x03, 0x06, 0x03, 0x00, 0x03, 0x03, 0x03, 0x03, 0x03, 0x01, 0x00, 0x00, 0x04, 0x00, 0x02,
+    0x00, 0x00, 0x01, 0x02, 0x02, 0x03, 0x01, 0x02, 0x00, 0x01, 0x01, 0x04, 0x00, 0x00, 0x00, 0x00,
+    0x01, 0x02, 0x02, 0x03, 0x03, 0x04, 0x05, 0x00, 0x01, 0x03, 0x05, 0x04, 0x01, 0x02, 0x02, 0x04,
+    0x01, 0x06, 0x04, 0x01, 0x02, 0x02, 0x05, 0x01, 0x00, 0x06,
+];
+
+/// One byte of the code of `dup` at a time, with the answer to the changed code.
+#[test]
+fn checks_changed_bytes(rt: HostRuntime) -> Result<(), Fail> {
+    let alloc = rt.alloc();
+    let rows = [
+        (0, 0x47, ""),
+        (33, 0x04, "nosuchentry function 0 block 0 place 0"),
+        (49, 0x01, "place function 0 block 0 place 1"),
+        (50, 0x00, "backward function 0 block 0 place 1"),
+        (86, 0x04, "spent function 0 block 2 place 3"),
+    ];
+    for (at, byte, want) in &rows {
+        let mut bytes = DUP_BYTES;
+        if let Some(place) = bytes.get_mut(*at) {
+            *place = *byte;
+        }
+        let code = decode(alloc, &bytes)?;
+        answers(&rt, alloc, &code, want)?;
+    }
+    Ok(())
+}
+
+/// Each byte of the code of `add` as every other byte: reading and checking answer, and what is read is written back.
+#[test]
+fn stands_every_byte(rt: HostRuntime) -> Result<(), Fail> {
+    let alloc = rt.alloc();
+    let mut read = 0u32;
+    for at in 0..ADD.len() {
+        for byte in 0..=255 {
+            let mut bytes = ADD;
+            bytes[at] = byte;
+            if let Ok(code) = decode(alloc, &bytes) {
+                let _ = check_code(alloc, &code)?;
+                assert_eq!(&rt; encode(alloc, &code)?.as_slice(), bytes.as_slice());
+                read = read.saturating_add(1);
+            }
+        }
+    }
+    // the code itself 28 times, and other letters in its name: 25 first ones and twice 62 others
+    assert!(&rt; read >= 177);
     Ok(())
 }
