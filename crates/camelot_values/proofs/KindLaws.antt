@@ -1,5 +1,5 @@
 -- Constructors by their numbers, through the types in order.
-use Rattle.std.proofs.Common.{◌≡◌, ℕ, zero, suc, ◌+◌, ◌-◌, ◌<◌, ◌≤◌, Bool, true, false, List, [], ◌∷◌, ◌++◌, length, get_or, drop, map, Option, Some, None, refl, sym, ap, ◌∙◌, subst, arith, drop-cons, add-one}
+use Rattle.std.proofs.Common.{◌≡◌, ℕ, zero, suc, ◌+◌, ◌-◌, ◌<◌, ◌≤◌, Bool, true, false, List, [], ◌∷◌, ◌++◌, length, get_or, drop, map, Option, Some, None, refl, sym, ap, ◌∙◌, arith, drop-cons, add-one}
 use Rattle.std.specs.Prelude.{slice_get, nat_lt, vec_len, if◌then◌else◌}
 use Rattle.std.specs.Option.{option_map}
 use Rattle.std.proofs.lemmas.Option.{slice_get-map, slice_get_read}
@@ -100,12 +100,27 @@ located first (d ∷ ds) c t con e h = by_test (nat_lt c (length d.cons)) refl (
     here : (nat_lt c (length d.cons)) ≡ true → first ≡ t → Located (d ∷ ds) first c t con
     here b same =
         let less : c < length d.cons = grind (arith, nat_tests, b) in
-        record { index = 0; def = d; place = c; number = sym same ∙ omega arith; is = refl;
-            place_is = ap (λ u. if u then Some c else place_of ds (c - length d.cons)) b;
-            con_is = sym (slice_get_front d.cons (constructors ds) c less) ∙ e }
+        record {
+          index = 0;
+          def = d;
+          place = c;
+          number = sym same ∙ omega arith;
+          is = refl;
+          place_is = ap (λ u. if u then Some c else place_of ds (c - length d.cons)) b;
+          con_is = sym (slice_get_front d.cons (constructors ds) c less) ∙ e;
+        }
+
     later : (nat_lt c (length d.cons)) ≡ false → Located ds (suc first) (c - length d.cons) t con → Located (d ∷ ds) first c t con
-    later b l = record { index = suc l.index; def = l.def; place = l.place; number = l.number ∙ omega arith; is = l.is;
-        place_is = ap (λ u. if u then Some c else place_of ds (c - length d.cons)) b ∙ l.place_is; con_is = l.con_is }
+    later b l = record {
+      index = suc l.index;
+      def = l.def;
+      place = l.place;
+      number = l.number ∙ omega arith;
+      is = l.is;
+      place_is = ap (λ u. if u then Some c else place_of ds (c - length d.cons)) b ∙ l.place_is;
+      con_is = l.con_is;
+    }
+
     by_test : (b : Bool) → nat_lt c (length d.cons) ≡ b → (constructor ds (c - length d.cons) ≡ Some con → type_from (suc first) ds (c - length d.cons) ≡ Some t → Located ds (suc first) (c - length d.cons) t con)
         → (if b then Some first else type_from (suc first) ds (c - length d.cons)) ≡ Some t → Located (d ∷ ds) first c t con
     by_test true b rec k = here b cc

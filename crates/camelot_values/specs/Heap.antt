@@ -1,12 +1,12 @@
 -- Which kinds have values that take cells, and which constructors stand in the values of a kind. A type with no boxed
 -- constructor needs no cell; every other type, and the diamond, is a heap type (Hofmann 2000), whose values are used
 -- at most once.
-use Rattle.std.specs.Prelude.{◌≡◌, ℕ, not, Bool, true, false, List, [], ◌∷◌, flat_map, slice_get, ◌==◌, Option, Some, None, IsTrue}
+use Rattle.std.specs.Prelude.{◌≡◌, ℕ, not, Bool, true, false, List, [], ◌∷◌, flat_map, slice_get, ◌==◌, Some, IsTrue}
 use Rattle.std.specs.List.{list_any}
 use Rattle.std.specs.Option.{option_map_or}
 use Rattle.camelot_values.specs.declared.kinds.Kind.{Kind}
 use Rattle.camelot_values.specs.declared.kinds.Kind.TheVariants.{Int, Flag, Dia, Of}
-use Rattle.camelot_values.specs.Kinds.{Constructor, DataType, type_of}
+use Rattle.camelot_values.specs.Kinds.{DataType, type_of}
 
 -- some constructor is boxed
 abbrev pub has_boxed : DataType → Bool

@@ -1,5 +1,5 @@
 -- The names of programs: a letter, and then letters, digits or `_`; at most 64 bytes.
-use Rattle.std.specs.Prelude.{ℕ, ◌≤◌, nat_le, ◌==◌, ◌&&◌, ◌||◌, Bool, true, false, List, [], ◌∷◌, length, IsTrue}
+use Rattle.std.specs.Prelude.{ℕ, ◌≤◌, nat_le, ◌==◌, ◌&&◌, ◌||◌, Bool, false, List, [], ◌∷◌, length, IsTrue}
 use Rattle.std.specs.List.{list_all}
 
 -- `a` to `z`

@@ -1,9 +1,9 @@
 -- What the private search for the types in a type does to its marks.
-use Rattle.std.specs.Prelude.{◌≡◌, ℕ, List, length, [], ◌∷◌, slice_get, slice_set, Option, Some, None}
+use Rattle.std.specs.Prelude.{◌≡◌, ℕ, List, length, [], ◌∷◌, slice_get, slice_set, Option, Some}
 use Rattle.camelot_values.specs.Kinds.{DataType}
 use Rattle.camelot_values.specs.Heap.{HoldsType, IsLedTo}
 use Rattle.camelot_values.specs.declared.kinds.Kind.{Kind}
-use Rattle.camelot_values.specs.declared.kinds.Kind.TheVariants.{Int, Flag, Dia, Of}
+use Rattle.camelot_values.specs.declared.kinds.Kind.TheVariants.{Of}
 use Rattle.camelot_values.specs.declared.reach.Mark.{Mark}
 use Rattle.camelot_values.specs.declared.reach.Mark.TheVariants.{New, Waiting, Done}
 

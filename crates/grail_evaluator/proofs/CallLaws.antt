@@ -1,5 +1,5 @@
 -- The evaluator's calls, lets and jumps are those of the meaning of code.
-use Rattle.std.proofs.Common.{◌≡◌, ℕ, zero, suc, ◌+◌, ◌-◌, ◌≤◌, ◌<◌, Bool, true, false, List, [], ◌∷◌, length, get_or, take, drop, map, Option, Some, None, Result, Ok, Err, refl, sym, ap, ◌∙◌, subst, arith}
+use Rattle.std.proofs.Common.{◌≡◌, ℕ, suc, ◌+◌, ◌-◌, ◌≤◌, Bool, true, false, List, [], ◌∷◌, length, get_or, take, drop, map, Some, None, Result, sym, ap, ◌∙◌, subst, arith}
 use Rattle.std.specs.Prelude.{◌==◌, cond, if◌then◌else◌, slice_get}
 use Rattle.std.specs.Option.{option_map}
 use Rattle.std.proofs.lemmas.Option.{slice_get-map}
@@ -11,17 +11,15 @@ use Rattle.camelot_values.specs.Kinds.{DataType}
 use Rattle.camelot_values.specs.Outcome as meaning
 use Rattle.camelot_values.specs.Outcome.{Outcome, after, first_then, entered}
 use Rattle.camelot_values.specs.Runs.{Enter, is_too_deep}
-use Rattle.grail_code.specs.Code.{Program, Binding, BasicBlock, Function, function_of, block_of, binding_of, program_of}
+use Rattle.grail_code.specs.Code.{Program, Binding, BasicBlock, function_of, block_of, binding_of}
 use Rattle.grail_code.specs.declared.code.Func.{Func}
 use Rattle.grail_code.specs.declared.code.Let.{Let}
-use Rattle.grail_code.specs.declared.code.CaseCell.{CaseCell}
 use Rattle.grail_code.specs.declared.code.CaseCell.TheVariants as cell
 use Rattle.grail_code.specs.Meaning.{Locals, Later, put, arguments, narrowed, op_run, lets_run, cell_run, block_run, jump_run, blocks_run, body_run, entering}
 use Rattle.grail_evaluator.specs.Trees.{plain, plain_all}
 use Rattle.grail_evaluator.specs.Outcomes.{Sees, outcome_of}
 use Rattle.grail_evaluator.specs.declared.tree.Tree.{Tree}
 use Rattle.grail_evaluator.specs.declared.evaluator.Outcome as own
-use Rattle.grail_evaluator.specs.declared.evaluator.Outcome.TheVariants as run
 use Rattle.grail_evaluator.specs.declared.evaluator.RunError.{RunError}
 
 -- ---- calls

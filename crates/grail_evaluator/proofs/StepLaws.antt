@@ -1,10 +1,10 @@
 -- Steps of the evaluator are those of the meaning of code.
-use Rattle.std.proofs.Common.{◌≡◌, ℕ, Bool, true, false, List, Option, Some, None, refl, sym, ap, ◌∙◌}
+use Rattle.std.proofs.Common.{◌≡◌, ℕ, List, Option, Some, None, refl, sym, ap, ◌∙◌}
 use Rattle.std.specs.Prelude.{ℤ}
 use Rattle.camelot_values.specs.Value as value
 use Rattle.camelot_values.specs.Value.{Value, parts}
 use Rattle.camelot_values.specs.Operator.{Operator, on_ints}
-use Rattle.camelot_values.specs.Outcome.{Outcome, Done, Stuck, known, given}
+use Rattle.camelot_values.specs.Outcome.{Outcome, Stuck, known, given}
 use Rattle.camelot_values.specs.Runs.{on_diamond}
 use Rattle.grail_code.specs.Meaning.{Locals, operands, built}
 use Rattle.grail_code.specs.declared.code.Place.TheVariants as place

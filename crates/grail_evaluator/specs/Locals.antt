@@ -1,5 +1,5 @@
 -- The evaluator's locals, which it keeps in the order in which they were bound, as the locals of the meaning of code.
-use Rattle.std.specs.Prelude.{ℕ, ◌==◌, if◌then◌else◌, Bool, List, [], ◌∷◌, ◌++◌, map, Option, Some, None}
+use Rattle.std.specs.Prelude.{ℕ, ◌==◌, if◌then◌else◌, List, [], ◌∷◌, ◌++◌, map, Option, Some, None}
 use Rattle.std.specs.List.{list_any}
 use Rattle.camelot_values.specs.Value.{Value}
 use Rattle.grail_code.specs.Meaning.{Locals}

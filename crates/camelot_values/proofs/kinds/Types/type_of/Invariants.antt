@@ -1,4 +1,4 @@
-use Rattle.std.proofs.Common.{◌≡◌, ◌+◌, ◌≤◌, length, map, drop}
+use Rattle.std.proofs.Common.{◌≡◌, map, drop}
 use Rattle.camelot_values.specs.Kinds.{data_type_of, type_from, type_of}
 use Rattle.camelot_values.proofs.kinds.Types.type_of.Given as goal
 

@@ -1,5 +1,5 @@
-use Rattle.std.proofs.Common.{◌≡◌, suc, ◌-◌, arith, map, refl, sym, ◌∙◌, subst}
-use Rattle.grail_code.specs.Code.{program_of, function_of, block_of, binding_of, exit_of}
+use Rattle.std.proofs.Common.{◌-◌, arith, map, sym, ◌∙◌, subst}
+use Rattle.grail_code.specs.Code.{program_of, block_of, binding_of, exit_of}
 use Rattle.grail_code.specs.Meaning.{entering, jump_run, lets_run}
 use Rattle.grail_evaluator.specs.Trees.{plain, plain_all}
 use Rattle.grail_evaluator.specs.Locals.{env_of}

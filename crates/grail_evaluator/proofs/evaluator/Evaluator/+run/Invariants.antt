@@ -1,4 +1,4 @@
-use Rattle.std.proofs.Common.{ℕ, ◌+◌, ◌*◌, length}
+use Rattle.std.proofs.Common.{◌+◌, ◌*◌, length}
 use Rattle.grail_evaluator.proofs.evaluator.Evaluator.+run.Given as goal
 
 -- a call is worth more than all that its function may do besides calls; a block behind the current one is worth more
