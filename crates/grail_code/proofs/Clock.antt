@@ -1,13 +1,13 @@
 -- The clock of the meaning of code changes nothing, and what more fuel does to a run. Both come from one induction over
 -- code: a relation that is closed under basic steps and one run after another holds of whole runs.
-use Rattle.std.proofs.Common.{◌≡◌, ℕ, zero, suc, ◌+◌, ◌-◌, ◌<◌, ◌≤◌, Bool, true, false, List, [], ◌∷◌, length, Option, Some, None, refl, sym, ap, ◌∙◌, subst, arith}
+use Rattle.std.proofs.Common.{◌≡◌, ℕ, zero, suc, ◌-◌, ◌<◌, ◌≤◌, Bool, true, false, List, [], ◌∷◌, length, Option, Some, None, refl, sym, ap, ◌∙◌, subst, arith}
 use Rattle.std.specs.Prelude.{cond, ◌==◌, if◌then◌else◌, slice_get, ◌⊎◌}
 use Rattle.std.proofs.Common.{inl, inr}
 use Rattle.std.proofs.lemmas.Bool.{cases_lt}
 use Rattle.camelot_values.specs.Value as value
 use Rattle.camelot_values.specs.Value.{Value, Values, parts}
 use Rattle.camelot_values.specs.Kinds.{DataType, place_of}
-use Rattle.camelot_values.specs.Outcome.{Outcome, Done, Fuel, Deep, Stuck, after, first_then, known, given, entered}
+use Rattle.camelot_values.specs.Outcome.{Outcome, Done, Fuel, Deep, Stuck, known, given, entered}
 use Rattle.camelot_values.specs.Runs.{Enter, chosen, on_diamond, is_too_deep}
 use Rattle.camelot_values.proofs.RunLaws.{Closed, Same, More, Goes, Exceeds, Equal, Within, same_is_closed, more_is_closed, more_entered, exceeds_entered}
 use Rattle.grail_code.specs.declared.code.Place.{Place}

@@ -1,13 +1,13 @@
 -- Well-formed code on fitting arguments doesn't get stuck, and what it comes to is of the function's result kind.
 use Rattle.std.proofs.Common.{◌≡◌, ℕ, zero, suc, ◌+◌, ◌-◌, ◌<◌, ◌≤◌, Bool, true, false, List, [], ◌∷◌, ◌++◌, length, map, Option, Some, None, refl, sym, ap, ◌∙◌, subst, arith, append_assoc, append-nil, length-append}
-use Rattle.std.specs.Prelude.{cond, ◌==◌, ◌||◌, nat_lt, if◌then◌else◌, slice_get, flat_map, IsSomeAnd, IsTrue, ◌⊎◌}
+use Rattle.std.specs.Prelude.{cond, ◌==◌, ◌||◌, if◌then◌else◌, slice_get, flat_map, IsSomeAnd, IsTrue, ◌⊎◌}
 use Rattle.std.specs.List.{AllByRecursion, list_any, range_with_len}
 use Rattle.std.specs.Option.{option_map, option_map_or}
 use Rattle.std.proofs.Common.{inl, inr}
 use Rattle.std.proofs.lemmas.Bool.Decides.{nat_tests}
 use Rattle.camelot_values.specs.Value as value
 use Rattle.camelot_values.specs.Value.{Value, Values, parts}
-use Rattle.camelot_values.specs.Kinds.{Constructor, DataType, constructors, constructor, type_from, type_of, place_of}
+use Rattle.camelot_values.specs.Kinds.{Constructor, DataType, constructor, type_of, place_of}
 use Rattle.camelot_values.specs.Typing.{Fits, FitAll}
 use Rattle.camelot_values.proofs.KindLaws.{located}
 use Rattle.camelot_values.specs.Operator as operator
@@ -21,7 +21,7 @@ use Rattle.grail_code.specs.declared.code.Place.TheVariants as place
 use Rattle.grail_code.specs.declared.code.CaseCell.{CaseCell}
 use Rattle.grail_code.specs.declared.code.CaseCell.TheVariants as cell
 use Rattle.grail_code.specs.Code.{Operation, Lit, Flag, Copy, Prim, Make, Call, Binding, Arm, Exit, Ret, Tail, Goto, If, Case, BasicBlock, Function, Program}
-use Rattle.grail_code.specs.WellFormed.{kind_of, is_heap_local, HaveKinds, operator_kind, PlaceFits, Gives, LetFits, JumpFits, kept, bound_by, CellFits, ArmFits, ArmsFit, data_type, ExitFits, Event, Use, Bind, taken, operands_of, let_events, exit_uses, params_of, jump_events, ways, block_events, Binds, IsUsedWell, UsesWell, BlockFits, BlocksFit, FunctionFits, IsWellFormed}
+use Rattle.grail_code.specs.WellFormed.{kind_of, is_heap_local, HaveKinds, operator_kind, PlaceFits, Gives, LetFits, kept, bound_by, CellFits, ArmFits, ArmsFit, data_type, ExitFits, Event, Use, Bind, taken, operands_of, let_events, exit_uses, params_of, jump_events, ways, block_events, Binds, IsUsedWell, BlockFits, BlocksFit, FunctionFits, IsWellFormed}
 use Rattle.grail_code.specs.Meaning.{Locals, Later, put, arguments, narrowed, in_front, values_of, operands, built, op_run, lets_run, put_all, cell_run, arm_run, arm_at, case_run, exit_run, block_run, jump_run, blocks_run, body_run, calls, run_of}
 use Rattle.grail_code.specs.Soundness.{IsSound, ArgumentsFit, HaveBlocks}
 
@@ -41,6 +41,7 @@ binds_append x es ds b = by_split es b.0 b.1 b.2
     lift : (d c : Event) (es : List Event) → d ≡ c → Binds x es ⊎ Binds x ds → Binds x (d ∷ es) ⊎ Binds x ds
     lift d c es s (inl p) = inl (d ∷ p.0, p.1, ap (λ l. d ∷ l) p.2)
     lift d c es s (inr p) = inr p
+
     by_split : (es before after : List Event) → es ++ ds ≡ before ++ (Bind x ∷ after) → Binds x es ⊎ Binds x ds
     by_split [] before after h = inr (before, after, h)
     by_split (d ∷ es) [] after h = let k : d ≡ Bind x = cc in inl ([], es, ap (λ y. y ∷ es) k)
@@ -69,6 +70,7 @@ binds_one x t es b = either (binds_append x es (Bind t ∷ []) b)
     only : (before after : List Event) → Bind t ∷ [] ≡ before ++ (Bind x ∷ after) → t ≡ x
     only [] after h = cc
     only (c ∷ before) after h = let k : [] ≡ before ++ (Bind x ∷ after) = cc in absurd (omega (arith, ap length k, length-append before (Bind x ∷ after)))
+
     either : Binds x es ⊎ Binds x (Bind t ∷ []) → (t ≡ x) ⊎ Binds x es
     either (inl p) = inr p
     either (inr p) = inl (only p.0 p.1 p.2)
@@ -93,6 +95,7 @@ holds_put types f env t x v q k fit where_ = by_test (t == x) refl where_
   where
     new : t ≡ x → IsSomeAnd (kind_of f x) (λ q. Fits types q v)
     new e = subst (λ o. IsSomeAnd o (λ q. Fits types q v)) (sym k ∙ ap (kind_of f) e) fit
+
     by_test : (b : Bool) → (t == x) ≡ b → (t ≡ x) ⊎ Holds types f env x → IsSomeAnd (if b then Some v else env x) (λ u. IsSomeAnd (kind_of f x) (λ q. Fits types q u))
     by_test true e w = let same : t ≡ x = grind (arith, nat_tests, e) in new same
     by_test false e (inl same) = let clash : (t == x) ≡ true = grind (arith, nat_tests, same) in let c : false ≡ true = sym e ∙ clash in absurd cc
@@ -247,8 +250,8 @@ let_sound p f enter calls b bs es env k w next h bound fit rest = by_target (kin
         sound_then p.types q f.result k (op_run enter k w env b.op) (λ left v. lets_run enter bs left w (put env b.target v) next)
         (op_sound p f enter calls es env h b.op q k w bound g)
         (λ j v fits. rest j (put env b.target v)
-            (subst (λ x. EnvFits p.types f x (put env b.target v)) (append_assoc es (map Use (operands_of b.op)) (Bind b.target ∷ []))
-                (fits_bind p.types f (es ++ map Use (operands_of b.op)) env b.target v q (fits_uses p.types f es (operands_of b.op) env h) t fits)))
+        (subst (λ x. EnvFits p.types f x (put env b.target v)) (append_assoc es (map Use (operands_of b.op)) (Bind b.target ∷ []))
+        (fits_bind p.types f (es ++ map Use (operands_of b.op)) env b.target v q (fits_uses p.types f es (operands_of b.op) env h) t fits)))
 
 lets_sound : (p : Program) (f : Function) (enter : Enter) → CallsSound p enter → (heap : ℕ → Bool) (all : List Event) → IsUsedWell heap all → (bs : List Binding) (es rest : List Event) (env : Locals) (k w : ℕ) (next : ℕ → Locals → Outcome Value)
     → all ≡ es ++ (flat_map let_events bs ++ rest) → EnvFits p.types f es env → AllByRecursion (LetFits p f) bs
@@ -261,7 +264,7 @@ lets_sound p f enter calls heap all well (b ∷ bs) es rest env k w next e h fit
     (operands_bound heap all es (operands_of b.op) ((Bind b.target ∷ []) ++ (others ++ rest)) well (whole ∙ ap (λ x. es ++ x) (append_assoc (map Use (operands_of b.op)) (Bind b.target ∷ []) (others ++ rest))))
     fit.0
     (λ j last g. lets_sound p f enter calls heap all well bs (es ++ let_events b) rest last j w next (whole ∙ sym (append_assoc es (let_events b) (others ++ rest))) g fit.1
-        (λ i end g2. go i end (subst (λ x. EnvFits p.types f x end) (append_assoc es (let_events b) others) g2)))
+    (λ i end g2. go i end (subst (λ x. EnvFits p.types f x end) (append_assoc es (let_events b) others) g2)))
 
 -- ---- jumps and ends
 
@@ -322,8 +325,8 @@ arm_sound types f heap number later sound es env con a vs k w h fit parts_fit we
     subst (λ o. IsSound types f.result (given o (λ bound. cell_run a.cell bound (λ last. later a.target k w last)))) (sym r.is)
     (cell_sound types f (es ++ map Bind a.fields) r.bound a.cell con.inline (λ last. later a.target k w last) r.fits fit.cell
     (λ last g. jump_on types f heap (suc number) later sound ((es ++ map Bind a.fields) ++ map Bind (kept a.cell)) last a.target k w (omega (arith, fit.jump.0)) fit.jump.1 g
-        (subst (IsUsedWell heap) (ap (λ x. es ++ (x ++ jump_events f a.target)) (map_append a.fields (kept a.cell)) ∙ ap (λ x. es ++ x) (append_assoc (map Bind a.fields) (map Bind (kept a.cell)) (jump_events f a.target))
-            ∙ sym (append_assoc es (map Bind a.fields) (map Bind (kept a.cell) ++ jump_events f a.target)) ∙ sym (append_assoc (es ++ map Bind a.fields) (map Bind (kept a.cell)) (jump_events f a.target))) well)))
+    (subst (IsUsedWell heap) (ap (λ x. es ++ (x ++ jump_events f a.target)) (map_append a.fields (kept a.cell)) ∙ ap (λ x. es ++ x) (append_assoc (map Bind a.fields) (map Bind (kept a.cell)) (jump_events f a.target))
+    ∙ sym (append_assoc es (map Bind a.fields) (map Bind (kept a.cell) ++ jump_events f a.target)) ∙ sym (append_assoc (es ++ map Bind a.fields) (map Bind (kept a.cell)) (jump_events f a.target))) well)))
 
 -- the arm at a constructor's place
 record ArmAt (f : Function) (heap : ℕ → Bool) (number : ℕ) (es : List Event) (con : Constructor) (arms : List Arm) (i : ℕ) : Type 0 where
@@ -357,6 +360,7 @@ case_sound types f heap number t def later sound es env arms (value.Con c vs) k 
         let def_is : def ≡ l.def = cc in
         let a = arm_there f heap number es con def.cons arms l.place fit well (ap (λ d. slice_get d.cons l.place) def_is ∙ l.con_is) in
         subst (λ o. IsSound types f.result (arm_run later o vs k w env)) (sym (ap (arm_at arms) l.place_is ∙ a.is)) (arm_sound types f heap number later sound es env con a.arm vs k w h a.fits g a.well)
+
     by_type : (o : Option ℕ) → type_of types c ≡ o → option_map kind.Of o ≡ Some (kind.Of t) → IsSound types f.result (arm_run later (arm_at arms (place_of types c)) vs k w env)
     by_type None e g = absurd cc
     by_type (Some u) e g = let same : u ≡ t = cc in by_con u e same (constructor types c) refl fits.1
@@ -386,6 +390,7 @@ exit_sound p f enter calls heap number later sound es env (Case x arms) k w h fi
     by_def t e (Some d) i r =
         let v = found p.types f env x (kind.Of t) (h.holds x bound.0) e in
         subst (λ o. IsSound p.types f.result (given o (λ u. case_run p.types later u arms k w env))) (sym v.is) (case_sound p.types f heap number t d later sound es env arms v.value k w h i r well v.fits)
+
     by_kind : (o : Option Kind) → kind_of f x ≡ o → IsSomeAnd (data_type p.types o) (λ d. ArmsFit f number d.cons arms) → IsSound p.types f.result (exit_run p.types enter later (Case x arms) k w env)
     by_kind None e r = absurd r
     by_kind (Some kind.Int) e r = absurd r
@@ -403,14 +408,16 @@ block_sound p f enter calls number later sound b env k w h fit =
     lets_sound p f enter calls heap (block_events b) fit.uses.inside b.lets (map Bind b.params) (map Use (exit_uses b.exit)) env k w (λ left last. exit_run p.types enter later b.exit left w last)
     (append_assoc (map Bind b.params) (flat_map let_events b.lets) (map Use (exit_uses b.exit))) h fit.lets
     (λ j last g. exit_sound p f enter calls heap number later sound (block_events b) last b.exit j w (fits_uses p.types f front (exit_uses b.exit) last g) fit.exit
-        (behind_uses (exit_uses b.exit) front (operands_bound heap (block_events b) front (exit_uses b.exit) [] fit.uses.inside (ap (λ x. front ++ x) (sym (append-nil (map Use (exit_uses b.exit)))))))
-        fit.uses.onward)
+    (behind_uses (exit_uses b.exit) front (operands_bound heap (block_events b) front (exit_uses b.exit) [] fit.uses.inside (ap (λ x. front ++ x) (sym (append-nil (map Use (exit_uses b.exit)))))))
+    fit.uses.onward)
   where
     more : (x : ℕ) (es ds : List Event) → Binds x es → Binds x (es ++ ds)
     more x es ds h = (h.0, h.1 ++ ds, ap (λ l. l ++ ds) h.2 ∙ append_assoc h.0 (Bind x ∷ h.1) ds)
+
     all_more : (xs : List ℕ) (es ds : List Event) → AllByRecursion (λ x. Binds x es) xs → AllByRecursion (λ x. Binds x (es ++ ds)) xs
     all_more [] es ds h = tt
     all_more (x ∷ xs) es ds h = (more x es ds h.0, all_more xs es ds h.1)
+
     behind_uses : (xs : List ℕ) (es : List Event) → AllByRecursion (λ x. Binds x es) xs → AllByRecursion (λ x. Binds x (es ++ map Use (exit_uses b.exit))) xs
     behind_uses xs es h = all_more xs es (map Use (exit_uses b.exit)) h
 
@@ -434,7 +441,8 @@ bound_is_among types f env params hold x b = by_split params hold b.0 b.1 b.2
 narrowed_fits : (types : List DataType) (f : Function) (env : Locals) (params : List ℕ) → AllByRecursion (Holds types f env) params → EnvFits types f (map Bind params) (narrowed params env)
 narrowed_fits types f env params hold = record {
   holds = λ x b. let r = bound_is_among types f env params hold x b in
-      subst (λ t. IsSomeAnd (if t then env x else None) (λ v. IsSomeAnd (kind_of f x) (λ q. Fits types q v))) (sym r.0) r.1 }
+      subst (λ t. IsSomeAnd (if t then env x else None) (λ v. IsSomeAnd (kind_of f x) (λ q. Fits types q v))) (sym r.0) r.1;
+}
 
 later_sound : (p : Program) (f : Function) (enter : Enter) → CallsSound p enter → (first : ℕ) (bs : List BasicBlock) → ((i : ℕ) → slice_get bs i ≡ slice_get f.blocks (first + i)) → BlocksFit p f first bs
     → LaterSound p.types f first (jump_run p.types enter first bs)
@@ -450,6 +458,7 @@ later_sound p f enter calls first (block ∷ bs) at fit = λ b k w env less ther
   where
     params_here : params_of f first ≡ block.params
     params_here = ap (λ o. option_map_or (λ c. c.params) o []) (ap (slice_get f.blocks) (omega arith) ∙ sym (at 0))
+
     by_test : (b k w : ℕ) (env : Locals) → first ≤ b → b < length f.blocks → AllByRecursion (Holds p.types f env) (params_of f b) → LaterSound p.types f (suc first) (jump_run p.types enter (suc first) bs) → (t : Bool) → (b == first) ≡ t
         → IsSound p.types f.result (if t then block_run p.types enter (jump_run p.types enter (suc first) bs) block k w (narrowed block.params env) else jump_run p.types enter (suc first) bs b k w env)
     by_test b k w env less there hold rest true e =
@@ -466,6 +475,7 @@ range_below x a n b = by_split a n b.0 b.1 b.2
   where
     wider : (a n : ℕ) → (suc a ≤ x) × (x < suc a + n) → (a ≤ x) × (x < a + suc n)
     wider a n h = (omega (arith, h.0), omega (arith, h.1))
+
     by_split : (a n : ℕ) (before after : List Event) → map Bind (range_with_len a n) ≡ before ++ (Bind x ∷ after) → (a ≤ x) × (x < a + n)
     by_split a zero [] after e = absurd cc
     by_split a zero (c ∷ before) after e = absurd cc
@@ -497,8 +507,10 @@ body_sound p enter calls f k w args fit some args_fit = by_blocks f.blocks refl
   where
     full : (length args == length f.params) ≡ true
     full = let same : length args ≡ length f.params = as_many p.types f.params args args_fit in grind (arith, nat_tests, same)
+
     begins : (b : BasicBlock) → b.params ≡ range_with_len 0 (length f.params) → EnvFits p.types f (map Bind b.params) (arguments args)
     begins b entry = record { holds = λ x bound. let below = range_below x 0 (length f.params) (subst (λ ps. Binds x (map Bind ps)) entry bound) in arguments_hold p.types f.params f.locals args x args_fit (omega (arith, below.1)) }
+
     by_blocks : (bs : List BasicBlock) → f.blocks ≡ bs → IsSound p.types f.result (body_run p.types enter (Some f) k w args)
     by_blocks [] e = absurd (omega (arith, ap length e))
     by_blocks (b ∷ bs) e =
@@ -506,7 +518,7 @@ body_sound p enter calls f k w args fit some args_fit = by_blocks f.blocks refl
         let at : (i : ℕ) → slice_get bs i ≡ slice_get f.blocks (1 + i) = λ i. ap (λ xs. slice_get xs (suc i)) (sym e) ∙ ap (slice_get f.blocks) (omega arith) in
         subst (λ t. IsSound p.types f.result (if t then blocks_run p.types enter f.blocks k w (arguments args) else Stuck)) (sym full)
         (subst (λ xs. IsSound p.types f.result (blocks_run p.types enter xs k w (arguments args))) (sym e)
-            (block_sound p f enter calls 0 (jump_run p.types enter 1 bs) (later_sound p f enter calls 1 bs at fits.1) b (arguments args) k w (begins b (fits.0.entry refl)) fits.0))
+        (block_sound p f enter calls 0 (jump_run p.types enter 1 bs) (later_sound p f enter calls 1 bs at fits.1) b (arguments args) k w (begins b (fits.0.entry refl)) fits.0))
 
 calls_sound : (p : Program) → IsWellFormed p → HaveBlocks p → (limit clock : ℕ) → CallsSound p (calls p limit clock)
 calls_sound p well some limit clock zero w t g args callee is fit = tt
@@ -514,8 +526,8 @@ calls_sound p well some limit zero (suc k) w t g args callee is fit = tt
 calls_sound p well some limit (suc clock) (suc k) w t g args callee is fit =
     by_depth (is_too_deep limit w t)
     (subst (λ o. IsSound p.types callee.result (body_run p.types (calls p limit clock) o k (cond t w (suc w)) args)) (sym is)
-        (body_sound p (calls p limit clock) (calls_sound p well some limit clock) callee k (cond t w (suc w)) args
-            (all_at (FunctionFits p) p.funcs g callee well.funcs is) (all_at (λ f. 1 ≤ length f.blocks) p.funcs g callee some is) fit))
+    (body_sound p (calls p limit clock) (calls_sound p well some limit clock) callee k (cond t w (suc w)) args
+    (all_at (FunctionFits p) p.funcs g callee well.funcs is) (all_at (λ f. 1 ≤ length f.blocks) p.funcs g callee some is) fit))
   where
     by_depth : (b : Bool) → IsSound p.types callee.result (body_run p.types (calls p limit clock) (slice_get p.funcs g) k (cond t w (suc w)) args)
         → IsSound p.types callee.result (if b then Deep 0 else entered (body_run p.types (calls p limit clock) (slice_get p.funcs g) k (cond t w (suc w)) args))

@@ -1,5 +1,5 @@
 -- What it means that code doesn't get stuck.
-use Rattle.std.specs.Prelude.{ℕ, ◌≤◌, List, length}
+use Rattle.std.specs.Prelude.{◌≤◌, List, length}
 use Rattle.std.specs.List.{AllByRecursion}
 use Rattle.camelot_values.specs.Value.{Value, parts}
 use Rattle.camelot_values.specs.Kinds.{DataType}

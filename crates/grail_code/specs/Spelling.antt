@@ -1,6 +1,6 @@
 -- The spelling of Grail code in bytes, format `GRL1`: four bytes that name the format, then the types and the functions.
 -- It is a function of the code, and each count is followed by exactly so many things. `docs/GRAIL.md` tells it in words.
-use Rattle.std.specs.Prelude.{◌≡◌, ℕ, zero, suc, ◌+◌, ◌/◌, ◌%◌, ◌≤◌, ◌<◌, nat_lt, if◌then◌else◌, Bool, true, false, List, [], ◌∷◌, ◌++◌, length, take, flat_map, FitsSigned}
+use Rattle.std.specs.Prelude.{◌≡◌, ℕ, zero, suc, ◌+◌, ◌/◌, ◌%◌, ◌≤◌, ◌<◌, nat_lt, if◌then◌else◌, true, List, [], ◌∷◌, ◌++◌, length, take, flat_map, FitsSigned}
 use Rattle.std.specs.List.{AllByRecursion}
 use Rattle.std.specs.Int.{w32, cast_unsigned}
 use Rattle.camelot_values.specs.Names.{IsLowerName, IsUpperName}

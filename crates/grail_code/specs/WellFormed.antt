@@ -1,7 +1,7 @@
 -- Well-formed code: every index is in its table, names are distinct, jumps go forward, every operand is bound and has its
 -- kind, and a variable of a heap kind is used at most once from each binding on each way through a block. That is the
 -- affine rule of LFPL (Hofmann 2000) for code. The check of code goes from place to place; this definition has no order.
-use Rattle.std.specs.Prelude.{◌≡◌, ℕ, zero, suc, ◌+◌, ◌<◌, Bool, true, false, List, [], ◌∷◌, ◌++◌, length, map, flat_map, slice_get, Option, Some, None, IsTrue, IsSomeAnd}
+use Rattle.std.specs.Prelude.{◌≡◌, ℕ, suc, ◌<◌, Bool, false, List, [], ◌∷◌, ◌++◌, length, map, flat_map, slice_get, Option, Some, None, IsTrue, IsSomeAnd}
 use Rattle.std.specs.List.{AllByRecursion, range_with_len}
 use Rattle.std.specs.Option.{option_map, option_map_or}
 use Rattle.camelot_values.specs.Kinds.{Constructor, DataType, constructors, constructor, type_of}

@@ -18,7 +18,7 @@ pub fn law_of_clock()
     ensures empty { (program : Program) (limit waits func : ℕ) (tail : Bool) (args : List Value) → entering program limit 0 waits tail func args ≡ Fuel 0 0 }
     ensures unfolds { (program : Program) (limit fuel waits func : ℕ) (tail : Bool) (args : List Value) → entering program limit (suc fuel) waits tail func args
         ≡ (if is_too_deep limit waits tail then Deep 0
-            else entered (body_run program.types (entering program limit) (slice_get program.funcs func) fuel (cond tail waits (suc waits)) args)) }
+        else entered (body_run program.types (entering program limit) (slice_get program.funcs func) fuel (cond tail waits (suc waits)) args)) }
 {}
 
 /// A run that stops on fuel has entered as many functions as it had fuel, and one that comes to a value at most as many.
