@@ -4,7 +4,7 @@
 -- (Hofmann 2000). All blocks are walked, also those that no jump leads to.
 --
 -- At a let and at the end of a block the checks come in this order: what is named is there; jumps go forward; numbers of
--- arguments, arms and fields are right; each operand in turn is bound, unspent and of its kind; constructors are built or
+-- arguments, arms and fields are right (a case on what is no data type is of the wrong kind here); each operand in turn is bound, unspent and of its kind; constructors are built or
 -- matched inline where they are inline; what is bound has its kind; an arm binds distinct locals; and each jump in turn
 -- finds the parameters of its target bound and unspent. What speaks of arms goes over all of them before the next check.
 use Rattle.std.specs.Prelude.{ℕ, zero, suc, nat_lt, nat_le, ◌==◌, ◌&&◌, not, Bool, true, false, if◌then◌else◌, List, [], ◌∷◌, ◌++◌, length, map, replicate, slice_get, slice_set, Option, Some, None}

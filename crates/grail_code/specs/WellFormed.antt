@@ -34,7 +34,7 @@ local_kinds f = f.params ++ f.locals
 abbrev pub kind_of : Function → ℕ → Option Kind
 kind_of f x = slice_get (local_kinds f) x
 
--- each of these locals is there, and has its kind
+-- there are as many locals as kinds, and each is there and has its kind
 abbrev pub HaveKinds : Function → List ℕ → List Kind → Type 0
 HaveKinds f xs kinds = map (kind_of f) xs ≡ map Some kinds
 
@@ -56,7 +56,7 @@ PlaceFits f inline place.Inline = IsTrue inline
 PlaceFits f inline place.New = inline ≡ false
 PlaceFits f inline (place.Reuse d) = (inline ≡ false) × (kind_of f d ≡ Some kind.Dia)
 
--- what is bound is there and has its kinds, and what comes out is of this kind
+-- the operands are there and have their kinds, and what comes out is of this kind
 abbrev pub Gives : Program → Function → Operation → Kind → Type 0
 Gives p f (Lit z) q = q ≡ kind.Int
 Gives p f (Flag b) q = q ≡ kind.Flag

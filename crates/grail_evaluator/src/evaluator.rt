@@ -474,7 +474,7 @@ impl Evaluator<'_> {
 }
 
 /// What the function of this number comes to on these arguments, with so much fuel and where so many calls may wait.
-/// It copies values as it goes and is slow.
+/// It copies values as it goes and is slow, and recurses for every call and jump, so that the stack bounds the calls that it can follow.
 ///
 /// # Errors
 ///
