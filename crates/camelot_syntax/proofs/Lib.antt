@@ -1,0 +1,7 @@
+pub mod Behind
+pub mod Complete
+pub mod CompleteDecls
+pub mod Concrete
+pub mod Sound
+pub mod Closing
+pub mod Place

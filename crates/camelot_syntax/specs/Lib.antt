@@ -1,0 +1,8 @@
+-- The syntax of Camelot.
+pub mod Tree
+pub mod Lexemes
+pub mod Grammar
+pub mod Program
+pub mod Levels
+pub mod Parsing
+pub mod Machine
