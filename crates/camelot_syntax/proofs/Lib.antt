@@ -4,4 +4,5 @@ pub mod CompleteDecls
 pub mod Concrete
 pub mod Sound
 pub mod Closing
+pub mod StackLemmas
 pub mod Place

@@ -6,3 +6,4 @@ pub mod Program
 pub mod Levels
 pub mod Parsing
 pub mod Machine
+pub mod States

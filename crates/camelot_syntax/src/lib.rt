@@ -1,11 +1,19 @@
 //! The syntax of Camelot: its tree, its grammar and its parser.
 #![tactic(auto)]
 
+mod chains;
+mod ending;
+mod decls;
 mod fault;
+mod functions;
 mod lexeme;
+mod operand;
+mod parser;
+mod state;
 #[cfg(test)]
 mod tests;
 mod tree;
+mod units;
 
 pub use fault::ParseFault;
 pub use lexeme::{Lexeme, Mark};
