@@ -340,7 +340,7 @@ or_then (gr.Either o l a) k t st h =
 
 pub expr_then : (e : gr.Expr) (k : ℕ) (st : List Frame) (t : Lexeme) → EndsOr t
     → step (reach_expr e k st).state t (reach_expr e k st).stack ≡ mc.close st (pr.expr_term e) t
-unfolding step mc.expr_step mc.close
+unfolding step mc.expr_step mc.close mc.unwind
 expr_then (gr.Let l n m v i b) k st t h = expr_then b (suc k) (mc.LetBody n (pr.expr_term v) ∷ st) t h
 expr_then (gr.If l c m a n b) k st t h = expr_then b (suc k) (mc.IfElse l (pr.expr_term c) (pr.expr_term a) ∷ st) t h
 expr_then (gr.Match l e m bar as' n) k st t h = refl
@@ -541,39 +541,39 @@ reach_exprs (gr.MoreExprs es l e) s c st = reach_expr e s.slot.level (mc.Args s 
 pub exprs_comma : (es : gr.Exprs) (s : Spot) (c : Name) (l : ℕ) (st : List Frame)
     → advance (reach_exprs es s c st).state (Mark mark.Comma l) (reach_exprs es s c st).stack
     ≡ Goes s.slot.level (InExpr (mc.Want s.slot.level)) (mc.Args s c (pr.expr_terms es) ∷ st)
-unfolding advance mc.close mc.close_in
+unfolding advance mc.close mc.unwind mc.close_in
 exprs_comma (gr.OneExpr e) s c l st = expr_then e _ _ (Mark mark.Comma l) (ends_or (Mark mark.Comma l) refl tt tt tt tt tt tt)
 exprs_comma (gr.MoreExprs es i e) s c l st = expr_then e _ _ (Mark mark.Comma l) (ends_or (Mark mark.Comma l) refl tt tt tt tt tt tt)
 
 pub exprs_close : (es : gr.Exprs) (s : Spot) (c : Name) (l : ℕ) (st : List Frame)
     → advance (reach_exprs es s c st).state (Mark mark.Close l) (reach_exprs es s c st).stack
     ≡ Goes s.slot.level (InExpr (mc.Full s c (pr.expr_terms es))) st
-unfolding advance mc.close mc.close_in
+unfolding advance mc.close mc.unwind mc.close_in
 exprs_close (gr.OneExpr e) s c l st = expr_then e _ _ (Mark mark.Close l) (ends_or (Mark mark.Close l) refl tt tt tt tt tt tt)
 exprs_close (gr.MoreExprs es i e) s c l st = expr_then e _ _ (Mark mark.Close l) (ends_or (Mark mark.Close l) refl tt tt tt tt tt tt)
 
 pub expr_close : (e : gr.Expr) (s : Spot) (l m : ℕ) (st : List Frame)
     → advance (reach_expr e s.slot.level (mc.Paren s l ∷ st)).state (Mark mark.Close m) (reach_expr e s.slot.level (mc.Paren s l ∷ st)).stack
     ≡ Goes s.slot.level (InExpr (mc.unit_done s (record { term = pr.expr_term e; line = l }))) st
-unfolding advance mc.close mc.close_in
+unfolding advance mc.close mc.unwind mc.close_in
 expr_close e s l m st = expr_then e s.slot.level (mc.Paren s l ∷ st) (Mark mark.Close m) (ends_or (Mark mark.Close m) refl tt tt tt tt tt tt)
 
 pub expr_in : (e : gr.Expr) (k : ℕ) (n : Name) (m : ℕ) (st : List Frame)
     → advance (reach_expr e k (mc.LetValue k n ∷ st)).state (Mark mark.In m) (reach_expr e k (mc.LetValue k n ∷ st)).stack
     ≡ Goes k (InExpr (mc.Want k)) (mc.LetBody n (pr.expr_term e) ∷ st)
-unfolding advance mc.close mc.close_in
+unfolding advance mc.close mc.unwind mc.close_in
 expr_in e k n m st = expr_then e k (mc.LetValue k n ∷ st) (Mark mark.In m) (ends_or (Mark mark.In m) refl tt tt tt tt tt tt)
 
 pub expr_to_then : (e : gr.Expr) (k l m : ℕ) (st : List Frame)
     → advance (reach_expr e k (mc.IfCond k l ∷ st)).state (Mark mark.Then m) (reach_expr e k (mc.IfCond k l ∷ st)).stack
     ≡ Goes k (InExpr (mc.Want k)) (mc.IfThen k l (pr.expr_term e) ∷ st)
-unfolding advance mc.close mc.close_in
+unfolding advance mc.close mc.unwind mc.close_in
 expr_to_then e k l m st = expr_then e k (mc.IfCond k l ∷ st) (Mark mark.Then m) (ends_or (Mark mark.Then m) refl tt tt tt tt tt tt)
 
 pub expr_to_else : (e : gr.Expr) (k l : ℕ) (c : Term) (m : ℕ) (st : List Frame)
     → advance (reach_expr e k (mc.IfThen k l c ∷ st)).state (Mark mark.Else m) (reach_expr e k (mc.IfThen k l c ∷ st)).stack
     ≡ Goes k (InExpr (mc.Want k)) (mc.IfElse l c (pr.expr_term e) ∷ st)
-unfolding advance mc.close mc.close_in
+unfolding advance mc.close mc.unwind mc.close_in
 expr_to_else e k l c m st = expr_then e k (mc.IfThen k l c ∷ st) (Mark mark.Else m) (ends_or (Mark mark.Else m) refl tt tt tt tt tt tt)
 
 abbrev pub matching : ℕ → ℕ → Term → List Branch → mc.Matching
@@ -582,7 +582,7 @@ matching k l e bs = record { level = k; line = l; on = e; arms = bs }
 pub expr_with : (e : gr.Expr) (k l m : ℕ) (st : List Frame)
     → advance (reach_expr e k (mc.MatchOn k l ∷ st)).state (Mark mark.With m) (reach_expr e k (mc.MatchOn k l ∷ st)).stack
     ≡ Goes k (InArm (mc.FirstArm (matching k l (pr.expr_term e) []))) st
-unfolding advance mc.close mc.close_in
+unfolding advance mc.close mc.unwind mc.close_in
 expr_with e k l m st = expr_then e k (mc.MatchOn k l ∷ st) (Mark mark.With m) (ends_or (Mark mark.With m) refl tt tt tt tt tt tt)
 
 abbrev pub reach_arm : gr.Arm → mc.Matching → List Frame → Config
@@ -595,13 +595,13 @@ reach_arms (gr.MoreArms as' i a) k l on st = reach_arm a (matching k l on (pr.br
 arm_bar : (a : gr.Arm) (k l : ℕ) (on : Term) (bs : List Branch) (m : ℕ) (st : List Frame)
     → advance (reach_arm a (matching k l on bs) st).state (Mark mark.Bar m) (reach_arm a (matching k l on bs) st).stack
     ≡ Goes k (InArm (mc.WantArm (matching k l on (bs ++ pr.branch a ∷ [])))) st
-unfolding advance mc.close mc.close_in
+unfolding advance mc.close mc.unwind mc.close_in
 arm_bar (gr.Case c fs at' i e) k l on bs m st = expr_then e k _ (Mark mark.Bar m) (ends_or (Mark mark.Bar m) refl tt tt tt tt tt tt)
 
 arm_end : (a : gr.Arm) (k l : ℕ) (on : Term) (bs : List Branch) (m : ℕ) (st : List Frame)
     → advance (reach_arm a (matching k l on bs) st).state (Mark mark.End m) (reach_arm a (matching k l on bs) st).stack
     ≡ Goes k (InExpr (mc.Whole (tree.Match on (tree.arms (bs ++ pr.branch a ∷ [])) l))) st
-unfolding advance mc.close mc.close_in
+unfolding advance mc.close mc.unwind mc.close_in
 arm_end (gr.Case c fs at' i e) k l on bs m st = expr_then e k _ (Mark mark.End m) (ends_or (Mark mark.End m) refl tt tt tt tt tt tt)
 
 pub arms_bar : (as' : gr.Arms) (k l : ℕ) (on : Term) (m : ℕ) (st : List Frame)

@@ -166,11 +166,11 @@ closer t a h = h
 
 -- the body of a `let` ends with what is around it, and so does an `else`
 let_same : (n : Name) (v e : Term) (st : List Frame) (t : Lexeme) → step (InExpr (mc.Whole e)) t (mc.LetBody n v ∷ st) ≡ step (InExpr (mc.Whole (tree.Let n v e))) t st
-unfolding step mc.expr_step mc.close
+unfolding step mc.expr_step mc.close mc.unwind
 let_same n v e st t = refl
 
 else_same : (l : ℕ) (c a e : Term) (st : List Frame) (t : Lexeme) → step (InExpr (mc.Whole e)) t (mc.IfElse l c a ∷ st) ≡ step (InExpr (mc.Whole (tree.If c a e l))) t st
-unfolding step mc.expr_step mc.close
+unfolding step mc.expr_step mc.close mc.unwind
 else_same l c a e st t = refl
 
 in_let : {n : Name} {v : Term} {st : List Frame} {ts : List Lexeme} → Goes_on st ts → Goes_on (mc.LetBody n v ∷ st) ts
@@ -182,7 +182,7 @@ in_else {l} {c} {a} {st} {ts} g = record { first = g.first; each = λ e. let k =
     record { source = k.source; ends = raw_same _ _ _ _ (else_same l c a e st) ts ∙ k.ends; real = k.real } }
 
 goes_on : (st : co.Stack) → Goes_on (co.frames st) (closing st)
-unfolding advance step mc.expr_step mc.close mc.close_in mc.top_step mc.arm_step mc.arm_end_step mc.arrow_step
+unfolding advance step mc.expr_step mc.close mc.unwind mc.close_in mc.top_step mc.arm_step mc.arm_end_step mc.arrow_step
 goes_on (co.Body ds l n ps k m) = record { first = tt; each = λ e. record { source = _; ends = refl; real = tt } }
 goes_on (co.Paren c nots y l st) = record { first = ends_or (Mark mark.Close 0) refl tt tt tt tt tt tt;
     each = λ e. next refl tt (acts_complete (unit_acts (co.spot_of c nots (co.Firm y)) (record { term = e; line = l }) (co.frames st)) (goes_on st)) }
@@ -216,7 +216,7 @@ equals : (ds : co.DeclState) → Completes (InDecl (co.decl_state ds)) [] (Mark 
 equals ds h = by_ h
 
 body_goes_on : (d : mc.FunDraft) (r : Option _) → Goes_on (mc.Body d r ∷ []) []
-unfolding step mc.expr_step mc.close mc.close_in mc.top_step
+unfolding step mc.expr_step mc.close mc.unwind mc.close_in mc.top_step
 body_goes_on d r = record { first = tt; each = λ e. record { source = _; ends = refl; real = tt } }
 
 param_completes : (d : mc.FunDraft) → Completes (InDecl (mc.NextParam d)) [] (Mark mark.Equal 0 ∷ zero ∷ [])
@@ -262,7 +262,7 @@ decl_completed (mc.ResultKind d) = by_ (next {t = Mark mark.Int 0} refl tt (next
 decl_completed (mc.ResultEquals d a) = by_ (next {t = Mark mark.Equal 0} refl tt (want_completes 0 (body_goes_on d (Some a))))
 
 arrow_completes : (m : mc.Matching) (h : mc.ArmHead) (st : co.Stack) → Completes (InExpr (mc.Want m.level)) (mc.ArmBody m h ∷ co.frames st) (zero ∷ Mark mark.End 0 ∷ closing st)
-unfolding advance step mc.expr_step mc.close mc.close_in
+unfolding advance step mc.expr_step mc.close mc.unwind mc.close_in
 arrow_completes m h st = want_completes m.level (record { first = ends_or (Mark mark.End 0) refl tt tt tt tt tt tt; each = λ f. next refl tt ((goes_on st).each _) })
 
 arm_completed : (s : mc.ArmState) (st : co.Stack) → Completed (InArm s) (co.frames st)
@@ -277,7 +277,7 @@ arm_completed (mc.WantCell m c fs) st = by_ (next {t = Mark mark.Blank 0} refl t
 arm_completed (mc.WantArrow m h) st = by_ (next {t = Mark mark.Arrow 0} refl tt (arrow_completes _ _ st))
 
 value_goes_on : (k : ℕ) (n : Name) (st : co.Stack) → Goes_on (mc.LetValue k n ∷ co.frames st) (Mark mark.In 0 ∷ zero ∷ closing st)
-unfolding advance step mc.expr_step mc.close mc.close_in
+unfolding advance step mc.expr_step mc.close mc.unwind mc.close_in
 value_goes_on k n st = record { first = ends_or (Mark mark.In 0) refl tt tt tt tt tt tt; each = λ e. next refl tt (want_completes k (in_let (goes_on st))) }
 
 expr_completed : (s : mc.ExprState) (st : co.Stack) → Completed (InExpr s) (co.frames st)

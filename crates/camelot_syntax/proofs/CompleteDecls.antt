@@ -166,7 +166,7 @@ type_then cs b n t h = absurd h
 
 fun_then : (e : gr.Expr) (d : FunDraft) (r : Option Atom) (t : Lexeme) → EndsDecl t
     → step (reach_expr e 0 (mc.Body d r ∷ [])).state t (reach_expr e 0 (mc.Body d r ∷ [])).stack ≡ mc.top_step (mc.fun_done d r (pr.expr_term e)) t []
-unfolding mc.close mc.close_in
+unfolding mc.close mc.unwind mc.close_in
 fun_then e d r (Mark mark.Type l) h = expr_then e 0 (mc.Body d r ∷ []) (Mark mark.Type l) (ends_or (Mark mark.Type l) refl tt tt tt tt tt tt)
 fun_then e d r (Mark mark.Let l) h = expr_then e 0 (mc.Body d r ∷ []) (Mark mark.Let l) (ends_or (Mark mark.Let l) refl tt tt tt tt tt tt)
 fun_then e d r (Mark mark.EndOfText l) h = expr_then e 0 (mc.Body d r ∷ []) (Mark mark.EndOfText l) (ends_or (Mark mark.EndOfText l) refl tt tt tt tt tt tt)

@@ -5,4 +5,5 @@ pub mod Concrete
 pub mod Sound
 pub mod Closing
 pub mod StackLemmas
+pub mod LevelLemmas
 pub mod Place

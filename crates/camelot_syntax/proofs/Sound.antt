@@ -193,7 +193,7 @@ args_keeps c nots x n l (co.ExprsComma es i) st e (Mark mark.Close m) = keep (In
 args_keeps c nots x n l es st e t = tt
 
 close_keeps : (st : Stack) (e : gr.Expr) (t : Lexeme) → Keeps (λ r. stack_before st (gr.spell_expr e r)) t (mc.close (frames st) (pr.expr_term e) t)
-unfolding mc.close mc.close_in
+unfolding mc.close mc.unwind mc.close_in
 close_keeps (co.Body ds l n ps k m) e t = top_keeps (gr.AndFun ds l n ps k m e) t
 close_keeps (co.LetBody l n m w i st) e t = close_keeps st (gr.Let l n m w i e) t
 close_keeps (co.IfElse l c m a n st) e t = close_keeps st (gr.If l c m a n e) t

@@ -291,12 +291,31 @@ close_in (ArmBody m h) e (Mark mark.Bar l) st = Goes m.level (InArm (WantArm (wi
 close_in (ArmBody m h) e (Mark mark.End l) st = Goes m.level (InExpr (Whole (tree.Match m.on (arms (with_arm m h e).arms) m.line))) st
 close_in f e t st = Stuck
 
--- the bodies of `let` and `else` end where what is around them goes on
+-- the bodies of `let` and `else` end where what is around them goes on: the `let` or `if` that ends with an expression
+abbrev pub enclosed : Frame → Term → Option Term
+enclosed (LetBody n v) e = Some (tree.Let n v e)
+enclosed (IfElse l c a) e = Some (tree.If c a e l)
+enclosed f e = None
+
+-- the innermost frame whose expression has an end of its own, with that expression and the frames below
+pub data Unwound : Type 0 where
+  Nowhere : Unwound
+  Inside : Frame → Term → List Frame → Unwound
+
+abbrev pub on_enclosed : Option Term → (Term → Unwound) → Unwound → Unwound
+on_enclosed None next here = here
+on_enclosed (Some e) next here = next e
+
+unfoldable pub unwind : List Frame → Term → Unwound
+unwind [] e = Nowhere
+unwind (f ∷ st) e = on_enclosed (enclosed f e) (λ whole. unwind st whole) (Inside f e st)
+
+abbrev pub closed : Unwound → Lexeme → Step
+closed Nowhere t = Stuck
+closed (Inside f e st) t = close_in f e t st
+
 unfoldable pub close : List Frame → Term → Lexeme → Step
-close [] e t = Stuck
-close (LetBody n v ∷ st) e t = close st (tree.Let n v e) t
-close (IfElse l c a ∷ st) e t = close st (tree.If c a e l) t
-close (f ∷ st) e t = close_in f e t st
+close st e t = closed (unwind st e) t
 
 -- ---- steps behind an operand: an operator ends the chains of higher ranks; `k` is the level of the expression's own
 -- tokens, and then come the unfinished chains that are left

@@ -20,6 +20,9 @@ use Rattle.camelot_syntax.specs.declared.state.TypeDraft.{TypeDraft}
 use Rattle.camelot_syntax.specs.declared.state.FunDraft.{FunDraft}
 use Rattle.camelot_syntax.specs.declared.state.Frame.{Frame}
 use Rattle.camelot_syntax.specs.declared.state.Frame.TheVariants as frame
+use Rattle.camelot_syntax.specs.declared.state.Outer.{Outer}
+use Rattle.camelot_syntax.specs.declared.state.Enclosed.{Enclosed}
+use Rattle.camelot_syntax.specs.declared.state.Enclosed.TheVariants as enclosed
 use Rattle.camelot_syntax.specs.declared.state.DeclState.{DeclState}
 use Rattle.camelot_syntax.specs.declared.state.DeclState.TheVariants as decl
 use Rattle.camelot_syntax.specs.declared.state.ExprState.{ExprState}
@@ -112,6 +115,15 @@ stacked (f ∷ fs) below = stacked fs (frame_of f ∷ below)
 
 unfoldable pub stack_of : List Frame → List mc.Frame
 stack_of fs = stacked fs []
+
+abbrev pub unwound_of : Option Outer → List mc.Frame → mc.Unwound
+unwound_of None st = mc.Nowhere
+unwound_of (Some o) st = mc.Inside (frame_of o.frame) (term_of o.tree) st
+
+-- the whole that ends with the expression, or the frame with the expression
+abbrev pub Encloses : mc.Frame → Term → Enclosed → Type 0
+Encloses f e (enclosed.Whole whole) = mc.enclosed f e ≡ Some (term_of whole)
+Encloses f e (enclosed.Outer o) = (mc.enclosed f e ≡ None) × (frame_of o.frame ≡ f) × (term_of o.tree ≡ e)
 
 abbrev pub decl_of : DeclState → mc.DeclState
 decl_of (decl.Top d) = mc.Top (decls_of d)

@@ -1,9 +1,11 @@
 //! The syntax of Camelot: its tree, its grammar and its parser.
 #![tactic(auto)]
 
+mod arms;
 mod chains;
 mod ending;
 mod decls;
+mod exprs;
 mod fault;
 mod functions;
 mod lexeme;

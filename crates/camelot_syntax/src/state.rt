@@ -157,6 +157,20 @@ pub enum Frame {
     },
 }
 
+/// An expression, with the frame that goes on behind it.
+#[derive(Drop)]
+pub struct Outer {
+    pub frame: Frame,
+    pub tree: Expr,
+}
+
+/// What an expression ends: a whole `let` or `if`, or else nothing.
+#[derive(Drop)]
+pub enum Enclosed {
+    Whole(Expr),
+    Outer(Outer),
+}
+
 /// Where the parser stands in declarations: what it wants next, or has.
 #[derive(Drop)]
 pub enum DeclState {
