@@ -27,7 +27,7 @@ zero = Number 0 0
 
 x_real : IsReal (Lower x)
 unfolding token_kind is_word is_symbol words symbols
-x_real = (refl, lit≤ tt)
+x_real = ((refl, refl), lit≤ tt)
 
 big_x_real : IsReal (Upper big_x)
 unfolding token_kind is_word is_symbol words symbols

@@ -5,5 +5,6 @@ pub mod Concrete
 pub mod Sound
 pub mod Closing
 pub mod StackLemmas
+pub mod LexemeLemmas
 pub mod LevelLemmas
 pub mod Place

@@ -138,13 +138,28 @@ Tells c ts (Yes p) = Accepts c ts p
 Tells c ts (Stopped rest) = Stays c ts rest
 Tells c ts (TooDeep rest) = Falls c ts rest
 
-tells_end : (c : Config) (y : Step) → step (state_of c) (Mark mark.EndOfText 0) (stack_of c) ≡ y → Tells c [] (ending y)
+-- a step at the end that ends no program
+ends_nothing : (b : Bool) (s : State) (st : List Frame) → ((p : Source) → s ≡ Done p → ⊥) → ending (if b then mc.Moves s st else mc.Sinks) ≡ Stopped []
+ends_nothing false s st h = refl
+ends_nothing true (InDecl s) st h = refl
+ends_nothing true (InExpr s) st h = refl
+ends_nothing true (InArm s) st h = refl
+ends_nothing true (Done p) st h = absurd (h p refl)
+
+stays_end : (c : Config) (k : ℕ) (s : State) (st : List Frame) → NoEnd (Goes k s st) → ((p : Source) → s ≡ Done p → ⊥)
+    → step (state_of c) (Mark mark.EndOfText 0) (stack_of c) ≡ Goes k s st → Tells c [] (ending (limited (Goes k s st)))
 unfolding reach_none
-tells_end c Stuck e = record { before = []; parts = refl; reach = reach_none c; stuck = subst NoEnd (sym e) tt }
-tells_end c (Goes k (Done p) st) e = record { reach = reach_none c; level = k; stack = st; ends = e }
-tells_end c (Goes k (InDecl s) st) e = record { before = []; parts = refl; reach = reach_none c; stuck = subst NoEnd (sym e) tt }
-tells_end c (Goes k (InExpr s) st) e = record { before = []; parts = refl; reach = reach_none c; stuck = subst NoEnd (sym e) tt }
-tells_end c (Goes k (InArm s) st) e = record { before = []; parts = refl; reach = reach_none c; stuck = subst NoEnd (sym e) tt }
+stays_end c k s st h i e = subst (Tells c []) (sym (ends_nothing (nat_le k limit) s st i))
+    (record { before = []; parts = refl; reach = reach_none c; stuck = subst NoEnd (sym e) h })
+
+tells_end : (c : Config) (y : Step) → step (state_of c) (Mark mark.EndOfText 0) (stack_of c) ≡ y → Keeps (so_far c) (Mark mark.EndOfText 0) y → Tells c [] (ending (limited y))
+unfolding reach_none
+tells_end c Stuck e h = record { before = []; parts = refl; reach = reach_none c; stuck = subst NoEnd (sym e) tt }
+tells_end c (Goes k (Done p) st) e h =
+    subst (λ j. Tells c [] (ending (limited (Goes j (Done p) st)))) (sym h.no_level) (record { reach = reach_none c; level = k; stack = st; ends = e })
+tells_end c (Goes k (InDecl s) st) e h = stays_end c k (InDecl s) st tt (λ p q. absurd cc) e
+tells_end c (Goes k (InExpr s) st) e h = stays_end c k (InExpr s) st tt (λ p q. absurd cc) e
+tells_end c (Goes k (InArm s) st) e h = stays_end c k (InArm s) st tt (λ p q. absurd cc) e
 
 tells_more : (c : Config) (t : Lexeme) (ts : List Lexeme) (k : ℕ) (s : State) (st : List Frame) (e : advance (state_of c) t (stack_of c) ≡ Goes k s st)
     → k ≤ limit → (kept : Kept (so_far c) t s st) → (r : Result) → Tells kept.config ts r → Tells c (t ∷ ts) r
@@ -174,7 +189,7 @@ tells_step c t ts (Goes k s st) e kept ih =
     tells_limited c t ts k s st e kept here (nat_le k limit) refl
 
 pub tells : (ts : List Lexeme) (c : Config) → Tells c ts (runs (state_of c) (stack_of c) ts)
-tells [] c = tells_end c _ refl
+tells [] c = tells_end c _ refl (step_keeps c (Mark mark.EndOfText 0))
 tells (t ∷ ts) c = tells_step c t ts _ refl (advance_moved c t) (λ d. tells ts d)
 
 -- ---- what is read to the end is a program
@@ -316,11 +331,11 @@ begins_reach before b =
       (subst (λ ls. AreWithin (take (length before) ls)) (sym g.marks ∙ ap (λ ts. meter start [] ts) b.spells) b.within)
 
 -- where no program goes on, the machine stops
-stop_end : (before : List Lexeme) (r : Reach begin before) (y : Step) → Keeps (so_far r.config) (Mark mark.EndOfText 0) y → NoneGoesOn before [] → ending y ≡ Stopped []
+stop_end : (before : List Lexeme) (r : Reach begin before) (y : Step) → Keeps (so_far r.config) (Mark mark.EndOfText 0) y → NoneGoesOn before [] → ending (limited y) ≡ Stopped []
 stop_end before r Stuck k h = refl
-stop_end before r (Goes l (InDecl s) st) k h = refl
-stop_end before r (Goes l (InExpr s) st) k h = refl
-stop_end before r (Goes l (InArm s) st) k h = refl
+stop_end before r (Goes l (InDecl s) st) k h = ends_nothing (nat_le l limit) (InDecl s) st (λ p q. absurd cc)
+stop_end before r (Goes l (InExpr s) st) k h = ends_nothing (nat_le l limit) (InExpr s) st (λ p q. absurd cc)
+stop_end before r (Goes l (InArm s) st) k h = ends_nothing (nat_le l limit) (InArm s) st (λ p q. absurd cc)
 stop_end before r (Goes l (Done p) st) k h = absurd (h k.decls (k.spells [] ∙ r.spells [] ∙ append-nil before))
 
 goes_program : (before : List Lexeme) (t : Lexeme) (r : Reach begin before) (k : ℕ) (s : State) (st : List Frame)
@@ -385,4 +400,4 @@ program_yes ts p h =
       (within_take (length ts) _ (subst AreWithin (sym g.marks ∙ ap (λ xs. meter start [] xs) (sym all)) h.within)) in
     let last : Over (step (state_of r.config) (Mark mark.EndOfText 0) (stack_of r.config)) ≡ Over (Goes 0 (Done (source_of h.decls)) []) = sym (r.raw_on []) ∙ over in
     let end : step (state_of r.config) (Mark mark.EndOfText 0) (stack_of r.config) ≡ Goes 0 (Done (source_of h.decls)) [] = cc in
-    ap (λ xs. runs start [] xs) (sym (append-nil ts)) ∙ r.runs_on [] ∙ ap ending end ∙ ap Yes h.is
+    ap (λ xs. runs start [] xs) (sym (append-nil ts)) ∙ r.runs_on [] ∙ ap (λ y. ending (limited y)) end ∙ ap Yes h.is

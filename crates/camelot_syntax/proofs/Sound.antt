@@ -26,7 +26,8 @@ IsEnd (Mark mark.EndOfText l) = Unit {0}
 IsEnd t = ⊥
 
 -- what was read before is this program, at the end of the text
-pub record Ended (read : List Lexeme → List Lexeme) (t : Lexeme) (source : Source) : Type 0 where
+pub record Ended (read : List Lexeme → List Lexeme) (t : Lexeme) (level : ℕ) (source : Source) : Type 0 where
+  pub no_level : level ≡ 0
   pub at_end : IsEnd t
   pub decls : gr.Decls
   pub is : pr.source_of decls ≡ source
@@ -34,7 +35,7 @@ pub record Ended (read : List Lexeme → List Lexeme) (t : Lexeme) (source : Sou
 
 abbrev pub Keeps : (List Lexeme → List Lexeme) → Lexeme → Step → Type 0
 Keeps read t Stuck = Unit {0}
-Keeps read t (Goes k (Done p) st) = Ended read t p
+Keeps read t (Goes k (Done p) st) = Ended read t k p
 Keeps read t (Goes k s st) = Kept read t s st
 
 keep : {read : List Lexeme → List Lexeme} {t : Lexeme} (c : Config) → ((r : List Lexeme) → so_far c r ≡ read (t ∷ r)) → Kept read t (state_of c) (stack_of c)
@@ -46,7 +47,7 @@ top_keeps : (ds : gr.Decls) (t : Lexeme) → Keeps (λ r. gr.spell_decls ds r) t
 unfolding mc.top_step
 top_keeps ds (Mark mark.Type l) = keep (InDecls (co.TypeName ds l)) (λ r. refl)
 top_keeps ds (Mark mark.Let l) = keep (InDecls (co.FunName ds l)) (λ r. refl)
-top_keeps ds (Mark mark.EndOfText l) = record { at_end = tt; decls = ds; is = refl; spells = λ r. refl }
+top_keeps ds (Mark mark.EndOfText l) = record { no_level = refl; at_end = tt; decls = ds; is = refl; spells = λ r. refl }
 top_keeps ds t = tt
 
 con_keeps : (ds : gr.Decls) (l : ℕ) (n : Name) (m : ℕ) (cs : co.SomeCons) (c : gr.ConDecl) (t : Lexeme)

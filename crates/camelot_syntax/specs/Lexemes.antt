@@ -1,8 +1,8 @@
 -- The tokens of a text as the grammar sees them: words and signs by their texts, numbers by their values, names with
 -- their bytes. The code looks a word up in a table.
-use Rattle.std.specs.Prelude.{◌≡◌, ℕ, ◌≤◌, ◌<◌, ◌==◌, Bool, List, [], ◌∷◌, map, length, slice_range, Some, if◌then◌else◌, codes}
+use Rattle.std.specs.Prelude.{◌≡◌, ℕ, ◌≤◌, ◌<◌, ◌==◌, Bool, List, [], ◌∷◌, ◌++◌, map, length, slice_range, Some, if◌then◌else◌, codes}
 use Rattle.std.specs.Str.{bytes_eq}
-use Rattle.text_scan.specs.Forms.{token_kind, number_value}
+use Rattle.text_scan.specs.Forms.{HasForm, number_value}
 use Rattle.text_scan.specs.declared.tokens.TokenKind.{TokenKind}
 use Rattle.text_scan.specs.declared.tokens.TokenKind.TheVariants as kind
 use Rattle.text_scan.specs.declared.tokens.Token.{Token}
@@ -19,19 +19,25 @@ pub record Written : Type 0 where
 abbrev written : List ℕ → Mark → Written
 written text m = record { text = text; mark = m }
 
-unfoldable pub marks : List Written
-marks =
+abbrev pub word_marks : List Written
+word_marks =
     written (codes "type") mark.Type ∷ written (codes "of") mark.Of ∷ written (codes "let") mark.Let ∷ written (codes "in") mark.In
     ∷ written (codes "if") mark.If ∷ written (codes "then") mark.Then ∷ written (codes "else") mark.Else
     ∷ written (codes "match") mark.Match ∷ written (codes "with") mark.With ∷ written (codes "end") mark.End
     ∷ written (codes "true") mark.True ∷ written (codes "false") mark.False ∷ written (codes "not") mark.Not
-    ∷ written (codes "int") mark.Int ∷ written (codes "bool") mark.Bool ∷ written (codes "read") mark.Read ∷ written (codes "mod") mark.Mod
-    ∷ written (codes "(") mark.Open ∷ written (codes ")") mark.Close ∷ written (codes ",") mark.Comma ∷ written (codes ":") mark.Colon
+    ∷ written (codes "int") mark.Int ∷ written (codes "bool") mark.Bool ∷ written (codes "read") mark.Read ∷ written (codes "mod") mark.Mod ∷ []
+
+abbrev pub sign_marks : List Written
+sign_marks =
+    written (codes "(") mark.Open ∷ written (codes ")") mark.Close ∷ written (codes ",") mark.Comma ∷ written (codes ":") mark.Colon
     ∷ written (codes "@") mark.At ∷ written (codes "_") mark.Blank ∷ written (codes "=") mark.Equal ∷ written (codes "<>") mark.Diamond
     ∷ written (codes "<") mark.Less ∷ written (codes "<=") mark.LessEqual ∷ written (codes ">") mark.Greater ∷ written (codes ">=") mark.GreaterEqual
     ∷ written (codes "+") mark.Plus ∷ written (codes "-") mark.Minus ∷ written (codes "*") mark.Star ∷ written (codes "/") mark.Slash
     ∷ written (codes "&&") mark.AndAnd ∷ written (codes "||") mark.OrOr ∷ written (codes "|") mark.Bar ∷ written (codes "!") mark.Bang
     ∷ written (codes "->") mark.Arrow ∷ []
+
+unfoldable pub marks : List Written
+marks = word_marks ++ sign_marks
 
 -- the mark of a text among these; no token of a text is the end of the text
 abbrev pub mark_in : List Written → List ℕ → Mark
@@ -58,8 +64,8 @@ lexemes text tokens = map (lexeme_at text) tokens
 
 -- what a token of some text may be: names have their form and at most 64 bytes, and a number is below the greatest one
 abbrev pub IsReal : Lexeme → Type 0
-IsReal (lexeme.Lower n) = (token_kind n.word ≡ Some kind.Lower) × (length n.word ≤ 64)
-IsReal (lexeme.Upper n) = (token_kind n.word ≡ Some kind.Upper) × (length n.word ≤ 64)
+IsReal (lexeme.Lower n) = HasForm kind.Lower n.word × (length n.word ≤ 64)
+IsReal (lexeme.Upper n) = HasForm kind.Upper n.word × (length n.word ≤ 64)
 IsReal (lexeme.Number n l) = n < 2147483648
 IsReal (lexeme.Mark mark.EndOfText l) = ⊥
 IsReal t = Unit {0}

@@ -539,12 +539,12 @@ onward Stops next ts = Stopped ts
 onward Sinks next ts = TooDeep ts
 onward (Moves s st) next ts = next s st
 
-abbrev pub ending : Step → Result
-ending (Goes k (Done p) st) = Yes p
-ending s = Stopped []
+abbrev pub ending : Move → Result
+ending (Moves (Done p) st) = Yes p
+ending m = Stopped []
 
 abbrev pub runs : State → List Frame → List Lexeme → Result
-runs s st [] = ending (step s (Mark mark.EndOfText 0) st)
+runs s st [] = ending (limited (step s (Mark mark.EndOfText 0) st))
 runs s st (t ∷ ts) = onward (limited (advance s t st)) (λ s2 st2. runs s2 st2 ts) (t ∷ ts)
 
 abbrev pub nothing : Source
