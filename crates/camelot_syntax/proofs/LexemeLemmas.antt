@@ -84,3 +84,11 @@ real_of kind.Symbol bytes l h i j = sign_real bytes l h
 
 pub slice_real : (text : List ℕ) (token : Token) → IsSliceOf text token → IsReal (lexeme_at text token)
 slice_real text token s = real_of token.kind (slice_range text token.start token.end) token.line s.form s.no_long_number s.no_long_name
+
+pub short_number : (text : List ℕ) (token : Token) → IsSliceOf text token → token.kind ≡ kind.Number
+    → number_value (slice_range text token.start token.end) ≤ 2147483648
+unfolding is_long_number
+short_number text token s e =
+    let h : is_long_number kind.Number (slice_range text token.start token.end) ≡ false =
+      subst (λ k. is_long_number k (slice_range text token.start token.end) ≡ false) e s.no_long_number in
+    grind (arith, h)

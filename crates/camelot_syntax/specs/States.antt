@@ -1,5 +1,5 @@
 -- The states of the code as those of the machine: words for the contracts of private functions.
-use Rattle.std.specs.Prelude.{◌≡◌, ℕ, ◌<◌, List, [], ◌∷◌, map, Option, Some, None, Result, MatchResult}
+use Rattle.std.specs.Prelude.{◌≡◌, ℕ, ◌<◌, ◌-◌, length, List, [], ◌∷◌, map, Option, Some, None, Result, MatchResult}
 use Rattle.std.specs.Option.{option_map}
 use Rattle.camelot_syntax.specs.declared.tree.Expr.{Expr}
 use Rattle.camelot_syntax.specs.declared.tree.Arm.{Arm}
@@ -34,6 +34,9 @@ use Rattle.camelot_syntax.specs.declared.state.State.TheVariants as state
 use Rattle.camelot_syntax.specs.declared.state.Halt.{Halt}
 use Rattle.camelot_syntax.specs.declared.state.Halt.TheVariants.{Stuck, Deep, Memory}
 use Rattle.camelot_syntax.specs.Tree.{Term, Branch, Source, operator_of, term_of, branch_of, constructor_of, data_type_of, function_of}
+use Rattle.camelot_syntax.specs.declared.fault.ParseFault.{ParseFault}
+use Rattle.camelot_syntax.specs.declared.fault.ParseFault.TheVariants as fault
+use Rattle.camelot_syntax.specs.Parsing.{stop_fault, first_line, line_of}
 use Rattle.camelot_syntax.specs.Program as pr
 use Rattle.camelot_syntax.specs.Machine as mc
 use Rattle.camelot_syntax.specs.Machine.{Step, Move, Moves, Stops, Sinks, limited}
@@ -190,3 +193,33 @@ pub record Does (step : Step) (frames : List Frame) (result : Result State Halt)
 abbrev pub IsSmall : Lexeme → Type 0
 IsSmall (Number n l) = n < 2147483648
 IsSmall t = Unit {0}
+
+-- ---- what a run of the code answers
+
+-- the fault of a run over so many tokens, where `last` is the line of the text's last byte
+abbrev pub fault_of : (count last : ℕ) → mc.Result → Option ParseFault
+fault_of count last (mc.Yes p) = None
+fault_of count last (mc.Stopped rest) = Some (stop_fault rest (count - length rest) (first_line rest last))
+fault_of count last (mc.TooDeep rest) = Some (fault.TooDeep (count - length rest) (first_line rest last))
+
+abbrev pub FailsWith : ParseFault → Option ParseFault → Type 0
+FailsWith fault.Memory o = Unit {0}
+FailsWith f o = o ≡ Some f
+
+-- the code's answer to tokens is the machine's, unless memory runs out
+pub record Answers (count last : ℕ) (run : mc.Result) (result : Result Decls ParseFault) : Type 0 where
+  pub answers : MatchResult result (λ d. run ≡ mc.Yes (decls_of d)) (λ f. FailsWith f (fault_of count last run))
+
+-- the code's answer to one token at this place
+abbrev pub FailsAt : Lexeme → ℕ → ParseFault → Move → Type 0
+FailsAt t at fault.Memory m = Unit {0}
+FailsAt t at (fault.TooDeep token line) m = (m ≡ Sinks) × (token ≡ at) × (line ≡ line_of t)
+FailsAt t at f m = (m ≡ Stops) × ((rest : List Lexeme) → f ≡ stop_fault (t ∷ rest) at (line_of t))
+
+pub record Reads (step : Step) (t : Lexeme) (at : ℕ) (frames : List Frame) (result : Result State ParseFault) : Type 0 where
+  pub reads : MatchResult result (λ s. limited step ≡ Moves (state_of s) (stack_of frames)) (λ f. FailsAt t at f (limited step))
+
+-- the text can't end in this state
+abbrev pub IsUnfinished : mc.State → Type 0
+IsUnfinished (mc.Done p) = ⊥
+IsUnfinished s = Unit {0}

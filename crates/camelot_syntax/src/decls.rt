@@ -2,8 +2,8 @@
 
 ghost use Rattle.std.specs.Prelude.{◌≡◌, ◌++◌, [], ◌∷◌, MatchResult, MatchOption, Some, None, false};
 ghost use Rattle.camelot_syntax.specs.declared.state.Halt.TheVariants.{Memory};
-ghost use Rattle.camelot_syntax.specs.Machine.{top_step, con_step, type_step, with_con, lexeme_atom, WantCon, InlineCon, BareCon, WantField, HaveField, TypeName, TypeEquals};
-ghost use Rattle.camelot_syntax.specs.States.{Does, decls_of, stack_of, type_draft_of};
+ghost use Rattle.camelot_syntax.specs.Machine.{top_step, con_step, type_step, with_con, lexeme_atom, WantCon, InlineCon, BareCon, WantField, HaveField, HaveCon, TypeName, TypeEquals, decl_step};
+ghost use Rattle.camelot_syntax.specs.States.{Does, decls_of, stack_of, type_draft_of, decl_of};
 
 use crate::lexeme::{Lexeme, Mark};
 use crate::parser::Parser;
@@ -74,7 +74,7 @@ impl Parser {
 
     /// Behind a constructor of a type's declaration.
     #[tactic(auto, unfolding(crate::specs::Machine::con_step), using(std::proofs::lemmas::List::map_push))]
-    pub fn have_con(&mut self, draft: TypeDraft, lexeme: Lexeme) -> Result<State, Halt>
+    fn have_con(&mut self, draft: TypeDraft, lexeme: Lexeme) -> Result<State, Halt>
         ensures { Does (con_step (type_draft_of draft) lexeme (stack_of self.old.stack.items)) self.new.stack.items result }
     {
         if let Lexeme::Mark {
@@ -92,7 +92,7 @@ impl Parser {
     }
 
     #[tactic(auto, unfolding(crate::specs::Machine::type_step))]
-    pub fn type_name(&mut self, decls: Decls, lexeme: Lexeme) -> Result<State, Halt>
+    fn type_name(&mut self, decls: Decls, lexeme: Lexeme) -> Result<State, Halt>
         ensures { Does (type_step (TypeName (decls_of decls)) lexeme (stack_of self.old.stack.items)) self.new.stack.items result }
     {
         match lexeme {
@@ -102,7 +102,7 @@ impl Parser {
     }
 
     #[tactic(auto, unfolding(crate::specs::Machine::type_step))]
-    pub fn type_equals(&mut self, decls: Decls, name: Name, lexeme: Lexeme) -> Result<State, Halt>
+    fn type_equals(&mut self, decls: Decls, name: Name, lexeme: Lexeme) -> Result<State, Halt>
         ensures { Does (type_step (TypeEquals (decls_of decls) name) lexeme (stack_of self.old.stack.items)) self.new.stack.items result }
     {
         match lexeme {
@@ -118,7 +118,7 @@ impl Parser {
     }
 
     #[tactic(auto, unfolding(crate::specs::Machine::type_step))]
-    pub fn want_con(&mut self, draft: TypeDraft, lexeme: Lexeme) -> Result<State, Halt>
+    fn want_con(&mut self, draft: TypeDraft, lexeme: Lexeme) -> Result<State, Halt>
         ensures { Does (type_step (WantCon (type_draft_of draft)) lexeme (stack_of self.old.stack.items)) self.new.stack.items result }
     {
         match lexeme {
@@ -131,7 +131,7 @@ impl Parser {
     }
 
     #[tactic(auto, unfolding(crate::specs::Machine::type_step))]
-    pub fn inline_con(&mut self, draft: TypeDraft, lexeme: Lexeme) -> Result<State, Halt>
+    fn inline_con(&mut self, draft: TypeDraft, lexeme: Lexeme) -> Result<State, Halt>
         ensures { Does (type_step (InlineCon (type_draft_of draft)) lexeme (stack_of self.old.stack.items)) self.new.stack.items result }
     {
         match lexeme {
@@ -144,7 +144,7 @@ impl Parser {
     }
 
     #[tactic(auto, unfolding(crate::specs::Machine::type_step))]
-    pub fn bare_con(&mut self, draft: TypeDraft, name: Name, lexeme: Lexeme) -> Result<State, Halt>
+    fn bare_con(&mut self, draft: TypeDraft, name: Name, lexeme: Lexeme) -> Result<State, Halt>
         ensures { Does (type_step (BareCon (type_draft_of draft) name) lexeme (stack_of self.old.stack.items)) self.new.stack.items result }
     {
         let none = Vec::new(self.alloc);
@@ -160,7 +160,7 @@ impl Parser {
     }
 
     #[tactic(auto, unfolding(crate::specs::Machine::type_step))]
-    pub fn want_field(
+    fn want_field(
         &mut self,
         draft: TypeDraft,
         name: Name,
@@ -179,7 +179,7 @@ impl Parser {
     }
 
     #[tactic(auto, unfolding(crate::specs::Machine::type_step))]
-    pub fn have_field(
+    fn have_field(
         &mut self,
         draft: TypeDraft,
         name: Name,
@@ -197,5 +197,45 @@ impl Parser {
                 self.have_con(draft, lexeme)
             }
         }
+    }
+
+    /// One token of a declaration.
+    #[tactic(auto, unfolding(crate::specs::Machine::decl_step))]
+    pub fn decl(&mut self, state: DeclState, lexeme: Lexeme) -> Result<State, Halt>
+        ensures { Does (decl_step (decl_of state) lexeme (stack_of self.old.stack.items)) self.new.stack.items result }
+    {
+        match state {
+            DeclState::Top(decls) => self.top(decls, lexeme),
+            DeclState::TypeName(decls) => self.type_name(decls, lexeme),
+            DeclState::TypeEquals(decls, name) => self.type_equals(decls, name, lexeme),
+            DeclState::WantCon(draft) => self.want_con(draft, lexeme),
+            DeclState::InlineCon(draft) => self.inline_con(draft, lexeme),
+            DeclState::BareCon(draft, name) => self.bare_con(draft, name, lexeme),
+            DeclState::WantField(draft, name, fields) => {
+                self.want_field(draft, name, fields, lexeme)
+            }
+            DeclState::HaveField(draft, name, fields) => {
+                self.have_field(draft, name, fields, lexeme)
+            }
+            DeclState::HaveCon(draft) => self.end_con(draft, lexeme),
+            DeclState::FunName(decls) => self.fun_name(decls, lexeme),
+            DeclState::FirstParam(decls, name) => self.first_param(decls, name, lexeme),
+            DeclState::NextParam(draft) => self.next_param(draft, lexeme),
+            DeclState::OpenParam(draft) => self.open_param(draft, lexeme),
+            DeclState::ReadParam(draft) => self.read_param(draft, lexeme),
+            DeclState::ParamName(draft, name, read) => self.param_name(draft, name, read, lexeme),
+            DeclState::ParamKind(draft, name, read) => self.param_kind(draft, name, read, lexeme),
+            DeclState::ParamClose(draft, param) => self.param_close(draft, param, lexeme),
+            DeclState::ResultKind(draft) => self.result_kind(draft, lexeme),
+            DeclState::ResultEquals(draft, kind) => self.result_equals(draft, kind, lexeme),
+        }
+    }
+
+    /// Behind an inline constructor.
+    #[tactic(auto, unfolding(crate::specs::Machine::type_step))]
+    fn end_con(&mut self, draft: TypeDraft, lexeme: Lexeme) -> Result<State, Halt>
+        ensures { Does (type_step (HaveCon (type_draft_of draft)) lexeme (stack_of self.old.stack.items)) self.new.stack.items result }
+    {
+        self.have_con(draft, lexeme)
     }
 }
