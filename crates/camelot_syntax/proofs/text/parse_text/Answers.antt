@@ -1,0 +1,14 @@
+-- The answer to a text is that to its tokens, or the fault of its reading.
+use Rattle.std.proofs.Common.{Err, sym, subst}
+use Rattle.camelot_syntax.specs.Answers.{Runs, Parses}
+use Rattle.camelot_syntax.proofs.ParseLemmas.{parses_tokens, parses_nothing}
+use Rattle.camelot_syntax.proofs.text.parse_text.Goals as goal
+
+pub returns-in-Ok : goal.returns-in-Ok
+returns-in-Ok c = parses_tokens c.args.text.now c.in-Ok.tokens.items c.parse_tokens.result c.in-Ok.ensures.tokens
+    (λ others are. c.in-Ok.ensures.takes others are) (λ fault is. c.in-Ok.ensures.refuses fault is)
+    (subst (λ tokens. Runs c.args.text.now tokens c.parse_tokens.result) c.deref.ensures.value c.parse_tokens.ensures)
+
+pub returns-in-Err : goal.returns-in-Err
+returns-in-Err c = subst (λ fault. Parses c.args.text.now (Err fault)) (sym c.scan_fault.ensures)
+    (parses_nothing c.args.text.now c.in-Err.fault c.in-Err.ensures.fault (λ tokens are. c.in-Err.ensures.takes tokens are) (λ fault is. c.in-Err.ensures.refuses fault is))

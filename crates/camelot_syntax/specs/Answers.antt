@@ -1,0 +1,37 @@
+-- What the parser answers.
+use Rattle.std.specs.Prelude.{◌≡◌, ℕ, ◌⊎◌, List, [], length, map, Result, MatchResult, IfOk, IfErr}
+use Rattle.text_scan.specs.declared.tokens.Token.{Token}
+use Rattle.text_scan.specs.declared.fault.ScanFault.{ScanFault}
+use Rattle.text_scan.specs.declared.fault.ScanFault.TheVariants as scan
+use Rattle.text_scan.specs.Reading.{AreTokensOf, IsFaultOf}
+use Rattle.camelot_syntax.specs.declared.program.Program.{Program}
+use Rattle.camelot_syntax.specs.declared.fault.ParseFault.{ParseFault}
+use Rattle.camelot_syntax.specs.declared.fault.ParseFault.TheVariants.{Scan, Memory}
+use Rattle.camelot_syntax.specs.Lexemes.{lexemes}
+use Rattle.camelot_syntax.specs.Tree.{Source, data_type_of, function_of}
+use Rattle.camelot_syntax.specs.Parsing.{IsProgram, IsFaultAmong, HasProgram, HasCause, last_line}
+use Rattle.camelot_syntax.specs.Machine as mc
+use Rattle.camelot_syntax.specs.States.{FailsWith, fault_of}
+
+-- the plain data of a program
+abbrev pub program_of : Program → Source
+program_of p = record { types = map data_type_of p.types.items; funs = map function_of p.funs.items }
+
+abbrev pub scanned_fault : ScanFault → ParseFault
+scanned_fault scan.Memory = Memory
+scanned_fault f = Scan f
+
+-- the answer to the tokens of a text is the machine's
+pub record Runs (text : List ℕ) (tokens : List Token) (result : Result Program ParseFault) : Type 0 where
+  pub runs : MatchResult result (λ p. mc.runs mc.start [] (lexemes text tokens) ≡ mc.Yes (program_of p))
+    (λ f. FailsWith f (fault_of (length tokens) (last_line text) (mc.runs mc.start [] (lexemes text tokens))))
+
+-- the answer to a text, with its cause, and both ways
+pub record Parses (text : List ℕ) (result : Result Program ParseFault) : Type 0 where
+  pub program : IfOk result (λ p. HasProgram text (program_of p))
+  pub cause : IfErr result (HasCause text)
+  pub takes : (tokens : List Token) (source : Source) → AreTokensOf text tokens → IsProgram (lexemes text tokens) source
+    → MatchResult result (λ p. program_of p ≡ source) (λ f. f ≡ Memory)
+  pub refuses : (tokens : List Token) (fault : ParseFault) → AreTokensOf text tokens → IsFaultAmong (lexemes text tokens) (last_line text) fault
+    → MatchResult result (λ p. ⊥) (λ f. (f ≡ fault) ⊎ (f ≡ Memory))
+  pub scans : (fault : ScanFault) → IsFaultOf text fault → MatchResult result (λ p. ⊥) (λ f. (f ≡ Scan fault) ⊎ (f ≡ Memory))

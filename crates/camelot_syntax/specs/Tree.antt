@@ -1,0 +1,115 @@
+-- The tree of a program as plain data. The code keeps lists in vectors and parts in boxes.
+use Rattle.std.specs.Prelude.{ℕ, ℤ, Bool, List, [], ◌∷◌, map, Option}
+use Rattle.camelot_values.specs.Operator as operator
+use Rattle.camelot_values.specs.Operator.{Operator}
+use Rattle.camelot_syntax.specs.declared.tree.Name.{Name}
+use Rattle.camelot_syntax.specs.declared.tree.Atom.{Atom}
+use Rattle.camelot_syntax.specs.declared.tree.ConDecl.{ConDecl}
+use Rattle.camelot_syntax.specs.declared.tree.TypeDecl.{TypeDecl}
+use Rattle.camelot_syntax.specs.declared.tree.Param.{Param}
+use Rattle.camelot_syntax.specs.declared.tree.FunDecl.{FunDecl}
+use Rattle.camelot_syntax.specs.declared.tree.PrimOp.{PrimOp}
+use Rattle.camelot_syntax.specs.declared.tree.PrimOp.TheVariants as prim
+use Rattle.camelot_syntax.specs.declared.tree.ArmCell.{ArmCell}
+use Rattle.camelot_syntax.specs.declared.tree.Expr.{Expr}
+use Rattle.camelot_syntax.specs.declared.tree.Arm.{Arm}
+use Rattle.camelot_syntax.specs.declared.tree.Expr.TheFolds.{fold-Expr, fold-Arm}
+use Rattle.camelot_syntax.specs.declared.tree.Expr.TheOpen as layer
+use Rattle.camelot_syntax.specs.declared.tree.Expr.TheOpen.{Expr-F, Arm-F}
+
+-- expressions; a number at the end is the line
+mutual
+  pub data Term : Type 0 where
+    Num : (value : ℤ) (line : ℕ) → Term
+    Truth : (value : Bool) (line : ℕ) → Term
+    Var : Name → Term
+    Prim : Operator → (left right : Term) (line : ℕ) → Term
+    If : (cond first second : Term) (line : ℕ) → Term
+    Let : Name → (value body : Term) → Term
+    Match : (on : Term) (arms : Arms) (line : ℕ) → Term
+    Build : (con : Name) (args : Terms) (place : Option Name) → Term
+    Call : (fun : Name) (args : Terms) → Term
+
+  pub data Terms : Type 0 where
+    NoTerms : Terms
+    AndTerm : Term → Terms → Terms
+
+  -- each arm is a constructor with the names of its fields, what becomes of its cell, and a body
+  pub data Arms : Type 0 where
+    NoArms : Arms
+    AndArm : (con : Name) (fields : List (Option Name)) (cell : ArmCell) (body : Term) → Arms → Arms
+
+pub record Branch : Type 0 where
+  pub con : Name
+  pub fields : List (Option Name)
+  pub cell : ArmCell
+  pub body : Term
+
+abbrev pub terms : List Term → Terms
+terms [] = NoTerms
+terms (e ∷ es) = AndTerm e (terms es)
+
+abbrev pub arms : List Branch → Arms
+arms [] = NoArms
+arms (a ∷ as') = AndArm a.con a.fields a.cell a.body (arms as')
+
+pub record Constructor : Type 0 where
+  pub name : Name
+  pub inline : Bool
+  pub fields : List Atom
+
+pub record DataType : Type 0 where
+  pub name : Name
+  pub cons : List Constructor
+
+pub record Function : Type 0 where
+  pub name : Name
+  pub params : List Param
+  pub result : Option Atom
+  pub body : Term
+
+pub record Source : Type 0 where
+  pub types : List DataType
+  pub funs : List Function
+
+-- ---- the plain data of the code's types
+
+abbrev pub operator_of : PrimOp → Operator
+operator_of prim.Add = operator.Add
+operator_of prim.Sub = operator.Sub
+operator_of prim.Mul = operator.Mul
+operator_of prim.Eq = operator.Eq
+operator_of prim.Ne = operator.Ne
+operator_of prim.Lt = operator.Lt
+operator_of prim.Le = operator.Le
+operator_of prim.Gt = operator.Gt
+operator_of prim.Ge = operator.Ge
+
+abbrev pub expr_layer : Expr-F Term Branch → Term
+expr_layer (layer.Num z l) = Num z l
+expr_layer (layer.Truth b l) = Truth b l
+expr_layer (layer.Var n) = Var n
+expr_layer (layer.Prim o a b l) = Prim (operator_of o) a.value b.value l
+expr_layer (layer.If c a b l) = If c.value a.value b.value l
+expr_layer (layer.Let n v b) = Let n v.value b.value
+expr_layer (layer.Match e as' l) = Match e.value (arms as'.items) l
+expr_layer (layer.Build c es p) = Build c (terms es.items) p
+expr_layer (layer.Call f es) = Call f (terms es.items)
+
+abbrev pub arm_layer : Arm-F Term Branch → Branch
+arm_layer a = record { con = a.con; fields = a.fields.items; cell = a.cell; body = a.body }
+
+abbrev pub term_of : Expr → Term
+term_of = fold-Expr Term Branch expr_layer arm_layer
+
+abbrev pub branch_of : Arm → Branch
+branch_of = fold-Arm Term Branch expr_layer arm_layer
+
+abbrev pub constructor_of : ConDecl → Constructor
+constructor_of c = record { name = c.name; inline = c.inline; fields = c.fields.items }
+
+abbrev pub data_type_of : TypeDecl → DataType
+data_type_of t = record { name = t.name; cons = map constructor_of t.cons.items }
+
+abbrev pub function_of : FunDecl → Function
+function_of f = record { name = f.name; params = f.params.items; result = f.result; body = term_of f.body }

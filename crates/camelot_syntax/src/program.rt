@@ -1,0 +1,16 @@
+ghost use Rattle.std.specs.Prelude.{map, IsTrue};
+ghost use Rattle.camelot_syntax.specs.Tree.{data_type_of, function_of};
+ghost use Rattle.camelot_syntax.specs.Shape.{is_whole};
+
+use crate::tree::{FunDecl, TypeDecl};
+
+/// A program as it is written: its types and functions in text order.
+///
+/// Each type has at least one constructor, each function at least one parameter and each match at least one arm, and an
+/// inline constructor has no fields.
+#[derive(Debug, Drop)]
+pub struct Program {
+    pub types: Vec<TypeDecl>,
+    pub funs: Vec<FunDecl>,
+    pub ghost whole: { IsTrue (is_whole (record { types = map data_type_of types.items; funs = map function_of funs.items })) },
+}

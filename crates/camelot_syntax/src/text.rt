@@ -1,0 +1,78 @@
+ghost use Rattle.std.specs.Prelude.{◌≡◌, ◌<◌, ◌^◌, ◌⊎◌, List, length, IfOk, IfErr, MatchResult};
+ghost use Rattle.std.specs.List.{All};
+ghost use Rattle.text_scan.specs.declared.tokens.Token.{Token};
+ghost use Rattle.text_scan.specs.declared.fault.ScanFault.{ScanFault};
+ghost use Rattle.text_scan.specs.Reading.{AreTokensOf, IsFaultOf, IsSliceOf};
+ghost use Rattle.camelot_syntax.specs.declared.fault.ParseFault.{ParseFault};
+ghost use Rattle.camelot_syntax.specs.declared.fault.ParseFault.TheVariants.{Scan, Memory};
+ghost use Rattle.camelot_syntax.specs.Lexemes.{lexemes};
+ghost use Rattle.camelot_syntax.specs.Tree.{Source};
+ghost use Rattle.camelot_syntax.specs.Parsing.{IsProgram, IsFaultAmong, HasProgram, HasCause, last_line};
+ghost use Rattle.camelot_syntax.specs.Answers.{program_of, scanned_fault, Runs, Parses};
+
+use crate::fault::ParseFault;
+use crate::parser::run;
+use crate::program::Program;
+use std::alloc::Global;
+use text_scan::{ScanFault, Token, scan};
+
+/// The fault of a text that has no tokens.
+fn scan_fault(fault: ScanFault) -> ParseFault
+    ensures { result ≡ scanned_fault fault }
+{
+    match fault {
+        ScanFault::Memory => ParseFault::Memory,
+        fault => ParseFault::Scan(fault),
+    }
+}
+
+/// The program that the tokens of a text are.
+fn parse_tokens(alloc: Global, text: &[u8], tokens: &[Token]) -> Result<Program, ParseFault>
+    requires { All (IsSliceOf text.now) tokens.now }
+    ensures { Runs text.now tokens.now result }
+{
+    let decls = run(alloc, text, tokens)?;
+    Ok(Program {
+        types: decls.types,
+        funs: decls.funs,
+    })
+}
+
+/// The program that a text is, or its fault.
+fn parse_text(alloc: Global, text: &[u8]) -> Result<Program, ParseFault>
+    requires { length text.now < 2 ^ 32 }
+    ensures { Parses text.now result }
+{
+    match scan(alloc, text) {
+        Ok(tokens) => parse_tokens(alloc, text, &tokens),
+        Err(fault) => Err(scan_fault(fault)),
+    }
+}
+
+/// The program that a text is.
+///
+/// # Errors
+///
+/// [`ParseFault::Scan`] where the text has no tokens. Otherwise the fault stands at the first token with which no program
+/// goes on, or whose level is above 200: [`ParseFault::TooDeep`] where a program goes on with it; else
+/// [`ParseFault::Division`] at a `/` or `mod`, [`ParseFault::TypeParameter`] at a type variable, and
+/// [`ParseFault::Unexpected`] at any other token and at the end of the text. [`ParseFault::Memory`] where memory runs out.
+pub fn parse(alloc: Global, text: &[u8]) -> Result<Program, ParseFault>
+    requires { length text.now < 2 ^ 32 }
+
+    // The answer is the program that the text's tokens are, each within 200 levels, or the fault.
+    ensures program { IfOk result (λ program. HasProgram text.now (program_of program)) }
+    ensures fault { IfErr result (HasCause text.now) }
+
+    // Tokens that are a program are taken as this program, and tokens that aren't are refused for their fault, unless memory
+    // runs out. A text without tokens is refused for the fault of its reading.
+    ensures takes { (tokens : List Token) (source : Source) → AreTokensOf text.now tokens → IsProgram (lexemes text.now tokens) source
+        → MatchResult result (λ program. program_of program ≡ source) (λ found. found ≡ Memory) }
+    ensures refuses { (tokens : List Token) (fault : ParseFault) → AreTokensOf text.now tokens
+        → IsFaultAmong (lexemes text.now tokens) (last_line text.now) fault
+        → MatchResult result (λ _. ⊥) (λ found. (found ≡ fault) ⊎ (found ≡ Memory)) }
+    ensures scans { (fault : ScanFault) → IsFaultOf text.now fault
+        → MatchResult result (λ _. ⊥) (λ found. (found ≡ Scan fault) ⊎ (found ≡ Memory)) }
+{
+    parse_text(alloc, text)
+}
