@@ -24,6 +24,6 @@ mod tree;
 mod units;
 
 pub use fault::ParseFault;
-pub use text::parse;
 pub use program::Program;
+pub use text::parse;
 pub use tree::{Arm, ArmCell, Atom, ConDecl, Expr, FunDecl, Name, Param, PrimOp, TypeDecl};

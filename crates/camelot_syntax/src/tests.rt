@@ -6,7 +6,12 @@ fn deep(alloc: Global, levels: u32) -> Result<Expr, AllocError> {
     for _ in 0..levels {
         let left = Box::new(alloc, tree)?;
         let right = Box::new(alloc, Expr::Num { value: 1, line: 1 })?;
-        tree = Expr::Prim { op: PrimOp::Add, left, right, line: 1 };
+        tree = Expr::Prim {
+            op: PrimOp::Add,
+            left,
+            right,
+            line: 1,
+        };
     }
     Ok(tree)
 }
