@@ -480,8 +480,10 @@ want_past k t st h = refl
 
 pub want_as : (k : ℕ) (st : List Frame) → AsPre (mc.Want k) st (slot (mc.lefts (suc k) None None None None None) [] (suc k))
 unfolding mc.expr_step mc.pre_step
-want_as k st = record { on = λ t h. inside (mc.Want k) t st h ∙ want_past k t st h
-    ∙ ap (λ b. if b then mc.slot_step (slot (mc.lefts (suc k) None None None None None) [] (suc k)) t st else Stuck) h }
+want_as k st = record {
+  on = λ t h. inside (mc.Want k) t st h ∙ want_past k t st h
+      ∙ ap (λ b. if b then mc.slot_step (slot (mc.lefts (suc k) None None None None None) [] (suc k)) t st else Stuck) h;
+}
 
 pub pre_as_unit : {q : ExprState} {st : List Frame} {s : Slot} → AsPre q st s → AsUnit q st (alone s)
 pre_as_unit {q} {st} {s} as' = record { on = λ t h. as'.on t (unit_is_pre t h) ∙ slot_unit s t st h }
@@ -504,13 +506,17 @@ applied_unit s f es t st h =
     ap (λ b. if b then mc.argument_step s f es t st else mc.after_operand s (mc.applied_operand f es) t st) (unit_is_argument t h) ∙ argument_unit s f es t st h
 
 pub units_as : (us : gr.Units) (s : Slot) (f : Name) (st : List Frame) → AsUnit (reach_units us s f) st (behind s f (pr.unit_terms us))
-units_as us s f st = record { on = λ t h.
-    inside (reach_units us s f) t st (unit_is_pre t h) ∙ units_then us s f t st (not_at t h) ∙ applied_unit s f (pr.unit_terms us) t st h }
+units_as us s f st = record {
+  on = λ t h.
+      inside (reach_units us s f) t st (unit_is_pre t h) ∙ units_then us s f t st (not_at t h) ∙ applied_unit s f (pr.unit_terms us) t st h;
+}
 
 pub bare_as : (bs : gr.Bare) (s : Slot) (f : Name) (st : List Frame) → AsSolid (reach_bare bs s f) st (behind s f (pr.bare_terms bs))
-bare_as bs s f st = record { on = λ t h.
-    inside (reach_bare bs s f) t st (unit_is_pre t (solid_is_unit t h)) ∙ bare_then bs s f t st (not_at t (solid_is_unit t h)) (not_open t h)
-    ∙ applied_unit s f (pr.bare_terms bs) t st (solid_is_unit t h) }
+bare_as bs s f st = record {
+  on = λ t h.
+      inside (reach_bare bs s f) t st (unit_is_pre t (solid_is_unit t h)) ∙ bare_then bs s f t st (not_at t (solid_is_unit t h)) (not_open t h)
+      ∙ applied_unit s f (pr.bare_terms bs) t st (solid_is_unit t h);
+}
 
 pub units_lower : (us : gr.Units) (s : Slot) (f n : Name) (st : List Frame)
     → advance (InExpr (reach_units us s f)) (Lower n) st ≡ Goes s.level (InExpr (mc.Applied s f (pr.unit_terms us ++ tree.Var n ∷ []))) st

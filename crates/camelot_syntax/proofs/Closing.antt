@@ -98,14 +98,20 @@ have_acts s y st = record { term = whole s y; on = λ t h. operand_past s y t st
 
 applied_acts : (s : Slot) (f : Name) (es : List Term) (st : List Frame) → Acts (mc.Applied s f es) st
 unfolding mc.expr_step
-applied_acts s f es st = record { term = whole s (mc.applied_operand f es); on = λ t h.
-    applied_then s f es t st (no_at_of h).no_unit ∙ operand_past s (mc.applied_operand f es) t st h }
+applied_acts s f es st = record {
+  term = whole s (mc.applied_operand f es);
+  on = λ t h.
+      applied_then s f es t st (no_at_of h).no_unit ∙ operand_past s (mc.applied_operand f es) t st h;
+}
 
 after_unit_term : (c : Option Callee) (s : Slot) (y : Operand) (st : List Frame)
     → (e : Term) × ((t : Lexeme) → EndsOr t → mc.after_unit_of c s y t st ≡ mc.close st e t)
 after_unit_term None s y st = (whole s y, λ t h. operand_past s y t st h)
-after_unit_term (Some c) s y st = (whole s (mc.applied_operand c.fun (c.args ++ y.term ∷ [])), λ t h.
-    applied_then s c.fun (c.args ++ y.term ∷ []) t st (no_at_of h).no_unit ∙ operand_past s _ t st h)
+after_unit_term (Some c) s y st = (
+  whole s (mc.applied_operand c.fun (c.args ++ y.term ∷ [])),
+  λ t h.
+      applied_then s c.fun (c.args ++ y.term ∷ []) t st (no_at_of h).no_unit ∙ operand_past s _ t st h,
+)
 
 unit_acts : (s : Spot) (y : Operand) (st : List Frame) → Acts (mc.unit_done s y) st
 unfolding mc.after_unit
@@ -174,33 +180,53 @@ unfolding step mc.expr_step mc.close mc.unwind
 else_same l c a e st t = refl
 
 in_let : {n : Name} {v : Term} {st : List Frame} {ts : List Lexeme} → Goes_on st ts → Goes_on (mc.LetBody n v ∷ st) ts
-in_let {n} {v} {st} {ts} g = record { first = g.first; each = λ e. let k = g.each (tree.Let n v e) in
-    record { source = k.source; ends = raw_same _ _ _ _ (let_same n v e st) ts ∙ k.ends; real = k.real } }
+in_let {n} {v} {st} {ts} g = record {
+  first = g.first;
+  each = λ e. let k = g.each (tree.Let n v e) in
+      record { source = k.source; ends = raw_same _ _ _ _ (let_same n v e st) ts ∙ k.ends; real = k.real };
+}
 
 in_else : {l : ℕ} {c a : Term} {st : List Frame} {ts : List Lexeme} → Goes_on st ts → Goes_on (mc.IfElse l c a ∷ st) ts
-in_else {l} {c} {a} {st} {ts} g = record { first = g.first; each = λ e. let k = g.each (tree.If c a e l) in
-    record { source = k.source; ends = raw_same _ _ _ _ (else_same l c a e st) ts ∙ k.ends; real = k.real } }
+in_else {l} {c} {a} {st} {ts} g = record {
+  first = g.first;
+  each = λ e. let k = g.each (tree.If c a e l) in
+      record { source = k.source; ends = raw_same _ _ _ _ (else_same l c a e st) ts ∙ k.ends; real = k.real };
+}
 
 goes_on : (st : co.Stack) → Goes_on (co.frames st) (closing st)
 unfolding advance step mc.expr_step mc.close mc.unwind mc.close_in mc.top_step mc.arm_step mc.arm_end_step mc.arrow_step
 goes_on (co.Body ds l n ps k m) = record { first = tt; each = λ e. record { source = _; ends = refl; real = tt } }
-goes_on (co.Paren c nots y l st) = record { first = ends_or (Mark mark.Close 0) refl tt tt tt tt tt tt;
-    each = λ e. next refl tt (acts_complete (unit_acts (co.spot_of c nots (co.Firm y)) (record { term = e; line = l }) (co.frames st)) (goes_on st)) }
-goes_on (co.Args c nots y n l es st) = record { first = ends_or (Mark mark.Close 0) refl tt tt tt tt tt tt;
-    each = λ e. next refl tt (acts_complete (full_acts (co.spot_of c nots y) n (co.some_terms es ++ e ∷ []) (co.frames st)) (goes_on st)) }
-goes_on (co.LetValue k l n m st) = record { first = ends_or (Mark mark.In 0) refl tt tt tt tt tt tt;
-    each = λ e. next refl tt (want_completes k (in_let (goes_on st))) }
+goes_on (co.Paren c nots y l st) = record {
+  first = ends_or (Mark mark.Close 0) refl tt tt tt tt tt tt;
+  each = λ e. next refl tt (acts_complete (unit_acts (co.spot_of c nots (co.Firm y)) (record { term = e; line = l }) (co.frames st)) (goes_on st));
+}
+goes_on (co.Args c nots y n l es st) = record {
+  first = ends_or (Mark mark.Close 0) refl tt tt tt tt tt tt;
+  each = λ e. next refl tt (acts_complete (full_acts (co.spot_of c nots y) n (co.some_terms es ++ e ∷ []) (co.frames st)) (goes_on st));
+}
+goes_on (co.LetValue k l n m st) = record {
+  first = ends_or (Mark mark.In 0) refl tt tt tt tt tt tt;
+  each = λ e. next refl tt (want_completes k (in_let (goes_on st)));
+}
 goes_on (co.LetBody l n m e i st) = in_let (goes_on st)
-goes_on (co.IfCond k l st) = record { first = ends_or (Mark mark.Then 0) refl tt tt tt tt tt tt;
-    each = λ e. next refl tt (want_completes k (record { first = ends_or (Mark mark.Else 0) refl tt tt tt tt tt tt; each = λ f. next refl tt (want_completes k (in_else (goes_on st))) })) }
-goes_on (co.IfThen k l c m st) = record { first = ends_or (Mark mark.Else 0) refl tt tt tt tt tt tt;
-    each = λ e. next refl tt (want_completes k (in_else (goes_on st))) }
+goes_on (co.IfCond k l st) = record {
+  first = ends_or (Mark mark.Then 0) refl tt tt tt tt tt tt;
+  each = λ e. next refl tt (want_completes k (record { first = ends_or (Mark mark.Else 0) refl tt tt tt tt tt tt; each = λ f. next refl tt (want_completes k (in_else (goes_on st))) }));
+}
+goes_on (co.IfThen k l c m st) = record {
+  first = ends_or (Mark mark.Else 0) refl tt tt tt tt tt tt;
+  each = λ e. next refl tt (want_completes k (in_else (goes_on st)));
+}
 goes_on (co.IfElse l c m a n st) = in_else (goes_on st)
-goes_on (co.MatchOn k l st) = record { first = ends_or (Mark mark.With 0) refl tt tt tt tt tt tt;
-    each = λ e. next refl tt (next refl big_x_real (next refl tt (want_completes k
-      (record { first = ends_or (Mark mark.End 0) refl tt tt tt tt tt tt; each = λ f. next refl tt ((goes_on st).each _) })))) }
-goes_on (co.ArmBody m c fs y l st) = record { first = ends_or (Mark mark.End 0) refl tt tt tt tt tt tt;
-    each = λ e. next refl tt ((goes_on st).each _) }
+goes_on (co.MatchOn k l st) = record {
+  first = ends_or (Mark mark.With 0) refl tt tt tt tt tt tt;
+  each = λ e. next refl tt (next refl big_x_real (next refl tt (want_completes k
+      (record { first = ends_or (Mark mark.End 0) refl tt tt tt tt tt tt; each = λ f. next refl tt ((goes_on st).each _) }))));
+}
+goes_on (co.ArmBody m c fs y l st) = record {
+  first = ends_or (Mark mark.End 0) refl tt tt tt tt tt tt;
+  each = λ e. next refl tt ((goes_on st).each _);
+}
 
 -- ---- each state
 

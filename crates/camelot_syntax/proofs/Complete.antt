@@ -74,6 +74,7 @@ place_gives (gr.At k d) s c l es i j st ts ls z h = go refl (go refl h)
 
 mutual
   unfolding advance step mc.expr_step mc.unit_step mc.con_unit_step mc.placed_step mc.slot_step mc.negative_step mc.want_step mc.let_step mc.arm_step
+
   pub solid_gives : (u : gr.Solid) (q : ExprState) (s : Spot) (st : List Frame) (ts : List Lexeme) (ls : List ℕ) (z : End) → AsSolid q st s
       → Gives (at (reach_solid u s) st) ts ls z → Gives (at q st) (gr.spell_solid u ts) (lv.levels_solid u s.slot.level ls) z
   solid_gives (gr.Literal n l) q s st ts ls z as' h = go (as'.on (Number n l) refl) h
@@ -128,7 +129,7 @@ mutual
   sum_gives (gr.OneProd x) q k o a c st ts ls z as' h = prod_gives x q k o a c None st ts ls z as' h
   sum_gives (gr.Adds y x l w) q k o a c st ts ls z as' h =
       sum_gives y q k o a c st _ _ z as' (go (sum_joins y x k o a c l st)
-        (prod_gives w _ k o a c (mc.left (pr.sum_operand y) (pr.sign_joint x) l (lv.in_sum y (mc.within c (mc.within a (mc.within o k))))) st ts ls z (want_pre_as _ [] _ st) h))
+      (prod_gives w _ k o a c (mc.left (pr.sum_operand y) (pr.sign_joint x) l (lv.in_sum y (mc.within c (mc.within a (mc.within o k))))) st ts ls z (want_pre_as _ [] _ st) h))
 
   pub cmp_gives : (y : gr.Cmp) (q : ExprState) (k : ℕ) (o a : Option Left) (st : List Frame) (ts : List Lexeme) (ls : List ℕ) (z : End)
       → AsPre q st (slot (mc.lefts k o a None None None) [] (mc.within a (mc.within o k)))
@@ -136,7 +137,7 @@ mutual
   cmp_gives (gr.OneSum x) q k o a st ts ls z as' h = sum_gives x q k o a None st ts ls z as' h
   cmp_gives (gr.Compares y x l w) q k o a st ts ls z as' h =
       sum_gives y q k o a None st _ _ z as' (go (sum_compares y x k o a l st)
-        (sum_gives w _ k o a (mc.left (pr.sum_operand y) (pr.comparison_joint x) l (mc.within a (mc.within o k))) st ts ls z (want_pre_as _ [] _ st) h))
+      (sum_gives w _ k o a (mc.left (pr.sum_operand y) (pr.comparison_joint x) l (mc.within a (mc.within o k))) st ts ls z (want_pre_as _ [] _ st) h))
 
   pub and_gives : (y : gr.And) (q : ExprState) (k : ℕ) (o : Option Left) (st : List Frame) (ts : List Lexeme) (ls : List ℕ) (z : End)
       → AsPre q st (slot (mc.lefts k o None None None None) [] (mc.within o k))
@@ -144,7 +145,7 @@ mutual
   and_gives (gr.OneCmp x) q k o st ts ls z as' h = cmp_gives x q k o None st ts ls z as' h
   and_gives (gr.Both y l w) q k o st ts ls z as' h =
       and_gives y q k o st _ _ z as' (go (and_joins y k o l st)
-        (cmp_gives w _ k o (mc.left (pr.and_operand y) pr.AndThen l (lv.in_and y (mc.within o k))) st ts ls z (want_pre_as _ [] _ st) h))
+      (cmp_gives w _ k o (mc.left (pr.and_operand y) pr.AndThen l (lv.in_and y (mc.within o k))) st ts ls z (want_pre_as _ [] _ st) h))
 
   pub or_gives : (y : gr.Or) (q : ExprState) (k : ℕ) (st : List Frame) (ts : List Lexeme) (ls : List ℕ) (z : End)
       → AsPre q st (slot (mc.lefts k None None None None None) [] k)
@@ -152,23 +153,23 @@ mutual
   or_gives (gr.OneAnd x) q k st ts ls z as' h = and_gives x q k None st ts ls z as' h
   or_gives (gr.Either y l w) q k st ts ls z as' h =
       or_gives y q k st _ _ z as' (go (or_joins y k l st)
-        (and_gives w _ k (mc.left (pr.or_operand y) pr.OrElse l (lv.in_or y k)) st ts ls z (want_pre_as _ [] _ st) h))
+      (and_gives w _ k (mc.left (pr.or_operand y) pr.OrElse l (lv.in_or y k)) st ts ls z (want_pre_as _ [] _ st) h))
 
   pub expr_gives : (e : gr.Expr) (k : ℕ) (st : List Frame) (ts : List Lexeme) (ls : List ℕ) (z : End)
       → Gives (reach_expr e k st) ts ls z → Gives (at (mc.Want k) st) (gr.spell_expr e ts) (lv.levels_expr e k ls) z
   expr_gives (gr.Let l n i w j b) k st ts ls z h =
       go refl (go refl (go refl (expr_gives w (suc k) (mc.LetValue (suc k) n ∷ st) _ _ z (go (expr_in w (suc k) n j st)
-        (expr_gives b (suc k) (mc.LetBody n (pr.expr_term w) ∷ st) ts ls z h)))))
+      (expr_gives b (suc k) (mc.LetBody n (pr.expr_term w) ∷ st) ts ls z h)))))
   expr_gives (gr.If l c i a j b) k st ts ls z h =
       go refl (expr_gives c (suc k) (mc.IfCond (suc k) l ∷ st) _ _ z (go (expr_to_then c (suc k) l i st)
-        (expr_gives a (suc k) (mc.IfThen (suc k) l (pr.expr_term c) ∷ st) _ _ z (go (expr_to_else a (suc k) l (pr.expr_term c) j st)
-          (expr_gives b (suc k) (mc.IfElse l (pr.expr_term c) (pr.expr_term a) ∷ st) ts ls z h)))))
+      (expr_gives a (suc k) (mc.IfThen (suc k) l (pr.expr_term c) ∷ st) _ _ z (go (expr_to_else a (suc k) l (pr.expr_term c) j st)
+      (expr_gives b (suc k) (mc.IfElse l (pr.expr_term c) (pr.expr_term a) ∷ st) ts ls z h)))))
   expr_gives (gr.Match l e i gr.NoBar as' j) k st ts ls z h =
       go refl (expr_gives e (suc k) (mc.MatchOn (suc k) l ∷ st) _ _ z (go (expr_with e (suc k) l i st)
-        (arms_gives as' (mc.FirstArm (matching (suc k) l (pr.expr_term e) [])) (suc k) l (pr.expr_term e) st _ _ z (λ c. refl) (go (arms_end as' (suc k) l (pr.expr_term e) j st) h))))
+      (arms_gives as' (mc.FirstArm (matching (suc k) l (pr.expr_term e) [])) (suc k) l (pr.expr_term e) st _ _ z (λ c. refl) (go (arms_end as' (suc k) l (pr.expr_term e) j st) h))))
   expr_gives (gr.Match l e i (gr.Bar b) as' j) k st ts ls z h =
       go refl (expr_gives e (suc k) (mc.MatchOn (suc k) l ∷ st) _ _ z (go (expr_with e (suc k) l i st)
-        (go refl (arms_gives as' (mc.WantArm (matching (suc k) l (pr.expr_term e) [])) (suc k) l (pr.expr_term e) st _ _ z (λ c. refl) (go (arms_end as' (suc k) l (pr.expr_term e) j st) h)))))
+      (go refl (arms_gives as' (mc.WantArm (matching (suc k) l (pr.expr_term e) [])) (suc k) l (pr.expr_term e) st _ _ z (λ c. refl) (go (arms_end as' (suc k) l (pr.expr_term e) j st) h)))))
   expr_gives (gr.Chain o) k st ts ls z h = or_gives o (mc.Want k) (suc k) st ts ls z (want_as k st) h
 
   pub exprs_gives : (es : gr.Exprs) (s : Spot) (c : Name) (st : List Frame) (ts : List Lexeme) (ls : List ℕ) (z : End)
@@ -183,7 +184,7 @@ mutual
   arms_gives (gr.OneArm a) q k l on st ts ls z as'' h = arm_gives a q (matching k l on []) st ts ls z as'' h
   arms_gives (gr.MoreArms as' i a) q k l on st ts ls z as'' h =
       arms_gives as' q k l on st _ _ z as'' (go (arms_bar as' k l on i st)
-        (arm_gives a (mc.WantArm (matching k l on (pr.branches as'))) (matching k l on (pr.branches as')) st ts ls z (λ c. refl) h))
+      (arm_gives a (mc.WantArm (matching k l on (pr.branches as'))) (matching k l on (pr.branches as')) st ts ls z (λ c. refl) h))
 
   pub arm_gives : (a : gr.Arm) (q : mc.ArmState) (m : mc.Matching) (st : List Frame) (ts : List Lexeme) (ls : List ℕ) (z : End)
       → ((c : Name) → advance (InArm q) (Upper c) st ≡ Goes m.level (InArm (mc.ArmCon m c)) st)

@@ -199,8 +199,8 @@ decls_give (gr.AndType ds l n m cs) ts ls z h =
     decls_give ds _ _ z (go (decls_type ds l) (go refl (go refl (cons_give cs (pr.source_of ds) n ts ls z h))))
 decls_give (gr.AndFun ds l n ps k m e) ts ls z h =
     decls_give ds _ _ z (go (decls_let ds l) (go refl (params_give ps (pr.source_of ds) n _ _ z
-      (result_gives k (sketch (pr.source_of ds) n (pr.params_of ps)) m _ _ z
-        (expr_gives e 0 (mc.Body (sketch (pr.source_of ds) n (pr.params_of ps)) (pr.kind_of k) ∷ []) ts ls z h)))))
+    (result_gives k (sketch (pr.source_of ds) n (pr.params_of ps)) m _ _ z
+    (expr_gives e 0 (mc.Body (sketch (pr.source_of ds) n (pr.params_of ps)) (pr.kind_of k) ∷ []) ts ls z h)))))
 
 -- a whole program
 pub program_gives : (ds : gr.Decls) → Gives (one start []) (gr.spell_decls ds []) (lv.levels_decls ds []) (Over (Goes 0 (Done (pr.source_of ds)) []))

@@ -45,10 +45,10 @@ any_second (x ∷ xs) ys text h = or_second (bytes_eq x text) _ (any_second xs y
 any_first : (xs ys : List (List ℕ)) (text : List ℕ) → list_any (λ w. bytes_eq w text) xs ≡ true → list_any (λ w. bytes_eq w text) (xs ++ ys) ≡ true
 any_first [] ys text h = absurd cc
 any_first (x ∷ xs) ys text h = first_or (bytes_eq x text) _ _ h (any_first xs ys text)
-    where
-      first_or : (b c d : Bool) → (b || c) ≡ true → (c ≡ true → d ≡ true) → (b || d) ≡ true
-      first_or true c d h k = refl
-      first_or false c d h k = k h
+  where
+    first_or : (b c d : Bool) → (b || c) ≡ true → (c ≡ true → d ≡ true) → (b || d) ≡ true
+    first_or true c d h k = refl
+    first_or false c d h k = k h
 
 texts_append : (xs ys : List Written) → texts (xs ++ ys) ≡ texts xs ++ texts ys
 unfolding texts
@@ -90,5 +90,5 @@ pub short_number : (text : List ℕ) (token : Token) → IsSliceOf text token �
 unfolding is_long_number
 short_number text token s e =
     let h : is_long_number kind.Number (slice_range text token.start token.end) ≡ false =
-      subst (λ k. is_long_number k (slice_range text token.start token.end) ≡ false) e s.no_long_number in
+    subst (λ k. is_long_number k (slice_range text token.start token.end) ≡ false) e s.no_long_number in
     grind (arith, h)

@@ -35,7 +35,7 @@ place_is n before rest h = omega (arith, length-append before rest)
 
 -- ---- from an answer of the machine to its meaning
 
-fault_among : (ts : List Lexeme) (n last : ℕ) (f : ParseFault) (r : Result) → length ts ≡ n → runs start [] ts ≡ r → fault_of n last r ≡ Some f → IsFaultAmong ts last f
+pub fault_among : (ts : List Lexeme) (n last : ℕ) (f : ParseFault) (r : Result) → length ts ≡ n → runs start [] ts ≡ r → fault_of n last r ≡ Some f → IsFaultAmong ts last f
 fault_among ts n last f (Yes p) c e h = absurd cc
 fault_among ts n last f (Stopped rest) c e h =
     let k = stopped_stops ts rest e in
@@ -46,8 +46,15 @@ fault_among ts n last f (TooDeep rest) c e h =
     let k = deep_sinks ts rest e in
     let place = place_is n k.0 (k.1 ∷ k.2) (ap length k.4 ∙ c) in
     let is : fault.TooDeep (n - length rest) (first_line rest last) ≡ f = cc in
-    inr (record { before = k.0; token = k.1; rest = k.2; parts = k.4; begins = k.5; deep = k.6;
-      is = sym is ∙ ap (λ xs. fault.TooDeep (n - length xs) (first_line xs last)) k.3 ∙ ap (λ m. fault.TooDeep m (line_of k.1)) place })
+    inr (record {
+      before = k.0;
+      token = k.1;
+      rest = k.2;
+      parts = k.4;
+      begins = k.5;
+      deep = k.6;
+      is = sym is ∙ ap (λ xs. fault.TooDeep (n - length xs) (first_line xs last)) k.3 ∙ ap (λ m. fault.TooDeep m (line_of k.1)) place;
+    })
 
 -- a fault at a token is none of the scanner, or of memory
 IsOrdinary : ParseFault → Type 0
@@ -92,7 +99,7 @@ fails_cause text tokens (fault.Division k l) a h = told text tokens (fault.Divis
 
 -- ---- from a meaning to the answer
 
-among_fault : (ts : List Lexeme) (n last : ℕ) (f : ParseFault) → length ts ≡ n → IsFaultAmong ts last f → fault_of n last (runs start [] ts) ≡ Some f
+pub among_fault : (ts : List Lexeme) (n last : ℕ) (f : ParseFault) → length ts ≡ n → IsFaultAmong ts last f → fault_of n last (runs start [] ts) ≡ Some f
 among_fault ts n last f c (inl s) =
     ap (fault_of n last) (stops_stopped ts s.before s.rest s.parts s.begins s.none)
     ∙ ap (λ m. Some (stop_fault s.rest m (first_line s.rest last))) (place_is n s.before s.rest (ap length s.parts ∙ c)) ∙ ap Some (sym s.is)
@@ -131,20 +138,20 @@ parses_tokens text tokens (Ok p) a one none h = record {
   program = record { tokens = tokens; are = a; program = yes_is_program (lexemes text tokens) (program_of p) h.runs };
   cause = tt;
   takes = λ others source b q. yes_same (program_of p) source
-    (sym h.runs ∙ ap (λ ts. runs start [] (lexemes text ts)) (one others b) ∙ program_yes (lexemes text others) source q);
+      (sym h.runs ∙ ap (λ ts. runs start [] (lexemes text ts)) (one others b) ∙ program_yes (lexemes text others) source q);
   refuses = λ others f b q. no_fault (length others) (last_line text) f (program_of p)
-    (ap (fault_of (length others) (last_line text)) (sym (ap (λ ts. runs start [] (lexemes text ts)) (one others b)) ∙ h.runs))
-    (among_fault (lexemes text others) (length others) (last_line text) f (lexemes_length text others) q);
+      (ap (fault_of (length others) (last_line text)) (sym (ap (λ ts. runs start [] (lexemes text ts)) (one others b)) ∙ h.runs))
+      (among_fault (lexemes text others) (length others) (last_line text) f (lexemes_length text others) q);
   scans = λ f q. none f q;
 }
 parses_tokens text tokens (Err g) a one none h = record {
   program = tt;
   cause = fails_cause text tokens g a h.runs;
   takes = λ others source b q. fails_none g
-    (subst (λ o. FailsWith g o) (ap (λ r. fault_of (length tokens) (last_line text) r)
+      (subst (λ o. FailsWith g o) (ap (λ r. fault_of (length tokens) (last_line text) r)
       (ap (λ ts. runs start [] (lexemes text ts)) (one others b) ∙ program_yes (lexemes text others) source q)) h.runs);
   refuses = λ others f b q. fails_some g f
-    (subst (λ o. FailsWith g o) (ap (λ ts. fault_of (length ts) (last_line text) (runs start [] (lexemes text ts))) (one others b)
+      (subst (λ o. FailsWith g o) (ap (λ ts. fault_of (length ts) (last_line text) (runs start [] (lexemes text ts))) (one others b)
       ∙ among_fault (lexemes text others) (length others) (last_line text) f (lexemes_length text others) q) h.runs);
   scans = λ f q. absurd (none f q);
 }
@@ -167,7 +174,12 @@ parses_fault text g h c one other = record {
 pub parses_nothing : (text : List ℕ) (g : ScanFault) → reading.HasCause text g → ((tokens : List Token) → AreTokensOf text tokens → g ≡ scan.Memory)
     → ((f : ScanFault) → IsFaultOf text f → (g ≡ f) ⊎ (g ≡ scan.Memory)) → Parses text (Err (scanned_fault g))
 parses_nothing text scan.Memory c one other = record {
-  program = tt; cause = tt; takes = λ tokens source b q. refl; refuses = λ tokens f b q. inr refl; scans = λ f q. inr refl }
+  program = tt;
+  cause = tt;
+  takes = λ tokens source b q. refl;
+  refuses = λ tokens f b q. inr refl;
+  scans = λ f q. inr refl;
+}
 parses_nothing text (scan.BadCharacter at) c one other = parses_fault text (scan.BadCharacter at) (λ e. absurd cc) c one other
 parses_nothing text (scan.OpenComment at) c one other = parses_fault text (scan.OpenComment at) (λ e. absurd cc) c one other
 parses_nothing text (scan.LongNumber at) c one other = parses_fault text (scan.LongNumber at) (λ e. absurd cc) c one other

@@ -86,12 +86,12 @@ reach_more c t ts k s st e h kept r =
       config = r.config;
       levels = k ∷ r.levels;
       raw_on = λ z. ap (λ y. ran y (λ s2 st2. raw s2 st2 (ts ++ z)) (t ∷ (ts ++ z))) e
-        ∙ ap (λ s2. raw s2 st (ts ++ z)) (sym is_s) ∙ ap (λ st2. raw (state_of kept.config) st2 (ts ++ z)) (sym is_st) ∙ r.raw_on z;
+          ∙ ap (λ s2. raw s2 st (ts ++ z)) (sym is_s) ∙ ap (λ st2. raw (state_of kept.config) st2 (ts ++ z)) (sym is_st) ∙ r.raw_on z;
       meter_on = λ z. ap (λ y. metered y (λ s2 st2. meter s2 st2 (ts ++ z))) e
-        ∙ ap (λ s2. k ∷ meter s2 st (ts ++ z)) (sym is_s) ∙ ap (λ st2. k ∷ meter (state_of kept.config) st2 (ts ++ z)) (sym is_st) ∙ ap (λ ls. k ∷ ls) (r.meter_on z);
+          ∙ ap (λ s2. k ∷ meter s2 st (ts ++ z)) (sym is_s) ∙ ap (λ st2. k ∷ meter (state_of kept.config) st2 (ts ++ z)) (sym is_st) ∙ ap (λ ls. k ∷ ls) (r.meter_on z);
       runs_on = λ z. ap (λ y. onward (limited y) (λ s2 st2. runs s2 st2 (ts ++ z)) (t ∷ (ts ++ z))) e
-        ∙ ap (λ y. onward y (λ s2 st2. runs s2 st2 (ts ++ z)) (t ∷ (ts ++ z))) (within_moves k s st h)
-        ∙ ap (λ s2. runs s2 st (ts ++ z)) (sym is_s) ∙ ap (λ st2. runs (state_of kept.config) st2 (ts ++ z)) (sym is_st) ∙ r.runs_on z;
+          ∙ ap (λ y. onward y (λ s2 st2. runs s2 st2 (ts ++ z)) (t ∷ (ts ++ z))) (within_moves k s st h)
+          ∙ ap (λ s2. runs s2 st (ts ++ z)) (sym is_s) ∙ ap (λ st2. runs (state_of kept.config) st2 (ts ++ z)) (sym is_st) ∙ r.runs_on z;
       count = ap (λ n. suc n) r.count;
       within = (h, r.within);
       spells = λ z. r.spells z ∙ kept.spells (ts ++ z);
@@ -166,10 +166,24 @@ tells_more : (c : Config) (t : Lexeme) (ts : List Lexeme) (k : ℕ) (s : State) 
 unfolding reach_more
 tells_more c t ts k s st e h kept (Yes p) a = record { reach = reach_more c t ts k s st e h kept a.reach; level = a.level; stack = a.stack; ends = a.ends }
 tells_more c t ts k s st e h kept (Stopped rest) a = record {
-  before = t ∷ a.before; parts = ap (λ xs. t ∷ xs) a.parts; reach = reach_more c t a.before k s st e h kept a.reach; stuck = a.stuck }
+  before = t ∷ a.before;
+  parts = ap (λ xs. t ∷ xs) a.parts;
+  reach = reach_more c t a.before k s st e h kept a.reach;
+  stuck = a.stuck;
+}
 tells_more c t ts k s st e h kept (TooDeep rest) a = record {
-  before = t ∷ a.before; token = a.token; after = a.after; parts = ap (λ xs. t ∷ xs) a.parts; is = a.is;
-  reach = reach_more c t a.before k s st e h kept a.reach; level = a.level; state = a.state; stack = a.stack; goes = a.goes; deep = a.deep }
+  before = t ∷ a.before;
+  token = a.token;
+  after = a.after;
+  parts = ap (λ xs. t ∷ xs) a.parts;
+  is = a.is;
+  reach = reach_more c t a.before k s st e h kept a.reach;
+  level = a.level;
+  state = a.state;
+  stack = a.stack;
+  goes = a.goes;
+  deep = a.deep;
+}
 
 tells_limited : (c : Config) (t : Lexeme) (ts : List Lexeme) (k : ℕ) (s : State) (st : List Frame) (e : advance (state_of c) t (stack_of c) ≡ Goes k s st)
     → (kept : Kept (so_far c) t s st) → Tells kept.config ts (runs s st ts) → (b : Bool) → nat_le k limit ≡ b
@@ -177,7 +191,18 @@ tells_limited : (c : Config) (t : Lexeme) (ts : List Lexeme) (k : ℕ) (s : Stat
 unfolding reach_none
 tells_limited c t ts k s st e kept ih true q = tells_more c t ts k s st e (grind (arith, q)) kept (runs s st ts) ih
 tells_limited c t ts k s st e kept ih false q = record {
-  before = []; token = t; after = ts; parts = refl; is = refl; reach = reach_none c; level = k; state = s; stack = st; goes = e; deep = grind (arith, q) }
+  before = [];
+  token = t;
+  after = ts;
+  parts = refl;
+  is = refl;
+  reach = reach_none c;
+  level = k;
+  state = s;
+  stack = st;
+  goes = e;
+  deep = grind (arith, q);
+}
 
 tells_step : (c : Config) (t : Lexeme) (ts : List Lexeme) (y : Step) → advance (state_of c) t (stack_of c) ≡ y → Moved (so_far c) t y
     → ((d : Config) → Tells d ts (runs (state_of d) (stack_of d) ts)) → Tells c (t ∷ ts) (onward (limited y) (λ s2 st2. runs s2 st2 ts) (t ∷ ts))
@@ -185,7 +210,7 @@ unfolding reach_none
 tells_step c t ts Stuck e k ih = record { before = []; parts = refl; reach = reach_none c; stuck = e }
 tells_step c t ts (Goes k s st) e kept ih =
     let here : Tells kept.config ts (runs s st ts) =
-      subst (λ st2. Tells kept.config ts (runs s st2 ts)) kept.is_stack (subst (λ s2. Tells kept.config ts (runs s2 (stack_of kept.config) ts)) kept.is_state (ih kept.config)) in
+    subst (λ st2. Tells kept.config ts (runs s st2 ts)) kept.is_stack (subst (λ s2. Tells kept.config ts (runs s2 (stack_of kept.config) ts)) kept.is_state (ih kept.config)) in
     tells_limited c t ts k s st e kept here (nat_le k limit) refl
 
 pub tells : (ts : List Lexeme) (c : Config) → Tells c ts (runs (state_of c) (stack_of c) ts)
@@ -233,7 +258,7 @@ reach_begins before r =
     let e = r.raw_on k.more ∙ k.completes.ends in
     let d = read (before ++ k.more) begin 0 k.completes.source [] e in
     let levels : levels_decls d.decls [] ≡ r.levels ++ meter (state_of r.config) (stack_of r.config) k.more =
-      sym (program_gives d.decls).marks ∙ ap (λ ts. meter start [] ts) d.spells ∙ r.meter_on k.more in
+    sym (program_gives d.decls).marks ∙ ap (λ ts. meter start [] ts) d.spells ∙ r.meter_on k.more in
     record {
       decls = d.decls;
       rest = k.more;
@@ -248,12 +273,12 @@ no_end y k p st h e = subst NoEnd e h
 stuck_none : (before rest : List Lexeme) (r : Reach begin before) → StuckAt r.config rest → NoneGoesOn before rest
 stuck_none before [] r h = λ decls spells.
     let e : Over (step (state_of r.config) (Mark mark.EndOfText 0) (stack_of r.config)) ≡ Over (Goes 0 (Done (source_of decls)) []) =
-      sym (r.raw_on []) ∙ ap (λ ts. raw start [] ts) (append-nil before ∙ sym spells) ∙ (program_gives decls).ends in
+    sym (r.raw_on []) ∙ ap (λ ts. raw start [] ts) (append-nil before ∙ sym spells) ∙ (program_gives decls).ends in
     let e2 : step (state_of r.config) (Mark mark.EndOfText 0) (stack_of r.config) ≡ Goes 0 (Done (source_of decls)) [] = cc in
     no_end _ 0 (source_of decls) [] h e2
 stuck_none before (t ∷ rest) r h = λ decls after spells.
     let e : Halts (t ∷ after) ≡ Over (Goes 0 (Done (source_of decls)) []) =
-      sym (ap (λ y. ran y (λ s2 st2. raw s2 st2 after) (t ∷ after)) h) ∙ sym (r.raw_on (t ∷ after)) ∙ ap (λ ts. raw start [] ts) (sym spells) ∙ (program_gives decls).ends in
+    sym (ap (λ y. ran y (λ s2 st2. raw s2 st2 after) (t ∷ after)) h) ∙ sym (r.raw_on (t ∷ after)) ∙ ap (λ ts. raw start [] ts) (sym spells) ∙ (program_gives decls).ends in
     absurd cc
 
 falls_deep : (before : List Lexeme) (token : Lexeme) (r : Reach begin before) (k : ℕ) (s : State) (st : List Frame) (kept : Kept (so_far r.config) token s st)
@@ -261,13 +286,13 @@ falls_deep : (before : List Lexeme) (token : Lexeme) (r : Reach begin before) (k
 falls_deep before token r k s st kept e h =
     let c = completed kept.config in
     let over : raw s st c.more ≡ Over (Goes 0 (Done c.completes.source) []) =
-      ap (λ st3. raw s st3 c.more) (sym kept.is_stack) ∙ ap (λ s3. raw s3 (stack_of kept.config) c.more) (sym kept.is_state) ∙ c.completes.ends in
+    ap (λ st3. raw s st3 c.more) (sym kept.is_stack) ∙ ap (λ s3. raw s3 (stack_of kept.config) c.more) (sym kept.is_state) ∙ c.completes.ends in
     let end : raw start [] (before ++ token ∷ c.more) ≡ Over (Goes 0 (Done c.completes.source) []) =
-      r.raw_on (token ∷ c.more) ∙ ap (λ y. ran y (λ s2 st2. raw s2 st2 c.more) (token ∷ c.more)) e ∙ over in
+    r.raw_on (token ∷ c.more) ∙ ap (λ y. ran y (λ s2 st2. raw s2 st2 c.more) (token ∷ c.more)) e ∙ over in
     let d = read (before ++ token ∷ c.more) begin 0 c.completes.source [] end in
     let levels : levels_decls d.decls [] ≡ r.levels ++ k ∷ meter s st c.more =
-      sym (program_gives d.decls).marks ∙ ap (λ ts. meter start [] ts) d.spells ∙ r.meter_on (token ∷ c.more)
-      ∙ ap (λ y. r.levels ++ metered y (λ s2 st2. meter s2 st2 c.more)) e in
+    sym (program_gives d.decls).marks ∙ ap (λ ts. meter start [] ts) d.spells ∙ r.meter_on (token ∷ c.more)
+    ∙ ap (λ y. r.levels ++ metered y (λ s2 st2. meter s2 st2 c.more)) e in
     record {
       decls = d.decls;
       after = c.more;
@@ -282,10 +307,10 @@ pub yes_is_program : (ts : List Lexeme) (p : Source) → runs start [] ts ≡ Ye
 yes_is_program ts p e =
     let a : Accepts begin ts p = subst (Tells begin ts) e (tells ts begin) in
     let over : raw start [] ts ≡ Over (Goes a.level (Done p) a.stack) =
-      ap (λ xs. raw start [] xs) (sym (append-nil ts)) ∙ a.reach.raw_on [] ∙ ap Over a.ends in
+    ap (λ xs. raw start [] xs) (sym (append-nil ts)) ∙ a.reach.raw_on [] ∙ ap Over a.ends in
     let d = read ts begin a.level p a.stack over in
     let levels : levels_decls d.decls [] ≡ a.reach.levels =
-      sym (program_gives d.decls).marks ∙ ap (λ xs. meter start [] xs) (d.spells ∙ sym (append-nil ts)) ∙ a.reach.meter_on [] ∙ append-nil a.reach.levels in
+    sym (program_gives d.decls).marks ∙ ap (λ xs. meter start [] xs) (d.spells ∙ sym (append-nil ts)) ∙ a.reach.meter_on [] ∙ append-nil a.reach.levels in
     record { decls = d.decls; spells = d.spells; within = subst AreWithin (sym levels) a.reach.within; is = d.is }
 
 pub stopped_stops : (ts rest : List Lexeme) → runs start [] ts ≡ Stopped rest
@@ -300,9 +325,15 @@ deep_kept c t y k s st h e = subst (Moved (so_far c) t) e h
 pub deep_sinks : (ts rest : List Lexeme) → runs start [] ts ≡ TooDeep rest
     → (before : List Lexeme) × (token : Lexeme) × (after : List Lexeme) × (rest ≡ token ∷ after) × (before ++ token ∷ after ≡ ts) × BeginsProgram before × GoesTooDeep before token
 deep_sinks ts rest e =
-    let a : Falls begin ts rest = subst (Tells begin ts) e (tells ts begin) in
-    (a.before, a.token, a.after, a.is, a.parts, reach_begins a.before a.reach,
-      falls_deep a.before a.token a.reach a.level a.state a.stack (deep_kept a.reach.config a.token _ a.level a.state a.stack (advance_moved a.reach.config a.token) a.goes) a.goes a.deep)
+    let a : Falls begin ts rest = subst (Tells begin ts) e (tells ts begin) in (
+      a.before,
+      a.token,
+      a.after,
+      a.is,
+      a.parts,
+      reach_begins a.before a.reach,
+      falls_deep a.before a.token a.reach a.level a.state a.stack (deep_kept a.reach.config a.token _ a.level a.state a.stack (advance_moved a.reach.config a.token) a.goes) a.goes a.deep,
+    )
 
 -- ---- only this answer
 
@@ -314,9 +345,9 @@ reaches_step : (c : Config) (t : Lexeme) (before x : List Lexeme) (y : Step) (z 
 reaches_step c t before x Stuck z e h ih q w = absurd cc
 reaches_step c t before x (Goes k s st) z e kept ih q w =
     reach_more c t before k s st e w.0 kept
-      (ih kept.config (ap (λ s3. raw s3 (stack_of kept.config) (before ++ x)) kept.is_state ∙ ap (λ st3. raw s st3 (before ++ x)) kept.is_stack ∙ q)
-        (subst (λ ls. AreWithin (take (length before) ls))
-          (ap (λ st3. meter s st3 (before ++ x)) (sym kept.is_stack) ∙ ap (λ s3. meter s3 (stack_of kept.config) (before ++ x)) (sym kept.is_state)) w.1))
+    (ih kept.config (ap (λ s3. raw s3 (stack_of kept.config) (before ++ x)) kept.is_state ∙ ap (λ st3. raw s st3 (before ++ x)) kept.is_stack ∙ q)
+    (subst (λ ls. AreWithin (take (length before) ls))
+    (ap (λ st3. meter s st3 (before ++ x)) (sym kept.is_stack) ∙ ap (λ s3. meter s3 (stack_of kept.config) (before ++ x)) (sym kept.is_state)) w.1))
 
 reaches : (before x : List Lexeme) (c : Config) (z : Step) → raw (state_of c) (stack_of c) (before ++ x) ≡ Over z
     → AreWithin (take (length before) (meter (state_of c) (stack_of c) (before ++ x))) → Reach c before
@@ -327,8 +358,8 @@ begins_reach : (before : List Lexeme) → BeginsProgram before → Reach begin b
 begins_reach before b =
     let g = program_gives b.decls in
     reaches before b.rest begin (Goes 0 (Done (source_of b.decls)) [])
-      (ap (λ ts. raw start [] ts) (sym b.spells) ∙ g.ends)
-      (subst (λ ls. AreWithin (take (length before) ls)) (sym g.marks ∙ ap (λ ts. meter start [] ts) b.spells) b.within)
+    (ap (λ ts. raw start [] ts) (sym b.spells) ∙ g.ends)
+    (subst (λ ls. AreWithin (take (length before) ls)) (sym g.marks ∙ ap (λ ts. meter start [] ts) b.spells) b.within)
 
 -- where no program goes on, the machine stops
 stop_end : (before : List Lexeme) (r : Reach begin before) (y : Step) → Keeps (so_far r.config) (Mark mark.EndOfText 0) y → NoneGoesOn before [] → ending (limited y) ≡ Stopped []
@@ -344,9 +375,9 @@ goes_program : (before : List Lexeme) (t : Lexeme) (r : Reach begin before) (k :
 goes_program before t r k s st e kept =
     let c = completed kept.config in
     let over : raw s st c.more ≡ Over (Goes 0 (Done c.completes.source) []) =
-      ap (λ st3. raw s st3 c.more) (sym kept.is_stack) ∙ ap (λ s3. raw s3 (stack_of kept.config) c.more) (sym kept.is_state) ∙ c.completes.ends in
+    ap (λ st3. raw s st3 c.more) (sym kept.is_stack) ∙ ap (λ s3. raw s3 (stack_of kept.config) c.more) (sym kept.is_state) ∙ c.completes.ends in
     let end : raw start [] (before ++ t ∷ c.more) ≡ Over (Goes 0 (Done c.completes.source) []) =
-      r.raw_on (t ∷ c.more) ∙ ap (λ y. ran y (λ s2 st2. raw s2 st2 c.more) (t ∷ c.more)) e ∙ over in
+    r.raw_on (t ∷ c.more) ∙ ap (λ y. ran y (λ s2 st2. raw s2 st2 c.more) (t ∷ c.more)) e ∙ over in
     let d = read (before ++ t ∷ c.more) begin 0 c.completes.source [] end in
     (d.decls, c.more, d.spells)
 
@@ -370,12 +401,12 @@ sink_step : (before : List Lexeme) (t : Lexeme) (rest : List Lexeme) (r : Reach 
 sink_step before t rest r Stuck e h =
     let g = program_gives h.decls in
     let q : Halts (t ∷ h.after) ≡ Over (Goes 0 (Done (source_of h.decls)) []) =
-      sym (ap (λ y. ran y (λ s2 st2. raw s2 st2 h.after) (t ∷ h.after)) e) ∙ sym (r.raw_on (t ∷ h.after)) ∙ ap (λ ts. raw start [] ts) (sym h.spells) ∙ g.ends in
+    sym (ap (λ y. ran y (λ s2 st2. raw s2 st2 h.after) (t ∷ h.after)) e) ∙ sym (r.raw_on (t ∷ h.after)) ∙ ap (λ ts. raw start [] ts) (sym h.spells) ∙ g.ends in
     absurd cc
 sink_step before t rest r (Goes k s st) e h =
     let g = program_gives h.decls in
     let levels : levels_decls h.decls [] ≡ r.levels ++ k ∷ meter s st h.after =
-      sym g.marks ∙ ap (λ ts. meter start [] ts) h.spells ∙ r.meter_on (t ∷ h.after) ∙ ap (λ y. r.levels ++ metered y (λ s2 st2. meter s2 st2 h.after)) e in
+    sym g.marks ∙ ap (λ ts. meter start [] ts) h.spells ∙ r.meter_on (t ∷ h.after) ∙ ap (λ y. r.levels ++ metered y (λ s2 st2. meter s2 st2 h.after)) e in
     let deep : limit < k = subst (λ n. limit < n) (ap (λ ls. get_or ls (length before) 0) levels ∙ nth_front r.levels k _ (length before) r.count) h.deep in
     let b : nat_le k limit ≡ false = grind (arith, deep) in
     ap (λ v. onward (if v then mc.Moves s st else mc.Sinks) (λ s2 st2. runs s2 st2 rest) (t ∷ rest)) b
@@ -397,7 +428,7 @@ program_yes ts p h =
     let all : ts ++ [] ≡ spell_decls h.decls [] = append-nil ts ∙ sym h.spells in
     let over : raw start [] (ts ++ []) ≡ Over (Goes 0 (Done (source_of h.decls)) []) = ap (λ xs. raw start [] xs) all ∙ g.ends in
     let r : Reach begin ts = reaches ts [] begin _ over
-      (within_take (length ts) _ (subst AreWithin (sym g.marks ∙ ap (λ xs. meter start [] xs) (sym all)) h.within)) in
+    (within_take (length ts) _ (subst AreWithin (sym g.marks ∙ ap (λ xs. meter start [] xs) (sym all)) h.within)) in
     let last : Over (step (state_of r.config) (Mark mark.EndOfText 0) (stack_of r.config)) ≡ Over (Goes 0 (Done (source_of h.decls)) []) = sym (r.raw_on []) ∙ over in
     let end : step (state_of r.config) (Mark mark.EndOfText 0) (stack_of r.config) ≡ Goes 0 (Done (source_of h.decls)) [] = cc in
     ap (λ xs. runs start [] xs) (sym (append-nil ts)) ∙ r.runs_on [] ∙ ap (λ y. ending (limited y)) end ∙ ap Yes h.is

@@ -129,10 +129,12 @@ pub run_fails : (whole : Result) (last : ℕ) (text : List ℕ) (tokens : List T
     → Answers (length tokens) last whole (Err f)
 run_fails whole last text tokens i d s fs fs2 f h e r =
     let all : whole ≡ onward (limited (advance (state_of s) (lexeme_at text (get_or tokens i d)) (stack_of fs))) (λ s3 st3. runs s3 st3 (lexemes text (drop (i + 1) tokens)))
-        (lexeme_at text (get_or tokens i d) ∷ lexemes text (drop (i + 1) tokens)) =
-      e ∙ ap (λ ts. runs (state_of s) (stack_of fs) ts) (rest_at text tokens i d h) in
-    record { answers = subst (λ w. FailsWith f (fault_of (length tokens) last w)) (sym all)
-      (fails_whole (length tokens) last i (lexeme_at text (get_or tokens i d)) (lexemes text (drop (i + 1) tokens)) _ f _ (place_is text tokens i h) r.reads) }
+    (lexeme_at text (get_or tokens i d) ∷ lexemes text (drop (i + 1) tokens)) =
+    e ∙ ap (λ ts. runs (state_of s) (stack_of fs) ts) (rest_at text tokens i d h) in
+    record {
+      answers = subst (λ w. FailsWith f (fault_of (length tokens) last w)) (sym all)
+          (fails_whole (length tokens) last i (lexeme_at text (get_or tokens i d)) (lexemes text (drop (i + 1) tokens)) _ f _ (place_is text tokens i h) r.reads);
+    }
 
 pub run_first : (text : List ℕ) (tokens : List Token) → runs mc.start [] (lexemes text tokens) ≡ runs mc.start (stack_of []) (lexemes text (drop 0 tokens))
 unfolding stack_of

@@ -52,7 +52,7 @@ top_keeps ds t = tt
 
 con_keeps : (ds : gr.Decls) (l : ℕ) (n : Name) (m : ℕ) (cs : co.SomeCons) (c : gr.ConDecl) (t : Lexeme)
     → Keeps (λ r. co.head_before (co.MkHead ds l n m cs) (gr.spell_con c r)) t
-      (mc.con_step (record { before = pr.source_of ds; name = n; cons = co.some_constructors cs ++ pr.con_of c ∷ [] }) t [])
+    (mc.con_step (record { before = pr.source_of ds; name = n; cons = co.some_constructors cs ++ pr.con_of c ∷ [] }) t [])
 unfolding mc.con_step
 con_keeps ds l n m co.NoCons c (Mark mark.Bar i) = keep (InDecls (co.WantCon (co.MkHead ds l n m (co.ConsBar (gr.OneCon c) i)))) (λ r. refl)
 con_keeps ds l n m (co.ConsBar cs j) c (Mark mark.Bar i) = keep (InDecls (co.WantCon (co.MkHead ds l n m (co.ConsBar (gr.MoreCons cs j c) i)))) (λ r. refl)
@@ -231,13 +231,13 @@ cmp_keeps k o (co.AndSign x i) y st t = and_keeps k o (gr.Both x i y) st t
 
 compares_keeps : (k : ℕ) (o : co.OrLeft) (a : co.AndLeft) (c : co.CmpLeft) (y : gr.Sum) (x : gr.Comparison) (l : ℕ) (st : Stack)
     → Keeps (λ r. stack_before st (co.or_before o (co.and_before a (co.cmp_before c (gr.spell_sum y r))))) (gr.comparison_mark x l)
-      (mc.compares k (co.or_left o k) (co.and_left a (co.or_of k o)) (co.cmp_left c (co.and_of k o a)) (pr.sum_operand y) (pr.comparison_joint x) l (frames st))
+    (mc.compares k (co.or_left o k) (co.and_left a (co.or_of k o)) (co.cmp_left c (co.and_of k o a)) (pr.sum_operand y) (pr.comparison_joint x) l (frames st))
 compares_keeps k o a co.NoCmp y x l st = keep (InExprs (co.WantPre (MkChains k o a (co.CmpSign y x l) co.NoSum co.NoProd) []) st) (λ r. refl)
 compares_keeps k o a (co.CmpSign w z i) y x l st = tt
 
 sum_keeps : (k : ℕ) (o : co.OrLeft) (a : co.AndLeft) (c : co.CmpLeft) (y : gr.Sum) (st : Stack) (t : Lexeme)
     → Keeps (λ r. stack_before st (co.or_before o (co.and_before a (co.cmp_before c (gr.spell_sum y r))))) t
-      (mc.after_sum k (co.or_left o k) (co.and_left a (co.or_of k o)) (co.cmp_left c (co.and_of k o a)) (pr.sum_operand y) t (frames st))
+    (mc.after_sum k (co.or_left o k) (co.and_left a (co.or_of k o)) (co.cmp_left c (co.and_of k o a)) (pr.sum_operand y) t (frames st))
 unfolding mc.after_sum
 sum_keeps k o a c y st (Mark mark.Equal l) = compares_keeps k o a c y gr.Eq l st
 sum_keeps k o a c y st (Mark mark.Diamond l) = compares_keeps k o a c y gr.Ne l st
@@ -250,13 +250,13 @@ sum_keeps k o a (co.CmpSign w x i) y st t = cmp_keeps k o a (gr.Compares w x i y
 
 adds_keeps : (k : ℕ) (o : co.OrLeft) (a : co.AndLeft) (c : co.CmpLeft) (s : co.SumLeft) (y : gr.Prod) (x : gr.Sign) (l : ℕ) (st : Stack)
     → Keeps (λ r. stack_before st (co.or_before o (co.and_before a (co.cmp_before c (co.sum_before s (gr.spell_prod y r)))))) (gr.sign_mark x l)
-      (mc.adds k (co.or_left o k) (co.and_left a (co.or_of k o)) (co.cmp_left c (co.and_of k o a)) (co.sum_left s (co.cmp_of k o a c)) (pr.prod_operand y) (pr.sign_joint x) l (frames st))
+    (mc.adds k (co.or_left o k) (co.and_left a (co.or_of k o)) (co.cmp_left c (co.and_of k o a)) (co.sum_left s (co.cmp_of k o a c)) (pr.prod_operand y) (pr.sign_joint x) l (frames st))
 adds_keeps k o a c co.NoSum y x l st = keep (InExprs (co.WantPre (MkChains k o a c (co.SumSign (gr.OneProd y) x l) co.NoProd) []) st) (λ r. refl)
 adds_keeps k o a c (co.SumSign w z i) y x l st = keep (InExprs (co.WantPre (MkChains k o a c (co.SumSign (gr.Adds w z i y) x l) co.NoProd) []) st) (λ r. refl)
 
 prod_keeps : (k : ℕ) (o : co.OrLeft) (a : co.AndLeft) (c : co.CmpLeft) (s : co.SumLeft) (y : gr.Prod) (st : Stack) (t : Lexeme)
     → Keeps (λ r. stack_before st (co.or_before o (co.and_before a (co.cmp_before c (co.sum_before s (gr.spell_prod y r)))))) t
-      (mc.after_prod k (co.or_left o k) (co.and_left a (co.or_of k o)) (co.cmp_left c (co.and_of k o a)) (co.sum_left s (co.cmp_of k o a c)) (pr.prod_operand y) t (frames st))
+    (mc.after_prod k (co.or_left o k) (co.and_left a (co.or_of k o)) (co.cmp_left c (co.and_of k o a)) (co.sum_left s (co.cmp_of k o a c)) (pr.prod_operand y) t (frames st))
 unfolding mc.after_prod
 prod_keeps k o a c s y st (Mark mark.Plus l) = adds_keeps k o a c s y gr.Plus l st
 prod_keeps k o a c s y st (Mark mark.Minus l) = adds_keeps k o a c s y gr.Minus l st

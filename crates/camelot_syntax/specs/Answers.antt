@@ -24,14 +24,14 @@ scanned_fault f = Scan f
 -- the answer to the tokens of a text is the machine's
 pub record Runs (text : List ℕ) (tokens : List Token) (result : Result Program ParseFault) : Type 0 where
   pub runs : MatchResult result (λ p. mc.runs mc.start [] (lexemes text tokens) ≡ mc.Yes (program_of p))
-    (λ f. FailsWith f (fault_of (length tokens) (last_line text) (mc.runs mc.start [] (lexemes text tokens))))
+      (λ f. FailsWith f (fault_of (length tokens) (last_line text) (mc.runs mc.start [] (lexemes text tokens))))
 
 -- the answer to a text, with its cause, and both ways
 pub record Parses (text : List ℕ) (result : Result Program ParseFault) : Type 0 where
   pub program : IfOk result (λ p. HasProgram text (program_of p))
   pub cause : IfErr result (HasCause text)
   pub takes : (tokens : List Token) (source : Source) → AreTokensOf text tokens → IsProgram (lexemes text tokens) source
-    → MatchResult result (λ p. program_of p ≡ source) (λ f. f ≡ Memory)
+      → MatchResult result (λ p. program_of p ≡ source) (λ f. f ≡ Memory)
   pub refuses : (tokens : List Token) (fault : ParseFault) → AreTokensOf text tokens → IsFaultAmong (lexemes text tokens) (last_line text) fault
-    → MatchResult result (λ p. ⊥) (λ f. (f ≡ fault) ⊎ (f ≡ Memory))
+      → MatchResult result (λ p. ⊥) (λ f. (f ≡ fault) ⊎ (f ≡ Memory))
   pub scans : (fault : ScanFault) → IsFaultOf text fault → MatchResult result (λ p. ⊥) (λ f. (f ≡ Scan fault) ⊎ (f ≡ Memory))

@@ -61,7 +61,13 @@ some_left (Some l) = Some (left_of l)
 
 abbrev pub lefts_of : Lefts → mc.Lefts
 lefts_of c = record {
-  around = c.around; ors = some_left c.ors; ands = some_left c.ands; cmp = some_left c.cmp; sum = some_left c.sum; prod = some_left c.prod }
+  around = c.around;
+  ors = some_left c.ors;
+  ands = some_left c.ands;
+  cmp = some_left c.cmp;
+  sum = some_left c.sum;
+  prod = some_left c.prod;
+}
 
 -- the last first
 abbrev pub upside : List ℕ → List ℕ → List ℕ

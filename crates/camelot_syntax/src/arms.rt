@@ -27,7 +27,8 @@ impl Parser {
         match lexeme {
             Lexeme::Lower(name) => fields.push(Some(name))?,
             Lexeme::Mark {
-                mark: Mark::Blank, ..
+                mark: Mark::Blank,
+                ..
             } => fields.push(None)?,
             _ => return Err(Halt::Stuck),
         }
@@ -45,7 +46,8 @@ impl Parser {
         let level = matching.level;
         match lexeme {
             Lexeme::Mark {
-                mark: Mark::Arrow, ..
+                mark: Mark::Arrow,
+                ..
             } => {
                 self.stack.push(Frame::ArmBody { matching, head })?;
                 reach(level, State::InExpr(ExprState::Want(level)))
@@ -86,7 +88,8 @@ impl Parser {
         let level = matching.level;
         match lexeme {
             Lexeme::Mark {
-                mark: Mark::Bar, ..
+                mark: Mark::Bar,
+                ..
             } => reach(level, State::InArm(ArmState::WantArm(matching))),
             Lexeme::Upper(con) => reach(level, State::InArm(ArmState::ArmCon(matching, con))),
             _ => Err(Halt::Stuck),
@@ -114,7 +117,8 @@ impl Parser {
         let fields = Vec::new(self.alloc);
         match lexeme {
             Lexeme::Mark {
-                mark: Mark::Open, ..
+                mark: Mark::Open,
+                ..
             } => reach(
                 level,
                 State::InArm(ArmState::WantName(matching, con, fields)),
@@ -137,13 +141,15 @@ impl Parser {
         let level = matching.level;
         match lexeme {
             Lexeme::Mark {
-                mark: Mark::Comma, ..
+                mark: Mark::Comma,
+                ..
             } => reach(
                 level,
                 State::InArm(ArmState::WantName(matching, con, fields)),
             ),
             Lexeme::Mark {
-                mark: Mark::Close, ..
+                mark: Mark::Close,
+                ..
             } => reach(
                 level,
                 State::InArm(ArmState::HaveNames(matching, con, fields)),
@@ -167,7 +173,8 @@ impl Parser {
         let cell = match lexeme {
             Lexeme::Lower(name) => ArmCell::Keep(name),
             Lexeme::Mark {
-                mark: Mark::Blank, ..
+                mark: Mark::Blank,
+                ..
             } => ArmCell::Free,
             _ => return Err(Halt::Stuck),
         };

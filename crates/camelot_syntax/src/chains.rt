@@ -191,7 +191,12 @@ impl Parser {
 
     /// Behind the last operand of a product.
     #[tactic(auto, unfolding(crate::specs::Machine::after_prod))]
-    fn after_prod(&mut self, mut lefts: Lefts, operand: Operand, lexeme: Lexeme) -> Result<State, Halt>
+    fn after_prod(
+        &mut self,
+        mut lefts: Lefts,
+        operand: Operand,
+        lexeme: Lexeme,
+    ) -> Result<State, Halt>
         ensures { Does (after_prod lefts.around (some_left lefts.ors) (some_left lefts.ands) (some_left lefts.cmp) (some_left lefts.sum)
             (operand_of operand) lexeme (stack_of self.old.stack.items)) self.new.stack.items result }
     {
@@ -238,7 +243,12 @@ impl Parser {
 
     /// Behind an operand, its `not`s included.
     #[tactic(auto, unfolding(crate::specs::Machine::after_pre))]
-    fn after_pre(&mut self, mut lefts: Lefts, operand: Operand, lexeme: Lexeme) -> Result<State, Halt>
+    fn after_pre(
+        &mut self,
+        mut lefts: Lefts,
+        operand: Operand,
+        lexeme: Lexeme,
+    ) -> Result<State, Halt>
         ensures { Does (after_pre (lefts_of lefts) (operand_of operand) lexeme (stack_of self.old.stack.items)) self.new.stack.items result }
     {
         match lexeme {
@@ -255,7 +265,12 @@ impl Parser {
 
     /// Behind an operand.
     #[tactic(auto, unfolding(crate::specs::Machine::after_operand))]
-    pub fn after_operand(&mut self, slot: Slot, operand: Operand, lexeme: Lexeme) -> Result<State, Halt>
+    pub fn after_operand(
+        &mut self,
+        slot: Slot,
+        operand: Operand,
+        lexeme: Lexeme,
+    ) -> Result<State, Halt>
         ensures { Does (after_operand (slot_of slot) (operand_of operand) lexeme (stack_of self.old.stack.items)) self.new.stack.items result }
     {
         let operand = negate_all(self.alloc, slot.nots, operand)?;

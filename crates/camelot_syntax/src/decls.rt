@@ -16,10 +16,12 @@ pub fn atom(lexeme: Lexeme) -> Option<Atom>
 {
     match lexeme {
         Lexeme::Mark {
-            mark: Mark::Int, ..
+            mark: Mark::Int,
+            ..
         } => Some(Atom::Int),
         Lexeme::Mark {
-            mark: Mark::Bool, ..
+            mark: Mark::Bool,
+            ..
         } => Some(Atom::Bool),
         Lexeme::Mark {
             mark: Mark::Diamond,
@@ -33,12 +35,7 @@ pub fn atom(lexeme: Lexeme) -> Option<Atom>
 impl TypeDraft {
     /// The declaration with one more constructor.
     #[tactic(auto, using(std::proofs::lemmas::List::map_push))]
-    fn with_con(
-        mut self,
-        name: Name,
-        inline: bool,
-        fields: Vec<Atom>,
-    ) -> Result<TypeDraft, Halt>
+    fn with_con(mut self, name: Name, inline: bool, fields: Vec<Atom>) -> Result<TypeDraft, Halt>
         ensures { MatchResult result
             (λ draft. type_draft_of draft ≡ with_con (type_draft_of self) name inline fields.items) (λ halt. halt ≡ Memory) }
     {
@@ -59,10 +56,12 @@ impl Parser {
     {
         match lexeme {
             Lexeme::Mark {
-                mark: Mark::Type, ..
+                mark: Mark::Type,
+                ..
             } => Ok(State::InDecl(DeclState::TypeName(decls))),
             Lexeme::Mark {
-                mark: Mark::Let, ..
+                mark: Mark::Let,
+                ..
             } => Ok(State::InDecl(DeclState::FunName(decls))),
             Lexeme::Mark {
                 mark: Mark::EndOfText,
@@ -78,7 +77,8 @@ impl Parser {
         ensures { Does (con_step (type_draft_of draft) lexeme (stack_of self.old.stack.items)) self.new.stack.items result }
     {
         if let Lexeme::Mark {
-            mark: Mark::Bar, ..
+            mark: Mark::Bar,
+            ..
         } = &lexeme
         {
             return Ok(State::InDecl(DeclState::WantCon(draft)));
@@ -107,7 +107,8 @@ impl Parser {
     {
         match lexeme {
             Lexeme::Mark {
-                mark: Mark::Equal, ..
+                mark: Mark::Equal,
+                ..
             } => Ok(State::InDecl(DeclState::WantCon(TypeDraft {
                 before: decls,
                 name,
@@ -123,7 +124,8 @@ impl Parser {
     {
         match lexeme {
             Lexeme::Mark {
-                mark: Mark::Bang, ..
+                mark: Mark::Bang,
+                ..
             } => Ok(State::InDecl(DeclState::InlineCon(draft))),
             Lexeme::Upper(name) => Ok(State::InDecl(DeclState::BareCon(draft, name))),
             _ => Err(Halt::Stuck),
@@ -149,9 +151,9 @@ impl Parser {
     {
         let none = Vec::new(self.alloc);
         match lexeme {
-            Lexeme::Mark {
-                mark: Mark::Of, ..
-            } => Ok(State::InDecl(DeclState::WantField(draft, name, none))),
+            Lexeme::Mark { mark: Mark::Of, .. } => Ok(State::InDecl(DeclState::WantField(
+                draft, name, none,
+            ))),
             lexeme => {
                 let draft = draft.with_con(name, false, none)?;
                 self.have_con(draft, lexeme)
@@ -190,7 +192,8 @@ impl Parser {
     {
         match lexeme {
             Lexeme::Mark {
-                mark: Mark::Star, ..
+                mark: Mark::Star,
+                ..
             } => Ok(State::InDecl(DeclState::WantField(draft, name, fields))),
             lexeme => {
                 let draft = draft.with_con(name, false, fields)?;

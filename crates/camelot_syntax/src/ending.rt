@@ -9,7 +9,10 @@ ghost use Rattle.camelot_syntax.specs.States.{Does, stack_of, fun_draft_of, spot
 use crate::lexeme::{Lexeme, Mark};
 use crate::operand::{if_tree, let_tree, reach};
 use crate::parser::Parser;
-use crate::state::{ArmHead, ArmState, Enclosed, ExprState, Frame, FunDraft, Halt, Matching, Operand, Outer, Spot, State};
+use crate::state::{
+    ArmHead, ArmState, Enclosed, ExprState, Frame, FunDraft, Halt, Matching, Operand, Outer, Spot,
+    State,
+};
 use crate::tree::{Arm, Atom, Expr, FunDecl, Name};
 use std::alloc::Global;
 
@@ -59,7 +62,13 @@ fn enclose(alloc: Global, frame: Frame, tree: Expr) -> Result<Enclosed, Halt>
 impl Parser {
     /// Behind the body of a function.
     #[tactic(auto, unfolding(crate::specs::Machine::close_in), using(std::proofs::lemmas::List::map_push))]
-    fn close_body(&mut self, draft: FunDraft, result_kind: Option<Atom>, tree: Expr, lexeme: Lexeme) -> Result<State, Halt>
+    fn close_body(
+        &mut self,
+        draft: FunDraft,
+        result_kind: Option<Atom>,
+        tree: Expr,
+        lexeme: Lexeme,
+    ) -> Result<State, Halt>
         ensures { Does (close_in (Body (fun_draft_of draft) result_kind) (term_of tree) lexeme (stack_of self.old.stack.items)) self.new.stack.items result }
     {
         let mut decls = draft.before;
@@ -74,12 +83,19 @@ impl Parser {
 
     /// Behind an expression in parentheses.
     #[tactic(auto, unfolding(crate::specs::Machine::close_in))]
-    fn close_paren(&mut self, spot: Spot, line: u32, tree: Expr, lexeme: Lexeme) -> Result<State, Halt>
+    fn close_paren(
+        &mut self,
+        spot: Spot,
+        line: u32,
+        tree: Expr,
+        lexeme: Lexeme,
+    ) -> Result<State, Halt>
         ensures { Does (close_in (Paren (spot_of spot) line) (term_of tree) lexeme (stack_of self.old.stack.items)) self.new.stack.items result }
     {
         match lexeme {
             Lexeme::Mark {
-                mark: Mark::Close, ..
+                mark: Mark::Close,
+                ..
             } => self.take_unit(spot, Operand { tree, line }),
             _ => Err(Halt::Stuck),
         }
@@ -87,20 +103,29 @@ impl Parser {
 
     /// Behind an argument of a constructor.
     #[tactic(auto, unfolding(crate::specs::Machine::close_in), using(crate::proofs::StackLemmas::stack_push, std::proofs::lemmas::List::map_push))]
-    fn close_args(&mut self, spot: Spot, con: Name, mut args: Vec<Expr>, tree: Expr, lexeme: Lexeme) -> Result<State, Halt>
+    fn close_args(
+        &mut self,
+        spot: Spot,
+        con: Name,
+        mut args: Vec<Expr>,
+        tree: Expr,
+        lexeme: Lexeme,
+    ) -> Result<State, Halt>
         ensures { Does (close_in (Args (spot_of spot) con (terms_of args.items)) (term_of tree) lexeme (stack_of self.old.stack.items)) self.new.stack.items result }
     {
         let level = spot.slot.level;
         args.push(tree)?;
         match lexeme {
             Lexeme::Mark {
-                mark: Mark::Comma, ..
+                mark: Mark::Comma,
+                ..
             } => {
                 self.stack.push(Frame::Args { spot, con, args })?;
                 reach(level, State::InExpr(ExprState::Want(level)))
             }
             Lexeme::Mark {
-                mark: Mark::Close, ..
+                mark: Mark::Close,
+                ..
             } => reach(level, State::InExpr(ExprState::Full(spot, con, args))),
             _ => Err(Halt::Stuck),
         }
@@ -108,7 +133,13 @@ impl Parser {
 
     /// Behind the value of a `let`.
     #[tactic(auto, unfolding(crate::specs::Machine::close_in), using(crate::proofs::StackLemmas::stack_push))]
-    fn close_value(&mut self, level: u32, name: Name, value: Expr, lexeme: Lexeme) -> Result<State, Halt>
+    fn close_value(
+        &mut self,
+        level: u32,
+        name: Name,
+        value: Expr,
+        lexeme: Lexeme,
+    ) -> Result<State, Halt>
         ensures { Does (close_in (LetValue level name) (term_of value) lexeme (stack_of self.old.stack.items)) self.new.stack.items result }
     {
         match lexeme {
@@ -122,12 +153,19 @@ impl Parser {
 
     /// Behind the condition of an `if`.
     #[tactic(auto, unfolding(crate::specs::Machine::close_in), using(crate::proofs::StackLemmas::stack_push))]
-    fn close_cond(&mut self, level: u32, line: u32, cond: Expr, lexeme: Lexeme) -> Result<State, Halt>
+    fn close_cond(
+        &mut self,
+        level: u32,
+        line: u32,
+        cond: Expr,
+        lexeme: Lexeme,
+    ) -> Result<State, Halt>
         ensures { Does (close_in (IfCond level line) (term_of cond) lexeme (stack_of self.old.stack.items)) self.new.stack.items result }
     {
         match lexeme {
             Lexeme::Mark {
-                mark: Mark::Then, ..
+                mark: Mark::Then,
+                ..
             } => {
                 self.stack.push(Frame::IfThen { level, line, cond })?;
                 reach(level, State::InExpr(ExprState::Want(level)))
@@ -138,12 +176,20 @@ impl Parser {
 
     /// Behind the first branch of an `if`.
     #[tactic(auto, unfolding(crate::specs::Machine::close_in), using(crate::proofs::StackLemmas::stack_push))]
-    fn close_then(&mut self, level: u32, line: u32, cond: Expr, yes: Expr, lexeme: Lexeme) -> Result<State, Halt>
+    fn close_then(
+        &mut self,
+        level: u32,
+        line: u32,
+        cond: Expr,
+        yes: Expr,
+        lexeme: Lexeme,
+    ) -> Result<State, Halt>
         ensures { Does (close_in (IfThen level line (term_of cond)) (term_of yes) lexeme (stack_of self.old.stack.items)) self.new.stack.items result }
     {
         match lexeme {
             Lexeme::Mark {
-                mark: Mark::Else, ..
+                mark: Mark::Else,
+                ..
             } => {
                 self.stack.push(Frame::IfElse { line, cond, yes })?;
                 reach(level, State::InExpr(ExprState::Want(level)))
@@ -154,12 +200,19 @@ impl Parser {
 
     /// Behind what is matched.
     #[tactic(auto, unfolding(crate::specs::Machine::close_in))]
-    fn close_scrutinee(&mut self, level: u32, line: u32, on: Expr, lexeme: Lexeme) -> Result<State, Halt>
+    fn close_scrutinee(
+        &mut self,
+        level: u32,
+        line: u32,
+        on: Expr,
+        lexeme: Lexeme,
+    ) -> Result<State, Halt>
         ensures { Does (close_in (MatchOn level line) (term_of on) lexeme (stack_of self.old.stack.items)) self.new.stack.items result }
     {
         match lexeme {
             Lexeme::Mark {
-                mark: Mark::With, ..
+                mark: Mark::With,
+                ..
             } => {
                 let matching = Matching {
                     level,
@@ -175,19 +228,27 @@ impl Parser {
 
     /// Behind the body of an arm.
     #[tactic(auto, unfolding(crate::specs::Machine::close_in))]
-    fn close_arm(&mut self, matching: Matching, head: ArmHead, body: Expr, lexeme: Lexeme) -> Result<State, Halt>
+    fn close_arm(
+        &mut self,
+        matching: Matching,
+        head: ArmHead,
+        body: Expr,
+        lexeme: Lexeme,
+    ) -> Result<State, Halt>
         ensures { Does (close_in (ArmBody (matching_of matching) (arm_head_of head)) (term_of body) lexeme (stack_of self.old.stack.items)) self.new.stack.items result }
     {
         let level = matching.level;
         match lexeme {
             Lexeme::Mark {
-                mark: Mark::Bar, ..
+                mark: Mark::Bar,
+                ..
             } => {
                 let matching = matching.with_arm(head, body)?;
                 reach(level, State::InArm(ArmState::WantArm(matching)))
             }
             Lexeme::Mark {
-                mark: Mark::End, ..
+                mark: Mark::End,
+                ..
             } => {
                 let matching = matching.with_arm(head, body)?;
                 let tree = matching.whole(self.alloc)?;

@@ -116,7 +116,8 @@ impl Parser {
     {
         match lexeme {
             Lexeme::Mark {
-                mark: Mark::Let, ..
+                mark: Mark::Let,
+                ..
             } => {
                 let level = deeper(around)?;
                 Ok(State::InExpr(ExprState::LetName(level)))
@@ -175,7 +176,8 @@ impl Parser {
     {
         match lexeme {
             Lexeme::Mark {
-                mark: Mark::Equal, ..
+                mark: Mark::Equal,
+                ..
             } => {
                 self.stack.push(Frame::LetValue { level, name })?;
                 reach(level, State::InExpr(ExprState::Want(level)))

@@ -51,7 +51,8 @@ impl Parser {
                 Ok(State::InDecl(DeclState::NextParam(draft)))
             }
             Lexeme::Mark {
-                mark: Mark::Open, ..
+                mark: Mark::Open,
+                ..
             } => Ok(State::InDecl(DeclState::OpenParam(draft))),
             _ => Err(Halt::Stuck),
         }
@@ -83,13 +84,16 @@ impl Parser {
                 Ok(State::InDecl(DeclState::NextParam(draft)))
             }
             Lexeme::Mark {
-                mark: Mark::Open, ..
+                mark: Mark::Open,
+                ..
             } => Ok(State::InDecl(DeclState::OpenParam(draft))),
             Lexeme::Mark {
-                mark: Mark::Colon, ..
+                mark: Mark::Colon,
+                ..
             } => Ok(State::InDecl(DeclState::ResultKind(draft))),
             Lexeme::Mark {
-                mark: Mark::Equal, ..
+                mark: Mark::Equal,
+                ..
             } => self.body(draft, None),
             _ => Err(Halt::Stuck),
         }
@@ -106,12 +110,18 @@ impl Parser {
     }
 
     #[tactic(auto, unfolding(crate::specs::Machine::fun_step))]
-    pub fn result_equals(&mut self, draft: FunDraft, kind: Atom, lexeme: Lexeme) -> Result<State, Halt>
+    pub fn result_equals(
+        &mut self,
+        draft: FunDraft,
+        kind: Atom,
+        lexeme: Lexeme,
+    ) -> Result<State, Halt>
         ensures { Does (fun_step (ResultEquals (fun_draft_of draft) kind) lexeme (stack_of self.old.stack.items)) self.new.stack.items result }
     {
         match lexeme {
             Lexeme::Mark {
-                mark: Mark::Equal, ..
+                mark: Mark::Equal,
+                ..
             } => self.body(draft, Some(kind)),
             _ => Err(Halt::Stuck),
         }
@@ -123,7 +133,8 @@ impl Parser {
     {
         match lexeme {
             Lexeme::Mark {
-                mark: Mark::Read, ..
+                mark: Mark::Read,
+                ..
             } => Ok(State::InDecl(DeclState::ReadParam(draft))),
             Lexeme::Lower(name) => Ok(State::InDecl(DeclState::ParamName(draft, name, false))),
             _ => Err(Halt::Stuck),
@@ -141,15 +152,23 @@ impl Parser {
     }
 
     #[tactic(auto, unfolding(crate::specs::Machine::param_step))]
-    pub fn param_name(&mut self, draft: FunDraft, name: Name, read: bool, lexeme: Lexeme) -> Result<State, Halt>
+    pub fn param_name(
+        &mut self,
+        draft: FunDraft,
+        name: Name,
+        read: bool,
+        lexeme: Lexeme,
+    ) -> Result<State, Halt>
         ensures { Does (param_step (ParamName (fun_draft_of draft) name read) lexeme (stack_of self.old.stack.items)) self.new.stack.items result }
     {
         match lexeme {
             Lexeme::Mark {
-                mark: Mark::Colon, ..
+                mark: Mark::Colon,
+                ..
             } => Ok(State::InDecl(DeclState::ParamKind(draft, name, read))),
             Lexeme::Mark {
-                mark: Mark::Close, ..
+                mark: Mark::Close,
+                ..
             } => {
                 let draft = draft.with_param(Param {
                     name,
@@ -163,7 +182,13 @@ impl Parser {
     }
 
     #[tactic(auto, unfolding(crate::specs::Machine::param_step))]
-    pub fn param_kind(&mut self, draft: FunDraft, name: Name, read: bool, lexeme: Lexeme) -> Result<State, Halt>
+    pub fn param_kind(
+        &mut self,
+        draft: FunDraft,
+        name: Name,
+        read: bool,
+        lexeme: Lexeme,
+    ) -> Result<State, Halt>
         ensures { Does (param_step (ParamKind (fun_draft_of draft) name read) lexeme (stack_of self.old.stack.items)) self.new.stack.items result }
     {
         match atom(lexeme) {
@@ -180,12 +205,18 @@ impl Parser {
     }
 
     #[tactic(auto, unfolding(crate::specs::Machine::param_step))]
-    pub fn param_close(&mut self, draft: FunDraft, param: Param, lexeme: Lexeme) -> Result<State, Halt>
+    pub fn param_close(
+        &mut self,
+        draft: FunDraft,
+        param: Param,
+        lexeme: Lexeme,
+    ) -> Result<State, Halt>
         ensures { Does (param_step (ParamClose (fun_draft_of draft) param) lexeme (stack_of self.old.stack.items)) self.new.stack.items result }
     {
         match lexeme {
             Lexeme::Mark {
-                mark: Mark::Close, ..
+                mark: Mark::Close,
+                ..
             } => {
                 let draft = draft.with_param(param)?;
                 Ok(State::InDecl(DeclState::NextParam(draft)))

@@ -12,6 +12,7 @@ mod ending;
 mod exprs;
 mod fault;
 mod functions;
+pub mod laws;
 mod lexeme;
 mod operand;
 mod parser;
@@ -24,6 +25,7 @@ mod tree;
 mod units;
 
 pub use fault::ParseFault;
-pub use text::parse;
+pub use lexeme::{Lexeme, Mark};
 pub use program::Program;
+pub use text::parse;
 pub use tree::{Arm, ArmCell, Atom, ConDecl, Expr, FunDecl, Name, Param, PrimOp, TypeDecl};

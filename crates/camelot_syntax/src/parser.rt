@@ -31,10 +31,12 @@ fn stop_fault(lexeme: &Lexeme, token: u64, line: u32) -> ParseFault
     match lexeme {
         Lexeme::Variable { .. } => ParseFault::TypeParameter { token, line },
         Lexeme::Mark {
-            mark: Mark::Slash, ..
+            mark: Mark::Slash,
+            ..
         } => ParseFault::Division { token, line },
         Lexeme::Mark {
-            mark: Mark::Mod, ..
+            mark: Mark::Mod,
+            ..
         } => ParseFault::Division { token, line },
         _ => ParseFault::Unexpected { token, line },
     }

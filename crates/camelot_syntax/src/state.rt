@@ -3,9 +3,8 @@
 ghost use Rattle.std.specs.Prelude.{◌≡◌};
 ghost use Rattle.camelot_syntax.specs.declared.state.Halt.TheVariants.{Memory};
 
-use std::alloc::AllocFailed;
-
 use crate::tree::{Arm, ArmCell, Atom, ConDecl, Expr, FunDecl, Name, Param, PrimOp, TypeDecl};
+use std::alloc::AllocFailed;
 
 /// An operand, with the line of its first token.
 #[derive(Drop)]

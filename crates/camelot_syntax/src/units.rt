@@ -18,9 +18,7 @@ fn begins_unit(lexeme: &Lexeme) -> bool
 {
     match lexeme {
         Lexeme::Number { .. } | Lexeme::Upper(_) => true,
-        Lexeme::Mark { mark, .. } => {
-            matches!(mark, Mark::True | Mark::False | Mark::Open)
-        }
+        Lexeme::Mark { mark, .. } => { matches!(mark, Mark::True | Mark::False | Mark::Open) }
         _ => false,
     }
 }
@@ -147,9 +145,7 @@ impl Parser {
                 let tree = Expr::Truth { value: false, line };
                 self.take_unit(spot, Operand { tree, line })
             }
-            Lexeme::Upper(name) => {
-                reach(level, State::InExpr(ExprState::Con(spot, name)))
-            }
+            Lexeme::Upper(name) => { reach(level, State::InExpr(ExprState::Con(spot, name))) }
             Lexeme::Mark {
                 mark: Mark::Open,
                 line,
@@ -220,7 +216,8 @@ impl Parser {
         let args = Vec::new(self.alloc);
         match lexeme {
             Lexeme::Mark {
-                mark: Mark::Open, ..
+                mark: Mark::Open,
+                ..
             } => {
                 self.stack.push(Frame::Args { spot, con, args })?;
                 reach(level, State::InExpr(ExprState::Want(level)))
@@ -234,7 +231,13 @@ impl Parser {
 
     /// Behind a constructor's arguments.
     #[tactic(auto, unfolding(crate::specs::Machine::full_step))]
-    pub fn full(&mut self, spot: Spot, con: Name, args: Vec<Expr>, lexeme: Lexeme) -> Result<State, Halt>
+    pub fn full(
+        &mut self,
+        spot: Spot,
+        con: Name,
+        args: Vec<Expr>,
+        lexeme: Lexeme,
+    ) -> Result<State, Halt>
         requires { IsSmall lexeme }
         ensures { Does (full_step (spot_of spot) con (terms_of args.items) lexeme (stack_of self.old.stack.items)) self.new.stack.items result }
     {
@@ -249,7 +252,13 @@ impl Parser {
 
     /// Behind the `@` of a build.
     #[tactic(auto, unfolding(crate::specs::Machine::placed_step))]
-    pub fn placed(&mut self, spot: Spot, con: Name, args: Vec<Expr>, lexeme: Lexeme) -> Result<State, Halt>
+    pub fn placed(
+        &mut self,
+        spot: Spot,
+        con: Name,
+        args: Vec<Expr>,
+        lexeme: Lexeme,
+    ) -> Result<State, Halt>
         ensures { Does (placed_step (spot_of spot) con (terms_of args.items) lexeme (stack_of self.old.stack.items)) self.new.stack.items result }
     {
         match lexeme {
