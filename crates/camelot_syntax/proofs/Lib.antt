@@ -5,6 +5,7 @@ pub mod Concrete
 pub mod Sound
 pub mod Closing
 pub mod StackLemmas
+pub mod LawLemmas
 pub mod ShapeLemmas
 pub mod ParseLemmas
 pub mod RunLemmas
@@ -12,3 +13,4 @@ pub mod MarkLemmas
 pub mod LexemeLemmas
 pub mod LevelLemmas
 pub mod Place
+pub mod Rows

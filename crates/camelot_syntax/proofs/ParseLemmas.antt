@@ -35,7 +35,7 @@ place_is n before rest h = omega (arith, length-append before rest)
 
 -- ---- from an answer of the machine to its meaning
 
-fault_among : (ts : List Lexeme) (n last : ℕ) (f : ParseFault) (r : Result) → length ts ≡ n → runs start [] ts ≡ r → fault_of n last r ≡ Some f → IsFaultAmong ts last f
+pub fault_among : (ts : List Lexeme) (n last : ℕ) (f : ParseFault) (r : Result) → length ts ≡ n → runs start [] ts ≡ r → fault_of n last r ≡ Some f → IsFaultAmong ts last f
 fault_among ts n last f (Yes p) c e h = absurd cc
 fault_among ts n last f (Stopped rest) c e h =
     let k = stopped_stops ts rest e in
@@ -99,7 +99,7 @@ fails_cause text tokens (fault.Division k l) a h = told text tokens (fault.Divis
 
 -- ---- from a meaning to the answer
 
-among_fault : (ts : List Lexeme) (n last : ℕ) (f : ParseFault) → length ts ≡ n → IsFaultAmong ts last f → fault_of n last (runs start [] ts) ≡ Some f
+pub among_fault : (ts : List Lexeme) (n last : ℕ) (f : ParseFault) → length ts ≡ n → IsFaultAmong ts last f → fault_of n last (runs start [] ts) ≡ Some f
 among_fault ts n last f c (inl s) =
     ap (fault_of n last) (stops_stopped ts s.before s.rest s.parts s.begins s.none)
     ∙ ap (λ m. Some (stop_fault s.rest m (first_line s.rest last))) (place_is n s.before s.rest (ap length s.parts ∙ c)) ∙ ap Some (sym s.is)

@@ -9,3 +9,4 @@ pub mod Parsing
 pub mod Machine
 pub mod States
 pub mod Answers
+pub mod Meaning

@@ -116,3 +116,12 @@ abbrev pub HasCause : List ℕ → ParseFault → Type 0
 HasCause text (Scan fault) = IsFaultOf text fault
 HasCause text Memory = Unit {0}
 HasCause text fault = HasFault text fault
+
+-- the place of a fault among the tokens
+abbrev pub place_of : ParseFault → ℕ
+place_of (Scan fault) = 0
+place_of (Unexpected token line) = token
+place_of (TooDeep token line) = token
+place_of (TypeParameter token line) = token
+place_of (Division token line) = token
+place_of Memory = 0

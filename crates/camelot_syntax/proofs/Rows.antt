@@ -1,0 +1,116 @@
+-- The definitions on worked programs: `dup` of a list, `both` whose first argument takes a cell and whose second runs out
+-- of fuel, and `rev`, which builds in the cells that it takes apart.
+use Rattle.std.proofs.Common.{◌≡◌, ℕ, List, [], ◌∷◌, Some, None, false, true, pos, refl}
+use Rattle.std.specs.Prelude.{codes}
+use Rattle.camelot_values.specs.Value as value
+use Rattle.camelot_values.specs.Value.{Value, parts}
+use Rattle.camelot_values.specs.Outcome.{Outcome, Done, Fuel}
+use Rattle.camelot_syntax.specs.declared.tree.Name.{Name}
+use Rattle.camelot_syntax.specs.declared.tree.Atom.TheVariants as atom
+use Rattle.camelot_syntax.specs.declared.tree.Param.{Param}
+use Rattle.camelot_syntax.specs.declared.tree.ArmCell.TheVariants as cell
+use Rattle.camelot_syntax.specs.Tree.{Term, Var, Let, Match, Build, Call, Branch, Constructor, DataType, Function, Source, terms, arms}
+use Rattle.camelot_syntax.specs.Meaning.{run_of}
+
+abbrev named : List ℕ → Name
+named word = record { word = word; line = 1 }
+
+abbrev param : List ℕ → Param
+param word = record { name = named word; read = false; kind = None }
+
+-- type ilist = !Nil | Cons of int * ilist
+abbrev ilist : DataType
+ilist = record {
+  name = named (codes "ilist");
+  cons =
+      record { name = named (codes "Nil"); inline = true; fields = [] }
+      ∷ record { name = named (codes "Cons"); inline = false; fields = atom.Int ∷ atom.Named (named (codes "ilist")) ∷ [] } ∷ [];
+}
+
+abbrev var : List ℕ → Term
+var word = Var (named word)
+
+abbrev nil : Term
+nil = Build (named (codes "Nil")) (terms []) None
+
+abbrev cons : Term → Term → Term
+cons head tail = Build (named (codes "Cons")) (terms (head ∷ tail ∷ [])) None
+
+-- let dup l = match l with Nil -> Nil | Cons(h, t)@_ -> let r = dup t in Cons(h, Cons(h, r)) end
+abbrev dup : Function
+dup = record {
+  name = named (codes "dup");
+  params = param (codes "l") ∷ [];
+  result = None;
+  body =
+      Match (var (codes "l")) (arms (
+      record { con = named (codes "Nil"); fields = []; cell = cell.Plain; body = nil }
+      ∷ record {
+        con = named (codes "Cons");
+        fields = Some (named (codes "h")) ∷ Some (named (codes "t")) ∷ [];
+        cell = cell.Free;
+        body =
+            Let (named (codes "r")) (Call (named (codes "dup")) (terms (var (codes "t") ∷ []))) (cons (var (codes "h")) (cons (var (codes "h")) (var (codes "r"))));
+      }
+      ∷ [])) 1;
+}
+
+abbrev doubling : Source
+doubling = record { types = ilist ∷ []; funs = dup ∷ [] }
+
+abbrev list : List ℕ → Value
+list [] = value.Con 0 value.End
+list (n ∷ ns) = value.Con 1 (parts (value.Int (pos n) ∷ list ns ∷ []))
+
+-- four calls; the net goes down to -3, and then up to 3
+pub dup_of_three : run_of doubling 65536 0 10 (list (1 ∷ 2 ∷ 3 ∷ []) ∷ []) ≡ Done (list (1 ∷ 1 ∷ 2 ∷ 2 ∷ 3 ∷ 3 ∷ [])) 4 3 0
+dup_of_three = refl
+
+pub dup_without_fuel : run_of doubling 65536 0 3 (list (1 ∷ 2 ∷ 3 ∷ []) ∷ []) ≡ Fuel 0
+dup_without_fuel = refl
+
+-- let rev acc l = match l with Nil -> acc | Cons(h, t)@d -> rev Cons(h, acc)@d t end
+abbrev rev : Function
+rev = record {
+  name = named (codes "rev");
+  params = param (codes "acc") ∷ param (codes "l") ∷ [];
+  result = None;
+  body =
+      Match (var (codes "l")) (arms (
+      record { con = named (codes "Nil"); fields = []; cell = cell.Plain; body = var (codes "acc") }
+      ∷ record {
+        con = named (codes "Cons");
+        fields = Some (named (codes "h")) ∷ Some (named (codes "t")) ∷ [];
+        cell = cell.Keep (named (codes "d"));
+        body =
+            Call (named (codes "rev")) (terms (Build (named (codes "Cons")) (terms (var (codes "h") ∷ var (codes "acc") ∷ [])) (Some (named (codes "d"))) ∷ var (codes "t") ∷ []));
+      }
+      ∷ [])) 1;
+}
+
+pub rev_of_two : run_of (record { types = ilist ∷ []; funs = rev ∷ [] }) 65536 0 10 (list [] ∷ list (1 ∷ 2 ∷ []) ∷ []) ≡ Done (list (2 ∷ 1 ∷ [])) 3 0 0
+rev_of_two = refl
+
+-- type two = Two of ilist * int; let one x = Cons(x, Nil); let spin x = spin x; let both x = Two(one x, spin x)
+abbrev two : DataType
+two = record {
+  name = named (codes "two");
+  cons =
+      record { name = named (codes "Two"); inline = false; fields = atom.Named (named (codes "ilist")) ∷ atom.Int ∷ [] } ∷ [];
+}
+
+abbrev of_x : List ℕ → Term → Function
+of_x name e = record { name = named name; params = param (codes "x") ∷ []; result = None; body = e }
+
+abbrev applied : List ℕ → Term
+applied name = Call (named name) (terms (var (codes "x") ∷ []))
+
+-- the first argument takes its cell before the second runs out of fuel
+pub both_of_seven : run_of (record {
+  types = ilist ∷ two ∷ [];
+  funs =
+      of_x (codes "one") (cons (var (codes "x")) nil) ∷ of_x (codes "spin") (applied (codes "spin"))
+      ∷ of_x (codes "both") (Build (named (codes "Two")) (terms (applied (codes "one") ∷ applied (codes "spin") ∷ [])) None) ∷ [];
+})
+    65536 2 5 (value.Int (pos 7) ∷ []) ≡ Fuel 1
+both_of_seven = refl
