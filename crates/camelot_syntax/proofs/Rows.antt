@@ -66,7 +66,7 @@ list (n ∷ ns) = value.Con 1 (parts (value.Int (pos n) ∷ list ns ∷ []))
 pub dup_of_three : run_of doubling 65536 0 10 (list (1 ∷ 2 ∷ 3 ∷ []) ∷ []) ≡ Done (list (1 ∷ 1 ∷ 2 ∷ 2 ∷ 3 ∷ 3 ∷ [])) 4 3 0
 dup_of_three = refl
 
-pub dup_without_fuel : run_of doubling 65536 0 3 (list (1 ∷ 2 ∷ 3 ∷ []) ∷ []) ≡ Fuel 0
+pub dup_without_fuel : run_of doubling 65536 0 3 (list (1 ∷ 2 ∷ 3 ∷ []) ∷ []) ≡ Fuel 3 0
 dup_without_fuel = refl
 
 -- let rev acc l = match l with Nil -> acc | Cons(h, t)@d -> rev Cons(h, acc)@d t end
@@ -112,5 +112,5 @@ pub both_of_seven : run_of (record {
       of_x (codes "one") (cons (var (codes "x")) nil) ∷ of_x (codes "spin") (applied (codes "spin"))
       ∷ of_x (codes "both") (Build (named (codes "Two")) (terms (applied (codes "one") ∷ applied (codes "spin") ∷ [])) None) ∷ [];
 })
-    65536 2 5 (value.Int (pos 7) ∷ []) ≡ Fuel 1
+    65536 2 5 (value.Int (pos 7) ∷ []) ≡ Fuel 5 1
 both_of_seven = refl

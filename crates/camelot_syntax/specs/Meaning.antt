@@ -126,8 +126,8 @@ body_run p enter (Some f) fuel waits args = given (put_params (λ n. None) f.par
 -- A call of a function takes one unit of fuel, which is looked at first, and then the depth. The clock makes the
 -- recursion structural: it is at least the fuel, and changes nothing.
 abbrev pub calls : Source → ℕ → ℕ → Enter
-calls p limit clock zero waits tail func args = Fuel 0
-calls p limit zero (suc fuel) waits tail func args = Fuel 0
+calls p limit clock zero waits tail func args = Fuel 0 0
+calls p limit zero (suc fuel) waits tail func args = Fuel 0 0
 calls p limit (suc clock) (suc fuel) waits tail func args = if is_too_deep limit waits tail then Deep 0
     else entered (body_run p (calls p limit clock) (slice_get p.funs func) fuel (cond tail waits (suc waits)) args)
 

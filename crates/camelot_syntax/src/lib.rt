@@ -25,10 +25,7 @@ mod tree;
 mod units;
 
 pub use fault::ParseFault;
-<<<<<<< HEAD
-=======
 pub use lexeme::{Lexeme, Mark};
->>>>>>> 9f7f6e365919a325119aa34d5215e8f4345d36db
 pub use program::Program;
 pub use text::parse;
 pub use tree::{Arm, ArmCell, Atom, ConDecl, Expr, FunDecl, Name, Param, PrimOp, TypeDecl};

@@ -6,19 +6,6 @@ use std::process::Abort;
 use std::test::Fail;
 use text_scan::ScanFault;
 
-<<<<<<< HEAD
-fn deep(alloc: Global, levels: u32) -> Result<Expr, AllocError> {
-    let mut tree = Expr::Num { value: 1, line: 1 };
-    for _ in 0..levels {
-        let left = Box::new(alloc, tree)?;
-        let right = Box::new(alloc, Expr::Num { value: 1, line: 1 })?;
-        tree = Expr::Prim {
-            op: PrimOp::Add,
-            left,
-            right,
-            line: 1,
-        };
-=======
 /// The program of a text that is short enough.
 fn parsed(rt: &impl Abort, alloc: Global, text: &[u8]) -> Result<Program, ParseFault> {
     assert!(rt; text.len() < 1 << 32);
@@ -48,7 +35,6 @@ fn symbol(op: PrimOp) -> &'static [u8] {
         PrimOp::Le => b"<=",
         PrimOp::Gt => b">",
         PrimOp::Ge => b">=",
->>>>>>> 9f7f6e365919a325119aa34d5215e8f4345d36db
     }
 }
 
