@@ -18,8 +18,6 @@ mod operand;
 mod parser;
 mod program;
 mod state;
-#[cfg(test)]
-mod tests;
 mod text;
 mod tree;
 mod units;
