@@ -1,13 +1,13 @@
 -- What the machine does behind the last token of a tree, and where a tree may begin.
 use Rattle.std.proofs.Common.{◌≡◌, ℕ, suc, Bool, true, false, if◌then◌else◌, List, [], ◌∷◌, ◌++◌, Option, Some, None, refl, sym, ap, ◌∙◌, pos, ◌-ℤ◌}
 use Rattle.camelot_values.specs.Operator as operator
-use Rattle.camelot_syntax.specs.declared.tree.Name.{Name}
-use Rattle.camelot_syntax.specs.declared.tree.ArmCell.TheVariants as cell
+use Rattle.camelot_tree.specs.declared.tree.Name.{Name}
+use Rattle.camelot_tree.specs.declared.tree.ArmCell.TheVariants as cell
 use Rattle.camelot_syntax.specs.declared.lexeme.Mark.TheVariants as mark
 use Rattle.camelot_syntax.specs.declared.lexeme.Lexeme.{Lexeme}
 use Rattle.camelot_syntax.specs.declared.lexeme.Lexeme.TheVariants.{Lower, Upper, Variable, Number, Greatest, Mark}
-use Rattle.camelot_syntax.specs.Tree as tree
-use Rattle.camelot_syntax.specs.Tree.{Term, Source, Branch}
+use Rattle.camelot_tree.specs.Tree as tree
+use Rattle.camelot_tree.specs.Tree.{Term, Source, Branch}
 use Rattle.camelot_syntax.specs.Grammar as gr
 use Rattle.camelot_syntax.specs.Program as pr
 use Rattle.camelot_syntax.specs.Program.{Operand}

@@ -2,13 +2,13 @@
 use Rattle.std.proofs.Common.{◌≡◌, ℕ, suc, Bool, true, false, List, [], ◌∷◌, ◌++◌, Option, Some, None, refl, sym, ap, ◌∙◌, pos, lit<, lit≤}
 use Rattle.std.specs.List.{AllByRecursion}
 use Rattle.text_scan.specs.Forms.{token_kind, is_word, is_symbol, words, symbols}
-use Rattle.camelot_syntax.specs.declared.tree.Name.{Name}
+use Rattle.camelot_tree.specs.declared.tree.Name.{Name}
 use Rattle.camelot_syntax.specs.declared.lexeme.Mark.TheVariants as mark
 use Rattle.camelot_syntax.specs.declared.lexeme.Lexeme.{Lexeme}
 use Rattle.camelot_syntax.specs.declared.lexeme.Lexeme.TheVariants.{Lower, Upper, Variable, Number, Greatest, Mark}
 use Rattle.camelot_syntax.specs.Lexemes.{IsReal}
-use Rattle.camelot_syntax.specs.Tree as tree
-use Rattle.camelot_syntax.specs.Tree.{Term, Source}
+use Rattle.camelot_tree.specs.Tree as tree
+use Rattle.camelot_tree.specs.Tree.{Term, Source}
 use Rattle.camelot_syntax.specs.Program as pr
 use Rattle.camelot_syntax.specs.Program.{Operand}
 use Rattle.camelot_syntax.specs.Machine as mc

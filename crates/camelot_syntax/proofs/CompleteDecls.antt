@@ -1,12 +1,12 @@
 -- The machine reads what a whole program of the grammar spells, with its levels.
 use Rattle.std.proofs.Common.{◌≡◌, ℕ, suc, Bool, true, false, List, [], ◌∷◌, ◌++◌, Option, Some, None, refl, sym, ap, ◌∙◌}
-use Rattle.camelot_syntax.specs.declared.tree.Name.{Name}
-use Rattle.camelot_syntax.specs.declared.tree.Atom.{Atom}
-use Rattle.camelot_syntax.specs.declared.tree.Param.{Param}
+use Rattle.camelot_tree.specs.declared.tree.Name.{Name}
+use Rattle.camelot_tree.specs.declared.tree.Atom.{Atom}
+use Rattle.camelot_tree.specs.declared.tree.Param.{Param}
 use Rattle.camelot_syntax.specs.declared.lexeme.Mark.TheVariants as mark
 use Rattle.camelot_syntax.specs.declared.lexeme.Lexeme.{Lexeme}
 use Rattle.camelot_syntax.specs.declared.lexeme.Lexeme.TheVariants.{Lower, Upper, Mark}
-use Rattle.camelot_syntax.specs.Tree.{Constructor, Source}
+use Rattle.camelot_tree.specs.Tree.{Constructor, Source}
 use Rattle.camelot_syntax.specs.Grammar as gr
 use Rattle.camelot_syntax.specs.Program as pr
 use Rattle.camelot_syntax.specs.Levels as lv

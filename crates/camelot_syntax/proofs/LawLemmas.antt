@@ -5,7 +5,7 @@ use Rattle.camelot_syntax.specs.declared.fault.ParseFault.{ParseFault}
 use Rattle.camelot_syntax.specs.declared.lexeme.Mark.TheVariants as mark
 use Rattle.camelot_syntax.specs.declared.lexeme.Lexeme.{Lexeme}
 use Rattle.camelot_syntax.specs.declared.lexeme.Lexeme.TheVariants.{Variable, Mark}
-use Rattle.camelot_syntax.specs.Tree.{Source}
+use Rattle.camelot_tree.specs.Tree.{Source}
 use Rattle.camelot_syntax.specs.Grammar.{Decls, spell_decls}
 use Rattle.camelot_syntax.specs.Levels.{levels_decls}
 use Rattle.camelot_syntax.specs.Parsing.{IsProgram, BeginsProgram, IsFaultAmong, stop_fault, first_line, place_of}

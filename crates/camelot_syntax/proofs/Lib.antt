@@ -13,4 +13,3 @@ pub mod MarkLemmas
 pub mod LexemeLemmas
 pub mod LevelLemmas
 pub mod Place
-pub mod Rows

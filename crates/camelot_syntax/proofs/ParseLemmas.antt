@@ -5,20 +5,21 @@ use Rattle.text_scan.specs.declared.fault.ScanFault.{ScanFault}
 use Rattle.text_scan.specs.declared.fault.ScanFault.TheVariants as scan
 use Rattle.text_scan.specs.Reading.{AreTokensOf, IsFaultOf}
 use Rattle.text_scan.specs.Reading as reading
-use Rattle.camelot_syntax.specs.declared.program.Program.{Program}
+use Rattle.camelot_tree.specs.declared.program.Program.{Program}
 use Rattle.camelot_syntax.specs.declared.fault.ParseFault.{ParseFault}
 use Rattle.camelot_syntax.specs.declared.fault.ParseFault.TheVariants as fault
 use Rattle.camelot_syntax.specs.declared.lexeme.Mark.TheVariants as mark
 use Rattle.camelot_syntax.specs.declared.lexeme.Lexeme.{Lexeme}
 use Rattle.camelot_syntax.specs.declared.lexeme.Lexeme.TheVariants.{Variable, Mark}
 use Rattle.camelot_syntax.specs.Lexemes.{lexemes, lexeme_at}
-use Rattle.camelot_syntax.specs.Tree.{Source}
-use Rattle.camelot_syntax.specs.Shape.{is_whole}
+use Rattle.camelot_tree.specs.Tree.{Source}
+use Rattle.camelot_tree.specs.Programs.{program_of}
+use Rattle.camelot_tree.specs.Shape.{is_whole}
 use Rattle.camelot_syntax.specs.Parsing.{IsProgram, BeginsProgram, NoneGoesOn, GoesTooDeep, Stops, Sinks, IsFaultAmong, HasFault, HasProgram, HasCause, stop_fault, first_line, line_of, last_line}
 use Rattle.camelot_syntax.specs.Machine as mc
 use Rattle.camelot_syntax.specs.Machine.{runs, start, Yes, Stopped, TooDeep, Result}
 use Rattle.camelot_syntax.specs.States.{FailsWith, fault_of}
-use Rattle.camelot_syntax.specs.Answers.{program_of, scanned_fault, Runs, Parses}
+use Rattle.camelot_syntax.specs.Answers.{scanned_fault, Runs, Parses}
 use Rattle.camelot_syntax.proofs.ShapeLemmas.{decls_whole}
 use Rattle.camelot_syntax.proofs.Place.{yes_is_program, stopped_stops, deep_sinks, stops_stopped, sinks_deep, program_yes}
 

@@ -6,7 +6,7 @@ use Rattle.camelot_syntax.specs.declared.lexeme.Mark.TheVariants as mark
 use Rattle.camelot_syntax.specs.declared.lexeme.Lexeme.{Lexeme}
 use Rattle.camelot_syntax.specs.declared.lexeme.Lexeme.TheVariants.{Mark}
 use Rattle.camelot_syntax.specs.Lexemes.{IsReal}
-use Rattle.camelot_syntax.specs.Tree.{Source}
+use Rattle.camelot_tree.specs.Tree.{Source}
 use Rattle.camelot_syntax.specs.Grammar.{Decls, NoDecls, spell_decls}
 use Rattle.camelot_syntax.specs.Program.{source_of}
 use Rattle.camelot_syntax.specs.Levels.{levels_decls}

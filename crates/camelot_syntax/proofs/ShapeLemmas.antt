@@ -2,13 +2,13 @@
 use Rattle.std.proofs.Common.{◌≡◌, ℕ, Bool, true, false, not, ◌&&◌, ◌||◌, List, [], ◌∷◌, ◌++◌, refl, sym, ap, ◌∙◌, subst}
 use Rattle.std.specs.List.{list_all}
 use Rattle.camelot_values.specs.Operator as operator
-use Rattle.camelot_syntax.specs.declared.tree.Name.{Name}
-use Rattle.camelot_syntax.specs.Tree as tree
-use Rattle.camelot_syntax.specs.Tree.{Term, Branch, Source}
+use Rattle.camelot_tree.specs.declared.tree.Name.{Name}
+use Rattle.camelot_tree.specs.Tree as tree
+use Rattle.camelot_tree.specs.Tree.{Term, Branch, Source}
 use Rattle.camelot_syntax.specs.Grammar as gr
 use Rattle.camelot_syntax.specs.Program as pr
 use Rattle.camelot_syntax.specs.Program.{Operand, Joint}
-use Rattle.camelot_syntax.specs.Shape.{is_nothing, has_arms, each_has_arms, have_arms, con_is_whole, type_is_whole, fun_is_whole, is_whole}
+use Rattle.camelot_tree.specs.Shape.{is_nothing, has_arms, each_has_arms, have_arms, con_is_whole, type_is_whole, fun_is_whole, is_whole}
 
 both : (a b : Bool) → a ≡ true → b ≡ true → (a && b) ≡ true
 both true b h k = k

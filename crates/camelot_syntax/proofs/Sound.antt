@@ -1,11 +1,11 @@
 -- What the machine has read is spelled by trees of the grammar: each step keeps this.
 use Rattle.std.proofs.Common.{◌≡◌, ℕ, suc, Bool, true, false, if◌then◌else◌, List, [], ◌∷◌, ◌++◌, Option, Some, None, refl, sym, ap, ◌∙◌, subst}
-use Rattle.camelot_syntax.specs.declared.tree.Name.{Name}
+use Rattle.camelot_tree.specs.declared.tree.Name.{Name}
 use Rattle.camelot_syntax.specs.declared.lexeme.Mark.TheVariants as mark
 use Rattle.camelot_syntax.specs.declared.lexeme.Lexeme.{Lexeme}
 use Rattle.camelot_syntax.specs.declared.lexeme.Lexeme.TheVariants.{Lower, Upper, Variable, Number, Greatest, Mark}
-use Rattle.camelot_syntax.specs.Tree.{Term, Source}
-use Rattle.camelot_syntax.specs.Tree as tree
+use Rattle.camelot_tree.specs.Tree.{Term, Source}
+use Rattle.camelot_tree.specs.Tree as tree
 use Rattle.camelot_syntax.specs.Grammar as gr
 use Rattle.camelot_syntax.specs.Program as pr
 use Rattle.camelot_syntax.specs.Program.{Operand}

@@ -1,8 +1,8 @@
 -- The code's stack grows at its end, and the machine's at its head.
 use Rattle.std.proofs.Common.{◌≡◌, ℕ, List, [], ◌∷◌, ◌++◌, refl, ap}
-use Rattle.camelot_syntax.specs.declared.tree.Name.{Name}
+use Rattle.camelot_tree.specs.declared.tree.Name.{Name}
 use Rattle.camelot_syntax.specs.declared.lexeme.Lexeme.{Lexeme}
-use Rattle.camelot_syntax.specs.Tree.{Term}
+use Rattle.camelot_tree.specs.Tree.{Term}
 use Rattle.camelot_syntax.specs.declared.state.Frame.{Frame}
 use Rattle.camelot_syntax.specs.Machine as mc
 use Rattle.camelot_syntax.specs.States.{frame_of, stacked, stack_of, upside, nots_of}

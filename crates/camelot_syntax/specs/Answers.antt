@@ -1,21 +1,18 @@
 -- What the parser answers.
-use Rattle.std.specs.Prelude.{◌≡◌, ℕ, ◌⊎◌, List, [], length, map, Result, MatchResult, IfOk, IfErr}
+use Rattle.std.specs.Prelude.{◌≡◌, ℕ, ◌⊎◌, List, [], length, Result, MatchResult, IfOk, IfErr}
 use Rattle.text_scan.specs.declared.tokens.Token.{Token}
 use Rattle.text_scan.specs.declared.fault.ScanFault.{ScanFault}
 use Rattle.text_scan.specs.declared.fault.ScanFault.TheVariants as scan
 use Rattle.text_scan.specs.Reading.{AreTokensOf, IsFaultOf}
-use Rattle.camelot_syntax.specs.declared.program.Program.{Program}
+use Rattle.camelot_tree.specs.declared.program.Program.{Program}
 use Rattle.camelot_syntax.specs.declared.fault.ParseFault.{ParseFault}
 use Rattle.camelot_syntax.specs.declared.fault.ParseFault.TheVariants.{Scan, Memory}
 use Rattle.camelot_syntax.specs.Lexemes.{lexemes}
-use Rattle.camelot_syntax.specs.Tree.{Source, data_type_of, function_of}
+use Rattle.camelot_tree.specs.Tree.{Source}
+use Rattle.camelot_tree.specs.Programs.{program_of}
 use Rattle.camelot_syntax.specs.Parsing.{IsProgram, IsFaultAmong, HasProgram, HasCause, last_line}
 use Rattle.camelot_syntax.specs.Machine as mc
 use Rattle.camelot_syntax.specs.States.{FailsWith, fault_of}
-
--- the plain data of a program
-abbrev pub program_of : Program → Source
-program_of p = record { types = map data_type_of p.types.items; funs = map function_of p.funs.items }
 
 abbrev pub scanned_fault : ScanFault → ParseFault
 scanned_fault scan.Memory = Memory

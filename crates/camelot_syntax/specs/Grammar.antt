@@ -3,7 +3,7 @@
 -- word and sign (a plain number). What a tree spells stands before a rest, so that no lists are joined. The parser has no
 -- such trees: it reads token by token.
 use Rattle.std.specs.Prelude.{ℕ, List, [], ◌∷◌}
-use Rattle.camelot_syntax.specs.declared.tree.Name.{Name}
+use Rattle.camelot_tree.specs.declared.tree.Name.{Name}
 use Rattle.camelot_syntax.specs.declared.lexeme.Mark.TheVariants as mark
 use Rattle.camelot_syntax.specs.declared.lexeme.Lexeme.{Lexeme}
 use Rattle.camelot_syntax.specs.declared.lexeme.Lexeme.TheVariants.{Lower, Upper, Number, Greatest, Mark}

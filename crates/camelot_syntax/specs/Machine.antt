@@ -2,18 +2,18 @@
 -- private functions. The grammar says what the answers mean, and knows nothing of this.
 use Rattle.std.specs.Prelude.{◌≡◌, ℕ, suc, pos, ◌-ℤ◌, nat_le, if◌then◌else◌, Bool, true, false, List, [], ◌∷◌, ◌++◌, Option, Some, None}
 use Rattle.camelot_values.specs.Operator as operator
-use Rattle.camelot_syntax.specs.declared.tree.Name.{Name}
-use Rattle.camelot_syntax.specs.declared.tree.Atom.{Atom}
-use Rattle.camelot_syntax.specs.declared.tree.Atom.TheVariants as atom
-use Rattle.camelot_syntax.specs.declared.tree.Param.{Param}
-use Rattle.camelot_syntax.specs.declared.tree.ArmCell.{ArmCell}
-use Rattle.camelot_syntax.specs.declared.tree.ArmCell.TheVariants as cell
+use Rattle.camelot_tree.specs.declared.tree.Name.{Name}
+use Rattle.camelot_tree.specs.declared.tree.Atom.{Atom}
+use Rattle.camelot_tree.specs.declared.tree.Atom.TheVariants as atom
+use Rattle.camelot_tree.specs.declared.tree.Param.{Param}
+use Rattle.camelot_tree.specs.declared.tree.ArmCell.{ArmCell}
+use Rattle.camelot_tree.specs.declared.tree.ArmCell.TheVariants as cell
 use Rattle.camelot_syntax.specs.declared.lexeme.Mark.TheVariants as mark
 use Rattle.camelot_syntax.specs.declared.lexeme.Lexeme.{Lexeme}
 use Rattle.camelot_syntax.specs.declared.lexeme.Lexeme.TheVariants.{Lower, Upper, Variable, Number, Greatest, Mark}
 use Rattle.camelot_syntax.specs.Parsing.{limit}
-use Rattle.camelot_syntax.specs.Tree as tree
-use Rattle.camelot_syntax.specs.Tree.{Term, Branch, Constructor, Source, terms, arms}
+use Rattle.camelot_tree.specs.Tree as tree
+use Rattle.camelot_tree.specs.Tree.{Term, Branch, Constructor, Source, terms, arms}
 use Rattle.camelot_syntax.specs.Program.{Operand, Joint, Prim, AndThen, OrElse, join, negated, applied}
 
 -- ---- what was read so far

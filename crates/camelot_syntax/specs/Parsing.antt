@@ -8,11 +8,11 @@ use Rattle.text_scan.specs.Reading.{AreTokensOf, IsFaultOf, line_at}
 use Rattle.camelot_syntax.specs.declared.lexeme.Mark.TheVariants as mark
 use Rattle.camelot_syntax.specs.declared.lexeme.Lexeme.{Lexeme}
 use Rattle.camelot_syntax.specs.declared.lexeme.Lexeme.TheVariants as lexeme
-use Rattle.camelot_syntax.specs.declared.tree.Name.{Name}
+use Rattle.camelot_tree.specs.declared.tree.Name.{Name}
 use Rattle.camelot_syntax.specs.declared.fault.ParseFault.{ParseFault}
 use Rattle.camelot_syntax.specs.declared.fault.ParseFault.TheVariants.{Scan, Unexpected, TooDeep, TypeParameter, Division, Memory}
 use Rattle.camelot_syntax.specs.Lexemes.{lexemes, IsReal}
-use Rattle.camelot_syntax.specs.Tree.{Source}
+use Rattle.camelot_tree.specs.Tree.{Source}
 use Rattle.camelot_syntax.specs.Grammar.{Decls, spell_decls}
 use Rattle.camelot_syntax.specs.Program.{source_of}
 use Rattle.camelot_syntax.specs.Levels.{levels_decls}

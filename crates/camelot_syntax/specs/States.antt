@@ -1,8 +1,8 @@
 -- The states of the code as those of the machine: words for the contracts of private functions.
 use Rattle.std.specs.Prelude.{◌≡◌, ℕ, ◌<◌, ◌-◌, length, List, [], ◌∷◌, map, Option, Some, None, Result, MatchResult}
 use Rattle.std.specs.Option.{option_map}
-use Rattle.camelot_syntax.specs.declared.tree.Expr.{Expr}
-use Rattle.camelot_syntax.specs.declared.tree.Arm.{Arm}
+use Rattle.camelot_tree.specs.declared.tree.Expr.{Expr}
+use Rattle.camelot_tree.specs.declared.tree.Arm.{Arm}
 use Rattle.camelot_syntax.specs.declared.lexeme.Lexeme.{Lexeme}
 use Rattle.camelot_syntax.specs.declared.lexeme.Lexeme.TheVariants.{Number}
 use Rattle.camelot_syntax.specs.declared.state.Operand.{Operand}
@@ -33,7 +33,7 @@ use Rattle.camelot_syntax.specs.declared.state.State.{State}
 use Rattle.camelot_syntax.specs.declared.state.State.TheVariants as state
 use Rattle.camelot_syntax.specs.declared.state.Halt.{Halt}
 use Rattle.camelot_syntax.specs.declared.state.Halt.TheVariants.{Stuck, Deep, Memory}
-use Rattle.camelot_syntax.specs.Tree.{Term, Branch, Source, operator_of, term_of, branch_of, constructor_of, data_type_of, function_of}
+use Rattle.camelot_tree.specs.Tree.{Term, Branch, Source, operator_of, term_of, branch_of, constructor_of, data_type_of, function_of}
 use Rattle.camelot_syntax.specs.declared.fault.ParseFault.{ParseFault}
 use Rattle.camelot_syntax.specs.declared.fault.ParseFault.TheVariants as fault
 use Rattle.camelot_syntax.specs.Parsing.{stop_fault, first_line, line_of}

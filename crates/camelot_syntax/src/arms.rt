@@ -1,7 +1,7 @@
 //! Steps in the head of an arm.
 
 ghost use Rattle.std.specs.Prelude.{[]};
-ghost use Rattle.camelot_syntax.specs.declared.tree.ArmCell.TheVariants.{Plain};
+ghost use Rattle.camelot_tree.specs.declared.tree.ArmCell.TheVariants.{Plain};
 ghost use Rattle.camelot_syntax.specs.Machine.{arm_name_step, arrow_step, arm_end_step, arm_step, FirstArm, WantArm, ArmCon, HaveName, WantCell};
 ghost use Rattle.camelot_syntax.specs.States.{Does, stack_of, matching_of, arm_head_of, arm_of};
 
@@ -9,7 +9,7 @@ use crate::lexeme::{Lexeme, Mark};
 use crate::operand::reach;
 use crate::parser::Parser;
 use crate::state::{ArmHead, ArmState, ExprState, Frame, Halt, Matching, State};
-use crate::tree::{ArmCell, Name};
+use camelot_tree::{ArmCell, Name};
 
 impl Parser {
     /// Where a field is wanted.

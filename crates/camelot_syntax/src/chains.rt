@@ -1,7 +1,7 @@
 //! Steps behind an operand: an operator ends the chains of higher ranks.
 
 ghost use Rattle.std.specs.Prelude.{None};
-ghost use Rattle.camelot_syntax.specs.Tree.{operator_of};
+ghost use Rattle.camelot_tree.specs.Tree.{operator_of};
 ghost use Rattle.camelot_syntax.specs.Program.{Prim};
 ghost use Rattle.camelot_syntax.specs.Machine.{after_and, after_cmp, after_sum, after_prod, after_pre, after_operand, compares, adds, multiplies};
 ghost use Rattle.camelot_syntax.specs.States.{Does, stack_of, some_left, operand_of, joint_of, lefts_of, slot_of};
@@ -10,7 +10,7 @@ use crate::lexeme::{Lexeme, Mark};
 use crate::operand::{behind, finish, negate_all, within};
 use crate::parser::Parser;
 use crate::state::{ExprState, Halt, Joint, Left, Lefts, Operand, Slot, State};
-use crate::tree::PrimOp;
+use camelot_tree::PrimOp;
 
 impl Parser {
     /// Behind the last operand of a chain of `&&`.

@@ -8,7 +8,7 @@ ghost use Rattle.camelot_syntax.specs.States.{Does, decls_of, stack_of, type_dra
 use crate::lexeme::{Lexeme, Mark};
 use crate::parser::Parser;
 use crate::state::{DeclState, Decls, Halt, State, TypeDraft};
-use crate::tree::{Atom, ConDecl, Name, TypeDecl};
+use camelot_tree::{Atom, ConDecl, Name, TypeDecl};
 
 /// The atom that a token is.
 pub fn atom(lexeme: Lexeme) -> Option<Atom>

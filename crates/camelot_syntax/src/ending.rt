@@ -2,7 +2,7 @@
 
 ghost use Rattle.std.specs.Prelude.{◌≡◌, ◌∷◌, MatchResult};
 ghost use Rattle.camelot_syntax.specs.declared.state.Halt.TheVariants.{Memory};
-ghost use Rattle.camelot_syntax.specs.Tree.{term_of, arms, Match};
+ghost use Rattle.camelot_tree.specs.Tree.{term_of, arms, Match};
 ghost use Rattle.camelot_syntax.specs.Machine.{close, close_in, unwind, with_arm, Body, Paren, Args, LetValue, IfCond, IfThen, MatchOn, ArmBody};
 ghost use Rattle.camelot_syntax.specs.States.{Does, stack_of, fun_draft_of, spot_of, terms_of, matching_of, arm_head_of, frame_of, unwound_of, Encloses};
 
@@ -13,7 +13,7 @@ use crate::state::{
     ArmHead, ArmState, Enclosed, ExprState, Frame, FunDraft, Halt, Matching, Operand, Outer, Spot,
     State,
 };
-use crate::tree::{Arm, Atom, Expr, FunDecl, Name};
+use camelot_tree::{Arm, Atom, Expr, FunDecl, Name};
 use std::alloc::Global;
 
 impl Matching {

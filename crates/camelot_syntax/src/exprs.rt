@@ -8,8 +8,8 @@ use crate::lexeme::{Lexeme, Mark};
 use crate::operand::{deeper, reach};
 use crate::parser::Parser;
 use crate::state::{Callee, ExprState, Frame, Halt, Lefts, Operand, Slot, Spot, State};
-use crate::tree::Name;
 use crate::units::{begins_argument, negative};
+use camelot_tree::Name;
 
 /// Whether an operand begins with this token.
 fn begins_pre(lexeme: &Lexeme) -> bool

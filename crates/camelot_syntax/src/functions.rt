@@ -9,7 +9,7 @@ use crate::decls::atom;
 use crate::lexeme::{Lexeme, Mark};
 use crate::parser::Parser;
 use crate::state::{DeclState, Decls, ExprState, Frame, FunDraft, Halt, State};
-use crate::tree::{Atom, Name, Param};
+use camelot_tree::{Atom, Name, Param};
 
 impl FunDraft {
     /// The declaration with one more parameter.

@@ -3,7 +3,7 @@
 ghost use Rattle.std.specs.Prelude.{◌≡◌, ◌⊎◌, ℕ, List, ◌∷◌, ◌++◌, [], length, take, get_or};
 ghost use Rattle.camelot_syntax.specs.declared.fault.ParseFault.{ParseFault};
 ghost use Rattle.camelot_syntax.specs.declared.lexeme.Lexeme.{Lexeme};
-ghost use Rattle.camelot_syntax.specs.Tree.{Source};
+ghost use Rattle.camelot_tree.specs.Tree.{Source};
 ghost use Rattle.camelot_syntax.specs.Grammar.{Decls, spell_decls};
 ghost use Rattle.camelot_syntax.specs.Levels.{levels_decls};
 ghost use Rattle.camelot_syntax.specs.Parsing.{IsProgram, BeginsProgram, IsFaultAmong, place_of};

@@ -4,7 +4,7 @@ ghost use Rattle.text_scan.specs.Reading.{IsSliceOf};
 ghost use Rattle.text_scan.specs.declared.tokens.TokenKind.TheVariants.{Number};
 ghost use Rattle.camelot_syntax.specs.Lexemes.{mark_in, mark_of, lexeme_of, lexeme_at};
 
-use crate::tree::Name;
+use camelot_tree::Name;
 use camelot_values::Word;
 use std::alloc::{AllocError, Global};
 use text_scan::{GREATEST_NUMBER, Token, TokenKind, number_value};

@@ -1,8 +1,8 @@
-//! The syntax of Camelot: its tree, its grammar and its parser.
+//! The syntax of Camelot: its grammar and its parser.
 //!
 //! A text is scanned into tokens (`text_scan`), and these are read by [`parse`]. Which tokens are a program is
 //! `specs/Grammar.antt`, with the program that they stand for in `specs/Program.antt` and the level of each token in
-//! `specs/Levels.antt`; where tokens stop being one is `specs/Parsing.antt`. What a program means is `specs/Meaning.antt`.
+//! `specs/Levels.antt`; where tokens stop being one is `specs/Parsing.antt`. The tree of a program is that of `camelot_tree`.
 #![tactic(auto)]
 
 mod arms;
@@ -16,14 +16,13 @@ pub mod laws;
 mod lexeme;
 mod operand;
 mod parser;
-mod program;
 mod state;
 mod text;
-mod tree;
 mod units;
 
+pub use camelot_tree::{
+    Arm, ArmCell, Atom, ConDecl, Expr, FunDecl, Name, Param, PrimOp, Program, TypeDecl,
+};
 pub use fault::ParseFault;
 pub use lexeme::{Lexeme, Mark};
-pub use program::Program;
 pub use text::parse;
-pub use tree::{Arm, ArmCell, Atom, ConDecl, Expr, FunDecl, Name, Param, PrimOp, TypeDecl};

@@ -2,13 +2,13 @@
 
 ghost use Rattle.std.specs.Prelude.{◌≡◌, ◌≤◌, ◌<◌, suc, MatchResult};
 ghost use Rattle.camelot_syntax.specs.declared.state.Halt.TheVariants.{Memory, Deep};
-ghost use Rattle.camelot_syntax.specs.Tree.{term_of, operator_of, Prim, If, Let};
+ghost use Rattle.camelot_tree.specs.Tree.{term_of, operator_of, Prim, If, Let};
 ghost use Rattle.camelot_syntax.specs.Program.{join, negated};
 ghost use Rattle.camelot_syntax.specs.Machine.{finished, negated_all, within};
 ghost use Rattle.camelot_syntax.specs.States.{operand_of, joint_of, some_left, nots_of};
 
 use crate::state::{Halt, Joint, Left, Operand, State};
-use crate::tree::{Expr, Name, PrimOp};
+use camelot_tree::{Expr, Name, PrimOp};
 use std::alloc::Global;
 
 /// The highest level that a token may have.

@@ -6,13 +6,14 @@ ghost use Rattle.text_scan.specs.Reading.{AreTokensOf, IsFaultOf, IsSliceOf};
 ghost use Rattle.camelot_syntax.specs.declared.fault.ParseFault.{ParseFault};
 ghost use Rattle.camelot_syntax.specs.declared.fault.ParseFault.TheVariants.{Scan, Memory};
 ghost use Rattle.camelot_syntax.specs.Lexemes.{lexemes};
-ghost use Rattle.camelot_syntax.specs.Tree.{Source};
+ghost use Rattle.camelot_tree.specs.Tree.{Source};
+ghost use Rattle.camelot_tree.specs.Programs.{program_of};
 ghost use Rattle.camelot_syntax.specs.Parsing.{IsProgram, IsFaultAmong, HasProgram, HasCause, last_line};
-ghost use Rattle.camelot_syntax.specs.Answers.{program_of, scanned_fault, Runs, Parses};
+ghost use Rattle.camelot_syntax.specs.Answers.{scanned_fault, Runs, Parses};
 
 use crate::fault::ParseFault;
 use crate::parser::run;
-use crate::program::Program;
+use camelot_tree::Program;
 use std::alloc::Global;
 use text_scan::{ScanFault, Token, scan};
 

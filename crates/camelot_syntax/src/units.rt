@@ -2,7 +2,7 @@
 
 ghost use Rattle.std.specs.Prelude.{◌≡◌, ◌<◌, ◌≤◌, ◌++◌, ◌∷◌, [], Some, None, IfOk, IfErr, MatchResult, pos, ◌-ℤ◌};
 ghost use Rattle.camelot_syntax.specs.declared.state.Halt.TheVariants.{Memory};
-ghost use Rattle.camelot_syntax.specs.Tree.{term_of, Num};
+ghost use Rattle.camelot_tree.specs.Tree.{term_of, Num};
 ghost use Rattle.camelot_syntax.specs.Machine.{unit_done, unit_step, argument_step, applied_step, after_unit, con_unit_step, full_step, placed_step, built, applied_operand, begins_unit, begins_argument, Goes, InExpr};
 ghost use Rattle.camelot_syntax.specs.States.{Does, IsSmall, stack_of, terms_of, operand_of, slot_of, spot_of, expr_of};
 
@@ -10,7 +10,7 @@ use crate::lexeme::{Lexeme, Mark};
 use crate::operand::reach;
 use crate::parser::Parser;
 use crate::state::{Callee, ExprState, Frame, Halt, Operand, Slot, Spot, State};
-use crate::tree::{Expr, Name};
+use camelot_tree::{Expr, Name};
 
 /// Whether a unit that isn't a name begins with this token.
 fn begins_unit(lexeme: &Lexeme) -> bool

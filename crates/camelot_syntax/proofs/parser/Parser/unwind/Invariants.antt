@@ -1,5 +1,5 @@
 use Rattle.std.proofs.Common.{◌≡◌, vec_len}
-use Rattle.camelot_syntax.specs.Tree.{term_of}
+use Rattle.camelot_tree.specs.Tree.{term_of}
 use Rattle.camelot_syntax.specs.Machine.{unwind}
 use Rattle.camelot_syntax.specs.States.{stack_of}
 use Rattle.camelot_syntax.proofs.parser.Parser.unwind.Given as goal

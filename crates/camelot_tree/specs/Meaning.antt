@@ -2,19 +2,19 @@
 -- 2003) and a clock for the calls (Owens, Myreen, Kumar, Tan 2016). Outcomes, operators and the steps of calls and cells are
 -- those of the meaning of code. A program that reads an unknown name, or takes apart or builds what has another form, is
 -- Stuck; a typed program isn't. It knows no cells, frames or ranges, and the code evaluates nothing.
-use Rattle.std.specs.Prelude.{ℕ, zero, suc, Bool, true, false, cond, ◌==◌, if◌then◌else◌, List, [], ◌∷◌, length, map, flat_map, slice_get, Option, Some, None}
+use Rattle.std.specs.Prelude.{ℕ, zero, suc, Bool, true, false, cond, ◌==◌, if◌then◌else◌, List, [], ◌∷◌, map, flat_map, slice_get, Option, Some, None}
 use Rattle.std.specs.Option.{option_map}
 use Rattle.std.specs.Str.{bytes_eq}
 use Rattle.camelot_values.specs.Value as value
 use Rattle.camelot_values.specs.Value.{Value, Values, parts}
-use Rattle.camelot_values.specs.Operator.{Operator, operate}
+use Rattle.camelot_values.specs.Operator.{operate}
 use Rattle.camelot_values.specs.Outcome.{Outcome, Fuel, Deep, Stuck, first_then, at_once, known, given, entered}
 use Rattle.camelot_values.specs.Runs.{Enter, chosen, on_diamond, in_new_cell, cell_freed, is_too_deep}
-use Rattle.camelot_syntax.specs.declared.tree.Name.{Name}
-use Rattle.camelot_syntax.specs.declared.tree.Param.{Param}
-use Rattle.camelot_syntax.specs.declared.tree.ArmCell.{ArmCell}
-use Rattle.camelot_syntax.specs.declared.tree.ArmCell.TheVariants as cell
-use Rattle.camelot_syntax.specs.Tree.{Term, Num, Truth, Var, Prim, If, Let, Match, Build, Call, Terms, NoTerms, AndTerm, Arms, NoArms, AndArm, Constructor, Function, Source}
+use Rattle.camelot_tree.specs.declared.tree.Name.{Name}
+use Rattle.camelot_tree.specs.declared.tree.Param.{Param}
+use Rattle.camelot_tree.specs.declared.tree.ArmCell.{ArmCell}
+use Rattle.camelot_tree.specs.declared.tree.ArmCell.TheVariants as cell
+use Rattle.camelot_tree.specs.Tree.{Term, Num, Truth, Var, Prim, If, Let, Match, Build, Call, Terms, NoTerms, AndTerm, Arms, NoArms, AndArm, Constructor, Function, Source}
 
 -- ---- names
 

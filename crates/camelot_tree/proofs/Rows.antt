@@ -4,13 +4,13 @@ use Rattle.std.proofs.Common.{◌≡◌, ℕ, List, [], ◌∷◌, Some, None, f
 use Rattle.std.specs.Prelude.{codes}
 use Rattle.camelot_values.specs.Value as value
 use Rattle.camelot_values.specs.Value.{Value, parts}
-use Rattle.camelot_values.specs.Outcome.{Outcome, Done, Fuel}
-use Rattle.camelot_syntax.specs.declared.tree.Name.{Name}
-use Rattle.camelot_syntax.specs.declared.tree.Atom.TheVariants as atom
-use Rattle.camelot_syntax.specs.declared.tree.Param.{Param}
-use Rattle.camelot_syntax.specs.declared.tree.ArmCell.TheVariants as cell
-use Rattle.camelot_syntax.specs.Tree.{Term, Var, Let, Match, Build, Call, Branch, Constructor, DataType, Function, Source, terms, arms}
-use Rattle.camelot_syntax.specs.Meaning.{run_of}
+use Rattle.camelot_values.specs.Outcome.{Done, Fuel}
+use Rattle.camelot_tree.specs.declared.tree.Name.{Name}
+use Rattle.camelot_tree.specs.declared.tree.Atom.TheVariants as atom
+use Rattle.camelot_tree.specs.declared.tree.Param.{Param}
+use Rattle.camelot_tree.specs.declared.tree.ArmCell.TheVariants as cell
+use Rattle.camelot_tree.specs.Tree.{Term, Var, Let, Match, Build, Call, DataType, Function, Source, terms, arms}
+use Rattle.camelot_tree.specs.Meaning.{run_of}
 
 abbrev named : List ℕ → Name
 named word = record { word = word; line = 1 }

@@ -2,20 +2,20 @@
 use Rattle.std.specs.Prelude.{ℕ, ℤ, Bool, List, [], ◌∷◌, map, Option}
 use Rattle.camelot_values.specs.Operator as operator
 use Rattle.camelot_values.specs.Operator.{Operator}
-use Rattle.camelot_syntax.specs.declared.tree.Name.{Name}
-use Rattle.camelot_syntax.specs.declared.tree.Atom.{Atom}
-use Rattle.camelot_syntax.specs.declared.tree.ConDecl.{ConDecl}
-use Rattle.camelot_syntax.specs.declared.tree.TypeDecl.{TypeDecl}
-use Rattle.camelot_syntax.specs.declared.tree.Param.{Param}
-use Rattle.camelot_syntax.specs.declared.tree.FunDecl.{FunDecl}
-use Rattle.camelot_syntax.specs.declared.tree.PrimOp.{PrimOp}
-use Rattle.camelot_syntax.specs.declared.tree.PrimOp.TheVariants as prim
-use Rattle.camelot_syntax.specs.declared.tree.ArmCell.{ArmCell}
-use Rattle.camelot_syntax.specs.declared.tree.Expr.{Expr}
-use Rattle.camelot_syntax.specs.declared.tree.Arm.{Arm}
-use Rattle.camelot_syntax.specs.declared.tree.Expr.TheFolds.{fold-Expr, fold-Arm}
-use Rattle.camelot_syntax.specs.declared.tree.Expr.TheOpen as layer
-use Rattle.camelot_syntax.specs.declared.tree.Expr.TheOpen.{Expr-F, Arm-F}
+use Rattle.camelot_tree.specs.declared.tree.Name.{Name}
+use Rattle.camelot_tree.specs.declared.tree.Atom.{Atom}
+use Rattle.camelot_tree.specs.declared.tree.ConDecl.{ConDecl}
+use Rattle.camelot_tree.specs.declared.tree.TypeDecl.{TypeDecl}
+use Rattle.camelot_tree.specs.declared.tree.Param.{Param}
+use Rattle.camelot_tree.specs.declared.tree.FunDecl.{FunDecl}
+use Rattle.camelot_tree.specs.declared.tree.PrimOp.{PrimOp}
+use Rattle.camelot_tree.specs.declared.tree.PrimOp.TheVariants as prim
+use Rattle.camelot_tree.specs.declared.tree.ArmCell.{ArmCell}
+use Rattle.camelot_tree.specs.declared.tree.Expr.{Expr}
+use Rattle.camelot_tree.specs.declared.tree.Arm.{Arm}
+use Rattle.camelot_tree.specs.declared.tree.Expr.TheFolds.{fold-Expr, fold-Arm}
+use Rattle.camelot_tree.specs.declared.tree.Expr.TheOpen as layer
+use Rattle.camelot_tree.specs.declared.tree.Expr.TheOpen.{Expr-F, Arm-F}
 
 -- expressions; a number at the end is the line
 mutual

@@ -1,6 +1,6 @@
 ghost use Rattle.std.specs.Prelude.{map, IsTrue};
-ghost use Rattle.camelot_syntax.specs.Tree.{data_type_of, function_of};
-ghost use Rattle.camelot_syntax.specs.Shape.{is_whole};
+ghost use Rattle.camelot_tree.specs.Tree.{data_type_of, function_of};
+ghost use Rattle.camelot_tree.specs.Shape.{is_whole};
 
 use crate::tree::{FunDecl, TypeDecl};
 

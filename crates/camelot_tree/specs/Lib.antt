@@ -1,0 +1,5 @@
+-- The tree of a Camelot program, and its meaning.
+pub mod Tree
+pub mod Shape
+pub mod Programs
+pub mod Meaning

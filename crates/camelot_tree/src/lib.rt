@@ -1,0 +1,11 @@
+//! The tree of a Camelot program, and what it means.
+//!
+//! A program as data of the code is [`Program`]; as plain data it is `specs/Tree.antt`. What a program means is
+//! `specs/Meaning.antt`.
+#![tactic(auto)]
+
+mod program;
+mod tree;
+
+pub use program::Program;
+pub use tree::{Arm, ArmCell, Atom, ConDecl, Expr, FunDecl, Name, Param, PrimOp, TypeDecl};
