@@ -1,5 +1,6 @@
 -- The tree of a Camelot program, and its meaning.
 pub mod Tree
 pub mod Shape
+pub mod Spine
 pub mod Programs
 pub mod Meaning

@@ -7,6 +7,7 @@ use Rattle.std.specs.Option.{option_map}
 use Rattle.std.specs.Str.{bytes_eq}
 use Rattle.camelot_values.specs.Value as value
 use Rattle.camelot_values.specs.Value.{Value, Values, parts}
+use Rattle.camelot_values.specs.Names.{place_among}
 use Rattle.camelot_values.specs.Operator.{operate}
 use Rattle.camelot_values.specs.Outcome.{Outcome, Fuel, Deep, Stuck, first_then, at_once, known, given, entered}
 use Rattle.camelot_values.specs.Runs.{Enter, chosen, on_diamond, in_new_cell, cell_freed, is_too_deep}
@@ -24,11 +25,6 @@ Bound = List ℕ → Option Value
 
 abbrev pub put : Bound → List ℕ → Value → Bound
 put env name v = λ n. if bytes_eq name n then Some v else env n
-
--- the place of the first of these names that is this one
-abbrev pub place_among : List (List ℕ) → List ℕ → Option ℕ
-place_among [] name = None
-place_among (n ∷ ns) name = if bytes_eq n name then Some 0 else option_map suc (place_among ns name)
 
 -- all constructors, numbered through the types in order
 abbrev pub constructors : Source → List Constructor

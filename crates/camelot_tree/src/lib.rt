@@ -4,8 +4,11 @@
 //! `specs/Meaning.antt`.
 #![tactic(auto)]
 
+mod copy;
 mod program;
+mod spine;
 mod tree;
 
 pub use program::Program;
+pub use spine::{Spine, left_spine};
 pub use tree::{Arm, ArmCell, Atom, ConDecl, Expr, FunDecl, Name, Param, PrimOp, TypeDecl};

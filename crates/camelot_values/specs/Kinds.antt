@@ -1,10 +1,19 @@
 -- The types of a program as plain data: names, constructors and the kinds of their fields. The code keeps them in
 -- vectors.
-use Rattle.std.specs.Prelude.{◌≡◌, ℕ, suc, ◌-◌, ◌≤◌, nat_lt, if◌then◌else◌, Bool, true, List, [], ◌∷◌, map, length, flat_map, slice_get, Option, Some, None}
+use Rattle.std.specs.Prelude.{◌≡◌, ℕ, suc, ◌-◌, ◌≤◌, nat_lt, ◌==◌, if◌then◌else◌, Bool, true, false, List, [], ◌∷◌, map, length, flat_map, slice_get, Option, Some, None}
 use Rattle.std.specs.List.{AllByRecursion}
 use Rattle.camelot_values.specs.declared.kinds.Kind.{Kind}
+use Rattle.camelot_values.specs.declared.kinds.Kind.TheVariants as kind
 use Rattle.camelot_values.specs.declared.kinds.Con.{Con}
 use Rattle.camelot_values.specs.declared.kinds.TypeDef.{TypeDef}
+
+-- the kinds are the same
+abbrev pub same_kind : Kind → Kind → Bool
+same_kind kind.Int kind.Int = true
+same_kind kind.Flag kind.Flag = true
+same_kind kind.Dia kind.Dia = true
+same_kind (kind.Of t) (kind.Of u) = t == u
+same_kind k l = false
 
 -- a constructor: its name, whether it needs no cell, and the kinds of its fields
 pub record Constructor : Type 0 where

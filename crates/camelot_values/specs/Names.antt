@@ -1,6 +1,8 @@
 -- The names of programs: a letter, and then letters, digits or `_`; at most 64 bytes.
-use Rattle.std.specs.Prelude.{ℕ, ◌≤◌, nat_le, ◌==◌, ◌&&◌, ◌||◌, Bool, false, List, [], ◌∷◌, length, IsTrue}
-use Rattle.std.specs.List.{list_all}
+use Rattle.std.specs.Prelude.{◌≡◌, ℕ, suc, ◌≤◌, nat_le, ◌==◌, ◌&&◌, ◌||◌, if◌then◌else◌, Bool, false, List, [], ◌∷◌, ◌++◌, length, Option, Some, None, IsTrue}
+use Rattle.std.specs.List.{list_all, list_any}
+use Rattle.std.specs.Option.{option_map}
+use Rattle.std.specs.Str.{bytes_eq}
 
 -- `a` to `z`
 abbrev pub is_lower : ℕ → Bool
@@ -34,3 +36,30 @@ IsLowerName word = IsName is_lower word
 -- a name that begins with an upper-case letter, as of a constructor
 abbrev pub IsUpperName : List ℕ → Type 0
 IsUpperName word = IsName is_upper word
+
+-- ---- lists of names
+
+-- no word stands twice
+abbrev pub AreDistinct : {A : Type 0} → List A → Type 0
+AreDistinct {A} words = (word : A) (before between rest : List A) → words ≡ before ++ word ∷ (between ++ word ∷ rest) → ⊥
+
+-- the name stood before
+abbrev pub stands : List (List ℕ) → List ℕ → Bool
+stands earlier name = list_any (bytes_eq name) earlier
+
+-- the place of the first of these names that is this one
+abbrev pub place_among : List (List ℕ) → List ℕ → Option ℕ
+place_among [] name = None
+place_among (n ∷ ns) name = if bytes_eq n name then Some 0 else option_map suc (place_among ns name)
+
+-- ---- names in scope
+
+-- a name that is bound, and to what
+pub record Bound (A : Type 0) : Type 0 where
+  pub name : List ℕ
+  pub is : A
+
+-- what a name means in a scope: the innermost binding is first and hides those behind it
+abbrev pub find : {A : Type 0} → List (Bound A) → List ℕ → Option A
+find [] name = None
+find (b ∷ bs) name = if bytes_eq b.name name then Some b.is else find bs name

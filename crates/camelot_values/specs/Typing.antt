@@ -1,8 +1,11 @@
--- Which values are of which kind.
+-- Which values are of which kind, what operators give, and what it means that a run doesn't get stuck.
 use Rattle.std.specs.Prelude.{◌≡◌, List, [], ◌∷◌, Some, IsSomeAnd}
 use Rattle.std.specs.Option.{option_map}
 use Rattle.camelot_values.specs.Value as value
-use Rattle.camelot_values.specs.Value.{Value, Values}
+use Rattle.camelot_values.specs.Value.{Value, Values, parts}
+use Rattle.camelot_values.specs.Outcome.{Outcome, Done, Fuel, Deep, Stuck}
+use Rattle.camelot_values.specs.Operator as operator
+use Rattle.camelot_values.specs.Operator.{Operator}
 use Rattle.camelot_values.specs.Kinds.{DataType, constructor, type_of}
 use Rattle.camelot_values.specs.declared.kinds.Kind.{Kind}
 use Rattle.camelot_values.specs.declared.kinds.Kind.TheVariants as kind
@@ -20,3 +23,21 @@ abbrev mutual
   FitAll types [] value.End = Unit {0}
   FitAll types (q ∷ qs) (value.And v vs) = Fits types q v × FitAll types qs vs
   FitAll types qs vs = ⊥
+
+-- the kind of what an operator gives, for two ints
+abbrev pub operator_kind : Operator → Kind
+operator_kind operator.Add = kind.Int
+operator_kind operator.Sub = kind.Int
+operator_kind operator.Mul = kind.Int
+operator_kind op = kind.Flag
+
+-- one argument of each of these kinds
+abbrev pub ArgumentsFit : List DataType → List Kind → List Value → Type 0
+ArgumentsFit types qs args = FitAll types qs (parts args)
+
+-- the run isn't stuck, and where it comes to a value, this is of the kind
+abbrev pub IsSound : List DataType → Kind → Outcome Value → Type 0
+IsSound types q (Done v calls peak low) = Fits types q v
+IsSound types q (Fuel calls peak) = Unit {0}
+IsSound types q (Deep peak) = Unit {0}
+IsSound types q Stuck = ⊥

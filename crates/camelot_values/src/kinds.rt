@@ -1,9 +1,11 @@
-ghost use Rattle.std.specs.Prelude.{◌≡◌, ℕ, List, ◌↔◌, IsTrue};
+ghost use Rattle.std.specs.Prelude.{◌≡◌, ℕ, List, ◌↔◌, IfOk, IsTrue};
 ghost use Rattle.std.specs.Option.{option_map};
 ghost use Rattle.camelot_values.specs.Kinds.{data_type_of};
 ghost use Rattle.camelot_values.specs.Heap.{has_boxed};
 
 use super::reach::{MOST_TYPES, leads};
+use std::alloc::{AllocError, Global};
+use std::fmt::{self, Display, Formatter};
 use std::marker::Model;
 
 /// A name: its bytes.
@@ -33,6 +35,21 @@ impl Word {
         ensures { result.now ≡ self.now }
     {
         &self.bytes
+    }
+
+    /// The same name in memory of its own; `AllocError` where memory runs out.
+    pub fn copy(&self, alloc: Global) -> Result<Word, AllocError>
+        ensures { IfOk result (λ copy. copy ≡ self.now) }
+    {
+        Ok(Word {
+            bytes: Vec::from_slice(alloc, &self.bytes)?,
+        })
+    }
+}
+
+impl Display for Word {
+    fn fmt<W: fmt::Write>(&self, f: &mut Formatter<W>) -> fmt::Result {
+        write!(f, "{}", self.bytes.escape_ascii())
     }
 }
 

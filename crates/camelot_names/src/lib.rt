@@ -1,0 +1,10 @@
+//! Tables of names with their numbers, and scopes with shadowing, both looked up by hash.
+#![tactic(auto)]
+
+mod scopes;
+mod tables;
+#[cfg(test)]
+mod tests;
+
+pub use scopes::Scope;
+pub use tables::Names;

@@ -1,0 +1,38 @@
+ghost use Rattle.std.specs.Prelude.{◌≡◌, map, IfOk};
+ghost use Rattle.camelot_tree.specs.Tree.{term_of};
+ghost use Rattle.camelot_tree.specs.Spine.{spine_of, leaf_of, IsLeaf};
+
+use crate::tree::Expr;
+use std::alloc::{AllocError, Global};
+
+/// The left end of an expression, along which trees may be as deep as their text is long.
+#[derive(Drop)]
+pub struct Spine<'a> {
+    /// Operators and conditionals from the outermost inwards, each in the left operand or the condition of the one before.
+    pub parents: Vec<&'a Expr>,
+    /// The left operand or condition of the innermost one; the expression itself where it is neither.
+    pub leaf: &'a Expr,
+}
+
+/// The left end of an expression; `AllocError` where memory runs out.
+pub fn left_spine(alloc: Global, expr: &Expr) -> Result<Spine<'_>, AllocError>
+    ensures parents { IfOk result (λ spine. map (λ parent. term_of parent.now) spine.parents.items ≡ spine_of (term_of expr.now)) }
+    ensures leaf { IfOk result (λ spine. term_of spine.leaf.now ≡ leaf_of (term_of expr.now)) }
+    ensures is_leaf { IfOk result (λ spine. IsLeaf (term_of spine.leaf.now)) }
+{
+    let mut parents = Vec::new(alloc);
+    let mut leaf = expr;
+    'down: loop {
+        match leaf {
+            Expr::Prim { left, .. } => {
+                parents.push(leaf)?;
+                leaf = left;
+            }
+            Expr::If { cond, .. } => {
+                parents.push(leaf)?;
+                leaf = cond;
+            }
+            _ => return Ok(Spine { parents, leaf }),
+        }
+    }
+}

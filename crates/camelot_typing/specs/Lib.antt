@@ -1,0 +1,5 @@
+-- Typing of Camelot programs.
+pub mod Kinds
+pub mod Typing
+pub mod Typed
+pub mod TypedPrograms
