@@ -114,7 +114,7 @@ param_again p r h =
 pub here : (x : List ℕ) (xs : List (List ℕ)) (w : List ℕ) → x ≡ w → Contains (x ∷ xs) w
 here x xs w e = (0, omega arith, e)
 
-later : (x : List ℕ) (xs : List (List ℕ)) (w : List ℕ) → Contains xs w → Contains (x ∷ xs) w
+pub later : (x : List ℕ) (xs : List (List ℕ)) (w : List ℕ) → Contains xs w → Contains (x ∷ xs) w
 later x xs w (k, h, e) = (suc k, omega arith, e)
 
 pub either : {A : Type 0} (x : List ℕ) (xs : List (List ℕ)) (w : List ℕ) → Contains (x ∷ xs) w → (x ≡ w → A) → (Contains xs w → A) → A

@@ -1,12 +1,16 @@
 -- First scripts: one program of one function, which adds its parameters and numbers, and one job of it.
-use Rattle.std.specs.Prelude.{◌≡◌, ℕ, ◌≤◌, ◌⊎◌, ℤ, pos, List, [], ◌∷◌, ◌++◌, length, flat_map, codes, IsTrue, Contains, FitsSigned, ⊤}
+use Rattle.std.specs.Prelude.{◌≡◌, ℕ, ◌≤◌, ◌⊎◌, ℤ, pos, false, List, [], ◌∷◌, ◌++◌, length, map, flat_map, codes, Some, IsTrue, Contains, FitsSigned, ⊤}
 use Rattle.std.specs.Fmt.{decimal, signed_decimal}
 use Rattle.std.specs.Str.Parse.{IsNumeral, digits_value}
 use Rattle.std.specs.List.{AllByRecursion}
 use Rattle.std.specs.Int.{w32}
 use Rattle.camelot_values.specs.Operator.{Add}
+use Rattle.camelot_tree.specs.declared.tree.Name.{Name}
+use Rattle.camelot_tree.specs.declared.tree.Param.{Param}
+use Rattle.camelot_tree.specs.declared.tree.Atom.TheVariants as atom
+use Rattle.camelot_tree.specs.Tree as tree
+use Rattle.camelot_tree.specs.Tree.{Term, Num, Var, Prim, Source}
 use Rattle.camelot_host.specs.Lexemes.{Lexeme, Word, Symbol, lexemes, is_name, is_variable}
-use Rattle.camelot_host.specs.Source.{Expr, Num, Var, Prim, Fun}
 
 -- a part of the sum: a parameter by its name, or a number
 pub data Part : Type 0 where
@@ -110,16 +114,28 @@ pub record IsFirstScript (bytes : List ℕ) (s : Script) : Type 0 where
   pub fuel_fits : s.fuel ≤ 1099511627776
   pub full : length s.args ≡ length s.function.params
 
--- ---- what it means
+-- ---- the program that it stands for
 
-abbrev pub part_expr : Part → Expr
-part_expr (Named x) = Var x
-part_expr (Number n) = Num (pos n)
+-- a name of the program; what a program means doesn't depend on its lines, and each is 1 here
+abbrev pub name_of : List ℕ → Name
+name_of word = record { word = word; line = 1 }
+
+abbrev pub part_expr : Part → Term
+part_expr (Named x) = Var (name_of x)
+part_expr (Number n) = Num (pos n) 1
 
 -- sums are read from left to right
-abbrev pub sum_expr : Expr → List Part → Expr
+abbrev pub sum_expr : Term → List Part → Term
 sum_expr e [] = e
-sum_expr e (p ∷ ps) = sum_expr (Prim Add e (part_expr p)) ps
+sum_expr e (p ∷ ps) = sum_expr (Prim Add e (part_expr p) 1) ps
 
-abbrev pub fun_of : Function → Fun
-fun_of f = record { name = f.name; params = f.params; body = sum_expr (part_expr f.first) f.more }
+-- each parameter is written `(P : int)`
+abbrev pub int_param : List ℕ → Param
+int_param x = record { name = name_of x; read = false; kind = Some atom.Int }
+
+abbrev pub fun_of : Function → tree.Function
+fun_of f = record { name = name_of f.name; params = map int_param f.params; result = Some atom.Int; body = sum_expr (part_expr f.first) f.more }
+
+-- no types, and this function alone, whose number is 0
+abbrev pub source_of : Function → Source
+source_of f = record { types = []; funs = fun_of f ∷ [] }

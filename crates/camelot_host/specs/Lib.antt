@@ -1,7 +1,6 @@
--- First scripts, what they mean, and what the host answers: Lexemes, Source, FirstScript, Lines and Answers. The other
--- modules say what private functions do, and nobody has to believe them.
+-- First scripts, the programs that they stand for, and what the host answers: Lexemes, FirstScript, Lines and Answers. The
+-- other modules say what private functions do, and nobody has to believe them.
 pub mod Lexemes
-pub mod Source
 pub mod FirstScript
 pub mod Lines
 pub mod Answers

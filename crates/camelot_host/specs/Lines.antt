@@ -1,12 +1,12 @@
 -- The lines that the host writes.
-use Rattle.std.specs.Prelude.{ℕ, List, [], ◌∷◌, ◌++◌, map, codes}
+use Rattle.std.specs.Prelude.{ℕ, List, [], ◌++◌, map, codes}
 use Rattle.std.specs.Fmt.{decimal}
 use Rattle.camelot_values.specs.Value as value
 use Rattle.camelot_values.specs.Value.{Value}
 use Rattle.camelot_values.specs.Outcome.{Outcome, Done, Fuel, Deep, Stuck}
 use Rattle.camelot_values.specs.Text.{value_text}
-use Rattle.camelot_host.specs.Source.{run_of}
-use Rattle.camelot_host.specs.FirstScript.{Script, fun_of}
+use Rattle.camelot_tree.specs.Meaning.{run_of}
+use Rattle.camelot_host.specs.FirstScript.{Script, source_of}
 
 -- how many calls may wait
 abbrev pub depth_limit : ℕ
@@ -29,9 +29,9 @@ job_line names job fuel bound (Fuel calls peak) = codes "job " ++ job ++ codes "
 job_line names job fuel bound (Deep peak) = codes "job " ++ job ++ codes " deep peak " ++ decimal peak ++ codes " bound " ++ decimal bound ++ codes "\n"
 job_line names job fuel bound Stuck = []
 
--- what the script's job comes to, by the meaning of its source
+-- what the script's job comes to, by the meaning of programs: its entry is the only function, number 0
 abbrev pub outcome_of : Script → Outcome Value
-outcome_of s = run_of (fun_of s.function ∷ []) depth_limit s.function.name s.fuel (map value.Int s.args)
+outcome_of s = run_of (source_of s.function) depth_limit 0 s.fuel (map value.Int s.args)
 
 -- what is written for a first script: its program has no types, so that its unit is 1 and the job's bound is 0
 abbrev pub report_of : Script → List ℕ

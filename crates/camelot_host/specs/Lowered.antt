@@ -11,8 +11,8 @@ use Rattle.camelot_values.specs.declared.kinds.Kind.TheVariants as kind
 use Rattle.grail_code.specs.Code as code
 use Rattle.grail_code.specs.Code.{Operation, Lit, Prim, Binding, Exit, Ret, BasicBlock, Program}
 use Rattle.grail_code.specs.Meaning as code_meaning
-use Rattle.camelot_host.specs.Source as source
-use Rattle.camelot_host.specs.Source.{Fun}
+use Rattle.camelot_tree.specs.Tree.{Source}
+use Rattle.camelot_tree.specs.Meaning as meaning
 use Rattle.camelot_host.specs.declared.function.Part.{Part}
 use Rattle.camelot_host.specs.declared.function.Part.TheVariants as part
 use Rattle.camelot_host.specs.declared.runner.RunError.{RunError}
@@ -21,8 +21,8 @@ use Rattle.camelot_host.specs.declared.runner.RunError.TheVariants as error
 -- ---- what is promised
 
 -- the code comes to what the source comes to, at each limit and fuel and on any arguments, be they too few or no ints
-pub record MeansSame (f : Fun) (p : Program) : Type 0 where
-  pub same : (limit fuel : ℕ) (args : List Value) → code_meaning.run_of p limit 0 fuel args ≡ source.run_of (f ∷ []) limit f.name fuel args
+pub record MeansSame (s : Source) (p : Program) : Type 0 where
+  pub same : (limit fuel : ℕ) (args : List Value) → code_meaning.run_of p limit 0 fuel args ≡ meaning.run_of s limit 0 fuel args
 
 -- a number, or the sum of two locals
 abbrev pub IsSumOperation : Operation → Type 0

@@ -1,7 +1,7 @@
 ghost use Rattle.std.specs.Prelude.{◌≡◌, suc, ◌+◌, ◌*◌, ◌≤◌, ◌++◌, map, length, vec_len, IfOk, OnOk};
 ghost use Rattle.std.specs.List.{AllByRecursion, range_with_len};
 ghost use Rattle.grail_code.specs.Code.{binding_of, block_of, function_of as code_function_of, program_of};
-ghost use Rattle.camelot_host.specs.FirstScript.{AreDistinct, fun_of};
+ghost use Rattle.camelot_host.specs.FirstScript.{AreDistinct, source_of};
 ghost use Rattle.camelot_host.specs.Read.{names_of, IsKnown, function_of};
 ghost use Rattle.camelot_host.specs.Lowered.{MeansSame, IsSumCode, NumberFits, behind, part_local, part_lets, add_lets, sum_lets, sum_local, sum_block, sum_function, only};
 
@@ -156,7 +156,7 @@ pub(crate) fn lower(alloc: Global, function: &Function) -> Result<Code, AllocErr
     requires more_fit { AllByRecursion NumberFits function.now.more.items }
     requires few_params { vec_len function.now.params ≤ 16 }
     requires few_parts { vec_len function.now.more ≤ 100 }
-    ensures means { IfOk result (λ code. MeansSame (fun_of (function_of function.now)) (program_of code)) }
+    ensures means { IfOk result (λ code. MeansSame (source_of (function_of function.now)) (program_of code)) }
     ensures sum { IfOk result (λ code. IsSumCode (program_of code)) }
 {
     let count = function.params.len();

@@ -13,6 +13,8 @@ use Rattle.std.specs.Option.{option_map, option_map_or, option_or}
 use Rattle.std.specs.Str.{bytes_eq}
 use Rattle.camelot_values.specs.Kinds.{Constructor, DataType, constructor, type_of}
 use Rattle.camelot_values.specs.Heap.{is_heap}
+pub use Rattle.camelot_values.specs.Names.{stands}
+pub use Rattle.camelot_values.specs.Kinds.{same_kind}
 use Rattle.camelot_values.specs.Operator.{Operator}
 use Rattle.camelot_values.specs.declared.kinds.Kind.{Kind}
 use Rattle.camelot_values.specs.declared.kinds.Kind.TheVariants as kind
@@ -47,10 +49,6 @@ at_place func block place found = option_map (λ k. record { func = func; block 
 
 -- ---- names
 
--- the name stood before
-abbrev pub stands : List (List ℕ) → List ℕ → Bool
-stands earlier name = list_any (bytes_eq name) earlier
-
 -- ---- locals and their kinds
 
 -- a local's kind, and whether that is a heap kind
@@ -68,13 +66,6 @@ kind_at locals x = option_map (λ l. l.kind) (slice_get locals x)
 
 abbrev pub is_heap_at : List Local → ℕ → Bool
 is_heap_at locals x = option_map_or (λ l. l.heap) (slice_get locals x) false
-
-abbrev pub same_kind : Kind → Kind → Bool
-same_kind kind.Int kind.Int = true
-same_kind kind.Flag kind.Flag = true
-same_kind kind.Dia kind.Dia = true
-same_kind (kind.Of t) (kind.Of u) = t == u
-same_kind k l = false
 
 -- two kinds that are there and are the same
 abbrev pub same_kinds : Option Kind → Option Kind → Bool

@@ -6,8 +6,8 @@ use Rattle.std.specs.List.{AllByRecursion, range_with_len}
 use Rattle.std.specs.Option.{option_map, option_map_or}
 use Rattle.camelot_values.specs.Kinds.{Constructor, DataType, constructors, constructor, type_of}
 use Rattle.camelot_values.specs.Heap.{is_heap}
-use Rattle.camelot_values.specs.Operator as operator
-use Rattle.camelot_values.specs.Operator.{Operator}
+pub use Rattle.camelot_values.specs.Names.{AreDistinct}
+pub use Rattle.camelot_values.specs.Typing.{operator_kind}
 use Rattle.camelot_values.specs.declared.kinds.Kind.{Kind}
 use Rattle.camelot_values.specs.declared.kinds.Kind.TheVariants as kind
 use Rattle.grail_code.specs.declared.code.Place.{Place}
@@ -15,10 +15,6 @@ use Rattle.grail_code.specs.declared.code.Place.TheVariants as place
 use Rattle.grail_code.specs.declared.code.CaseCell.{CaseCell}
 use Rattle.grail_code.specs.declared.code.CaseCell.TheVariants as cell
 use Rattle.grail_code.specs.Code.{Operation, Lit, Flag, Copy, Prim, Make, Call, Binding, Arm, Exit, Ret, Tail, Goto, If, Case, BasicBlock, Function, Program}
-
--- no word stands twice
-abbrev pub AreDistinct : {A : Type 0} → List A → Type 0
-AreDistinct {A} words = (word : A) (before between rest : List A) → words ≡ before ++ word ∷ (between ++ word ∷ rest) → ⊥
 
 -- a kind whose type is there
 abbrev pub IsKnownKind : List DataType → Kind → Type 0
@@ -43,12 +39,6 @@ abbrev pub is_heap_local : List DataType → Function → ℕ → Bool
 is_heap_local types f x = option_map_or (is_heap types) (kind_of f x) false
 
 -- ---- lets
-
-abbrev pub operator_kind : Operator → Kind
-operator_kind operator.Add = kind.Int
-operator_kind operator.Sub = kind.Int
-operator_kind operator.Mul = kind.Int
-operator_kind op = kind.Flag
 
 -- an inline constructor is built in no cell, another one in a new cell or in that of a diamond
 abbrev pub PlaceFits : Function → Bool → Place → Type 0
