@@ -1,0 +1,17 @@
+pub mod Unifying
+pub mod Numbers
+pub mod Choosing
+pub mod Judging
+pub mod Proper
+pub mod Looping
+pub mod Declaring
+pub mod Programs
+pub mod Starting
+pub mod Answering
+pub mod Finding
+pub mod Siblings
+pub mod Walking
+pub mod Heading
+pub mod Passing
+pub mod Declared
+pub mod Checking

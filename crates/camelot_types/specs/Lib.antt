@@ -1,0 +1,11 @@
+-- The types of Camelot programs.
+pub mod Walk
+pub mod Solving
+pub mod Doing
+pub mod Tables
+pub mod Working
+pub mod Siblings
+pub mod Declaring
+pub mod Settled
+pub mod Ending
+pub mod Checked

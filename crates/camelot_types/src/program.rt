@@ -1,0 +1,126 @@
+ghost use Rattle.std.specs.Prelude.{◌≡◌, ◌≤◌, ◌⊎◌, List, length, map, IfOk, IfErr, MatchResult, ⊤};
+ghost use Rattle.std.specs.List.{AllByRecursion};
+ghost use Rattle.camelot_values.specs.Kinds.{constructors};
+ghost use Rattle.camelot_tree.specs.Programs.{program_of};
+ghost use Rattle.camelot_typing.specs.Kinds.{types_of};
+ghost use Rattle.camelot_typing.specs.Typing.{Signature, IsTyped, IsWithinLimits, globals_of};
+ghost use Rattle.camelot_typing.specs.Typed.{typing_kinds, functions_kinds};
+ghost use Rattle.camelot_typing.specs.TypedPrograms.{typing_of};
+ghost use Rattle.camelot_types.specs.Settled.{KindsSettled};
+ghost use Rattle.camelot_types.specs.Walk.{HasFault};
+ghost use Rattle.camelot_types.specs.Checked.{HasCause, BodiesChecked, Checks};
+ghost use Rattle.camelot_types.specs.declared.fault.TypeFault.{TypeFault};
+ghost use Rattle.camelot_types.specs.declared.fault.TypeFault.TheVariants.{Memory};
+
+use crate::bodies::walk_bodies;
+use crate::compile::{compile_types, type_numbers};
+use crate::fault::TypeFault;
+use crate::globals::Globals;
+use crate::headers::check_headers;
+use crate::heads::{head_guesses, unknowns};
+use crate::settle::{fresh, settled_funs};
+use crate::types::check_types;
+use camelot_names::Names;
+use camelot_tree::Program;
+use camelot_typing::{FunKinds, Typed};
+use camelot_values::Types;
+use std::alloc::Global;
+
+/// The kinds of all functions, whose declarations and headers are checked.
+fn check_bodies(
+    alloc: Global,
+    program: &Program,
+    types: &Types,
+    cons: Names<'_>,
+    funs: Names<'_>,
+) -> Result<Vec<FunKinds>, TypeFault>
+    requires types { types.now ≡ types_of (program_of program.now) }
+    requires few_types { length program.now.types.items ≤ 64 }
+    requires few_funs { length program.now.funs.items ≤ 64 }
+    requires few_params { AllByRecursion (λ f. length f.params ≤ 16) (program_of program.now).funs }
+    requires cons { cons ≡ map (λ c. c.name) (constructors types.now) }
+    requires funs { funs ≡ map (λ f. f.name.word) (program_of program.now).funs }
+    ensures { BodiesChecked (program_of program.now) result }
+{
+    if cons.len() > 1 << 16 {
+        return Err(TypeFault::Memory);
+    }
+    let heads = head_guesses(alloc, program, &program.funs)?;
+    let numbers = type_numbers(alloc, types)?;
+    let globals = Globals {
+        types,
+        cons,
+        funs,
+        heads,
+        numbers,
+    };
+    let table = fresh(alloc, unknowns(&program.funs))?;
+    match walk_bodies(alloc, &globals, table, &program.funs) {
+        Ok(work) => Ok(settled_funs(alloc, &work.table, &globals.heads, &work.atoms)?),
+        Err(fault) => Err(fault),
+    }
+}
+
+/// The types of a program, and the kinds of its functions and of all their expressions.
+#[derive(Drop)]
+struct Parts {
+    types: Types,
+    funs: Vec<FunKinds>,
+}
+
+fn check_parts(alloc: Global, program: &Program) -> Result<Parts, TypeFault>
+    ensures { Checks (program_of program.now) result }
+{
+    let cons = match check_types(alloc, program) {
+        Ok(cons) => cons,
+        Err(fault) => return Err(fault),
+    };
+    let funs = match check_headers(alloc, program) {
+        Ok(funs) => funs,
+        Err(fault) => return Err(fault),
+    };
+    let types = compile_types(alloc, program)?;
+    match check_bodies(alloc, program, &types, cons, funs) {
+        Ok(funs) => Ok(Parts { types, funs }),
+        Err(fault) => Err(fault),
+    }
+}
+
+/// Checks the types of a program.
+///
+/// A program is typed where some choice of one kind for each parameter, result, local and expression obeys the rules of ML's typing
+/// (Milner 1978) without type parameters; a kind that nothing fixes becomes `int`. The walk through the text is
+/// `specs/Walk.antt`.
+///
+/// # Errors
+///
+/// The first step of the walk that fails: first the declarations of types, then the headers of functions, then their bodies, each in text
+/// order; see [`TypeFault`]. [`TypeFault::Memory`] where memory runs out.
+pub fn check(alloc: Global, program: &Program) -> Result<Typed, TypeFault>
+    // The answer is this program, typed with these kinds, within the limits.
+    ensures program { IfOk result (λ typed. (typing_of typed).source ≡ program_of program.now) }
+    ensures typed { IfOk result (λ typed. IsTyped (program_of program.now) (typing_of typed).signatures) }
+    ensures within { IfOk result (λ _. IsWithinLimits (program_of program.now)) }
+    // A kind other than `int` is the same in every choice that obeys the rules.
+    ensures settled { IfOk result (λ typed. (signatures : List Signature) → IsTyped (program_of program.now) signatures
+        → KindsSettled (typing_kinds (typing_of typed)) (functions_kinds (globals_of (program_of program.now) signatures) (program_of program.now).funs signatures)) }
+    // A fault is the first one of the walk.
+    ensures fault { IfErr result (HasCause (program_of program.now)) }
+    // A typed program within the limits is taken, and one that has a fault is refused for it, unless memory runs out.
+    ensures takes { (signatures : List Signature) → IsTyped (program_of program.now) signatures → IsWithinLimits (program_of program.now)
+        → MatchResult result (λ _. ⊤) (λ found. found ≡ Memory) }
+    ensures refuses { (fault : TypeFault) → HasFault (program_of program.now) fault
+        → MatchResult result (λ _. ⊥) (λ found. (found ≡ fault) ⊎ (found ≡ Memory)) }
+{
+    match check_parts(alloc, program) {
+        Ok(parts) => {
+            let copy = program.copy(alloc)?;
+            Ok(Typed {
+                program: copy,
+                types: parts.types,
+                funs: parts.funs,
+            })
+        }
+        Err(fault) => Err(fault),
+    }
+}
