@@ -10,7 +10,7 @@ use Rattle.camelot_types.specs.declared.guess.Guess.TheVariants.{Known, Unknown}
 use Rattle.camelot_types.specs.Walk.{Choice, under, head_guesses, guesses_of}
 use Rattle.camelot_types.proofs.Choosing.{head_under, globals_under, params_under, atoms_under}
 use Rattle.camelot_types.proofs.Programs.{signatures_under}
-use Rattle.camelot_types.specs.Settled.{SameButInts, KindsSettled}
+use Rattle.camelot_typing.specs.Settled.{SameButInts, KindsSettled}
 
 -- function by function, for its head
 abbrev pub answered : Choice → Globals Guess → List Function → List (Head Guess) → List FunctionKinds

@@ -6,6 +6,5 @@ pub mod Tables
 pub mod Working
 pub mod Siblings
 pub mod Declaring
-pub mod Settled
 pub mod Ending
 pub mod Checked

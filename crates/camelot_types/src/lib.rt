@@ -22,5 +22,6 @@ mod table;
 mod types;
 mod walker;
 
+pub use camelot_typing::{FunKinds, Typed};
 pub use fault::TypeFault;
 pub use program::check;

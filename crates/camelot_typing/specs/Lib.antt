@@ -3,3 +3,4 @@ pub mod Kinds
 pub mod Typing
 pub mod Typed
 pub mod TypedPrograms
+pub mod Settled

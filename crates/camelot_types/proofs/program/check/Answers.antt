@@ -4,7 +4,7 @@ use Rattle.camelot_tree.specs.Tree.{Source}
 use Rattle.camelot_typing.specs.Kinds.{types_of}
 use Rattle.camelot_typing.specs.Typing.{IsTyped, globals_of}
 use Rattle.camelot_typing.specs.Typed.{kinds_of, signatures_of, functions_kinds, typing, typing_kinds}
-use Rattle.camelot_types.specs.Settled.{KindsSettled}
+use Rattle.camelot_typing.specs.Settled.{KindsSettled}
 use Rattle.camelot_types.proofs.Checking.{refused, taken_of, taken_copy}
 use Rattle.camelot_types.proofs.program.check.Goals as goal
 
@@ -12,7 +12,7 @@ pub invariant_of-result : goal.invariant_of-result
 invariant_of-result c =
     let same = c.in_ok-copy-in-Ok.ensures in
     let t = taken_copy (program_of c.args.program.now) (program_of c.in_ok-copy-in-Ok.copy) (map kinds_of c.in-Ok.parts.funs.items) same c.in-Ok.ensures.kinds in
-    record { typed = ∣ t.typed ∣₁; its_types = c.in-Ok.ensures.types_are ∙ ap (λ p. types_of p) (sym same); its_kinds = t.kinds_are }
+    record { typed = ∣ t.typed ∣₁; settled = ∣ t.settled ∣₁; its_types = c.in-Ok.ensures.types_are ∙ ap (λ p. types_of p) (sym same); its_kinds = t.kinds_are }
 
 pub returns-in_ok-copy-in-Ok-clause-typed : goal.returns-in_ok-copy-in-Ok-clause-typed
 returns-in_ok-copy-in-Ok-clause-typed c =
