@@ -1,0 +1,17 @@
+pub mod Flows
+pub mod Shapes
+pub mod Binders
+pub mod Counting
+pub mod Fields
+pub mod Ruling
+pub mod Programs
+pub mod Counts
+pub mod Walking
+pub mod Climbing
+pub mod Lists
+pub mod Bodies
+pub mod Trees
+pub mod Tables
+pub mod FunctionLaws
+pub mod Props
+pub mod Answering

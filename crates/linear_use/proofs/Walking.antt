@@ -1,0 +1,128 @@
+-- Laws of the walk's steps.
+use Rattle.std.proofs.Common.{◌≡◌, ℕ, suc, ◌+◌, ◌-◌, false, List, [], ◌∷◌, ◌++◌, length, Option, Some, None, refl, sym, ap, ◌∙◌, subst, arith, slice_get, append_assoc, length-append}
+use Rattle.std.specs.Prelude.{Result, Ok, Err, IsErrAnd}
+use Rattle.std.specs.Option.{option_or}
+use Rattle.camelot_values.specs.declared.kinds.Kind.{Kind}
+use Rattle.camelot_values.specs.declared.kinds.Kind.TheVariants as kind
+use Rattle.camelot_tree.specs.Tree.{Term, Num, Truth, Var, Prim, If, Let, Match, Build, Call}
+use Rattle.camelot_typing.specs.Kinds.{Globals, Scope, bind, or_else, atom_of, atoms_of, arms_atoms}
+use Rattle.camelot_typing.specs.Typing.{known_kind}
+use Rattle.linear_use.specs.declared.fault.UseFault.{UseFault}
+use Rattle.linear_use.specs.declared.variable.Variable.{Variable}
+use Rattle.linear_use.specs.declared.state.State.{State}
+use Rattle.linear_use.specs.Flow.{Flow, After, used}
+use Rattle.linear_use.specs.Walk.{first_of, is_memory, AreAt, Walked, Walks, parts_kinds}
+
+-- what an answer says that isn't Ok: unless memory ran out, it is the first fault
+abbrev pub Tells : UseFault → List ℕ → Flow → Type 0
+Tells fault spent f = is_memory fault ≡ false → first_of spent f ≡ Some fault
+
+-- ---- kinds in the list
+
+pub at_front : (ex : List Kind) (p : ℕ) (xs ys : List Kind) → AreAt ex p (xs ++ ys) → AreAt ex p xs
+at_front ex p [] ys h = tt
+at_front ex p (x ∷ xs) ys h = (h.0, at_front ex (suc p) xs ys h.1)
+
+pub at_back : (ex : List Kind) (p q : ℕ) (xs ys : List Kind) → q ≡ p + length xs → AreAt ex p (xs ++ ys) → AreAt ex q ys
+at_back ex p q [] ys e h = subst (λ r. AreAt ex r ys) (let k : p ≡ q = omega (arith, e) in k) h
+at_back ex p q (x ∷ xs) ys e h = at_back ex (suc p) q xs ys (omega (arith, e)) h.1
+
+last_at : (ex : List Kind) (p q : ℕ) (xs : List Kind) (k : Kind) → q ≡ p + length xs → AreAt ex p (xs ++ k ∷ []) → slice_get ex q ≡ Some k
+last_at ex p q [] k e h = let r : q ≡ p = omega (arith, e) in ap (slice_get ex) r ∙ h.0
+last_at ex p q (x ∷ xs) k e h = last_at ex (suc p) q xs k (omega (arith, e)) h.1
+
+-- the kinds of an expression are those of its parts, and its own
+pub kinds_split : (g : Globals Kind) (s : Scope Kind) (e : Term) → atoms_of known_kind g s e ≡ parts_kinds g s e ++ atom_of known_kind g s e ∷ []
+kinds_split g s (Num z l) = refl
+kinds_split g s (Truth b l) = refl
+kinds_split g s (Var n) = refl
+kinds_split g s (Prim op a b l) = sym (append_assoc (atoms_of known_kind g s a) (atoms_of known_kind g s b) (atom_of known_kind g s (Prim op a b l) ∷ []))
+kinds_split g s (If c a b l) =
+    let k = atom_of known_kind g s (If c a b l) ∷ [] in
+    sym (append_assoc (atoms_of known_kind g s c) (atoms_of known_kind g s a ++ atoms_of known_kind g s b) k
+    ∙ ap (λ l. atoms_of known_kind g s c ++ l) (append_assoc (atoms_of known_kind g s a) (atoms_of known_kind g s b) k))
+kinds_split g s (Let n e b) =
+    sym (append_assoc (atoms_of known_kind g s e) (atoms_of known_kind g (bind n.word (atom_of known_kind g s e) s) b) (atom_of known_kind g s (Let n e b) ∷ []))
+kinds_split g s (Match e as' l) = sym (append_assoc (atoms_of known_kind g s e) (arms_atoms known_kind g s as') (atom_of known_kind g s (Match e as' l) ∷ []))
+kinds_split g s (Build c es place) = refl
+kinds_split g s (Call f es) = refl
+
+-- the kind of the expression that ended last
+pub last_kind : (g : Globals Kind) (ex : List Kind) (s : Scope Kind) (e : Term) (p q : ℕ) (ys : List Kind) → q ≡ p + length (atoms_of known_kind g s e)
+    → AreAt ex p (atoms_of known_kind g s e ++ ys) → or_else (slice_get ex (q - 1)) kind.Int ≡ atom_of known_kind g s e
+last_kind g ex s e p q ys h a =
+    let own : AreAt ex p (parts_kinds g s e ++ atom_of known_kind g s e ∷ []) = subst (AreAt ex p) (kinds_split g s e) (at_front ex p (atoms_of known_kind g s e) ys a) in
+    let count = ap length (kinds_split g s e) in
+    let more = length-append (parts_kinds g s e) (atom_of known_kind g s e ∷ []) in
+    let place : q - 1 ≡ p + length (parts_kinds g s e) = omega (arith, h, count, more) in
+    ap (λ o. or_else o kind.Int) (last_at ex p (q - 1) (parts_kinds g s e) (atom_of known_kind g s e) place own)
+
+-- ---- one step after another
+
+pub or_none : {A : Type 0} (a b : Option A) → a ≡ None → option_or a b ≡ b
+or_none None b h = refl
+or_none (Some x) b h = cc
+
+pub or_some : {A : Type 0} (a b : Option A) (x : A) → a ≡ Some x → option_or a b ≡ Some x
+or_some None b x h = cc
+or_some (Some y) b x h = h
+
+pub tells_first : (fault : UseFault) (spent : List ℕ) (a b : Flow) → Tells fault spent a → Tells fault spent (After a b)
+tells_first fault spent a b h m = or_some (first_of spent a) (first_of (spent ++ used a) b) fault (h m)
+
+-- A step behind another is told of by what is known after the first: F, N and K give its flow, the number behind it and its kinds.
+pub seq_tells : (fault : UseFault) (F : ℕ → Scope Variable → Flow) (f : Flow) (free count : ℕ) (s0 s1 : State) → Walked f free count s0 s1
+    → Tells fault s1.spent (F s1.next s1.scope) → Tells fault s0.spent (After f (F free s0.scope))
+seq_tells fault F f free count s0 s1 w h m =
+    or_none (first_of s0.spent f) (first_of (s0.spent ++ used f) (F free s0.scope)) w.none
+    ∙ ap (λ l. first_of l (F free s0.scope)) (sym w.spent) ∙ ap (λ n. first_of s1.spent (F n s0.scope)) (sym w.next) ∙ ap (λ s. first_of s1.spent (F s1.next s)) (sym w.scope) ∙ h m
+
+pub seq_at : (ex : List Kind) (K : Scope Variable → List Kind) (f : Flow) (free count : ℕ) (xs : List Kind) (s0 s1 : State) → Walked f free count s0 s1 → count ≡ length xs
+    → AreAt ex s0.position (xs ++ K s0.scope) → AreAt ex s1.position (K s1.scope)
+seq_at ex K f free count xs s0 s1 w e h =
+    subst (λ s. AreAt ex s1.position (K s)) (sym w.scope) (at_back ex s0.position s1.position xs (K s0.scope) (w.position ∙ ap (λ n. s0.position + n) e) h)
+
+pub seq_walked : (F : ℕ → Scope Variable → Flow) (N : ℕ → ℕ) (K : Scope Variable → List Kind) (f : Flow) (free count : ℕ) (s0 s1 s2 : State) → Walked f free count s0 s1
+    → Walked (F s1.next s1.scope) (N s1.next) (length (K s1.scope)) s1 s2 → Walked (After f (F free s0.scope)) (N free) (count + length (K s0.scope)) s0 s2
+seq_walked F N K f free count s0 s1 s2 w v = record {
+  none =
+      or_none (first_of s0.spent f) (first_of (s0.spent ++ used f) (F free s0.scope)) w.none
+      ∙ ap (λ l. first_of l (F free s0.scope)) (sym w.spent) ∙ ap (λ n. first_of s1.spent (F n s0.scope)) (sym w.next) ∙ ap (λ s. first_of s1.spent (F s1.next s)) (sym w.scope) ∙ v.none;
+  spent =
+      v.spent ∙ ap (λ l. l ++ used (F s1.next s1.scope)) w.spent ∙ ap (λ n. (s0.spent ++ used f) ++ used (F n s1.scope)) w.next ∙ ap (λ s. (s0.spent ++ used f) ++ used (F free s)) w.scope
+      ∙ append_assoc s0.spent (used f) (used (F free s0.scope));
+  next = v.next ∙ ap N w.next;
+  scope = v.scope ∙ w.scope;
+  position =
+      let a = v.position in let b = w.position in let c : length (K s1.scope) ≡ length (K s0.scope) = ap (λ s. length (K s)) w.scope in omega (arith, a, b, c);
+}
+
+pub walked_count : (f : Flow) (free m n : ℕ) (s0 s1 : State) → m ≡ n → Walked f free m s0 s1 → Walked f free n s0 s1
+walked_count f free m n s0 s1 e w = subst (λ k. Walked f free k s0 s1) e w
+
+-- the end of an expression
+pub finished : (f : Flow) (free m n : ℕ) (s0 s1 s2 : State) → Walked f free m s0 s1 → s2 ≡ record s1 { position = s1.position + 1 } → n ≡ m + 1 → Walked f free n s0 s2
+finished f free m n s0 s1 s2 w e q = record {
+  none = w.none;
+  spent = ap (λ s. s.spent) e ∙ w.spent;
+  next = ap (λ s. s.next) e ∙ w.next;
+  scope = ap (λ s. s.scope) e ∙ w.scope;
+  position = let a : s2.position ≡ s1.position + 1 = ap (λ s. s.position) e in let b = w.position in omega (arith, a, b, q);
+}
+
+-- ---- answers of the code
+
+-- an error that is handed on
+pub err_walks : {A : Type 0} (r : Result A UseFault) (fault : UseFault) (f : Flow) (free count : ℕ) (s0 s1 : State) → IsErrAnd r (λ e. e ≡ fault) → Tells fault s0.spent f
+    → Walks f free count s0 r s1
+err_walks (Ok x) fault f free count s0 s1 h t = absurd h
+err_walks (Err e) fault f free count s0 s1 h t = λ m. t (ap is_memory (sym h) ∙ m) ∙ ap Some (sym h)
+
+pub with_scope : (s : State) (a b : Scope Variable) → a ≡ b → let x : State = record s { scope = a } in let y : State = record s { scope = b } in x ≡ y
+with_scope s a b e = ap (λ c. record s { scope = c }) e
+
+pub with_spent : (s : State) (a b : List ℕ) → a ≡ b → let x : State = record s { spent = a } in let y : State = record s { spent = b } in x ≡ y
+with_spent s a b e = ap (λ c. record s { spent = c }) e
+
+pub with_end : (s t : State) → s ≡ t → let x : State = record s { position = s.position + 1 } in let y : State = record t { position = t.position + 1 } in x ≡ y
+with_end s t e = let f : State → State = λ u. record u { position = u.position + 1 } in ap f e

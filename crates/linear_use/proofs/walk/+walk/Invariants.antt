@@ -1,0 +1,53 @@
+use Rattle.std.proofs.Common.{◌+◌, ◌*◌, suc, drop, map, length}
+use Rattle.camelot_tree.specs.Tree.{term_of, branch_of, terms, arms}
+use Rattle.camelot_tree.specs.Spine.{size, terms_size, arms_size}
+use Rattle.linear_use.specs.Walk.{globals_in}
+use Rattle.linear_use.proofs.Climbing.{Climbed}
+use Rattle.linear_use.proofs.Lists.{AllLeft, ArmsLeft}
+use Rattle.linear_use.proofs.walk.+walk.Given as goal
+
+abbrev pub invariant-walk-up : goal.invariant-walk-up
+invariant-walk-up l = record {
+  climbed : Climbed (globals_in l.known.typed.now) (term_of l.expr) (map (λ parent. term_of parent.now) l.parents.items) l.fn.state l.state;
+}
+
+abbrev pub decreases-walk-up : goal.decreases-walk-up
+decreases-walk-up l = length l.parents.items
+
+abbrev pub invariant-walk_args-args-2 : goal.invariant-walk_args-args-2
+invariant-walk_args-args-2 l = record {
+  left : AllLeft (globals_in l.known.typed.now) l.known.exprs.now (terms (map term_of l.args)) (terms (map term_of (drop l.arg-index l.args))) l.initial.state l.state;
+}
+
+abbrev pub invariant-walk_arms-arms : goal.invariant-walk_arms-arms
+invariant-walk_arms-arms l = record {
+  left : ArmsLeft (globals_in l.known.typed.now) l.known.exprs.now (arms (map branch_of l.arms)) (arms (map branch_of (drop l.arm-index l.arms))) l.held l.initial.state l.state;
+}
+
+-- ranks: arms, one arm, arguments and branches, an expression, its innermost part and the parts around it, and a let or a match
+abbrev pub decreases-walk : goal.decreases-walk
+decreases-walk l = 8 * size (term_of l.expr.now) + 6
+
+abbrev pub decreases-walk_rest : goal.decreases-walk_rest
+decreases-walk_rest l = 8 * size (term_of l.parent.now) + 5
+
+abbrev pub decreases-walk_parts : goal.decreases-walk_parts
+decreases-walk_parts l = 8 * size (term_of l.expr.now) + 5
+
+abbrev pub decreases-walk_branches : goal.decreases-walk_branches
+decreases-walk_branches l = 8 * (size (term_of l.yes.now) + size (term_of l.no.now)) + 7
+
+abbrev pub decreases-walk_let : goal.decreases-walk_let
+decreases-walk_let l = 8 * suc (size (term_of l.value.now) + size (term_of l.body.now)) + 4
+
+abbrev pub decreases-walk_match : goal.decreases-walk_match
+decreases-walk_match l = 8 * suc (size (term_of l.on.now) + arms_size (arms (map branch_of l.arms.now))) + 4
+
+abbrev pub decreases-walk_args : goal.decreases-walk_args
+decreases-walk_args l = 8 * terms_size (terms (map term_of l.args.now)) + 7
+
+abbrev pub decreases-walk_arm : goal.decreases-walk_arm
+decreases-walk_arm l = 8 * size (branch_of l.arm.now).body + 7
+
+abbrev pub decreases-walk_arms : goal.decreases-walk_arms
+decreases-walk_arms l = 8 * arms_size (arms (map branch_of l.arms.now)) + 8

@@ -1,0 +1,31 @@
+-- What the check answers.
+use Rattle.std.specs.Prelude.{◌≡◌, Some, Result, Ok, Err, List, ⊤}
+use Rattle.camelot_typing.specs.Typed.{Typing}
+use Rattle.linear_use.specs.declared.fault.UseFault.{UseFault}
+use Rattle.linear_use.specs.declared.fault.UseFault.TheVariants.{Memory}
+use Rattle.linear_use.specs.Uses as rule
+use Rattle.linear_use.specs.Flow.{program_faults}
+use Rattle.linear_use.specs.Walk.{first}
+
+-- the rule, and the faults, of a program with its kinds
+abbrev pub KeepsRule : Typing → Type 0
+KeepsRule t = rule.KeepsRule t.source t.signatures
+
+abbrev pub faults_of : Typing → List UseFault
+faults_of t = program_faults t.source t.signatures
+
+-- the first of these faults, unless memory ran out
+abbrev pub IsFirst : List UseFault → UseFault → Type 0
+IsFirst faults Memory = ⊤
+IsFirst faults fault = first faults ≡ Some fault
+
+-- Ok, unless memory ran out
+abbrev pub Takes : {A : Type 0} → Result A UseFault → Type 0
+Takes (Ok x) = ⊤
+Takes (Err fault) = fault ≡ Memory
+
+-- an error with this fault, unless memory ran out
+abbrev pub Refuses : {A : Type 0} → UseFault → Result A UseFault → Type 0
+Refuses fault (Ok x) = ⊥
+Refuses fault (Err Memory) = ⊤
+Refuses fault (Err other) = other ≡ fault

@@ -1,0 +1,7 @@
+-- The rule of use of Camelot programs.
+pub mod Uses
+pub mod Flow
+pub mod Counted
+pub mod Tables
+pub mod Walk
+pub mod Answers

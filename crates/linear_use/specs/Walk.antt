@@ -1,0 +1,144 @@
+-- The walk of the code: it answers the first fault, or goes on with what is spent. It goes along the left end of an expression in a
+-- loop, and takes the kinds of expressions from their list.
+use Rattle.std.specs.Prelude.{◌≡◌, ℕ, suc, ◌+◌, Bool, true, false, if◌then◌else◌, List, [], ◌∷◌, ◌++◌, map, length, Option, Some, None, Result, Ok, Err, slice_get}
+use Rattle.std.specs.Option.{option_or}
+use Rattle.camelot_values.specs.Kinds.{DataType}
+use Rattle.camelot_values.specs.declared.kinds.Kind.{Kind}
+use Rattle.camelot_tree.specs.Tree.{Term, Num, Truth, Var, Prim, If, Let, Match, Build, Call, Terms, Arms, Branch}
+use Rattle.camelot_tree.specs.Programs.{program_of}
+use Rattle.camelot_typing.specs.Kinds.{Globals, Scope, bind, arm_scope, atom_of, atoms_of, all_atoms, arms_atoms}
+use Rattle.camelot_typing.specs.Typing.{known_kind}
+use Rattle.camelot_typing.specs.Typed.{kinds_of, signatures_of}
+use Rattle.camelot_typing.specs.declared.typed.Typed.{Typed}
+use Rattle.linear_use.specs.declared.fault.UseFault.{UseFault}
+use Rattle.linear_use.specs.declared.fault.UseFault.TheVariants.{Twice, Memory}
+use Rattle.linear_use.specs.declared.variable.Variable.{Variable}
+use Rattle.linear_use.specs.declared.state.State.{State}
+use Rattle.linear_use.specs.Flow.{Flow, Nothing, Use, Fault, After, Either, used, is_spent, kinds_in, cell_flow, arm_variables, arm_count, next_of, all_next, arms_next, flow, all_flow, arms_flow}
+
+-- ---- the first fault
+
+abbrev pub first : List UseFault → Option UseFault
+first [] = None
+first (fault ∷ faults) = Some fault
+
+-- the first fault of a flow, where these variables are spent already
+abbrev pub first_of : List ℕ → Flow → Option UseFault
+first_of spent Nothing = None
+first_of spent (Use x name line) = if is_spent x spent then Some (Twice name line) else None
+first_of spent (Fault fault) = Some fault
+first_of spent (After a b) = option_or (first_of spent a) (first_of (spent ++ used a) b)
+first_of spent (Either a b) = option_or (first_of spent a) (first_of spent b)
+
+abbrev pub is_memory : UseFault → Bool
+is_memory Memory = true
+is_memory fault = false
+
+-- Ok where there is no fault, and else the first one, unless memory runs out
+abbrev pub Finds : {A : Type 0} → Result A UseFault → Option UseFault → Type 0
+Finds (Ok x) found = found ≡ None
+Finds (Err fault) found = is_memory fault ≡ false → found ≡ Some fault
+
+-- ---- what is known of the program
+
+abbrev pub globals_in : Typed → Globals Kind
+globals_in t = record { types = t.types; heads = signatures_of (program_of t.program).funs (map kinds_of t.funs.items) }
+
+-- these kinds stand in the list from this place on
+abbrev pub AreAt : List Kind → ℕ → List Kind → Type 0
+AreAt exprs place [] = Unit {0}
+AreAt exprs place (k ∷ ks) = (slice_get exprs place ≡ Some k) × AreAt exprs (suc place) ks
+
+-- ---- steps
+
+-- a flow without faults was walked: `free` is the first free number behind it, and it has `count` expressions
+pub record Walked (f : Flow) (free count : ℕ) (before after : State) : Type 0 where
+  pub none : first_of before.spent f ≡ None
+  pub spent : after.spent ≡ before.spent ++ used f
+  pub next : after.next ≡ free
+  pub scope : after.scope ≡ before.scope
+  pub position : after.position ≡ before.position + count
+
+abbrev pub Walks : {A : Type 0} → Flow → ℕ → ℕ → State → Result A UseFault → State → Type 0
+Walks f free count before (Ok x) after = Walked f free count before after
+Walks f free count before (Err fault) after = is_memory fault ≡ false → first_of before.spent f ≡ Some fault
+
+abbrev pub kinds_at : Globals Kind → State → Term → List Kind
+kinds_at g s e = atoms_of known_kind g (kinds_in s.scope) e
+
+abbrev pub WalksTerm : {A : Type 0} → Globals Kind → Term → State → Result A UseFault → State → Type 0
+WalksTerm g e before result after = Walks (flow g before.next before.scope e) (next_of g.types before.next e) (length (kinds_at g before e)) before result after
+
+-- the kinds of an expression's parts
+abbrev pub parts_kinds : Globals Kind → Scope Kind → Term → List Kind
+parts_kinds g s (Num z l) = []
+parts_kinds g s (Truth b l) = []
+parts_kinds g s (Var n) = []
+parts_kinds g s (Prim op a b l) = atoms_of known_kind g s a ++ atoms_of known_kind g s b
+parts_kinds g s (If c a b l) = atoms_of known_kind g s c ++ (atoms_of known_kind g s a ++ atoms_of known_kind g s b)
+parts_kinds g s (Let n e b) = atoms_of known_kind g s e ++ atoms_of known_kind g (bind n.word (atom_of known_kind g s e) s) b
+parts_kinds g s (Match e as' l) = atoms_of known_kind g s e ++ arms_atoms known_kind g s as'
+parts_kinds g s (Build c es place) = all_atoms known_kind g s es
+parts_kinds g s (Call f es) = all_atoms known_kind g s es
+
+abbrev pub parts_kinds_at : Globals Kind → State → Term → List Kind
+parts_kinds_at g s e = parts_kinds g (kinds_in s.scope) e
+
+-- all of an expression but its own end
+abbrev pub WalksParts : {A : Type 0} → Globals Kind → Term → State → Result A UseFault → State → Type 0
+WalksParts g e before result after = Walks (flow g before.next before.scope e) (next_of g.types before.next e) (length (parts_kinds_at g before e)) before result after
+
+-- ---- the parts of an operator or a conditional behind its first part
+
+abbrev pub first_part : Term → Term
+first_part (Prim op a b l) = a
+first_part (If c a b l) = c
+first_part e = e
+
+abbrev pub rest_flow : Globals Kind → ℕ → Scope Variable → Term → Flow
+rest_flow g next s (Prim op a b l) = flow g next s b
+rest_flow g next s (If c a b l) = Either (flow g next s a) (flow g (next_of g.types next a) s b)
+rest_flow g next s e = Nothing
+
+abbrev pub rest_next : List DataType → ℕ → Term → ℕ
+rest_next types next (Prim op a b l) = next_of types next b
+rest_next types next (If c a b l) = next_of types (next_of types next a) b
+rest_next types next e = next
+
+abbrev pub rest_kinds : Globals Kind → Scope Kind → Term → List Kind
+rest_kinds g s (Prim op a b l) = atoms_of known_kind g s b ++ atom_of known_kind g s (Prim op a b l) ∷ []
+rest_kinds g s (If c a b l) = atoms_of known_kind g s a ++ (atoms_of known_kind g s b ++ atom_of known_kind g s (If c a b l) ∷ [])
+rest_kinds g s e = []
+
+abbrev pub WalksRest : {A : Type 0} → Globals Kind → Term → State → Result A UseFault → State → Type 0
+WalksRest g p before result after =
+    Walks (rest_flow g before.next before.scope p) (rest_next g.types before.next p) (length (rest_kinds g (kinds_in before.scope) p)) before result after
+
+-- ---- arguments and arms
+
+abbrev pub all_kinds_at : Globals Kind → State → Terms → List Kind
+all_kinds_at g s es = all_atoms known_kind g (kinds_in s.scope) es
+
+abbrev pub WalksAll : {A : Type 0} → Globals Kind → Terms → State → Result A UseFault → State → Type 0
+WalksAll g es before result after =
+    Walks (all_flow g before.next before.scope es) (all_next g.types before.next es) (length (all_kinds_at g before es)) before result after
+
+abbrev pub arm_flow : Globals Kind → ℕ → Scope Variable → Branch → Flow
+arm_flow g next s a =
+    After (cell_flow g.types a.con a.cell) (flow g (next + arm_count g.types a.con a.fields a.cell) (arm_variables g.types next a.con a.fields a.cell s) a.body)
+
+abbrev pub arm_next : List DataType → ℕ → Branch → ℕ
+arm_next types next a = next_of types (next + arm_count types a.con a.fields a.cell) a.body
+
+abbrev pub arm_kinds_at : Globals Kind → State → Branch → List Kind
+arm_kinds_at g s a = atoms_of known_kind g (arm_scope known_kind g.types a.con a.fields a.cell (kinds_in s.scope)) a.body
+
+abbrev pub WalksArm : {A : Type 0} → Globals Kind → Branch → State → Result A UseFault → State → Type 0
+WalksArm g a before result after = Walks (arm_flow g before.next before.scope a) (arm_next g.types before.next a) (length (arm_kinds_at g before a)) before result after
+
+abbrev pub arms_kinds_at : Globals Kind → State → Arms → List Kind
+arms_kinds_at g s as' = arms_atoms known_kind g (kinds_in s.scope) as'
+
+abbrev pub WalksArms : {A : Type 0} → Globals Kind → Arms → State → Result A UseFault → State → Type 0
+WalksArms g as' before result after =
+    Walks (arms_flow g before.next before.scope as') (arms_next g.types before.next as') (length (arms_kinds_at g before as')) before result after

@@ -1,0 +1,98 @@
+//! The walk through functions and programs.
+ghost use Rattle.std.specs.Prelude.{◌≡◌, ◌≤◌, [], map, length, Some, IfOk};
+ghost use Rattle.camelot_values.specs.Kinds.{constructors};
+ghost use Rattle.camelot_tree.specs.Tree.{term_of, function_of};
+ghost use Rattle.camelot_typing.specs.Kinds.{atoms_of};
+ghost use Rattle.camelot_typing.specs.Typing.{known_kind, params_scope};
+ghost use Rattle.camelot_typing.specs.Typed.{kinds_of, signature_of};
+ghost use Rattle.camelot_typing.specs.TypedPrograms.{typing_of};
+ghost use Rattle.linear_use.specs.Flow.{param_variables, read_flow, function_flow};
+ghost use Rattle.linear_use.specs.Walk.{Finds, first, first_of, globals_in};
+ghost use Rattle.linear_use.specs.Answers.{faults_of};
+
+use crate::fault::UseFault;
+use crate::known::Known;
+use crate::names::{constructor_names, law_of_few};
+use crate::spent::Spent;
+use crate::state::State;
+use crate::variable::Variable;
+use crate::walk::walk;
+use camelot_names::{Names, Scope};
+use camelot_tree::{FunDecl, Param};
+use camelot_typing::{FunKinds, Typed};
+use camelot_values::Kind;
+use std::alloc::{AllocError, Global};
+
+// Refuses a parameter that is marked `read`.
+fn check_read(alloc: Global, params: &[Param]) -> Result<(), UseFault>
+    ensures { Finds result (first_of [] (read_flow params.now)) }
+{
+    'params: for param in params {
+        if param.read {
+            return Err(UseFault::ReadMatch {
+                name: param.name.word.copy(alloc)?,
+                line: param.name.line as u64,
+            });
+        }
+    }
+    Ok(())
+}
+
+// The parameters in scope, the first of them innermost.
+fn bind_params<'a>(
+    alloc: Global,
+    params: &'a [Param],
+    kinds: &[Kind],
+) -> Result<Scope<'a, Variable>, AllocError>
+    ensures { IfOk result (λ scope. scope ≡ param_variables 0 params.now kinds.now) }
+{
+    let mut scope = Scope::new(alloc);
+    let mut number = params.len().min(kinds.len());
+    while number > 0 {
+        number -= 1;
+        let kind = kinds[number];
+        scope.bind(params[number].name.word.bytes(), Variable { number, kind })?;
+    }
+    Ok(scope)
+}
+
+// A function, whose parameters and expressions have these kinds.
+fn walk_function<'a>(
+    alloc: Global,
+    typed: &'a Typed,
+    cons: &Names<'a>,
+    decl: &'a FunDecl,
+    kinds: &'a FunKinds,
+) -> Result<(), UseFault>
+    requires names { cons.now ≡ map (λ c. c.name) (constructors typed.now.types) }
+    requires few { length (constructors typed.now.types) ≤ 4096 }
+    requires kinds { kinds.now.exprs.items ≡ atoms_of known_kind (globals_in typed.now) (params_scope decl.now.params.items kinds.now.params.items) (term_of decl.now.body) }
+    ensures { let f = function_of decl.now in Finds result (first_of [] (function_flow (globals_in typed.now) f (signature_of f (kinds_of kinds.now)))) }
+{
+    check_read(alloc, &decl.params)?;
+    let known = Known {
+        alloc,
+        typed,
+        cons,
+        exprs: &kinds.exprs,
+    };
+    let mut state = State {
+        scope: bind_params(alloc, &decl.params, &kinds.params)?,
+        spent: Spent::new(alloc),
+        next: decl.params.len(),
+        position: 0,
+    };
+    walk(&known, &mut state, &decl.body)
+}
+
+/// The first fault of a typed program.
+pub(crate) fn first_fault(alloc: Global, typed: &Typed) -> Result<(), UseFault>
+    ensures { Finds result (first (faults_of (typing_of typed.now))) }
+{
+    law_of_few(typed);
+    let cons = constructor_names(alloc, typed)?;
+    'funs: for (decl, kinds) in typed.program.funs.iter().zip(&typed.funs) {
+        walk_function(alloc, typed, &cons, decl, kinds)?;
+    }
+    Ok(())
+}

@@ -1,0 +1,40 @@
+//! The names of all constructors.
+ghost use Rattle.std.specs.Prelude.{◌≡◌, ◌≤◌, map, length, IfOk, OnOk};
+ghost use Rattle.camelot_values.specs.Kinds.{constructor_of, constructors};
+ghost use Rattle.linear_use.specs.Tables.{with_names};
+
+use camelot_names::Names;
+use camelot_typing::Typed;
+use camelot_values::Con;
+use std::alloc::{AllocError, Global};
+
+// Adds the names of a type's constructors.
+fn add_names<'a>(names: &mut Names<'a>, cons: &'a [Con]) -> Result<(), AllocError>
+    ensures { OnOk result (names.new ≡ with_names names.old (map (λ c. c.name) cons.now)) }
+{
+    'cons: for con in cons {
+        let _added = names.add(con.name.bytes())?;
+    }
+    Ok(())
+}
+
+/// The names of a program's constructors, which have their numbers in it.
+pub(crate) fn constructor_names<'a>(
+    alloc: Global,
+    typed: &'a Typed,
+) -> Result<Names<'a>, AllocError>
+    ensures { IfOk result (λ names. names ≡ map (λ c. c.name) (constructors typed.now.types)) }
+{
+    let mut names = Names::new(alloc);
+    'types: for def in typed.types.defs() {
+        add_names(&mut names, &def.cons)?;
+    }
+    Ok(names)
+}
+
+/// A typed program has at most 64 times 64 constructors.
+pub(crate) fn law_of_few(typed: &Typed)
+    ensures { length (constructors typed.now.types) ≤ 4096 }
+{
+    let _types = &typed.types;
+}

@@ -1,0 +1,189 @@
+//! The walk through an expression.
+ghost use Rattle.std.specs.Prelude.{◌≡◌, ◌++◌, map, length};
+ghost use Rattle.camelot_tree.specs.Tree.{term_of, branch_of, terms, Let, Match};
+ghost use Rattle.camelot_tree.specs.Tree as tree;
+ghost use Rattle.camelot_tree.specs.Spine.{IsLeaf};
+ghost use Rattle.linear_use.specs.Flow.{kinds_in, next_of, flow, Either};
+ghost use Rattle.linear_use.specs.Walk.{globals_in, AreAt, Walks, WalksTerm, WalksParts, WalksRest, WalksAll, WalksArm, WalksArms, kinds_at, parts_kinds_at, rest_kinds, all_kinds_at, arm_kinds_at, arms_kinds_at};
+
+use crate::fault::UseFault;
+use crate::known::Known;
+use crate::parts::{bind_arm, check_cell, kind_behind, use_name, use_place};
+use crate::spent::Held;
+use crate::state::State;
+use camelot_tree::{Arm, Expr, Name, left_spine};
+
+/// Walks through an expression, along its left end.
+#[cycle(walk)]
+pub(crate) fn walk<'a>(
+    known: &Known<'a, '_>,
+    state: &mut State<'a>,
+    expr: &'a Expr,
+) -> Result<(), UseFault>
+    requires { AreAt known.now.exprs.now state.old.position (kinds_at (globals_in known.now.typed.now) state.old (term_of expr.now)) }
+    ensures { WalksTerm (globals_in known.now.typed.now) (term_of expr.now) state.old result state.new }
+{
+    let spine = left_spine(known.alloc, expr)?;
+    let mut parents = spine.parents;
+    walk_parts(known, state, spine.leaf)?;
+    state.finish()?;
+    'up: while let Some(parent) = parents.pop() {
+        walk_rest(known, state, parent)?;
+    }
+    Ok(())
+}
+
+// The parts of an operator or a conditional behind its first part.
+#[cycle(walk)]
+fn walk_rest<'a>(
+    known: &Known<'a, '_>,
+    state: &mut State<'a>,
+    parent: &'a Expr,
+) -> Result<(), UseFault>
+    requires { AreAt known.now.exprs.now state.old.position (rest_kinds (globals_in known.now.typed.now) (kinds_in state.old.scope) (term_of parent.now)) }
+    ensures { WalksRest (globals_in known.now.typed.now) (term_of parent.now) state.old result state.new }
+{
+    match parent {
+        Expr::Prim { right, .. } => walk(known, state, right)?,
+        Expr::If { yes, no, .. } => walk_branches(known, state, yes, no)?,
+        _ => return Ok(()),
+    }
+    state.finish()?;
+    Ok(())
+}
+
+// Two branches, each of which goes on from what was spent before both.
+#[cycle(walk)]
+#[tactic(auto, using(crate::proofs::Walking::at_front, crate::proofs::Bodies::branches_at, crate::proofs::Bodies::branches_tell, crate::proofs::Bodies::branches_walked))]
+fn walk_branches<'a>(
+    known: &Known<'a, '_>,
+    state: &mut State<'a>,
+    yes: &'a Expr,
+    no: &'a Expr,
+) -> Result<(), UseFault>
+    requires { let g = globals_in known.now.typed.now in AreAt known.now.exprs.now state.old.position (kinds_at g state.old (term_of yes.now) ++ kinds_at g state.old (term_of no.now)) }
+    ensures { let g = globals_in known.now.typed.now in
+        let first = next_of g.types state.old.next (term_of yes.now) in
+        Walks (Either (flow g state.old.next state.old.scope (term_of yes.now)) (flow g first state.old.scope (term_of no.now)))
+        (next_of g.types first (term_of no.now)) (length (kinds_at g state.old (term_of yes.now) ++ kinds_at g state.old (term_of no.now))) state.old result state.new }
+{
+    let start = state.spent.len();
+    let mut held = Held::new(known.alloc);
+    walk(known, state, yes)?;
+    state.spent.hold(start, &mut held)?;
+    walk(known, state, no)?;
+    state.spent.put_back(held)?;
+    Ok(())
+}
+
+// The parts of the innermost part of a left end.
+#[cycle(walk)]
+fn walk_parts<'a>(
+    known: &Known<'a, '_>,
+    state: &mut State<'a>,
+    expr: &'a Expr,
+) -> Result<(), UseFault>
+    requires leaf { IsLeaf (term_of expr.now) }
+    requires kinds { AreAt known.now.exprs.now state.old.position (parts_kinds_at (globals_in known.now.typed.now) state.old (term_of expr.now)) }
+    ensures { WalksParts (globals_in known.now.typed.now) (term_of expr.now) state.old result state.new }
+{
+    match expr {
+        Expr::Num { .. } | Expr::Truth { .. } => Ok(()),
+        Expr::Var(name) => use_name(known, state, name),
+        Expr::Let { name, value, body } => walk_let(known, state, name, value, body),
+        Expr::Match { on, arms, .. } => walk_match(known, state, on, arms),
+        Expr::Build { args, place, .. } => {
+            walk_args(known, state, args)?;
+            use_place(known, state, place)
+        }
+        Expr::Call { args, .. } => walk_args(known, state, args),
+        Expr::Prim { .. } | Expr::If { .. } => unreachable!(),
+    }
+}
+
+// A scrutinee and its arms.
+#[cycle(walk)]
+#[tactic(auto, using(crate::proofs::Walking::at_front, crate::proofs::Trees::match_arms_at, crate::proofs::Trees::match_walks))]
+fn walk_match<'a>(
+    known: &Known<'a, '_>,
+    state: &mut State<'a>,
+    on: &'a Expr,
+    arms: &'a [Arm],
+) -> Result<(), UseFault>
+    requires { AreAt known.now.exprs.now state.old.position (parts_kinds_at (globals_in known.now.typed.now) state.old (Match (term_of on.now) (tree.arms (map branch_of arms.now)) 0)) }
+    ensures { WalksParts (globals_in known.now.typed.now) (Match (term_of on.now) (tree.arms (map branch_of arms.now)) 0) state.old result state.new }
+{
+    walk(known, state, on)?;
+    walk_arms(known, state, arms)
+}
+
+// A local's value, and what it is for.
+#[cycle(walk)]
+fn walk_let<'a>(
+    known: &Known<'a, '_>,
+    state: &mut State<'a>,
+    name: &'a Name,
+    value: &'a Expr,
+    body: &'a Expr,
+) -> Result<(), UseFault>
+    requires { AreAt known.now.exprs.now state.old.position (parts_kinds_at (globals_in known.now.typed.now) state.old (Let name.now (term_of value.now) (term_of body.now))) }
+    ensures { WalksParts (globals_in known.now.typed.now) (Let name.now (term_of value.now) (term_of body.now)) state.old result state.new }
+{
+    walk(known, state, value)?;
+    let kind = kind_behind(known.exprs, state.position);
+    let len = state.scope.len();
+    state.bind(name, kind)?;
+    walk(known, state, body)?;
+    state.scope.leave(len);
+    Ok(())
+}
+
+// Arguments, one after the other.
+#[cycle(walk)]
+fn walk_args<'a>(
+    known: &Known<'a, '_>,
+    state: &mut State<'a>,
+    args: &'a [Expr],
+) -> Result<(), UseFault>
+    requires { AreAt known.now.exprs.now state.old.position (all_kinds_at (globals_in known.now.typed.now) state.old (terms (map term_of args.now))) }
+    ensures { WalksAll (globals_in known.now.typed.now) (terms (map term_of args.now)) state.old result state.new }
+{
+    'args: for arg in args {
+        walk(known, state, arg)?;
+    }
+    Ok(())
+}
+
+// An arm, whose variables are bound in it alone.
+#[cycle(walk)]
+fn walk_arm<'a>(known: &Known<'a, '_>, state: &mut State<'a>, arm: &'a Arm) -> Result<(), UseFault>
+    requires { AreAt known.now.exprs.now state.old.position (arm_kinds_at (globals_in known.now.typed.now) state.old (branch_of arm.now)) }
+    ensures { WalksArm (globals_in known.now.typed.now) (branch_of arm.now) state.old result state.new }
+{
+    check_cell(known, &arm.con, &arm.cell)?;
+    let len = state.scope.len();
+    bind_arm(known, state, arm)?;
+    walk(known, state, &arm.body)?;
+    state.scope.leave(len);
+    Ok(())
+}
+
+// Arms, each of which goes on from what was spent before all of them.
+#[cycle(walk)]
+fn walk_arms<'a>(
+    known: &Known<'a, '_>,
+    state: &mut State<'a>,
+    arms: &'a [Arm],
+) -> Result<(), UseFault>
+    requires { AreAt known.now.exprs.now state.old.position (arms_kinds_at (globals_in known.now.typed.now) state.old (tree.arms (map branch_of arms.now))) }
+    ensures { WalksArms (globals_in known.now.typed.now) (tree.arms (map branch_of arms.now)) state.old result state.new }
+{
+    let start = state.spent.len();
+    let mut held = Held::new(known.alloc);
+    'arms: for arm in arms {
+        walk_arm(known, state, arm)?;
+        state.spent.hold(start, &mut held)?;
+    }
+    state.spent.put_back(held)?;
+    Ok(())
+}
