@@ -95,7 +95,10 @@ fn copy_around(alloc: Global, parent: &Expr, first: Expr) -> Result<Expr, AllocE
 {
     match parent {
         Expr::Prim {
-            op, right, line, ..
+            op,
+            right,
+            line,
+            ..
         } => {
             let left = Box::new(alloc, first)?;
             let right = Box::new(alloc, copy_expr(alloc, right)?)?;
