@@ -1,12 +1,17 @@
-//! Parses texts of growing size, each of a family, and prints a table. With a word, as `all`, the texts are large and the
-//! table has seconds.
+//! Parses texts of growing size, each of a family, and prints a table, and another one of the checks of types and uses. With a
+//! word, as `all`, the texts are large and the tables have seconds.
 #![tactic(auto)]
 
+#[cfg(test)]
+mod checks;
 #[cfg(test)]
 mod tests;
 mod texts;
 
 use camelot_syntax::{Expr, Program, parse};
+use camelot_types::check;
+use camelot_typing::Typed;
+use linear_use::check_use;
 use std::time::Instant;
 use std::{env, io};
 
@@ -84,12 +89,82 @@ fn table(rt: &HostRuntime, timed: bool, sizes: &[usize]) -> io::Result<()> {
     report(rt, timed, "tall", &texts::tall(alloc)?)
 }
 
+/// What the check of uses answers, with the seconds of both checks.
+fn report_uses(rt: &HostRuntime, timed: bool, typed: Typed, checking: u128) -> io::Result<()> {
+    let start = Instant::now(rt)?;
+    let used = check_use(rt.alloc(), typed);
+    let using = start.elapsed(rt)?.as_micros();
+    match used {
+        Ok(_) => print!(rt; " ok |")?,
+        Err(fault) => print!(rt; " {fault} |")?,
+    }
+    cell(rt, timed, checking)?;
+    cell(rt, timed, using)?;
+    println!(rt; "")
+}
+
+/// What the checks answer to a program.
+fn report_types(rt: &HostRuntime, timed: bool, program: &Program) -> io::Result<()> {
+    let start = Instant::now(rt)?;
+    let checked = check(rt.alloc(), program);
+    let checking = start.elapsed(rt)?.as_micros();
+    match checked {
+        Ok(typed) => report_uses(rt, timed, typed, checking),
+        Err(fault) => {
+            print!(rt; " {fault} |")?;
+            cell(rt, timed, checking)?;
+            println!(rt; " |")
+        }
+    }
+}
+
+/// A line of the table of checks.
+fn report_checks(rt: &HostRuntime, timed: bool, family: &str, text: &[u8]) -> io::Result<()> {
+    let size = text.len();
+    print!(rt; "| {family} | {size} |")?;
+    if size >= 1 << 32 {
+        return println!(rt; " too long a text | | |");
+    }
+    match parse(rt.alloc(), text) {
+        Ok(program) => report_types(rt, timed, &program),
+        Err(fault) => println!(rt; " {fault} | | |"),
+    }
+}
+
+/// The lines of the table of checks: families as large as wanted, and those that the number of functions keeps small.
+fn checks_table(rt: &HostRuntime, timed: bool, sizes: &[usize]) -> io::Result<()> {
+    let alloc = rt.alloc();
+    report_checks(rt, timed, "functions", &texts::functions(alloc, 64 * 18)?)?;
+    report_checks(rt, timed, "chains", &texts::chains(alloc, 64 * 810)?)?;
+    for size in sizes {
+        report_checks(rt, timed, "lets", &texts::lets(alloc, *size)?)?;
+    }
+    for size in sizes {
+        report_checks(rt, timed, "wide", &texts::wide(alloc, *size)?)?;
+    }
+    for size in sizes {
+        report_checks(rt, timed, "links", &texts::links(alloc, *size)?)?;
+    }
+    report_checks(rt, timed, "tall", &texts::tall(alloc)?)?;
+    report_checks(rt, timed, "typed tall", &texts::typed(alloc)?)
+}
+
+fn heading(rt: &HostRuntime) -> io::Result<()> {
+    println!(rt; "")?;
+    println!(rt; "| family | bytes | answer | seconds to check types | seconds to check uses |")?;
+    println!(rt; "|---|---|---|---|---|")
+}
+
 fn main(rt: HostRuntime) -> io::Result<()> {
     println!(rt; "| family | bytes | answer | height | seconds to parse |")?;
     println!(rt; "|---|---|---|---|---|")?;
     if env::args(&rt)?.count() > 1 {
-        table(&rt, true, &[65_536, 1_048_576, 8_388_608])
+        table(&rt, true, &[65_536, 1_048_576, 8_388_608])?;
+        heading(&rt)?;
+        checks_table(&rt, true, &[1_048_576, 2_097_152, 4_194_304, 8_388_608])
     } else {
-        table(&rt, false, &[1_024, 4_096, 16_384])
+        table(&rt, false, &[1_024, 4_096, 16_384])?;
+        heading(&rt)?;
+        checks_table(&rt, false, &[262_144])
     }
 }

@@ -86,8 +86,9 @@ pub fn parentheses(alloc: Global, size: usize) -> Result<Vec<u8>, AllocError> {
     Ok(text)
 }
 
-/// Behind an operand a chain of each rank, with two operators and two more for each parenthesis around.
-fn ring(text: &mut Vec<u8>, around: u32) -> Result<(), AllocError> {
+/// Behind an operand a chain of each rank, with two operators and two more for each parenthesis around. The operands behind the
+/// comparison have the name `truth`.
+fn ring(text: &mut Vec<u8>, around: u32, truth: u8) -> Result<(), AllocError> {
     for _ in 0..=around {
         text.extend_from_slice(b" * x * x")?;
     }
@@ -96,26 +97,169 @@ fn ring(text: &mut Vec<u8>, around: u32) -> Result<(), AllocError> {
     }
     text.extend_from_slice(b" = x")?;
     for _ in 0..=around {
-        text.extend_from_slice(b" && x && x")?;
+        text.extend_from_slice(&[b' ', b'&', b'&', b' ', truth, b' ', b'&', b'&', b' ', truth])?;
     }
     for _ in 0..=around {
-        text.extend_from_slice(b" || x || x")?;
+        text.extend_from_slice(&[b' ', b'|', b'|', b' ', truth, b' ', b'|', b'|', b' ', truth])?;
     }
     Ok(())
+}
+
+/// A body of 98 nested parentheses, with this in front of each, and chains of all operators in and around each.
+fn nested(text: &mut Vec<u8>, front: &[u8], truth: u8) -> Result<(), AllocError> {
+    for _ in 0..98 {
+        text.extend_from_slice(front)?;
+        text.push(b'(')?;
+    }
+    text.push(b'x')?;
+    for outer in 0..98 {
+        ring(text, outer, truth)?;
+        text.push(b')')?;
+    }
+    ring(text, 98, truth)
 }
 
 /// A text within 200 levels whose tree has 39,699 levels: in each of 98 parentheses that are nested at the left, and around
 /// them, chains of all operators as long as the levels allow.
 pub fn tall(alloc: Global) -> Result<Vec<u8>, AllocError> {
     let mut text = Vec::from_slice(alloc, b"let f x = ")?;
-    for _ in 0..98 {
-        text.push(b'(')?;
+    nested(&mut text, b"", b'x')?;
+    Ok(text)
+}
+
+/// The tall text where each parenthesis is the argument of a function that makes an int of a truth value, so that it is typed. Its
+/// tree has 98 levels more.
+pub fn typed(alloc: Global) -> Result<Vec<u8>, AllocError> {
+    let mut text = Vec::from_slice(alloc, b"let f b x = ")?;
+    nested(&mut text, b"n ", b'b')?;
+    text.extend_from_slice(b"\nlet n b = if b then 1 else 0\n")?;
+    Ok(text)
+}
+
+/// How many types, constructors of each type and functions the checks allow.
+const MOST: usize = 64;
+
+/// The parameters that the checks allow, without kinds.
+const PARAMS: &[u8] = b" a b c d e f g h i j k l m n o p";
+
+/// A word and a number of two digits.
+fn numbered(text: &mut Vec<u8>, word: &[u8], number: usize) -> Result<(), AllocError> {
+    text.extend_from_slice(word)?;
+    text.push(b'0' + (number / 10 % 10) as u8)?;
+    text.push(b'0' + (number % 10) as u8)?;
+    Ok(())
+}
+
+/// The call of the next function with all parameters: 36 bytes.
+fn next_call(text: &mut Vec<u8>, fun: usize) -> Result<(), AllocError> {
+    numbered(text, b" f", fun.wrapping_add(1) % MOST)?;
+    text.extend_from_slice(PARAMS)
+}
+
+/// Behind an operand a chain of sums over all parameters in turn, some 4 bytes for each.
+fn sums(text: &mut Vec<u8>, operators: usize) -> Result<(), AllocError> {
+    for place in 0..operators {
+        text.extend_from_slice(b" + ")?;
+        text.push(b'a' + (place % 16) as u8)?;
+    }
+    Ok(())
+}
+
+/// An expression of some size: `let`s whose values are chains of 150 sums, and then what is left as one chain.
+fn chained(text: &mut Vec<u8>, size: usize) -> Result<(), AllocError> {
+    for _ in 0..size / 614 {
+        text.extend_from_slice(b"let z = a")?;
+        sums(text, 150)?;
+        text.extend_from_slice(b" in ")?;
+    }
+    text.push(b'a')?;
+    sums(text, size % 614 / 4)
+}
+
+/// Types that have as many constructors as the checks allow, and as many of them.
+fn types(text: &mut Vec<u8>) -> Result<(), AllocError> {
+    for number in 0..MOST {
+        numbered(text, b"type t", number)?;
+        for con in 0..MOST {
+            numbered(text, if con == 0 { b" = C" } else { b" | C" }, number)?;
+            numbered(text, b"", con)?;
+        }
+        text.push(b'\n')?;
+    }
+    Ok(())
+}
+
+/// As many types, constructors, functions and parameters as the checks allow. Each function takes apart a value of a type of its own,
+/// with an arm for each constructor, which calls the next function and then has chains over all parameters, whose kinds aren't written.
+pub fn wide(alloc: Global, size: usize) -> Result<Vec<u8>, AllocError> {
+    let mut text = Vec::new(alloc);
+    types(&mut text)?;
+    let arm = size.saturating_sub(text.len()) / (MOST * MOST);
+    for fun in 0..MOST {
+        numbered(&mut text, b"let f", fun)?;
+        text.extend_from_slice(PARAMS)?;
+        numbered(&mut text, b" = match C", fun)?;
+        text.extend_from_slice(b"00 with")?;
+        for con in 0..MOST {
+            numbered(&mut text, b" | C", fun)?;
+            numbered(&mut text, b"", con)?;
+            text.extend_from_slice(b"@_ -> let y =")?;
+            next_call(&mut text, fun)?;
+            text.extend_from_slice(b" in ")?;
+            chained(&mut text, arm.saturating_sub(62))?;
+        }
+        text.extend_from_slice(b" end\n")?;
+    }
+    Ok(text)
+}
+
+/// Functions that do nothing but call the next one, and the last one the first, so that nothing fixes a kind of their parameters.
+pub fn links(alloc: Global, size: usize) -> Result<Vec<u8>, AllocError> {
+    let mut text = Vec::new(alloc);
+    for fun in 0..MOST {
+        numbered(&mut text, b"let f", fun)?;
+        text.extend_from_slice(PARAMS)?;
+        text.extend_from_slice(b" =")?;
+        for _ in 0..size / (MOST * 38 * 100) {
+            text.extend_from_slice(b" let z =")?;
+            next_call(&mut text, fun)?;
+            for _ in 1..100 {
+                text.extend_from_slice(b" +")?;
+                next_call(&mut text, fun)?;
+            }
+            text.extend_from_slice(b" in")?;
+        }
+        next_call(&mut text, fun)?;
+        text.push(b'\n')?;
+    }
+    Ok(text)
+}
+
+/// An expression of 10 `let`s, whose values are chains of 50 operators: 2,131 bytes.
+fn ten_lets(text: &mut Vec<u8>) -> Result<(), AllocError> {
+    for _ in 0..10 {
+        text.extend_from_slice(b"let x = x")?;
+        for _ in 0..50 {
+            text.extend_from_slice(b" + x")?;
+        }
+        text.extend_from_slice(b" in ")?;
     }
     text.push(b'x')?;
-    for outer in 0..98 {
-        ring(&mut text, outer)?;
-        text.push(b')')?;
+    Ok(())
+}
+
+/// As many functions as the checks allow, of one parameter, with chains in `let`s in `let`s.
+pub fn lets(alloc: Global, size: usize) -> Result<Vec<u8>, AllocError> {
+    let mut text = Vec::new(alloc);
+    for fun in 0..MOST {
+        numbered(&mut text, b"let f", fun)?;
+        text.extend_from_slice(b" x = ")?;
+        for _ in 0..size / (MOST * 2_145) {
+            text.extend_from_slice(b"let x = (")?;
+            ten_lets(&mut text)?;
+            text.extend_from_slice(b") in ")?;
+        }
+        text.extend_from_slice(b"x\n")?;
     }
-    ring(&mut text, 98)?;
     Ok(text)
 }

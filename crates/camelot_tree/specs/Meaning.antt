@@ -3,7 +3,6 @@
 -- those of the meaning of code. A program that reads an unknown name, or takes apart or builds what has another form, is
 -- Stuck; a typed program isn't. It knows no cells, frames or ranges, and the code evaluates nothing.
 use Rattle.std.specs.Prelude.{ℕ, zero, suc, Bool, true, false, cond, ◌==◌, if◌then◌else◌, List, [], ◌∷◌, map, flat_map, slice_get, Option, Some, None}
-use Rattle.std.specs.Option.{option_map}
 use Rattle.std.specs.Str.{bytes_eq}
 use Rattle.camelot_values.specs.Value as value
 use Rattle.camelot_values.specs.Value.{Value, Values, parts}

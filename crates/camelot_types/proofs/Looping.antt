@@ -1,6 +1,7 @@
 -- Steps of loops.
 use Rattle.std.proofs.Common.{◌≡◌, ℕ, zero, suc, ◌+◌, ◌-◌, ◌<◌, List, [], ◌∷◌, ◌++◌, map, length, get_or, set, take, drop, Option, Some, None, refl, sym, ap, ◌∙◌, subst, arith, append_assoc, append-nil}
-use Rattle.std.specs.Prelude.{Result}
+use Rattle.std.specs.Prelude.{Result, Bool, true, false, ◌==◌, if◌then◌else◌}
+use Rattle.std.proofs.lemmas.Bool.{eqb-true}
 use Rattle.camelot_values.specs.Kinds.{DataType}
 use Rattle.camelot_values.specs.declared.kinds.Kind.{Kind}
 use Rattle.camelot_tree.specs.declared.tree.Name.{Name}
@@ -14,7 +15,7 @@ use Rattle.camelot_types.specs.declared.fault.TypeFault.TheVariants.{UnknownName
 use Rattle.camelot_types.specs.declared.guess.Guess.{Guess}
 use Rattle.camelot_types.specs.declared.guess.Guess.TheVariants.{Known, Unknown}
 use Rattle.camelot_types.specs.Walk.{line_of, con_guess, cons_of_type, all_steps}
-use Rattle.camelot_types.specs.Solving.{Walked, Goes, Stops, and_then, made_same, run, con_found, headed, missing_checked, with_table, noted, Work, Found, FoundAll, FoundGuesses, FoundArm, walk, walk_all, walk_arms, walk_on, first_arm, next_arm, match_walk, rest_of, unwound, lines_of, Bodies, body_walked, bodies_on, fresh}
+use Rattle.camelot_types.specs.Solving.{Walked, Goes, Stops, and_then, looked_up, replaced, unified, made_same, run, con_found, headed, missing_checked, with_table, noted, Work, Found, FoundAll, FoundGuesses, FoundArm, walk, walk_all, walk_arms, walk_on, first_arm, next_arm, match_walk, rest_of, unwound, lines_of, Bodies, body_walked, bodies_on, fresh}
 use Rattle.camelot_types.specs.Doing.{StopsWith, Finds}
 use Rattle.camelot_types.proofs.Walking.{giving, all_answered, walk_all_is, unwound_spine, unwound_last, unwound_stops}
 use Rattle.camelot_types.proofs.Walking as walking
@@ -382,3 +383,22 @@ fresh_more done more all n c l h m =
     let s : n + 1 ≡ suc n = omega arith in
     ap (λ t. t ++ fresh (n + 1) (c - (n + 1))) m ∙ append_assoc done (Unknown n ∷ []) (fresh (n + 1) (c - (n + 1)))
     ∙ ap (λ k. done ++ Unknown n ∷ fresh k (c - (n + 1))) s ∙ ap (λ k. done ++ fresh n k) (sym e) ∙ h
+
+-- an unknown in place of itself changes nothing
+pub replaced_by_itself : (x : ℕ) (table : List Guess) → map (replaced x (Unknown x)) table ≡ table
+replaced_by_itself x [] = refl
+replaced_by_itself x (a ∷ table) = ap (λ b. b ∷ map (replaced x (Unknown x)) table) (same a) ∙ ap (λ l. a ∷ l) (replaced_by_itself x table)
+  where
+    by_test : (y : ℕ) (b : Bool) → (y == x) ≡ b → (if b then Unknown x else Unknown y) ≡ Unknown y
+    by_test y true e = ap Unknown (sym (eqb-true y x e))
+    by_test y false e = refl
+
+    same : (a : Guess) → replaced x (Unknown x) a ≡ a
+    same (Known k) = refl
+    same (Unknown y) = by_test y (y == x) refl
+
+-- two guesses that the table has as one unknown are the same already
+pub same_already : (types : List DataType) (table : List Guess) (left right : Guess) (line x y : ℕ) → looked_up table left ≡ Unknown x → looked_up table right ≡ Unknown y → x ≡ y → made_same types table left right line ≡ Goes table
+unfolding made_same
+same_already types table left right line x y l r e =
+    ap (λ a. unified types table line a (looked_up table right)) l ∙ ap (unified types table line (Unknown x)) (r ∙ ap Unknown (sym e)) ∙ ap Goes (replaced_by_itself x table)

@@ -91,7 +91,8 @@ fn clash(alloc: Global, types: &Types, left: Kind, right: Kind, line: u32) -> Ty
     }
 }
 
-/// Makes two guesses the same, as the table has them: two kinds have to be the same already, and an unknown gets the other guess.
+/// Makes two guesses the same, as the table has them: two kinds have to be the same already, and an unknown gets the other guess. So
+/// there are at most as many replacements as unknowns.
 #[tactic(auto, unfolding(crate::specs::Solving::made_same))]
 pub(crate) fn make_same(
     alloc: Global,
@@ -115,6 +116,7 @@ pub(crate) fn make_same(
             replace(table, number, Guess::Known(kind));
             Ok(())
         }
+        (Guess::Unknown(number), Guess::Unknown(other)) if number == other => Ok(()),
         (Guess::Unknown(number), new) => {
             replace(table, number, new);
             Ok(())

@@ -1,6 +1,6 @@
 -- The kinds of names and expressions. All of it is stated over any sort of atoms, with what stands for a kind that is known: with
 -- the kinds themselves this is what typing speaks of, and with guesses it is what the check works with.
-use Rattle.std.specs.Prelude.{ℕ, zero, suc, ◌+◌, Bool, true, false, if◌then◌else◌, List, [], ◌∷◌, ◌++◌, map, length, Option, Some, None}
+use Rattle.std.specs.Prelude.{ℕ, zero, suc, ◌+◌, Bool, false, if◌then◌else◌, List, [], ◌∷◌, ◌++◌, map, length, Option, Some, None}
 use Rattle.std.specs.Option.{option_map, option_map_or}
 use Rattle.std.specs.Str.{bytes_eq}
 use Rattle.camelot_values.specs.Names.{place_among}

@@ -1,8 +1,8 @@
 -- A program with its kinds.
-use Rattle.std.specs.Prelude.{◌≡◌, List, [], ◌∷◌, map}
+use Rattle.std.specs.Prelude.{List, [], ◌∷◌}
 use Rattle.camelot_values.specs.declared.kinds.Kind.{Kind}
 use Rattle.camelot_tree.specs.Tree.{Function, Source}
-use Rattle.camelot_typing.specs.Kinds.{Globals, types_of, atoms_of}
+use Rattle.camelot_typing.specs.Kinds.{Globals, atoms_of}
 use Rattle.camelot_typing.specs.Typing.{Signature, known_kind, params_scope, globals_of, IsTyped, IsWithinLimits}
 use Rattle.camelot_typing.specs.declared.kinds.FunKinds.{FunKinds}
 

@@ -1,7 +1,7 @@
 -- Typed programs: some choice of one kind for each parameter, result, local and expression obeys the rules of ML's typing (Milner
 -- 1978) without type parameters, in the monomorphic form of LFPL (Hofmann 2000). The check makes kinds equal one by one; this
 -- definition has no order.
-use Rattle.std.specs.Prelude.{◌≡◌, ℕ, suc, ◌+◌, ◌≤◌, ◌<◌, Bool, true, false, if◌then◌else◌, List, [], ◌∷◌, map, flat_map, length, Option, Some, None, IsSome}
+use Rattle.std.specs.Prelude.{◌≡◌, ℕ, ◌+◌, ◌≤◌, ◌<◌, Bool, false, if◌then◌else◌, List, [], ◌∷◌, map, flat_map, length, Option, Some, None, IsSome}
 use Rattle.std.specs.List.{AllByRecursion}
 use Rattle.camelot_values.specs.Names.{AreDistinct}
 use Rattle.camelot_values.specs.Kinds.{DataType, type_of}
