@@ -3,7 +3,7 @@
 use std::alloc::{AllocError, Global};
 
 /// One comment.
-pub fn comment(alloc: Global, size: usize) -> Result<Vec<u8>, AllocError> {
+pub(crate) fn comment(alloc: Global, size: usize) -> Result<Vec<u8>, AllocError> {
     let mut text = Vec::from_slice(alloc, b"(*")?;
     for _ in 4..size {
         text.push(b' ')?;
@@ -29,7 +29,7 @@ fn head(text: &mut Vec<u8>, number: usize) -> Result<(), AllocError> {
 }
 
 /// Functions of 18 bytes.
-pub fn functions(alloc: Global, size: usize) -> Result<Vec<u8>, AllocError> {
+pub(crate) fn functions(alloc: Global, size: usize) -> Result<Vec<u8>, AllocError> {
     let mut text = Vec::new(alloc);
     for number in 0..size / 18 {
         head(&mut text, number)?;
@@ -39,7 +39,7 @@ pub fn functions(alloc: Global, size: usize) -> Result<Vec<u8>, AllocError> {
 }
 
 /// Functions of 810 bytes, each one chain of 198 operators, as long as the levels allow.
-pub fn chains(alloc: Global, size: usize) -> Result<Vec<u8>, AllocError> {
+pub(crate) fn chains(alloc: Global, size: usize) -> Result<Vec<u8>, AllocError> {
     let mut text = Vec::new(alloc);
     for number in 0..size / 810 {
         head(&mut text, number)?;
@@ -61,7 +61,7 @@ fn sink(text: &mut Vec<u8>) -> Result<(), AllocError> {
 }
 
 /// A function that nests too deep, and functions of 18 bytes behind it.
-pub fn early(alloc: Global, size: usize) -> Result<Vec<u8>, AllocError> {
+pub(crate) fn early(alloc: Global, size: usize) -> Result<Vec<u8>, AllocError> {
     let mut text = Vec::new(alloc);
     sink(&mut text)?;
     text.extend_from_slice(&functions(alloc, size.saturating_sub(text.len()))?)?;
@@ -69,7 +69,7 @@ pub fn early(alloc: Global, size: usize) -> Result<Vec<u8>, AllocError> {
 }
 
 /// Functions of 18 bytes, and one that nests too deep behind them.
-pub fn late(alloc: Global, size: usize) -> Result<Vec<u8>, AllocError> {
+pub(crate) fn late(alloc: Global, size: usize) -> Result<Vec<u8>, AllocError> {
     let mut deep = Vec::new(alloc);
     sink(&mut deep)?;
     let mut text = functions(alloc, size.saturating_sub(deep.len()))?;
@@ -78,7 +78,7 @@ pub fn late(alloc: Global, size: usize) -> Result<Vec<u8>, AllocError> {
 }
 
 /// A function whose body is nothing but opening parentheses.
-pub fn parentheses(alloc: Global, size: usize) -> Result<Vec<u8>, AllocError> {
+pub(crate) fn parentheses(alloc: Global, size: usize) -> Result<Vec<u8>, AllocError> {
     let mut text = Vec::from_slice(alloc, b"let f x = ")?;
     for _ in 10..size {
         text.push(b'(')?;
@@ -121,7 +121,7 @@ fn nested(text: &mut Vec<u8>, front: &[u8], truth: u8) -> Result<(), AllocError>
 
 /// A text within 200 levels whose tree has 39,699 levels: in each of 98 parentheses that are nested at the left, and around
 /// them, chains of all operators as long as the levels allow.
-pub fn tall(alloc: Global) -> Result<Vec<u8>, AllocError> {
+pub(crate) fn tall(alloc: Global) -> Result<Vec<u8>, AllocError> {
     let mut text = Vec::from_slice(alloc, b"let f x = ")?;
     nested(&mut text, b"", b'x')?;
     Ok(text)
@@ -129,7 +129,7 @@ pub fn tall(alloc: Global) -> Result<Vec<u8>, AllocError> {
 
 /// The tall text where each parenthesis is the argument of a function that makes an int of a truth value, so that it is typed. Its
 /// tree has 98 levels more.
-pub fn typed(alloc: Global) -> Result<Vec<u8>, AllocError> {
+pub(crate) fn typed(alloc: Global) -> Result<Vec<u8>, AllocError> {
     let mut text = Vec::from_slice(alloc, b"let f b x = ")?;
     nested(&mut text, b"n ", b'b')?;
     text.extend_from_slice(b"\nlet n b = if b then 1 else 0\n")?;
@@ -191,7 +191,7 @@ fn types(text: &mut Vec<u8>) -> Result<(), AllocError> {
 
 /// As many types, constructors, functions and parameters as the checks allow. Each function takes apart a value of a type of its own,
 /// with an arm for each constructor, which calls the next function and then has chains over all parameters, whose kinds aren't written.
-pub fn wide(alloc: Global, size: usize) -> Result<Vec<u8>, AllocError> {
+pub(crate) fn wide(alloc: Global, size: usize) -> Result<Vec<u8>, AllocError> {
     let mut text = Vec::new(alloc);
     types(&mut text)?;
     let arm = size.saturating_sub(text.len()) / (MOST * MOST);
@@ -214,7 +214,7 @@ pub fn wide(alloc: Global, size: usize) -> Result<Vec<u8>, AllocError> {
 }
 
 /// Functions that do nothing but call the next one, and the last one the first, so that nothing fixes a kind of their parameters.
-pub fn links(alloc: Global, size: usize) -> Result<Vec<u8>, AllocError> {
+pub(crate) fn links(alloc: Global, size: usize) -> Result<Vec<u8>, AllocError> {
     let mut text = Vec::new(alloc);
     for fun in 0..MOST {
         numbered(&mut text, b"let f", fun)?;
@@ -249,7 +249,7 @@ fn ten_lets(text: &mut Vec<u8>) -> Result<(), AllocError> {
 }
 
 /// As many functions as the checks allow, of one parameter, with chains in `let`s in `let`s.
-pub fn lets(alloc: Global, size: usize) -> Result<Vec<u8>, AllocError> {
+pub(crate) fn lets(alloc: Global, size: usize) -> Result<Vec<u8>, AllocError> {
     let mut text = Vec::new(alloc);
     for fun in 0..MOST {
         numbered(&mut text, b"let f", fun)?;
