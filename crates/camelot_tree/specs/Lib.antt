@@ -4,3 +4,6 @@ pub mod Shape
 pub mod Spine
 pub mod Programs
 pub mod Meaning
+pub mod Tokens
+pub mod SpineLaws
+pub mod MeaningLaws

@@ -1,15 +1,14 @@
 -- What a program means: a big-step evaluation, from left to right, with counters in place of a heap (Hofmann and Jost
--- 2003) and a clock for the calls (Owens, Myreen, Kumar, Tan 2016). Outcomes, operators and the steps of calls and cells are
--- those of the meaning of code. A program that reads an unknown name, or takes apart or builds what has another form, is
+-- 2003). Outcomes, operators, calls with their fuel and depth, and the steps of cells are those of the meaning of code. A program that reads an unknown name, or takes apart or builds what has another form, is
 -- Stuck; a typed program isn't. It knows no cells, frames or ranges, and the code evaluates nothing.
-use Rattle.std.specs.Prelude.{ℕ, zero, suc, Bool, true, false, cond, ◌==◌, if◌then◌else◌, List, [], ◌∷◌, map, flat_map, slice_get, Option, Some, None}
+use Rattle.std.specs.Prelude.{ℕ, Bool, true, false, ◌==◌, if◌then◌else◌, List, [], ◌∷◌, map, flat_map, slice_get, Option, Some, None}
 use Rattle.std.specs.Str.{bytes_eq}
 use Rattle.camelot_values.specs.Value as value
 use Rattle.camelot_values.specs.Value.{Value, Values, parts}
 use Rattle.camelot_values.specs.Names.{place_among}
 use Rattle.camelot_values.specs.Operator.{operate}
-use Rattle.camelot_values.specs.Outcome.{Outcome, Fuel, Deep, Stuck, first_then, at_once, known, given, entered}
-use Rattle.camelot_values.specs.Runs.{Enter, chosen, on_diamond, in_new_cell, cell_freed, is_too_deep}
+use Rattle.camelot_values.specs.Outcome.{Outcome, Stuck, first_then, at_once, known, given}
+use Rattle.camelot_values.specs.Runs.{Enter, Bodies, chosen, on_diamond, in_new_cell, cell_freed, run_from}
 use Rattle.camelot_tree.specs.declared.tree.Name.{Name}
 use Rattle.camelot_tree.specs.declared.tree.Param.{Param}
 use Rattle.camelot_tree.specs.declared.tree.ArmCell.{ArmCell}
@@ -82,7 +81,7 @@ abbrev mutual
   eval p enter (Truth b l) fuel waits tail env = at_once (value.Flag b)
   eval p enter (Var n) fuel waits tail env = known (env n.word)
   eval p enter (Prim op a b l) fuel waits tail env = first_then fuel (eval p enter a fuel waits false env)
-      (λ left u. first_then left (eval p enter b left waits false env) (λ last v. known (operate op u v)))
+      (λ left u. first_then left (eval p enter b left waits false env) (λ last v. operate op u v))
   eval p enter (If c a b l) fuel waits tail env = first_then fuel (eval p enter c fuel waits false env)
       (λ left v. chosen v (eval p enter a left waits tail env) (eval p enter b left waits tail env))
   eval p enter (Let n e b) fuel waits tail env = first_then fuel (eval p enter e fuel waits false env)
@@ -118,14 +117,10 @@ abbrev pub body_run : Source → Enter → Option Function → ℕ → ℕ → L
 body_run p enter None fuel waits args = Stuck
 body_run p enter (Some f) fuel waits args = given (put_params (λ n. None) f.params args) (λ env. eval p enter f.body fuel waits true env)
 
--- A call of a function takes one unit of fuel, which is looked at first, and then the depth. The clock makes the
--- recursion structural: it is at least the fuel, and changes nothing.
-abbrev pub calls : Source → ℕ → ℕ → Enter
-calls p limit clock zero waits tail func args = Fuel 0 0
-calls p limit zero (suc fuel) waits tail func args = Fuel 0 0
-calls p limit (suc clock) (suc fuel) waits tail func args = if is_too_deep limit waits tail then Deep 0
-    else entered (body_run p (calls p limit clock) (slice_get p.funs func) fuel (cond tail waits (suc waits)) args)
+-- what the bodies of the program's functions mean
+abbrev pub bodies : Source → Bodies
+bodies p = λ enter func fuel waits args. body_run p enter (slice_get p.funs func) fuel waits args
 
--- an entry: no call waits, and it is in tail position
+-- an entry, where at most `limit` calls may wait: no call waits, and it is in tail position
 abbrev pub run_of : Source → ℕ → ℕ → ℕ → List Value → Outcome Value
-run_of p limit func fuel args = calls p limit fuel fuel 0 true func args
+run_of p limit func fuel args = run_from (bodies p) limit func fuel args

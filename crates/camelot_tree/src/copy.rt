@@ -75,7 +75,7 @@ fn copy_kind(alloc: Global, kind: &Option<Atom>) -> Result<Option<Atom>, AllocEr
 
 // An expression, along its left end.
 #[cycle(copy)]
-#[tactic(auto, using(crate::proofs::SpineLaws::around_popped, crate::proofs::SpineLaws::front_popped, crate::proofs::SpineLaws::last_popped, crate::proofs::SpineLaws::around_begun, crate::proofs::SpineLaws::none_larger, crate::proofs::SpineLaws::leaf_smaller))]
+#[tactic(auto, using(crate::specs::SpineLaws::around_popped, crate::specs::SpineLaws::front_popped, crate::specs::SpineLaws::last_popped, crate::specs::SpineLaws::around_begun, crate::specs::SpineLaws::none_larger, crate::specs::SpineLaws::leaf_smaller))]
 fn copy_expr(alloc: Global, expr: &Expr) -> Result<Expr, AllocError>
     ensures { IfOk result (λ copy. term_of copy ≡ term_of expr.now) }
 {

@@ -5,6 +5,7 @@
 #![tactic(auto)]
 
 mod copy;
+pub mod laws;
 mod program;
 mod spine;
 mod tree;

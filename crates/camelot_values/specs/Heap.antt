@@ -1,12 +1,12 @@
 -- Which kinds have values that take cells, and which constructors stand in the values of a kind. A type with no boxed
 -- constructor needs no cell; every other type, and the diamond, is a heap type (Hofmann 2000), whose values are used
 -- at most once.
-use Rattle.std.specs.Prelude.{◌≡◌, ℕ, not, Bool, true, false, List, [], ◌∷◌, flat_map, slice_get, ◌==◌, Some, IsTrue}
-use Rattle.std.specs.List.{list_any}
+use Rattle.std.specs.Prelude.{◌≡◌, ℕ, zero, suc, not, Bool, true, false, List, [], ◌∷◌, length, flat_map, slice_get, ◌==◌, ◌&&◌, ◌||◌, Option, Some, None, IsTrue}
+use Rattle.std.specs.List.{list_any, filter, range_with_len}
 use Rattle.std.specs.Option.{option_map_or}
 use Rattle.camelot_values.specs.declared.kinds.Kind.{Kind}
 use Rattle.camelot_values.specs.declared.kinds.Kind.TheVariants.{Int, Flag, Dia, Of}
-use Rattle.camelot_values.specs.Kinds.{DataType, type_of}
+use Rattle.camelot_values.specs.Kinds.{DataType, constructors, type_of}
 
 -- some constructor is boxed
 abbrev pub has_boxed : DataType → Bool
@@ -57,3 +57,29 @@ pub record ReachesFrom (types : List DataType) (t con : ℕ) : Type 0 where
 abbrev pub Reaches : List DataType → Kind → ℕ → Type 0
 Reaches types (Of t) con = ReachesFrom types t con
 Reaches types kind con = ⊥
+
+-- ---- all that a kind reaches
+
+-- some constructor of type t has a field of type u
+abbrev pub holds_type : List DataType → ℕ → ℕ → Bool
+holds_type types t u = list_any (is_of u) (fields_at types t)
+
+-- From type t to type u by way of types below n alone (Warshall 1962): either without type n - 1, or to it and on from it.
+abbrev pub leads_by : List DataType → ℕ → ℕ → ℕ → Bool
+leads_by types zero t u = (t == u) || holds_type types t u
+leads_by types (suc n) t u = leads_by types n t u || (leads_by types n t n && leads_by types n n u)
+
+-- the constructor that belongs to this type is reached from type t
+abbrev pub is_reached_in : List DataType → ℕ → Option ℕ → Bool
+is_reached_in types t None = false
+is_reached_in types t (Some last) = is_heap_type types last && leads_by types (length types) t last
+
+abbrev pub is_reached : List DataType → Kind → ℕ → Bool
+is_reached types (Of t) con = is_reached_in types t (type_of types con)
+is_reached types Int con = false
+is_reached types Flag con = false
+is_reached types Dia con = false
+
+-- the constructors that the kind reaches, ascending
+abbrev pub reached : List DataType → Kind → List ℕ
+reached types kind = filter (is_reached types kind) (range_with_len 0 (length (constructors types)))

@@ -10,3 +10,13 @@ pub mod Outcome
 pub mod Runs
 pub mod Text
 pub mod Typing
+pub mod Fuel
+pub mod NameLaws
+pub mod KindLaws
+pub mod OutcomeLaws
+pub mod RunLaws
+pub mod Lists
+pub mod ReachLaws
+pub mod Bounds
+pub mod BoundLaws
+pub mod IntLaws

@@ -25,6 +25,7 @@ abbrev pub has_form : (ℕ → Bool) → List ℕ → Bool
 has_form is_first [] = false
 has_form is_first (b ∷ bs) = is_first b && list_all is_tail bs
 
+-- a first letter of this sort, then only letters, digits and `_`, and at most 64 bytes
 pub record IsName (is_first : ℕ → Bool) (word : List ℕ) : Type 0 where
   pub form : IsTrue (has_form is_first word)
   pub short : length word ≤ 64
@@ -36,6 +37,16 @@ IsLowerName word = IsName is_lower word
 -- a name that begins with an upper-case letter, as of a constructor
 abbrev pub IsUpperName : List ℕ → Type 0
 IsUpperName word = IsName is_upper word
+
+-- the same as tests
+abbrev pub is_name : (ℕ → Bool) → List ℕ → Bool
+is_name is_first word = has_form is_first word && nat_le (length word) 64
+
+abbrev pub is_lower_name : List ℕ → Bool
+is_lower_name word = is_name is_lower word
+
+abbrev pub is_upper_name : List ℕ → Bool
+is_upper_name word = is_name is_upper word
 
 -- ---- lists of names
 

@@ -2,18 +2,19 @@
 use Rattle.std.specs.Prelude.{◌≡◌, List, [], ◌∷◌, Some, IsSomeAnd}
 use Rattle.std.specs.Option.{option_map}
 use Rattle.camelot_values.specs.Value as value
-use Rattle.camelot_values.specs.Value.{Value, Values, parts}
-use Rattle.camelot_values.specs.Outcome.{Outcome, Done, Fuel, Deep, Stuck}
+use Rattle.camelot_values.specs.Value.{Value, Values, parts, IsInt32}
+use Rattle.camelot_values.specs.Outcome.{Outcome}
+use Rattle.camelot_values.specs.Bounds.{Yields}
 use Rattle.camelot_values.specs.Operator as operator
 use Rattle.camelot_values.specs.Operator.{Operator}
 use Rattle.camelot_values.specs.Kinds.{DataType, constructor, type_of}
 use Rattle.camelot_values.specs.declared.kinds.Kind.{Kind}
 use Rattle.camelot_values.specs.declared.kinds.Kind.TheVariants as kind
 
--- a constructor is of its type, and has one part of the right kind for each field
+-- an int has 32 bits; a constructor is of its type, and has one part of the right kind for each field
 abbrev mutual
   pub Fits : List DataType → Kind → Value → Type 0
-  Fits types q (value.Int z) = q ≡ kind.Int
+  Fits types q (value.Int z) = (q ≡ kind.Int) × IsInt32 z
   Fits types q (value.Flag b) = q ≡ kind.Flag
   Fits types q value.Dia = q ≡ kind.Dia
   Fits types q (value.Con c vs) = (option_map kind.Of (type_of types c) ≡ Some q) × IsSomeAnd (constructor types c) (λ con. FitAll types con.fields vs)
@@ -29,7 +30,12 @@ abbrev pub operator_kind : Operator → Kind
 operator_kind operator.Add = kind.Int
 operator_kind operator.Sub = kind.Int
 operator_kind operator.Mul = kind.Int
-operator_kind op = kind.Flag
+operator_kind operator.Eq = kind.Flag
+operator_kind operator.Ne = kind.Flag
+operator_kind operator.Lt = kind.Flag
+operator_kind operator.Le = kind.Flag
+operator_kind operator.Gt = kind.Flag
+operator_kind operator.Ge = kind.Flag
 
 -- one argument of each of these kinds
 abbrev pub ArgumentsFit : List DataType → List Kind → List Value → Type 0
@@ -37,7 +43,4 @@ ArgumentsFit types qs args = FitAll types qs (parts args)
 
 -- the run isn't stuck, and where it comes to a value, this is of the kind
 abbrev pub IsSound : List DataType → Kind → Outcome Value → Type 0
-IsSound types q (Done v calls peak low) = Fits types q v
-IsSound types q (Fuel calls peak) = Unit {0}
-IsSound types q (Deep peak) = Unit {0}
-IsSound types q Stuck = ⊥
+IsSound types q o = Yields (Fits types q) o

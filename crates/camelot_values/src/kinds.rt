@@ -130,6 +130,14 @@ impl Types {
         &self.defs
     }
 
+    /// The limits that the type keeps: at most 64 types, each with 1 to 64 constructors of at most 4 fields, and an inline
+    /// constructor has no fields. It does nothing; its clause is what whoever holds a `Types` can use.
+    pub fn limits(&self)
+        ensures { AreTypes self.now }
+    {
+        let _ = &self.defs;
+    }
+
     /// The constructor of this number, or None where there is no such number.
     #[tactic(auto, using(crate::proofs::KindLaws::con_here, crate::proofs::KindLaws::con_later))]
     pub fn con(&self, con: u32) -> Option<&Con>

@@ -2,12 +2,12 @@
 #![tactic(auto)]
 
 mod kinds;
-mod outcome;
+pub mod laws;
 mod reach;
 mod text;
 mod value;
 
 pub use kinds::{Con, Kind, TypeDef, Types, Word};
-pub use outcome::law_of_sequence;
+pub use laws::law_of_sequence;
 pub use text::print;
 pub use value::{Flat, Item};

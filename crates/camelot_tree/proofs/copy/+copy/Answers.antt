@@ -1,7 +1,7 @@
 use Rattle.std.proofs.Common.{◌≤◌, map, sym, subst, arith}
 use Rattle.camelot_tree.specs.Tree.{term_of, branch_of, terms, arms}
 use Rattle.camelot_tree.specs.Spine.{size, terms_size, arms_size}
-use Rattle.camelot_tree.proofs.SpineLaws.{around_popped, front_popped, last_popped, argument_smaller, arm_smaller}
+use Rattle.camelot_tree.specs.SpineLaws.{around_popped, front_popped, last_popped, argument_smaller, arm_smaller}
 use Rattle.camelot_tree.proofs.copy.+copy.Goals as goal
 
 pub copy_expr-up-preserved : goal.copy_expr-up-preserved

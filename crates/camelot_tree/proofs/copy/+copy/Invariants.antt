@@ -1,7 +1,7 @@
 use Rattle.std.proofs.Common.{◌≡◌, ◌+◌, ◌*◌, ◌++◌, drop, map, length}
 use Rattle.camelot_tree.specs.Tree.{term_of, branch_of, terms, arms}
 use Rattle.camelot_tree.specs.Spine.{around, size, terms_size, arms_size}
-use Rattle.camelot_tree.proofs.SpineLaws.{NoLarger}
+use Rattle.camelot_tree.specs.SpineLaws.{NoLarger}
 use Rattle.camelot_tree.proofs.copy.+copy.Given as goal
 
 abbrev pub invariant-copy_args-args-2 : goal.invariant-copy_args-args-2

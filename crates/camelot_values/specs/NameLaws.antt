@@ -1,11 +1,11 @@
--- Names that stand twice, and names that don't.
+-- Laws of names: the test of a name's form, and names that stand twice or don't.
 use Rattle.std.proofs.Common.{◌≡◌, ℕ, Bool, true, false, List, [], ◌∷◌, ◌++◌, refl, sym, ap, ◌∙◌, subst, append_assoc, arith}
-use Rattle.std.specs.Prelude.{◌||◌, ◌&&◌, not, nat_eq}
+use Rattle.std.specs.Prelude.{◌||◌, ◌&&◌, not, nat_eq, nat_le, ◌≤◌, IsTrue, length}
 use Rattle.std.specs.List.{list_any}
 use Rattle.std.specs.Str.{bytes_eq}
 use Rattle.std.specs.Cmp.Lexicographic.{same_text}
 use Rattle.std.proofs.lemmas.Bool.Decides.{nat_tests}
-use Rattle.camelot_values.specs.Names.{AreDistinct, stands}
+use Rattle.camelot_values.specs.Names.{AreDistinct, stands, has_form, IsName, is_name}
 
 -- a place where a test holds
 pub record Place {A : Type 0} (p : A → Bool) (xs : List A) : Type 0 where
@@ -90,3 +90,20 @@ distinct_new_from earlier (w ∷ ws) h = (
 
 pub distinct_new : (ws : List (List ℕ)) → AreDistinct ws → AreNew [] ws
 distinct_new ws h = distinct_new_from [] ws h
+
+-- ---- forms
+
+-- The test of a name's form is the form.
+pub name_passes : (is_first : ℕ → Bool) (word : List ℕ) → IsName is_first word → IsTrue (is_name is_first word)
+name_passes is_first word n = both (has_form is_first word) (nat_le (length word) 64) n.form (grind (arith, nat_tests, n.short))
+  where
+    both : (a b : Bool) → a ≡ true → b ≡ true → (a && b) ≡ true
+    both true b h k = k
+    both false b h k = absurd cc
+
+pub passing_name : (is_first : ℕ → Bool) (word : List ℕ) → IsTrue (is_name is_first word) → IsName is_first word
+passing_name is_first word h = let p = split (has_form is_first word) (nat_le (length word) 64) h in record { form = p.0; short = grind (arith, nat_tests, p.1) }
+  where
+    split : (a b : Bool) → (a && b) ≡ true → (a ≡ true) × (b ≡ true)
+    split true b h = (refl, h)
+    split false b h = absurd cc

@@ -1,0 +1,52 @@
+//! Laws of runs and of kinds, as the contracts of functions that do nothing.
+ghost use Rattle.std.specs.Prelude.{◌≡◌, ◌↔◌, ℕ, ◌+◌, pos, ◌+ℤ◌, List, IsTrue};
+ghost use Rattle.std.specs.Int.{int_max};
+ghost use Rattle.camelot_values.specs.Value.{Value};
+ghost use Rattle.camelot_values.specs.Outcome.{Outcome, Done, Stuck, calls_of, net, peak_of, net_of, after, first_then};
+ghost use Rattle.camelot_values.specs.Bounds.{IsPaidBy, IsStop, same_stop};
+ghost use Rattle.camelot_values.specs.Operator.{Operator, operate};
+ghost use Rattle.camelot_values.specs.Kinds.{DataType};
+ghost use Rattle.camelot_values.specs.Lists.{Ascend, is_among};
+ghost use Rattle.camelot_values.specs.Heap.{Reaches, reached};
+ghost use Rattle.camelot_values.specs.Typing.{Fits, IsSound, operator_kind};
+ghost use Rattle.camelot_values.specs.declared.kinds.Kind.{Kind};
+ghost use Rattle.camelot_values.specs.declared.kinds.Kind.TheVariants.{Int};
+
+/// The law of two runs, one after the other, of which the first came to a value: the peak of both is the
+/// greater of the first peak and the first net with the second peak on top, also where the second stops early;
+/// where the second comes to a value, calls and nets add up.
+#[tactic(auto, using(crate::specs::OutcomeLaws::peak_of_any, crate::specs::OutcomeLaws::net_of_two))]
+pub fn law_of_sequence()
+    ensures peak { (calls peak low : ℕ) (next : Outcome Value) → ¬ (next ≡ Stuck) →
+        pos (peak_of (after calls peak low next)) ≡ int_max (pos peak) (net peak low +ℤ pos (peak_of next)) }
+    ensures calls { (v : Value) (calls peak low calls' peak' low' : ℕ) →
+        calls_of (after calls peak low (Done v calls' peak' low')) ≡ calls + calls' }
+    ensures net { (v : Value) (calls peak low calls' peak' low' : ℕ) →
+        net_of (after calls peak low (Done v calls' peak' low')) ≡ (net peak low +ℤ net peak' low') }
+{}
+
+/// What holds of two runs holds of one after the other. Where so many units pay for the first, and what it leaves for its value pays
+/// for the second, they pay for the whole. Where the first comes to a value of a kind, and for each such value the second to one of another, the whole does. A run that
+/// stopped stays the same stop, whatever was to follow.
+#[tactic(auto, using(crate::specs::BoundLaws::sound_then, crate::specs::BoundLaws::stop_then))]
+pub fn law_of_bounds()
+    ensures paid { (unit units fuel : ℕ) (between left : Value → ℕ) (first : Outcome Value) (next : ℕ → Value → Outcome Value)
+        → IsPaidBy unit units between first → ((k : ℕ) (v : Value) → IsPaidBy unit (between v) left (next k v))
+        → IsPaidBy unit units left (first_then fuel first next) }
+    ensures value { (types : List DataType) (kind last : Kind) (fuel : ℕ) (first : Outcome Value) (next : ℕ → Value → Outcome Value)
+        → IsSound types kind first → ((k : ℕ) (v : Value) → Fits types kind v → IsSound types last (next k v)) → IsSound types last (first_then fuel first next) }
+    ensures stop { (fuel : ℕ) (first : Outcome Value) (next : ℕ → Value → Outcome Value) → IsStop first → first_then fuel first next ≡ same_stop first }
+{}
+
+/// An operator on two ints of 32 bits comes to a value of its kind, and an int of it has 32 bits.
+#[tactic(auto, using(crate::specs::IntLaws::operate_sound))]
+pub fn law_of_operators()
+    ensures { (types : List DataType) (op : Operator) (u v : Value) → Fits types Int u → Fits types Int v → IsSound types (operator_kind op) (operate op u v) }
+{}
+
+/// The list of the constructors that a kind reaches has just these, ascending.
+#[tactic(auto, using(crate::specs::ReachLaws::reached_is, crate::specs::ReachLaws::reached_ascends))]
+pub fn law_of_reach()
+    ensures reached { (types : List DataType) (kind : Kind) (con : ℕ) → IsTrue (is_among (reached types kind) con) ↔ Reaches types kind con }
+    ensures ascends { (types : List DataType) (kind : Kind) → Ascend (reached types kind) }
+{}
