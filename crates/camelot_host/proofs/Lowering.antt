@@ -24,7 +24,7 @@ use Rattle.camelot_host.specs.Lexemes.{Lexeme, Word, Symbol}
 use Rattle.camelot_tree.specs.Tree as tree
 use Rattle.camelot_tree.specs.Tree.{Term, Source}
 use Rattle.camelot_tree.specs.Meaning as meaning
-use Rattle.camelot_tree.specs.Meaning.{Bound, put_params, eval}
+use Rattle.camelot_tree.specs.Meaning.{Environment, put_params, eval}
 use Rattle.camelot_host.specs.Read.{names_of, part_of, IsKnown, function_of}
 use Rattle.camelot_host.specs.declared.function.Part.{Part}
 use Rattle.camelot_host.specs.declared.function.Part.TheVariants as part
@@ -35,21 +35,21 @@ use Rattle.camelot_host.proofs.FunctionLaws.{here, later}
 
 -- ---- the value of a sum, where each part has one
 
-abbrev part_value : Bound → List (List ℕ) → Part → Option Value
+abbrev part_value : Environment → List (List ℕ) → Part → Option Value
 part_value scope names (part.Parameter i) = scope (get_or names i [])
 part_value scope names (part.Number n) = Some (value.Int (pos n))
 
-abbrev sum_value : Bound → List (List ℕ) → Option Value → List Part → Option Value
+abbrev sum_value : Environment → List (List ℕ) → Option Value → List Part → Option Value
 sum_value scope names o [] = o
 sum_value scope names o (p ∷ ps) = sum_value scope names (operands Add o (part_value scope names p)) ps
 
-sum_value-None : (scope : Bound) (names : List (List ℕ)) (ps : List Part) → sum_value scope names None ps ≡ None
+sum_value-None : (scope : Environment) (names : List (List ℕ)) (ps : List Part) → sum_value scope names None ps ≡ None
 sum_value-None scope names [] = refl
 sum_value-None scope names (p ∷ ps) = sum_value-None scope names ps
 
 -- ---- the source comes to it
 
-eval-part : (s : Source) (enter : Enter) (names : List (List ℕ)) (p : Part) (k w : ℕ) (t : Bool) (scope : Bound) → eval s enter (part_expr (part_of names p)) k w t scope ≡ known (part_value scope names p)
+eval-part : (s : Source) (enter : Enter) (names : List (List ℕ)) (p : Part) (k w : ℕ) (t : Bool) (scope : Environment) → eval s enter (part_expr (part_of names p)) k w t scope ≡ known (part_value scope names p)
 eval-part s enter names (part.Parameter i) k w t scope = refl
 eval-part s enter names (part.Number n) k w t scope = refl
 
@@ -58,14 +58,14 @@ add_known k None q = refl
 add_known k (Some u) None = refl
 add_known k (Some u) (Some v) = after_nothing (after 0 0 0 (known (operate Add u v))) ∙ after_nothing (known (operate Add u v))
 
-eval-add : (s : Source) (enter : Enter) (names : List (List ℕ)) (e : Term) (p : Part) (o : Option Value) (w : ℕ) (scope : Bound) → ((k : ℕ) → eval s enter e k w false scope ≡ known o)
+eval-add : (s : Source) (enter : Enter) (names : List (List ℕ)) (e : Term) (p : Part) (o : Option Value) (w : ℕ) (scope : Environment) → ((k : ℕ) → eval s enter e k w false scope ≡ known o)
     → (k : ℕ) (t : Bool) → eval s enter (tree.Prim Add e (part_expr (part_of names p)) 1) k w t scope ≡ known (operands Add o (part_value scope names p))
 eval-add s enter names e p o w scope h k t =
     ap (λ x. first_then k x (λ rest u. first_then rest (eval s enter (part_expr (part_of names p)) rest w false scope) (λ last v. known (operate Add u v)))) (h k)
     ∙ then_same k (known o) _ (λ rest u. first_then rest (known (part_value scope names p)) (λ last v. known (operate Add u v))) (λ j u. ap (λ x. first_then j x (λ last v. known (operate Add u v))) (eval-part s enter names p j w false scope))
     ∙ add_known k o (part_value scope names p)
 
-eval-sum : (s : Source) (enter : Enter) (names : List (List ℕ)) (e : Term) (ps : List Part) (o : Option Value) (w : ℕ) (scope : Bound) → ((k : ℕ) (t : Bool) → eval s enter e k w t scope ≡ known o)
+eval-sum : (s : Source) (enter : Enter) (names : List (List ℕ)) (e : Term) (ps : List Part) (o : Option Value) (w : ℕ) (scope : Environment) → ((k : ℕ) (t : Bool) → eval s enter e k w t scope ≡ known o)
     → (k : ℕ) (t : Bool) → eval s enter (sum_expr e (map (part_of names) ps)) k w t scope ≡ known (sum_value scope names o ps)
 eval-sum s enter names e [] o w scope h k t = h k t
 eval-sum s enter names e (p ∷ ps) o w scope h k t =
@@ -80,15 +80,15 @@ put-other : (env : Locals) (m x : ℕ) (v : Value) → x < m → put env m v x �
 put-other env m x v h = let e : (m == x) ≡ false = grind (arith, nat_tests) in ap (λ b. if b then Some v else env x) e
 
 -- the parameters' locals hold the values of the names
-pub record Holds (count : ℕ) (names : List (List ℕ)) (scope : Bound) (env : Locals) : Type 0 where
+pub record Holds (count : ℕ) (names : List (List ℕ)) (scope : Environment) (env : Locals) : Type 0 where
   pub each : (i : ℕ) → i < count → env i ≡ scope (get_or names i [])
 
-Holds-put : (count : ℕ) (names : List (List ℕ)) (scope : Bound) (env : Locals) (m : ℕ) (v : Value) → count ≤ m → Holds count names scope env → Holds count names scope (put env m v)
+Holds-put : (count : ℕ) (names : List (List ℕ)) (scope : Environment) (env : Locals) (m : ℕ) (v : Value) → count ≤ m → Holds count names scope env → Holds count names scope (put env m v)
 Holds-put count names scope env m v h holds = record { each = λ i l. put-other env m i v (omega arith) ∙ holds.each i l }
 
 -- ---- the code comes to it
 
-add_runs : (k : ℕ) (o : Option Value) (scope : Bound) (names : List (List ℕ)) (ps : List Part) (go : ℕ → Value → Outcome Value)
+add_runs : (k : ℕ) (o : Option Value) (scope : Environment) (names : List (List ℕ)) (ps : List Part) (go : ℕ → Value → Outcome Value)
     → ((v : Value) → go k v ≡ known (sum_value scope names (Some v) ps)) → first_then k (known o) go ≡ known (sum_value scope names o ps)
 add_runs k None scope names ps go h = sym (ap known (sum_value-None scope names ps))
 add_runs k (Some v) scope names ps go h = at_once_then k v go ∙ h v
@@ -97,7 +97,7 @@ add_runs k (Some v) scope names ps go h = at_once_then k v go ∙ h v
 abbrev ends : Enter → ℕ → ℕ → ℕ → Locals → Outcome Value
 ends enter w x left env = known (env x)
 
-further_runs : (enter : Enter) (count : ℕ) (names : List (List ℕ)) (scope : Bound) (ps : List Part) (s n : ℕ) (env : Locals) (o : Option Value) (k w : ℕ)
+further_runs : (enter : Enter) (count : ℕ) (names : List (List ℕ)) (scope : Environment) (ps : List Part) (s n : ℕ) (env : Locals) (o : Option Value) (k w : ℕ)
     → Holds count names scope env → env s ≡ o → s < n → count ≤ n → AllByRecursion (IsKnown count) ps
     → lets_run enter (further_lets s ps n) k w env (ends enter w (further_local s ps n)) ≡ known (sum_value scope names o ps)
 further_runs enter count names scope [] s n env o k w holds sum less many known_parts = ap known sum
@@ -115,7 +115,7 @@ further_runs enter count names scope (part.Number z ∷ ps) s n env o k w holds 
     ∙ add_runs k (operands Add o (Some lit)) scope names ps (λ left v. lets_run enter (further_lets (suc n) ps (suc (suc n))) left w (put env' (suc n) v) (ends enter w (further_local (suc n) ps (suc (suc n)))))
     (λ v. further_runs enter count names scope ps (suc n) (suc (suc n)) (put env' (suc n) v) (Some v) k w (Holds-put count names scope env' (suc n) v (omega arith) (Holds-put count names scope env n lit many holds)) (put-same env' (suc n) v) (omega arith) (omega arith) known_parts.1)
 
-sum_runs : (enter : Enter) (count : ℕ) (names : List (List ℕ)) (scope : Bound) (p : Part) (ps : List Part) (env : Locals) (k w : ℕ)
+sum_runs : (enter : Enter) (count : ℕ) (names : List (List ℕ)) (scope : Environment) (p : Part) (ps : List Part) (env : Locals) (k w : ℕ)
     → Holds count names scope env → IsKnown count p → AllByRecursion (IsKnown count) ps
     → lets_run enter (sum_lets count p ps) k w env (ends enter w (sum_local count p ps)) ≡ known (sum_value scope names (part_value scope names p) ps)
 sum_runs enter count names scope (part.Parameter i) ps env k w holds first more =
@@ -135,16 +135,16 @@ bytes_differ x y h = differ (bytes_eq x y) refl
     differ true e = absurd (h (same_bytes x y e))
 
 -- the names bound to the arguments, one each
-abbrev bind_all : Bound → List (List ℕ) → List Value → Bound
+abbrev bind_all : Environment → List (List ℕ) → List Value → Environment
 bind_all env [] vs = env
 bind_all env (x ∷ xs) [] = env
 bind_all env (x ∷ xs) (v ∷ vs) = bind_all (meaning.put env x v) xs vs
 
-abbrev bound_to : List (List ℕ) → List Value → Bound
+abbrev bound_to : List (List ℕ) → List Value → Environment
 bound_to names args = bind_all (λ n. None) names args
 
 -- the meaning binds as many parameters as there are arguments
-params_bound : (env : Bound) (names : List (List ℕ)) (args : List Value) → put_params env (map int_param names) args ≡ (if length args == length names then Some (bind_all env names args) else None)
+params_bound : (env : Environment) (names : List (List ℕ)) (args : List Value) → put_params env (map int_param names) args ≡ (if length args == length names then Some (bind_all env names args) else None)
 params_bound env [] [] = refl
 params_bound env [] (v ∷ vs) = let e : (suc (length vs) == 0) ≡ false = grind (arith, nat_tests) in sym (ap (λ b. if b then Some env else None) e)
 params_bound env (x ∷ xs) [] = let e : (0 == suc (length xs)) ≡ false = grind (arith, nat_tests) in sym (ap (λ b. if b then Some env else None) e)
@@ -153,13 +153,13 @@ params_bound env (x ∷ xs) (v ∷ vs) =
     params_bound (meaning.put env x v) xs vs ∙ ap (λ b. if b then Some (bind_all (meaning.put env x v) xs vs) else None) e
 
 -- what other names are bound to stays
-others_stay : (env : Bound) (xs : List (List ℕ)) (vs : List Value) (y : List ℕ) → (Contains xs y → ⊥) → bind_all env xs vs y ≡ env y
+others_stay : (env : Environment) (xs : List (List ℕ)) (vs : List Value) (y : List ℕ) → (Contains xs y → ⊥) → bind_all env xs vs y ≡ env y
 others_stay env [] vs y h = refl
 others_stay env (x ∷ xs) [] y h = refl
 others_stay env (x ∷ xs) (v ∷ vs) y h =
     others_stay (meaning.put env x v) xs vs y (λ c. h (later x xs y c)) ∙ ap (λ b. if b then Some v else env y) (bytes_differ x y (λ e. h (here x xs y e)))
 
-arguments_hold : (env : Bound) (names : List (List ℕ)) (args : List Value) → AreDistinct names → length args ≡ length names → (i : ℕ) → i < length names → slice_get args i ≡ bind_all env names args (get_or names i [])
+arguments_hold : (env : Environment) (names : List (List ℕ)) (args : List Value) → AreDistinct names → length args ≡ length names → (i : ℕ) → i < length names → slice_get args i ≡ bind_all env names args (get_or names i [])
 arguments_hold env [] args distinct full i less = absurd (omega arith)
 arguments_hold env (x ∷ xs) [] distinct full i less = absurd (omega arith)
 arguments_hold env (x ∷ xs) (v ∷ vs) distinct full zero less = sym (others_stay (meaning.put env x v) xs vs x distinct.0 ∙ ap (λ b. if b then Some v else env x) (bytes_same x))
@@ -171,7 +171,7 @@ arguments_hold env (x ∷ xs) (v ∷ vs) distinct full (suc j) less =
 -- ---- whole functions
 
 -- where both are entered with as many arguments as parameters, and else nowhere
-both_enter : (n m : ℕ) (x : Outcome Value) (env : Bound) (go : Bound → Outcome Value) → (n ≡ m → x ≡ go env) → (if n == m then x else Stuck) ≡ given (if n == m then Some env else None) go
+both_enter : (n m : ℕ) (x : Outcome Value) (env : Environment) (go : Environment → Outcome Value) → (n ≡ m → x ≡ go env) → (if n == m then x else Stuck) ≡ given (if n == m then Some env else None) go
 both_enter n m x env go h = by_cases (n == m) (λ t. h (grind (arith, nat_tests)))
   where
     by_cases : (b : Bool) → (b ≡ true → x ≡ go env) → (if b then x else Stuck) ≡ given (if b then Some env else None) go
@@ -185,8 +185,8 @@ body_runs : (types : List DataType) (enter : Enter) (s : Source) (enter' : Enter
     ≡ meaning.body_run s enter' (Some (fun_of (function_of f))) k w args
 body_runs types enter s enter' f count k w args is distinct first more =
     let names : List (List ℕ) = names_of f.params.items in
-    let scope : Bound = bound_to names args in
-    let body : Bound → Outcome Value = λ env. eval s enter' (fun_of (function_of f)).body k w true env in
+    let scope : Environment = bound_to names args in
+    let body : Environment → Outcome Value = λ env. eval s enter' (fun_of (function_of f)).body k w true env in
     let full : length (replicate count kind.Int) ≡ length names = length-replicate count kind.Int ∙ is in
     let run : Outcome Value = lets_run enter (sum_lets count f.first f.more.items) k w (arguments args) (ends enter w (sum_local count f.first f.more.items)) in
     ap (λ n. if length args == n then run else Stuck) full
@@ -265,7 +265,7 @@ one_place_more old new n old_is new_is =
 -- ---- sums of ints are ints
 
 -- the names bound to these ints
-abbrev ints_bound : List (List ℕ) → List ℤ → Bound
+abbrev ints_bound : List (List ℕ) → List ℤ → Environment
 ints_bound names zs = bound_to names (map value.Int zs)
 
 part_int : (names : List (List ℕ)) (zs : List ℤ) (p : Part) → AreDistinct names → length zs ≡ length names → IsKnown (length names) p
@@ -301,8 +301,8 @@ sum_is_done f zs limit (suc k) distinct first more full some_fuel =
     let s : Source = source_of (function_of f) in
     let enter : Enter = meaning.calls s limit k in
     let vs : List Value = map value.Int zs in
-    let scope : Bound = bound_to names vs in
-    let body : Bound → Outcome Value = λ env. eval s enter (fun_of (function_of f)).body k 0 true env in
+    let scope : Environment = bound_to names vs in
+    let body : Environment → Outcome Value = λ env. eval s enter (fun_of (function_of f)).body k 0 true env in
     let names_full : length zs ≡ length names = full ∙ vec_len_names f in
     let first' : IsKnown (length names) f.first = subst (λ n. IsKnown n f.first) (vec_len_names f) first in
     let more' : AllByRecursion (IsKnown (length names)) f.more.items = subst (λ n. AllByRecursion (IsKnown n) f.more.items) (vec_len_names f) more in

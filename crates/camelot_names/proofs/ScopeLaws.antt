@@ -13,7 +13,7 @@ use Rattle.std.proofs.lemmas.Option.{same_Some, slice_get-map, slice_get_within}
 use Rattle.indexmap.specs.IndexMap.{IndexMap, insert_entry, set_value_at, with_value_at, IsUnique}
 use Rattle.indexmap.proofs.CallerLemmas.{updates-with_value_at, keys-with_value_at}
 use Rattle.camelot_names.specs.declared.scopes.Binding.{Binding}
-use Rattle.camelot_values.specs.Names.{Bound, find}
+use Rattle.camelot_values.specs.Names.{Binder, find}
 use Rattle.camelot_names.specs.Kept.{bound, AreUndone, IsKept}
 
 -- two words are the same bytes
@@ -88,7 +88,7 @@ bound_means : {T : Type 0} (b : Bool) (v : T) (o : Option (Option T)) (f : Optio
 bound_means true v o f h = refl
 bound_means false v o f h = h
 
-unbound_means : {T : Type 0} (word name : List ℕ) (hidden : Option T) (o : Option (Option T)) (v : T) (bs : List (Bound T))
+unbound_means : {T : Type 0} (word name : List ℕ) (hidden : Option T) (o : Option (Option T)) (v : T) (bs : List (Binder T))
     → hidden ≡ find bs word → option_flatten o ≡ (if bytes_eq word name then Some v else find bs name) → option_flatten (cond (bytes_eq word name) (Some hidden) o) ≡ find bs name
 unbound_means word name hidden o v bs h k = by (bytes_eq word name) refl k
   where

@@ -5,10 +5,10 @@ use Rattle.std.specs.Borrow.{Bor}
 use Rattle.std.specs.Map.{lookup}
 use Rattle.std.specs.Str.{bytes_eq}
 use Rattle.camelot_names.specs.declared.scopes.Binding.{Binding}
-use Rattle.camelot_values.specs.Names.{Bound, find}
+use Rattle.camelot_values.specs.Names.{Binder, find}
 
 -- a binding, as callers see it
-abbrev pub bound : {T : Type 0} → Binding T → Bound T
+abbrev pub bound : {T : Type 0} → Binding T → Binder T
 bound b = record { name = b.name.now; is = b.value }
 
 -- taking off each of these bindings, the innermost first, gives its name what it means outside of it

@@ -25,9 +25,9 @@ pub struct Scope<'a, T: Copy> {
 impl<'a, T: Copy> Model for Scope<'a, T> {
     ghost use Rattle.std.specs.Prelude.{List, map, reverse};
     ghost use Rattle.camelot_names.specs.Kept.{bound, IsKept};
-    ghost use Rattle.camelot_values.specs.Names.{Bound};
+    ghost use Rattle.camelot_values.specs.Names.{Binder};
 
-    ghost Value = { List (Bound T) };
+    ghost Value = { List (Binder T) };
 
     ghost view = { λ scope. map bound (reverse scope.bindings.items) };
 

@@ -18,19 +18,19 @@ use Rattle.camelot_tree.specs.Tree.{Term, Num, Truth, Var, Prim, If, Let, Match,
 -- ---- names
 
 -- the values of the names that are bound
-abbrev pub Bound : Type 0
-Bound = List ℕ → Option Value
+abbrev pub Environment : Type 0
+Environment = List ℕ → Option Value
 
-abbrev pub put : Bound → List ℕ → Value → Bound
+abbrev pub put : Environment → List ℕ → Value → Environment
 put env name v = λ n. if bytes_eq name n then Some v else env n
 
 -- all constructors, numbered through the types in order
-abbrev pub constructors : Source → List Constructor
-constructors p = flat_map (λ t. t.cons) p.types
+abbrev pub declared_constructors : Source → List Constructor
+declared_constructors p = flat_map (λ t. t.cons) p.types
 
 -- the number of the constructor of this name, and of the function of this name
 abbrev pub constructor_number : Source → Name → Option ℕ
-constructor_number p n = place_among (map (λ c. c.name.word) (constructors p)) n.word
+constructor_number p n = place_among (map (λ c. c.name.word) (declared_constructors p)) n.word
 
 abbrev pub function_number : Source → Name → Option ℕ
 function_number p n = place_among (map (λ f. f.name.word) p.funs) n.word
@@ -43,29 +43,29 @@ in_cell None v = Stuck
 in_cell (Some c) v = if c.inline then at_once v else in_new_cell v
 
 -- in the cell of the diamond that is named, where one is
-abbrev pub placed : Source → Option Name → Bound → ℕ → List Value → Outcome Value
-placed p None env con vs = in_cell (slice_get (constructors p) con) (value.Con con (parts vs))
+abbrev pub placed : Source → Option Name → Environment → ℕ → List Value → Outcome Value
+placed p None env con vs = in_cell (slice_get (declared_constructors p) con) (value.Con con (parts vs))
 placed p (Some d) env con vs = given (env d.word) (λ v. on_diamond v (at_once (value.Con con (parts vs))))
 
 -- the named fields of an arm are bound to the parts of the value, one each
-abbrev pub put_field : Bound → Option Name → Value → Bound
+abbrev pub put_field : Environment → Option Name → Value → Environment
 put_field env None v = env
 put_field env (Some n) v = put env n.word v
 
-abbrev pub put_fields : Bound → List (Option Name) → Values → Option Bound
+abbrev pub put_fields : Environment → List (Option Name) → Values → Option Environment
 put_fields env [] value.End = Some env
 put_fields env (f ∷ fs) (value.And v vs) = put_fields (put_field env f v) fs vs
 put_fields env fs vs = None
 
 -- a matched cell that is given back is net -1 before the arm; the diamond of one that is kept is bound
-abbrev pub cell_run : ArmCell → Bound → (Bound → Outcome Value) → Outcome Value
+abbrev pub cell_run : ArmCell → Environment → (Environment → Outcome Value) → Outcome Value
 cell_run cell.Plain env next = next env
 cell_run cell.Free env next = cell_freed (next env)
 cell_run (cell.Keep d) env next = next (put env d.word value.Dia)
 
-abbrev pub is_number : Option ℕ → ℕ → Bool
-is_number None n = false
-is_number (Some m) n = m == n
+abbrev pub is_that : Option ℕ → ℕ → Bool
+is_that None n = false
+is_that (Some m) n = m == n
 
 -- what an arm does with the value's constructor and parts
 abbrev pub on_constructor : Value → (ℕ → Values → Outcome Value) → Outcome Value
@@ -76,7 +76,7 @@ on_constructor v next = Stuck
 
 -- with so much fuel, so many waiting calls, in tail position or not, and these names bound
 abbrev mutual
-  pub eval : Source → Enter → Term → ℕ → ℕ → Bool → Bound → Outcome Value
+  pub eval : Source → Enter → Term → ℕ → ℕ → Bool → Environment → Outcome Value
   eval p enter (Num z l) fuel waits tail env = at_once (value.Int z)
   eval p enter (Truth b l) fuel waits tail env = at_once (value.Flag b)
   eval p enter (Var n) fuel waits tail env = known (env n.word)
@@ -93,22 +93,22 @@ abbrev mutual
   eval p enter (Call f es) fuel waits tail env = first_then fuel (eval_all p enter es fuel waits env)
       (λ left vs. given (function_number p f) (λ func. enter left waits tail func vs))
 
-  pub eval_all : Source → Enter → Terms → ℕ → ℕ → Bound → Outcome (List Value)
+  pub eval_all : Source → Enter → Terms → ℕ → ℕ → Environment → Outcome (List Value)
   eval_all p enter NoTerms fuel waits env = at_once []
   eval_all p enter (AndTerm e es) fuel waits env = first_then fuel (eval p enter e fuel waits false env)
       (λ left v. first_then left (eval_all p enter es left waits env) (λ last vs. at_once (v ∷ vs)))
 
   -- the arm of the value's constructor
-  pub arms_run : Source → Enter → Arms → ℕ → Values → ℕ → ℕ → Bool → Bound → Outcome Value
+  pub arms_run : Source → Enter → Arms → ℕ → Values → ℕ → ℕ → Bool → Environment → Outcome Value
   arms_run p enter NoArms con vs fuel waits tail env = Stuck
-  arms_run p enter (AndArm c fs x b as') con vs fuel waits tail env = if is_number (constructor_number p c) con
+  arms_run p enter (AndArm c fs x b as') con vs fuel waits tail env = if is_that (constructor_number p c) con
       then given (put_fields env fs vs) (λ bound. cell_run x bound (λ last. eval p enter b fuel waits tail last))
       else arms_run p enter as' con vs fuel waits tail env
 
 -- ---- functions and programs
 
 -- the parameters are bound to the arguments, one each
-abbrev pub put_params : Bound → List Param → List Value → Option Bound
+abbrev pub put_params : Environment → List Param → List Value → Option Environment
 put_params env [] [] = Some env
 put_params env (x ∷ xs) (v ∷ vs) = put_params (put env x.name.word v) xs vs
 put_params env xs vs = None

@@ -12,7 +12,7 @@ use Rattle.camelot_tree.specs.declared.tree.Name.{Name}
 use Rattle.camelot_tree.specs.declared.tree.ArmCell.{ArmCell}
 use Rattle.camelot_tree.specs.declared.tree.ArmCell.TheVariants as cell
 use Rattle.camelot_tree.specs.Tree.{Term, Num, Truth, Var, Prim, If, Let, Match, Build, Call, Terms, NoTerms, AndTerm, Arms, NoArms, AndArm, Constructor, Function, Source}
-use Rattle.camelot_tree.specs.Meaning.{Bound, put, constructors, constructor_number, function_number, in_cell, placed, put_fields, cell_run, is_number, on_constructor, eval, eval_all, arms_run, put_params, body_run, bodies}
+use Rattle.camelot_tree.specs.Meaning.{Environment, put, declared_constructors, constructor_number, function_number, in_cell, placed, put_fields, cell_run, is_that, on_constructor, eval, eval_all, arms_run, put_params, body_run, bodies}
 
 in_cell_related : (Fine : ℕ → ℕ → Type 0) (R : Relation) → Closed Fine R → (o : Option Constructor) (v : Value) (j k : ℕ) → R Value j k (in_cell o v) (in_cell o v)
 in_cell_related Fine R closed None v j k = closed.stuck Value j k
@@ -22,15 +22,15 @@ in_cell_related Fine R closed (Some c) v j k = by_test c.inline
     by_test true = closed.free Value j k v 0 0
     by_test false = closed.free Value j k v 1 0
 
-placed_related : (Fine : ℕ → ℕ → Type 0) (R : Relation) → Closed Fine R → (p : Source) (place : Option Name) (env : Bound) (con : ℕ) (vs : List Value) (j k : ℕ)
+placed_related : (Fine : ℕ → ℕ → Type 0) (R : Relation) → Closed Fine R → (p : Source) (place : Option Name) (env : Environment) (con : ℕ) (vs : List Value) (j k : ℕ)
     → R Value j k (placed p place env con vs) (placed p place env con vs)
-placed_related Fine R closed p None env con vs j k = in_cell_related Fine R closed (slice_get (constructors p) con) (value.Con con (parts vs)) j k
+placed_related Fine R closed p None env con vs j k = in_cell_related Fine R closed (slice_get (declared_constructors p) con) (value.Con con (parts vs)) j k
 placed_related Fine R closed p (Some d) env con vs j k =
     given_related Fine R closed (env d.word) j k (λ v. on_diamond v (at_once (value.Con con (parts vs)))) (λ v. on_diamond v (at_once (value.Con con (parts vs))))
     (λ u. diamond_related Fine R closed u (value.Con con (parts vs)) j k)
 
-cell_related : (Fine : ℕ → ℕ → Type 0) (R : Relation) → Closed Fine R → (x : ArmCell) (env : Bound) (j k : ℕ) (next next' : Bound → Outcome Value)
-    → ((last : Bound) → R Value j k (next last) (next' last)) → R Value j k (cell_run x env next) (cell_run x env next')
+cell_related : (Fine : ℕ → ℕ → Type 0) (R : Relation) → Closed Fine R → (x : ArmCell) (env : Environment) (j k : ℕ) (next next' : Environment → Outcome Value)
+    → ((last : Environment) → R Value j k (next last) (next' last)) → R Value j k (cell_run x env next) (cell_run x env next')
 cell_related Fine R closed cell.Plain env j k next next' h = h env
 cell_related Fine R closed cell.Free env j k next next' h = closed.moved Value j k 0 1 (next env) (next' env) (h env)
 cell_related Fine R closed (cell.Keep d) env j k next next' h = h (put env d.word value.Dia)
@@ -47,7 +47,7 @@ pick_related R j k true a b a' b' h g = h
 pick_related R j k false a b a' b' h g = g
 
 mutual
-  eval_related : (Fine : ℕ → ℕ → Type 0) (R : Relation) → Closed Fine R → (p : Source) (enter enter' : Enter) → Related Fine R enter enter' → (e : Term) (j k w : ℕ) (t : Bool) (env : Bound) → Fine j k
+  eval_related : (Fine : ℕ → ℕ → Type 0) (R : Relation) → Closed Fine R → (p : Source) (enter enter' : Enter) → Related Fine R enter enter' → (e : Term) (j k w : ℕ) (t : Bool) (env : Environment) → Fine j k
       → R Value j k (eval p enter e j w t env) (eval p enter' e k w t env)
   eval_related Fine R closed p enter enter' r (Num z l) j k w t env f = closed.free Value j k (value.Int z) 0 0
   eval_related Fine R closed p enter enter' r (Truth b l) j k w t env f = closed.free Value j k (value.Flag b) 0 0
@@ -90,7 +90,7 @@ mutual
       (λ d vs. given_related Fine R closed (function_number p g) (j - d) (k - d) (λ func. enter (j - d) w t func vs) (λ func. enter' (k - d) w t func vs)
       (λ func. r (j - d) (k - d) w t func vs (closed.less j k d f)))
 
-  all_related : (Fine : ℕ → ℕ → Type 0) (R : Relation) → Closed Fine R → (p : Source) (enter enter' : Enter) → Related Fine R enter enter' → (es : Terms) (j k w : ℕ) (env : Bound) → Fine j k
+  all_related : (Fine : ℕ → ℕ → Type 0) (R : Relation) → Closed Fine R → (p : Source) (enter enter' : Enter) → Related Fine R enter enter' → (es : Terms) (j k w : ℕ) (env : Environment) → Fine j k
       → R (List Value) j k (eval_all p enter es j w env) (eval_all p enter' es k w env)
   all_related Fine R closed p enter enter' r NoTerms j k w env f = closed.free (List Value) j k [] 0 0
   all_related Fine R closed p enter enter' r (AndTerm e es) j k w env f =
@@ -101,11 +101,11 @@ mutual
       (all_related Fine R closed p enter enter' r es (j - c) (k - c) w env (closed.less j k c f))
       (λ d vs. closed.free (List Value) (j - c - d) (k - c - d) (v ∷ vs) 0 0))
 
-  arms_related : (Fine : ℕ → ℕ → Type 0) (R : Relation) → Closed Fine R → (p : Source) (enter enter' : Enter) → Related Fine R enter enter' → (as' : Arms) (con : ℕ) (vs : Values) (j k w : ℕ) (t : Bool) (env : Bound) → Fine j k
+  arms_related : (Fine : ℕ → ℕ → Type 0) (R : Relation) → Closed Fine R → (p : Source) (enter enter' : Enter) → Related Fine R enter enter' → (as' : Arms) (con : ℕ) (vs : Values) (j k w : ℕ) (t : Bool) (env : Environment) → Fine j k
       → R Value j k (arms_run p enter as' con vs j w t env) (arms_run p enter' as' con vs k w t env)
   arms_related Fine R closed p enter enter' r NoArms con vs j k w t env f = closed.stuck Value j k
   arms_related Fine R closed p enter enter' r (AndArm c fs x b as') con vs j k w t env f =
-      pick_related R j k (is_number (constructor_number p c) con) _ _ _ _
+      pick_related R j k (is_that (constructor_number p c) con) _ _ _ _
       (given_related Fine R closed (put_fields env fs vs) j k (λ bound. cell_run x bound (λ last. eval p enter b j w t last)) (λ bound. cell_run x bound (λ last. eval p enter' b k w t last))
       (λ bound. cell_related Fine R closed x bound j k (λ last. eval p enter b j w t last) (λ last. eval p enter' b k w t last) (λ last. eval_related Fine R closed p enter enter' r b j k w t last f)))
       (arms_related Fine R closed p enter enter' r as' con vs j k w t env f)

@@ -3,7 +3,7 @@ use Rattle.std.proofs.Common.{◌≡◌, ℕ, Bool, true, false, List, [], ◌�
 use Rattle.std.specs.Prelude.{if◌then◌else◌}
 use Rattle.std.specs.Option.{option_map, option_map_or}
 use Rattle.std.specs.Str.{bytes_eq}
-use Rattle.camelot_values.specs.Names.{Bound, find}
+use Rattle.camelot_values.specs.Names.{Binder, find}
 use Rattle.camelot_values.specs.Kinds.{DataType}
 use Rattle.camelot_values.specs.declared.kinds.Kind.{Kind}
 use Rattle.camelot_values.specs.declared.kinds.Kind.TheVariants as kind
@@ -24,7 +24,7 @@ head_under choice h = record { name = h.name; params = map (under choice) h.para
 abbrev pub globals_under : Choice → Globals Guess → Globals Kind
 globals_under choice g = record { types = g.types; heads = map (head_under choice) g.heads }
 
-abbrev pub bound_under : Choice → Bound Guess → Bound Kind
+abbrev pub bound_under : Choice → Binder Guess → Binder Kind
 bound_under choice b = record { name = b.name; is = under choice b.is }
 
 abbrev pub scope_under : Choice → Scope Guess → Scope Kind

@@ -14,7 +14,7 @@ use Rattle.camelot_tree.specs.declared.tree.Name.{Name}
 use Rattle.camelot_tree.specs.declared.tree.ArmCell.{ArmCell}
 use Rattle.camelot_tree.specs.declared.tree.ArmCell.TheVariants as cell
 use Rattle.camelot_tree.specs.Tree.{Term, Num, Truth, Var, Prim, If, Let, Match, Build, Call, Terms, NoTerms, AndTerm, Arms, NoArms, AndArm}
-use Rattle.camelot_tree.specs.Meaning.{is_number}
+use Rattle.camelot_tree.specs.Meaning.{is_that}
 use Rattle.camelot_typing.specs.Kinds.{Head, Globals, Scope, bind, or_else, constructor_number, fields_of, is_inline, built_kind, numbers_of, head_of, bound_names, arm_scope}
 use Rattle.camelot_typing.specs.Typing.{Signature, PlaceFits, CellFits, arms_with, Covers, HeadFits, HasKind, HaveKinds, ArmsHaveKind}
 use Rattle.camelot_typing.proofs.Numbers.{among_numbers}
@@ -164,7 +164,7 @@ counted_more : (types : List DataType) (c : Name) (fs : List (Option Name)) (x :
     → ArmsCounted types (AndArm c fs x b as')
 counted_more types c fs x b as' con e h = record {
   same = λ n.
-      ap (λ o. (if is_number o n then 1 else 0) + arms_with types n as') e ∙ ap (λ m. (if con == n then 1 else 0) + m) (h.same n)
+      ap (λ o. (if is_that o n then 1 else 0) + arms_with types n as') e ∙ ap (λ m. (if con == n then 1 else 0) + m) (h.same n)
       ∙ sym (ap (λ o. (if or_else o 0 == n then 1 else 0) + times n (arm_numbers types as')) e);
 }
 

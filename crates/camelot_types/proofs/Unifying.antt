@@ -67,7 +67,7 @@ StepWithin types n (Same left right line) = IsWithin types n left × IsWithin ty
 abbrev pub TableWithin : List DataType → List Guess → Type 0
 TableWithin types table = (x : ℕ) → x < length table → IsWithin types (length table) (looked_up table (Unknown x))
 
-pub record IsSound (types : List DataType) (table : List Guess) : Type 0 where
+pub record IsSafe (types : List DataType) (table : List Guess) : Type 0 where
   pub settled : IsSettled table
   pub within : TableWithin types table
 
@@ -189,14 +189,14 @@ within_table types table x new l w h y k =
     subst (λ a. IsWithin types (length (map (replaced x new) table)) a) (sym (looked_replaced table x y new l))
     (subst (λ n. IsWithin types n (replaced x new (looked_up table (Unknown y)))) (sym same) (within_replaced types (length table) x new (looked_up table (Unknown y)) w (h y inside)))
 
-sound_replaced : (types : List DataType) (table : List Guess) (x : ℕ) (new : Guess) → x < length table → looked_up table new ≡ new → IsWithin types (length table) new → IsSound types table → IsSound types (map (replaced x new) table)
+sound_replaced : (types : List DataType) (table : List Guess) (x : ℕ) (new : Guess) → x < length table → looked_up table new ≡ new → IsWithin types (length table) new → IsSafe types table → IsSafe types (map (replaced x new) table)
 sound_replaced types table x new l own w s = record { settled = settled_replaced table x new l own s.settled; within = within_table types table x new l w s.within }
 
 -- ---- one step
 
 -- a step that is done: the choices are those of before for which it holds
 pub record Did (types : List DataType) (table next : List Guess) (step : Step) : Type 0 where
-  pub sound : IsSound types next
+  pub sound : IsSafe types next
   pub size : length next ≡ length table
   pub keeps : (choice : Choice) → Respects choice table → Holds choice step → Respects choice next
   pub back : (choice : Choice) → Respects choice next → Respects choice table
@@ -213,7 +213,7 @@ pub record Looked (types : List DataType) (table : List Guess) (a b : Guess) : T
   pub first_within : IsWithin types (length table) first
   pub second_within : IsWithin types (length table) second
 
-look : (types : List DataType) (table : List Guess) (a b : Guess) → IsSound types table → IsWithin types (length table) a → IsWithin types (length table) b → Looked types table a b
+look : (types : List DataType) (table : List Guess) (a b : Guess) → IsSafe types table → IsWithin types (length table) a → IsWithin types (length table) b → Looked types table a b
 look types table a b s v w = record {
   first = looked_up table a;
   second = looked_up table b;
@@ -225,15 +225,15 @@ look types table a b s v w = record {
   second_within = within_looked types table b s.within w;
 }
 
-did_nothing : (types : List DataType) (table : List Guess) (step : Step) → IsSound types table → ((choice : Choice) → Respects choice table → Holds choice step) → Did types table table step
+did_nothing : (types : List DataType) (table : List Guess) (step : Step) → IsSafe types table → ((choice : Choice) → Respects choice table → Holds choice step) → Did types table table step
 did_nothing types table step s h = record { sound = s; size = refl; keeps = λ c r k. r; back = λ c r. r; holds = h }
 
-did_replace : (types : List DataType) (table next : List Guess) (a b : Guess) (line x : ℕ) (new : Guess) → IsSound types table → x < length table → IsFree table x → looked_up table new ≡ new → IsWithin types (length table) new
+did_replace : (types : List DataType) (table next : List Guess) (a b : Guess) (line x : ℕ) (new : Guess) → IsSafe types table → x < length table → IsFree table x → looked_up table new ≡ new → IsWithin types (length table) new
     → next ≡ map (replaced x new) table
     → ((choice : Choice) → Respects choice table → under choice a ≡ under choice b → choice x ≡ under choice new)
     → ((choice : Choice) → Respects choice table → choice x ≡ under choice new → under choice a ≡ under choice b) → Did types table next (Same a b line)
 did_replace types table next a b line x new s l free own w e there back = record {
-  sound = subst (IsSound types) (sym e) (sound_replaced types table x new l own w s);
+  sound = subst (IsSafe types) (sym e) (sound_replaced types table x new l own w s);
   size = ap length e ∙ length_map (replaced x new) table;
   keeps = λ c r k. subst (Respects c) (sym e) (respects_replaced c table x new l r (there c r k));
   back = λ c r. respects_before c table x new l free (subst (Respects c) e r);
@@ -243,7 +243,7 @@ did_replace types table next a b line x new s l free own w e there back = record
 goes_is : {A : Type 0} (a b : A) → Goes a ≡ Goes b → a ≡ b
 goes_is a b h = cc
 
-unified_did : (types : List DataType) (table next : List Guess) (a b : Guess) (line : ℕ) (first second : Guess) → IsSound types table
+unified_did : (types : List DataType) (table next : List Guess) (a b : Guess) (line : ℕ) (first second : Guess) → IsSafe types table
     → looked_up table a ≡ first → looked_up table b ≡ second → looked_up table first ≡ first → looked_up table second ≡ second → IsWithin types (length table) first → IsWithin types (length table) second
     → unified types table line first second ≡ Goes next → Did types table next (Same a b line)
 unified_did types table next a b line (Known k) (Known q) s fi se fo so fw sw h = by_test (same_kind k q) refl h
@@ -263,7 +263,7 @@ unified_did types table next a b line (Unknown x) new s fi se fo so fw sw h =
     (λ c r e. sym (ap (under c) fi) ∙ sym (under_looked c table a r) ∙ e ∙ under_looked c table b r ∙ ap (under c) se)
     (λ c r e. under_looked c table a r ∙ ap (under c) fi ∙ e ∙ sym (ap (under c) se) ∙ sym (under_looked c table b r))
 
-pub step_did : (types : List DataType) (table next : List Guess) (step : Step) → IsSound types table → StepWithin types (length table) step → step_done types table step ≡ Goes next → Did types table next step
+pub step_did : (types : List DataType) (table next : List Guess) (step : Step) → IsSafe types table → StepWithin types (length table) step → step_done types table step ≡ Goes next → Did types table next step
 unfolding made_same
 step_did types table next (Must true fault) s w h = let n : table ≡ next = cc in subst (λ t. Did types table t (Must true fault)) n (did_nothing types table (Must true fault) s (λ c r. refl))
 step_did types table next (Must false fault) s w h = cc
@@ -278,7 +278,7 @@ abbrev pub AllWithin : List DataType → ℕ → List Step → Type 0
 AllWithin types n steps = AllByRecursion (StepWithin types n) steps
 
 pub record Ran (types : List DataType) (table next : List Guess) (steps : List Step) : Type 0 where
-  pub sound : IsSound types next
+  pub sound : IsSafe types next
   pub size : length next ≡ length table
   pub keeps : (choice : Choice) → Respects choice table → AllHold choice steps → Respects choice next
   pub back : (choice : Choice) → Respects choice next → Respects choice table
@@ -289,7 +289,7 @@ abbrev pub StepEnds : List DataType → List Guess → Step → Walked (List Gue
 StepEnds types table step (Goes next) = Did types table next step
 StepEnds types table step (Stops fault) = Unit {0}
 
-pub run_ran : (types : List DataType) (table next : List Guess) (steps : List Step) → IsSound types table → AllWithin types (length table) steps → run types table steps ≡ Goes next → Ran types table next steps
+pub run_ran : (types : List DataType) (table next : List Guess) (steps : List Step) → IsSafe types table → AllWithin types (length table) steps → run types table steps ≡ Goes next → Ran types table next steps
 run_ran types table next [] s w h =
     let n : table ≡ next = cc in
     subst (λ t. Ran types table t []) n (record { sound = s; size = refl; keeps = λ c r k. r; back = λ c r. r; holds = λ c r. tt })
@@ -375,7 +375,7 @@ pub all_back : (choice : Choice) (xs ys : List Step) → AllHold choice (xs ++ y
 all_back choice [] ys h = h
 all_back choice (x ∷ xs) ys h = all_back choice xs ys h.1
 
-run_fails : (types : List DataType) (table : List Guess) (done steps all : List Step) (fault : TypeFault) → all ≡ done ++ steps → IsSound types table → AllWithin types (length table) steps → Left done table
+run_fails : (types : List DataType) (table : List Guess) (done steps all : List Step) (fault : TypeFault) → all ≡ done ++ steps → IsSafe types table → AllWithin types (length table) steps → Left done table
     → run types table steps ≡ Stops fault → IsFirstFault types all fault
 run_fails types table done [] all fault e s w l h = cc
 run_fails types table done (step ∷ steps) all fault e s w l h =
@@ -451,7 +451,7 @@ no_stop types table (Must false found) fault choice r h k = absurd cc
 no_stop types table (Same a b line) fault choice r h k = no_clash types table a b line (looked_up table a) (looked_up table b) fault choice r refl refl h k
 
 -- steps that hold for some choice don't stop
-pub runs_on : (types : List DataType) (table : List Guess) (steps : List Step) (choice : Choice) → IsSound types table → AllWithin types (length table) steps → Respects choice table → AllHold choice steps
+pub runs_on : (types : List DataType) (table : List Guess) (steps : List Step) (choice : Choice) → IsSafe types table → AllWithin types (length table) steps → Respects choice table → AllHold choice steps
     → (next : List Guess) × (run types table steps ≡ Goes next)
 runs_on types table [] choice s w r h = (table, refl)
 runs_on types table (step ∷ steps) choice s w r h = by_step (step_done types table step) refl
@@ -463,7 +463,7 @@ runs_on types table (step ∷ steps) choice s w r h = by_step (step_done types t
     by_step (Stops fault) e f = absurd (no_stop types table step fault choice r e h.0)
 
 -- a step that fails stops the run, with its fault
-step_stops : (types : List DataType) (table : List Guess) (before : List Step) (step : Step) (fault : TypeFault) → IsSound types table → StepWithin types (length table) step
+step_stops : (types : List DataType) (table : List Guess) (before : List Step) (step : Step) (fault : TypeFault) → IsSafe types table → StepWithin types (length table) step
     → ((choice : Choice) → Respects choice table → AllHold choice before) → ((choice : Choice) → AllHold choice before → Respects choice table)
     → FailsWith types before step fault → step_done types table step ≡ Stops fault
 step_stops types table before step fault s w back there f = by_step (step_done types table step) refl
@@ -492,7 +492,7 @@ step_stops types table before step fault s w back there f = by_step (step_done t
 
 -- the table that one starts with: every unknown stands for itself
 pub record IsFresh (types : List DataType) (table : List Guess) : Type 0 where
-  pub sound : IsSound types table
+  pub sound : IsSafe types table
   pub free : (choice : Choice) → Respects choice table
 
 pub fault_runs : (types : List DataType) (table : List Guess) (steps : List Step) (fault : TypeFault) → IsFresh types table → AllWithin types (length table) steps → IsFirstFault types steps fault → run types table steps ≡ Stops fault

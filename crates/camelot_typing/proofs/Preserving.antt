@@ -9,7 +9,7 @@ use Rattle.camelot_values.specs.Value.{Value, Values, parts}
 use Rattle.camelot_values.specs.Names.{AreDistinct, find}
 use Rattle.camelot_values.specs.Kinds as values
 use Rattle.camelot_values.specs.Kinds.{DataType, constructor, type_of}
-use Rattle.camelot_values.specs.Typing.{Fits, FitAll, ArgumentsFit, IsSound, operator_kind}
+use Rattle.camelot_values.specs.Typing.{Fits, FitAll, ArgumentsFit, IsSafe, operator_kind}
 use Rattle.camelot_values.specs.Operator as operator
 use Rattle.camelot_values.specs.Operator.{Operator, operate}
 use Rattle.camelot_values.specs.Outcome.{Outcome, Done, Fuel, Deep, Stuck, after, first_then, at_once, known, given, entered}
@@ -24,7 +24,7 @@ use Rattle.camelot_tree.specs.declared.tree.ArmCell.TheVariants as cell
 use Rattle.camelot_tree.specs.Tree as tree
 use Rattle.camelot_tree.specs.Tree.{Term, Num, Truth, Var, Prim, If, Let, Match, Build, Call, Terms, NoTerms, AndTerm, Arms, NoArms, AndArm, Function, Source}
 use Rattle.camelot_tree.specs.Meaning as meaning
-use Rattle.camelot_tree.specs.Meaning.{Bound, put, put_field, put_fields, put_params, in_cell, placed, cell_run, is_number, on_constructor, eval, eval_all, arms_run, function_number, body_run, calls, run_of}
+use Rattle.camelot_tree.specs.Meaning.{Environment, put, put_field, put_fields, put_params, in_cell, placed, cell_run, is_that, on_constructor, eval, eval_all, arms_run, function_number, body_run, calls, run_of}
 use Rattle.camelot_typing.specs.Kinds.{Scope, bind, bind_fields, bind_cell, arm_scope, or_else, types_of, constructor_number, fields_of, is_inline, built_kind}
 use Rattle.camelot_typing.specs.Typing.{Signature, known_kind, PlaceFits, arms_with, HeadFits, HasKind, HaveKinds, ArmsHaveKind, ParamsStand, params_scope, FunctionFits, FunctionsFit, globals_of, IsTyped}
 use Rattle.camelot_typing.proofs.Numbers.{number_same, At, numbered_constructor, written_constructor, head_number, signature_function, among_numbers}
@@ -58,7 +58,7 @@ pub comes_given : {A B : Type 0} (P : A → Type 0) (Q : B → Type 0) (o : Opti
 comes_given P Q None next h go = absurd h
 comes_given P Q (Some v) next h go = go v h
 
-pub comes_sound : (types : List DataType) (q : Kind) (o : Outcome Value) → Comes (Fits types q) o → IsSound types q o
+pub comes_sound : (types : List DataType) (q : Kind) (o : Outcome Value) → Comes (Fits types q) o → IsSafe types q o
 comes_sound types q (Done v c p l) h = h
 comes_sound types q (Fuel c p) h = tt
 comes_sound types q (Deep p) h = tt
@@ -67,13 +67,13 @@ comes_sound types q Stuck h = absurd h
 -- ---- names
 
 -- each name in scope has a value of its kind
-pub record Scoped (types : List DataType) (s : Scope Kind) (env : Bound) : Type 0 where
+pub record Scoped (types : List DataType) (s : Scope Kind) (env : Environment) : Type 0 where
   pub holds : (name : List ℕ) (k : Kind) → find s name ≡ Some k → IsSomeAnd (env name) (Fits types k)
 
 kind_same : (k q : Kind) → ◌≡◌ {A = Option Kind} (Some k) (Some q) → k ≡ q
 kind_same k q e = cc
 
-pub scoped_bind : (types : List DataType) (s : Scope Kind) (env : Bound) (n : List ℕ) (k : Kind) (v : Value) → Scoped types s env → Fits types k v → Scoped types (bind n k s) (put env n v)
+pub scoped_bind : (types : List DataType) (s : Scope Kind) (env : Environment) (n : List ℕ) (k : Kind) (v : Value) → Scoped types s env → Fits types k v → Scoped types (bind n k s) (put env n v)
 scoped_bind types s env n k v h fit = record { holds = λ name q e. by_test name q (bytes_eq n name) e }
   where
     by_test : (name : List ℕ) (q : Kind) (b : Bool) → (if b then Some k else find s name) ≡ Some q → IsSomeAnd (if b then Some v else env name) (Fits types q)
@@ -81,12 +81,12 @@ scoped_bind types s env n k v h fit = record { holds = λ name q e. by_test name
     by_test name q false e = h.holds name q e
 
 -- the names of fields are bound to parts of these kinds
-pub record FieldsBound (types : List DataType) (s : Scope Kind) (env : Bound) (fs : List (Option Name)) (vs : Values) : Type 0 where
-  pub bound : Bound
+pub record FieldsBound (types : List DataType) (s : Scope Kind) (env : Environment) (fs : List (Option Name)) (vs : Values) : Type 0 where
+  pub bound : Environment
   pub is : put_fields env fs vs ≡ Some bound
   pub fits : Scoped types s bound
 
-pub fields_bound : (types : List DataType) (s : Scope Kind) (env : Bound) (fs : List (Option Name)) (ks : List Kind) (vs : Values) → Scoped types s env → length fs ≡ length ks → FitAll types ks vs
+pub fields_bound : (types : List DataType) (s : Scope Kind) (env : Environment) (fs : List (Option Name)) (ks : List Kind) (vs : Values) → Scoped types s env → length fs ≡ length ks → FitAll types ks vs
     → FieldsBound types (bind_fields known_kind fs ks s) env fs vs
 fields_bound types s env [] [] value.End h full fit = record { bound = env; is = refl; fits = h }
 fields_bound types s env [] [] (value.And v vs) h full fit = absurd fit
@@ -120,13 +120,13 @@ found_among (x ∷ xs) (k ∷ ks) name q e = by_test (bytes_eq x.name.word name)
     by_test false b rec e = let r = rec e in record { before = x.name.word ∷ r.before; rest = r.rest; is = ap (λ l. x.name.word ∷ l) r.is }
 
 -- parameters are bound to values of their kinds, and no other name is bound
-record ParamsBound (types : List DataType) (env : Bound) (xs : List Param) (ks : List Kind) (vs : List Value) : Type 0 where
-  bound : Bound
+record ParamsBound (types : List DataType) (env : Environment) (xs : List Param) (ks : List Kind) (vs : List Value) : Type 0 where
+  bound : Environment
   is : put_params env xs vs ≡ Some bound
   fits : Scoped types (params_scope xs ks) bound
   others : (name : List ℕ) → find (params_scope xs ks) name ≡ None → bound name ≡ env name
 
-params_bound : (types : List DataType) (env : Bound) (xs : List Param) (ks : List Kind) (vs : List Value) → length xs ≡ length ks → AreDistinct (param_names xs) → FitAll types ks (parts vs) → ParamsBound types env xs ks vs
+params_bound : (types : List DataType) (env : Environment) (xs : List Param) (ks : List Kind) (vs : List Value) → length xs ≡ length ks → AreDistinct (param_names xs) → FitAll types ks (parts vs) → ParamsBound types env xs ks vs
 params_bound types env [] [] [] full distinct fit = record { bound = env; is = refl; fits = record { holds = λ name k e. absurd cc }; others = λ name e. refl }
 params_bound types env [] [] (v ∷ vs) full distinct fit = absurd fit
 params_bound types env [] (k ∷ ks) vs full distinct fit = absurd (omega (arith, full))
@@ -220,7 +220,7 @@ in_cell_fits types q c v h = by_test c.inline
     by_test true = h
     by_test false = h
 
-placed_fits : (p : Source) (s : Scope Kind) (q : Kind) (place : Option Name) (inline : Bool) (env : Bound) (con : ℕ) (vs : List Value) → Scoped (types_of p) s env → At (meaning.constructors p) con → PlaceFits s inline place
+placed_fits : (p : Source) (s : Scope Kind) (q : Kind) (place : Option Name) (inline : Bool) (env : Environment) (con : ℕ) (vs : List Value) → Scoped (types_of p) s env → At (meaning.constructors p) con → PlaceFits s inline place
     → Fits (types_of p) q (value.Con con (parts vs)) → Comes (Fits (types_of p) q) (placed p place env con vs)
 placed_fits p s q None inline env con vs h at place fit =
     subst (λ o. Comes (Fits (types_of p) q) (in_cell o (value.Con con (parts vs)))) (sym at.is) (in_cell_fits (types_of p) q at.item (value.Con con (parts vs)) fit)
@@ -236,16 +236,16 @@ con_fits types q con vs at built fit =
 
 -- ---- arms
 
-cell_fits : (types : List DataType) (q : Kind) (s : Scope Kind) (x : ArmCell) (env : Bound) (next : Bound → Outcome Value) → Scoped types s env
-    → ((last : Bound) → Scoped types (bind_cell known_kind x s) last → Comes (Fits types q) (next last)) → Comes (Fits types q) (cell_run x env next)
+cell_fits : (types : List DataType) (q : Kind) (s : Scope Kind) (x : ArmCell) (env : Environment) (next : Environment → Outcome Value) → Scoped types s env
+    → ((last : Environment) → Scoped types (bind_cell known_kind x s) last → Comes (Fits types q) (next last)) → Comes (Fits types q) (cell_run x env next)
 cell_fits types q s cell.Plain env next h go = go env h
 cell_fits types q s cell.Free env next h go = comes_after (Fits types q) 0 0 1 (next env) (go env h)
 cell_fits types q s (cell.Keep d) env next h go = go (put env d.word value.Dia) (scoped_bind types s env d.word kind.Dia value.Dia h refl)
 
 -- the arm of the value's constructor, where its body comes to a value of this kind
-arm_fits : (types : List DataType) (q : Kind) (t con : ℕ) (def : values.Constructor) (c : Name) (fs : List (Option Name)) (x : ArmCell) (vs : Values) (s : Scope Kind) (env : Bound) (next : Bound → Outcome Value) → Scoped types s env
+arm_fits : (types : List DataType) (q : Kind) (t con : ℕ) (def : values.Constructor) (c : Name) (fs : List (Option Name)) (x : ArmCell) (vs : Values) (s : Scope Kind) (env : Environment) (next : Environment → Outcome Value) → Scoped types s env
     → HeadFits types t c fs x → constructor_number types c.word ≡ Some con → constructor types con ≡ Some def → FitAll types def.fields vs
-    → ((last : Bound) → Scoped types (arm_scope known_kind types c fs x s) last → Comes (Fits types q) (next last))
+    → ((last : Environment) → Scoped types (arm_scope known_kind types c fs x s) last → Comes (Fits types q) (next last))
     → Comes (Fits types q) (given (put_fields env fs vs) (λ bound. cell_run x bound next))
 arm_fits types q t con def c fs x vs s env next h head number is fit go =
     let same : head.con ≡ con = number_one head.con con (sym head.is ∙ number) in
@@ -261,20 +261,20 @@ arm_fits types q t con def c fs x vs s env next h head number is fit go =
     number_one a b e = cc
 
 -- the first arm, or one behind it
-by_arm : (p : Source) (enter : Enter) (c : Name) (fs : List (Option Name)) (x : ArmCell) (b : Term) (as' : Arms) (con : ℕ) (vs : Values) (fuel waits : ℕ) (tail : Bool) (env : Bound) (types : List DataType) (q : Kind)
+by_arm : (p : Source) (enter : Enter) (c : Name) (fs : List (Option Name)) (x : ArmCell) (b : Term) (as' : Arms) (con : ℕ) (vs : Values) (fuel waits : ℕ) (tail : Bool) (env : Environment) (types : List DataType) (q : Kind)
     → constructor_number types c.word ≡ meaning.constructor_number p c → 1 ≤ arms_with types con (AndArm c fs x b as')
     → (constructor_number types c.word ≡ Some con → Comes (Fits types q) (given (put_fields env fs vs) (λ bound. cell_run x bound (λ last. eval p enter b fuel waits tail last))))
     → (1 ≤ arms_with types con as' → Comes (Fits types q) (arms_run p enter as' con vs fuel waits tail env))
     → Comes (Fits types q) (arms_run p enter (AndArm c fs x b as') con vs fuel waits tail env)
 by_arm p enter c fs x b as' con vs fuel waits tail env types q same some here later =
-    subst (λ o. Comes (Fits types q) (if is_number o con then given (put_fields env fs vs) (λ bound. cell_run x bound (λ last. eval p enter b fuel waits tail last)) else arms_run p enter as' con vs fuel waits tail env)) same
-    (by_test (is_number (constructor_number types c.word) con) refl some)
+    subst (λ o. Comes (Fits types q) (if is_that o con then given (put_fields env fs vs) (λ bound. cell_run x bound (λ last. eval p enter b fuel waits tail last)) else arms_run p enter as' con vs fuel waits tail env)) same
+    (by_test (is_that (constructor_number types c.word) con) refl some)
   where
-    found : (o : Option ℕ) → is_number o con ≡ true → o ≡ Some con
+    found : (o : Option ℕ) → is_that o con ≡ true → o ≡ Some con
     found None e = absurd cc
     found (Some m) e = let equal : m ≡ con = grind (arith, nat_tests, e) in ap Some equal
 
-    by_test : (t : Bool) → is_number (constructor_number types c.word) con ≡ t → 1 ≤ (if t then 1 else 0) + arms_with types con as'
+    by_test : (t : Bool) → is_that (constructor_number types c.word) con ≡ t → 1 ≤ (if t then 1 else 0) + arms_with types con as'
         → Comes (Fits types q) (if t then given (put_fields env fs vs) (λ bound. cell_run x bound (λ last. eval p enter b fuel waits tail last)) else arms_run p enter as' con vs fuel waits tail env)
     by_test true e more = here (found (constructor_number types c.word) e)
     by_test false e more = later (omega (arith, more))
@@ -298,7 +298,7 @@ on_constructor_fits types q t (value.Con c vs) next h go = by_con (constructor t
 -- ---- expressions
 
 mutual
-  pub eval_fits : (p : Source) (sigs : List Signature) (enter : Enter) → FunctionsFit p (globals_of p sigs) p.funs sigs → CallsFit p sigs enter → (e : Term) (s : Scope Kind) (q : Kind) (fuel waits : ℕ) (tail : Bool) (env : Bound)
+  pub eval_fits : (p : Source) (sigs : List Signature) (enter : Enter) → FunctionsFit p (globals_of p sigs) p.funs sigs → CallsFit p sigs enter → (e : Term) (s : Scope Kind) (q : Kind) (fuel waits : ℕ) (tail : Bool) (env : Environment)
       → Scoped (types_of p) s env → HasKind (globals_of p sigs) s e q → Comes (Fits (types_of p) q) (eval p enter e fuel waits tail env)
   eval_fits p sigs enter known_funs entry (Num z l) s q fuel waits tail env h k = k
   eval_fits p sigs enter known_funs entry (Truth b l) s q fuel waits tail env h k = k
@@ -340,7 +340,7 @@ mutual
       subst (λ o. Comes (Fits (types_of p) q) (given o (λ func. enter left waits tail func vs))) (sym n.is)
       (subst (λ r. Comes (Fits (types_of p) r) (enter left waits tail n.number vs)) k.2 (entry left waits tail n.number vs k.0 n.at vs_fit)))
 
-  pub all_fit : (p : Source) (sigs : List Signature) (enter : Enter) → FunctionsFit p (globals_of p sigs) p.funs sigs → CallsFit p sigs enter → (es : Terms) (s : Scope Kind) (ks : List Kind) (fuel waits : ℕ) (env : Bound)
+  pub all_fit : (p : Source) (sigs : List Signature) (enter : Enter) → FunctionsFit p (globals_of p sigs) p.funs sigs → CallsFit p sigs enter → (es : Terms) (s : Scope Kind) (ks : List Kind) (fuel waits : ℕ) (env : Environment)
       → Scoped (types_of p) s env → HaveKinds (globals_of p sigs) s es ks → Comes (ArgumentsFit (types_of p) ks) (eval_all p enter es fuel waits env)
   all_fit p sigs enter known_funs entry NoTerms s [] fuel waits env h k = tt
   all_fit p sigs enter known_funs entry NoTerms s (q ∷ ks) fuel waits env h k = absurd k
@@ -354,7 +354,7 @@ mutual
 
   -- some arm is for the value's constructor
   pub arms_fit : (p : Source) (sigs : List Signature) (enter : Enter) → FunctionsFit p (globals_of p sigs) p.funs sigs → CallsFit p sigs enter → (as' : Arms) (s : Scope Kind) (q : Kind) (t con : ℕ) (def : values.Constructor) (vs : Values)
-      (fuel waits : ℕ) (tail : Bool) (env : Bound) → Scoped (types_of p) s env → ArmsHaveKind (globals_of p sigs) s t as' q → 1 ≤ arms_with (types_of p) con as' → constructor (types_of p) con ≡ Some def → FitAll (types_of p) def.fields vs
+      (fuel waits : ℕ) (tail : Bool) (env : Environment) → Scoped (types_of p) s env → ArmsHaveKind (globals_of p sigs) s t as' q → 1 ≤ arms_with (types_of p) con as' → constructor (types_of p) con ≡ Some def → FitAll (types_of p) def.fields vs
       → Comes (Fits (types_of p) q) (arms_run p enter as' con vs fuel waits tail env)
   arms_fit p sigs enter known_funs entry NoArms s q t con def vs fuel waits tail env h k some is fit = absurd (omega (arith, some))
   arms_fit p sigs enter known_funs entry (AndArm c fs x b as') s q t con def vs fuel waits tail env h k some is fit =
@@ -393,5 +393,5 @@ calls_fit p sigs known_funs limit (suc clock) (suc k) w t i args s is fit =
     by_depth false h = comes_after (Fits (types_of p) s.result) 1 0 0 (body_run p (calls p limit clock) (slice_get p.funs i) k (cond t w (suc w)) args) h
 
 pub never_stuck : (p : Source) (sigs : List Signature) (limit func fuel : ℕ) (args : List Value) (s : Signature) → IsTyped p sigs → slice_get sigs func ≡ Some s → ArgumentsFit (types_of p) s.params args
-    → IsSound (types_of p) s.result (run_of p limit func fuel args)
+    → IsSafe (types_of p) s.result (run_of p limit func fuel args)
 never_stuck p sigs limit func fuel args s typed is fit = comes_sound (types_of p) s.result (run_of p limit func fuel args) (calls_fit p sigs typed.functions limit fuel fuel 0 true func args s is fit)

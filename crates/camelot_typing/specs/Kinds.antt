@@ -16,7 +16,7 @@ use Rattle.camelot_tree.specs.declared.tree.ArmCell.{ArmCell}
 use Rattle.camelot_tree.specs.declared.tree.ArmCell.TheVariants as cell
 use Rattle.camelot_tree.specs.Tree.{Term, Num, Truth, Var, Prim, If, Let, Match, Build, Call, Terms, NoTerms, AndTerm, Arms, NoArms, AndArm, Constructor, Source}
 use Rattle.camelot_tree.specs.Tree as tree
-use Rattle.camelot_values.specs.Names.{Bound, find}
+use Rattle.camelot_values.specs.Names.{Binder, find}
 
 -- ---- types
 
@@ -91,7 +91,7 @@ pub record Globals (A : Type 0) : Type 0 where
   pub heads : List (Head A)
 
 abbrev pub Scope : Type 0 → Type 0
-Scope A = List (Bound A)
+Scope A = List (Binder A)
 
 abbrev pub bind : {A : Type 0} → List ℕ → A → Scope A → Scope A
 bind name a s = record { name = name; is = a } ∷ s

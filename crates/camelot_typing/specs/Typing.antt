@@ -15,7 +15,7 @@ use Rattle.camelot_tree.specs.declared.tree.ArmCell.{ArmCell}
 use Rattle.camelot_tree.specs.declared.tree.ArmCell.TheVariants as cell
 use Rattle.camelot_tree.specs.Tree.{Term, Num, Truth, Var, Prim, If, Let, Match, Build, Call, Terms, NoTerms, AndTerm, Arms, NoArms, AndArm, Constructor, Function, Source}
 use Rattle.camelot_values.specs.Names.{find}
-use Rattle.camelot_tree.specs.Meaning.{is_number}
+use Rattle.camelot_tree.specs.Meaning.{is_that}
 use Rattle.camelot_typing.specs.Kinds.{Head, Globals, Scope, bind, kind_of_atom, types_of, constructor_number, built_kind, fields_of, is_inline, numbers_of, head_of, bound_names, arm_scope}
 
 -- what is known of a program whose functions have these kinds
@@ -39,7 +39,7 @@ CellFits inline x = inline ≡ false
 -- the number of arms of this constructor
 abbrev pub arms_with : List DataType → ℕ → Arms → ℕ
 arms_with types con NoArms = 0
-arms_with types con (AndArm c fs x b as') = (if is_number (constructor_number types c.word) con then 1 else 0) + arms_with types con as'
+arms_with types con (AndArm c fs x b as') = (if is_that (constructor_number types c.word) con then 1 else 0) + arms_with types con as'
 
 -- each constructor of type t stands in exactly one arm
 abbrev pub Covers : List DataType → ℕ → Arms → Type 0

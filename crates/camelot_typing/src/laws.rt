@@ -1,7 +1,7 @@
 //! Laws of typing, as the contracts of functions that do nothing.
 ghost use Rattle.std.specs.Prelude.{◌≡◌, ℕ, List, Some, slice_get};
 ghost use Rattle.camelot_values.specs.Value.{Value};
-ghost use Rattle.camelot_values.specs.Typing.{ArgumentsFit, IsSound};
+ghost use Rattle.camelot_values.specs.Typing.{ArgumentsFit, IsSafe};
 ghost use Rattle.camelot_values.specs.declared.kinds.Kind.{Kind};
 ghost use Rattle.camelot_tree.specs.Tree.{Term, Source};
 ghost use Rattle.camelot_tree.specs.Meaning.{run_of};
@@ -15,7 +15,7 @@ ghost use Rattle.camelot_typing.specs.Typing.{HasKind, IsTyped, Signature, known
 #[tactic(auto, using(crate::proofs::Preserving::never_stuck))]
 pub fn law_of_typing()
     ensures { (p : Source) (sigs : List Signature) (limit func fuel : ℕ) (args : List Value) (s : Signature) → IsTyped p sigs
-        → slice_get sigs func ≡ Some s → ArgumentsFit (types_of p) s.params args → IsSound (types_of p) s.result (run_of p limit func fuel args) }
+        → slice_get sigs func ≡ Some s → ArgumentsFit (types_of p) s.params args → IsSafe (types_of p) s.result (run_of p limit func fuel args) }
 {}
 
 /// An expression has at most one kind in a scope, and it is the one that is computed without looking at the rules.

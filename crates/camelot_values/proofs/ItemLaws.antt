@@ -2,7 +2,7 @@
 use Rattle.std.proofs.Common.{◌≡◌, ℕ, zero, suc, Option, Some, None, List, [], ◌∷◌, refl, sym, ap, ◌∙◌, subst}
 use Rattle.std.specs.Prelude.{⊤}
 use Rattle.camelot_values.specs.Value as value
-use Rattle.camelot_values.specs.Value.{Value, Values, count}
+use Rattle.camelot_values.specs.Value.{Value, Values, part_count}
 use Rattle.camelot_values.specs.declared.value.Item.{Item}
 use Rattle.camelot_values.specs.declared.value.Item.TheVariants as item
 use Rattle.camelot_values.specs.Items.{nodes, nodes_all, items_of, before, behind, split, gather, take_parts, values_of, value_of, IsOneValue}
@@ -14,7 +14,7 @@ Keeps xs (Some vs) = nodes_all vs [] ≡ xs
 
 abbrev SplitKeeps : ℕ → Values → Option (Values × Values) → Type 0
 SplitKeeps n vs None = ⊤
-SplitKeeps n vs (Some p) = (count p.0 ≡ n) × (nodes_all p.0 (nodes_all p.1 []) ≡ nodes_all vs [])
+SplitKeeps n vs (Some p) = (part_count p.0 ≡ n) × (nodes_all p.0 (nodes_all p.1 []) ≡ nodes_all vs [])
 
 behind-keeps : (n : ℕ) (v : Value) (vs : Values) (o : Option (Values × Values)) → SplitKeeps n vs o → SplitKeeps (suc n) (value.And v vs) (behind v o)
 behind-keeps n v vs None h = tt

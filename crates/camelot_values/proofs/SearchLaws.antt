@@ -11,7 +11,7 @@ use Rattle.camelot_values.specs.declared.kinds.TypeDef.{TypeDef}
 use Rattle.camelot_values.specs.declared.kinds.Kind.{Kind}
 use Rattle.camelot_values.specs.declared.kinds.Kind.TheVariants.{Int, Flag, Dia, Of}
 use Rattle.camelot_values.specs.declared.reach.Mark.{Mark}
-use Rattle.camelot_values.specs.declared.reach.Mark.TheVariants.{New, Waiting, Done}
+use Rattle.camelot_values.specs.declared.reach.Mark.TheVariants.{New, Waiting, Seen}
 use Rattle.std.specs.List.{list_any}
 use Rattle.camelot_values.specs.Kinds.{DataType, data_type_of, constructor_of, type_from, type_of}
 use Rattle.camelot_values.specs.Heap.{fields_of, fields_at, is_of, HoldsType, LeadsTo, IsLedTo, Reaches, is_heap, is_heap_type}
@@ -67,7 +67,7 @@ record Between (types : List DataType) (first place : ℕ) (left : List Kind) (m
   size : length marks ≡ 64
   begun : slice_get marks first ≡ Some New → ⊥
   sound : (u : ℕ) (m : Mark) → slice_get marks u ≡ Some m → (m ≡ New → ⊥) → IsLedTo types first u
-  closed : (t u : ℕ) → slice_get marks t ≡ Some Done → HoldsType types t u → slice_get marks u ≡ Some New → (t ≡ place) × IsTrue (list_any (is_of u) left)
+  closed : (t u : ℕ) → slice_get marks t ≡ Some Seen → HoldsType types t u → slice_get marks u ≡ Some New → (t ≡ place) × IsTrue (list_any (is_of u) left)
   here : IsLedTo types first place
   fields : (u : ℕ) → IsTrue (list_any (is_of u) left) → HoldsType types place u
 
@@ -81,9 +81,9 @@ not_new m n o e f = n (some_same m New (sym e ∙ f))
     some_same : (a b : Mark) → Some a ≡ Some b → a ≡ b
     some_same a b g = cc
 
-begin_fields : (types : List DataType) (first place : ℕ) (marks : List Mark) → Searched types first marks → slice_get marks place ≡ Some Waiting → Between types first place (fields_at types place) (slice_set marks place Done)
+begin_fields : (types : List DataType) (first place : ℕ) (marks : List Mark) → Searched types first marks → slice_get marks place ≡ Some Waiting → Between types first place (fields_at types place) (slice_set marks place Seen)
 begin_fields types first place marks s w = record {
-  size = length_set marks place Done ∙ s.size;
+  size = length_set marks place Seen ∙ s.size;
   begun = λ e. s.begun (old first e);
   sound = λ u m e n. sound u m e n (same_place place u);
   closed = λ t u d h e. closed t u d h (old u e) (same_place place t);
@@ -94,20 +94,20 @@ begin_fields types first place marks s w = record {
     within : place < length marks
     within = slice_get_within marks place Waiting w
 
-    old : (u : ℕ) → slice_get (slice_set marks place Done) u ≡ Some New → slice_get marks u ≡ Some New
+    old : (u : ℕ) → slice_get (slice_set marks place Seen) u ≡ Some New → slice_get marks u ≡ Some New
     old u e = by_place u e (same_place place u)
       where
-        by_place : (u : ℕ) → slice_get (slice_set marks place Done) u ≡ Some New → (place ≡ u) ⊎ (place ≡ u → ⊥) → slice_get marks u ≡ Some New
-        by_place u e (inl p) = let f : Some Done ≡ Some New = sym (get_set_same marks place Done (slice_get_within marks place Waiting w)) ∙ ap (slice_get (slice_set marks place Done)) p ∙ e in absurd cc
-        by_place u e (inr n) = sym (get_set_other marks place u Done n) ∙ e
+        by_place : (u : ℕ) → slice_get (slice_set marks place Seen) u ≡ Some New → (place ≡ u) ⊎ (place ≡ u → ⊥) → slice_get marks u ≡ Some New
+        by_place u e (inl p) = let f : Some Seen ≡ Some New = sym (get_set_same marks place Seen (slice_get_within marks place Waiting w)) ∙ ap (slice_get (slice_set marks place Seen)) p ∙ e in absurd cc
+        by_place u e (inr n) = sym (get_set_other marks place u Seen n) ∙ e
 
-    sound : (u : ℕ) (m : Mark) → slice_get (slice_set marks place Done) u ≡ Some m → (m ≡ New → ⊥) → (place ≡ u) ⊎ (place ≡ u → ⊥) → IsLedTo types first u
+    sound : (u : ℕ) (m : Mark) → slice_get (slice_set marks place Seen) u ≡ Some m → (m ≡ New → ⊥) → (place ≡ u) ⊎ (place ≡ u → ⊥) → IsLedTo types first u
     sound u m e n (inl p) = subst (IsLedTo types first) p (s.sound place Waiting w (λ x. absurd cc))
-    sound u m e n (inr p) = s.sound u m (sym (get_set_other marks place u Done p) ∙ e) n
+    sound u m e n (inr p) = s.sound u m (sym (get_set_other marks place u Seen p) ∙ e) n
 
-    closed : (t u : ℕ) → slice_get (slice_set marks place Done) t ≡ Some Done → HoldsType types t u → slice_get marks u ≡ Some New → (place ≡ t) ⊎ (place ≡ t → ⊥) → (t ≡ place) × IsTrue (list_any (is_of u) (fields_at types place))
+    closed : (t u : ℕ) → slice_get (slice_set marks place Seen) t ≡ Some Seen → HoldsType types t u → slice_get marks u ≡ Some New → (place ≡ t) ⊎ (place ≡ t → ⊥) → (t ≡ place) × IsTrue (list_any (is_of u) (fields_at types place))
     closed t u d h e (inl p) = (sym p, subst (λ x. HoldsType types x u) (sym p) h)
-    closed t u d h e (inr n) = absurd (s.closed t u (sym (get_set_other marks place t Done n) ∙ d) h e)
+    closed t u d h e (inr n) = absurd (s.closed t u (sym (get_set_other marks place t Seen n) ∙ d) h e)
 
 -- ---- one field more
 
@@ -142,8 +142,8 @@ wait_met types first place u left marks b new = record {
         subst (IsLedTo types first) p (l.0 ++ (u ∷ []), one_more types first l.0 place u l.1 held)
     sound y m e n (inr p) = b.sound y m (sym (get_set_other marks u y Waiting p) ∙ e) n
 
-    closed : (t y : ℕ) → slice_get (slice_set marks u Waiting) t ≡ Some Done → HoldsType types t y → slice_get (slice_set marks u Waiting) y ≡ Some New → (u ≡ t) ⊎ (u ≡ t → ⊥) → (u ≡ y) ⊎ (u ≡ y → ⊥) → (t ≡ place) × IsTrue (list_any (is_of y) left)
-    closed t y d h e (inl p) q = let f : Some Waiting ≡ Some Done = sym (get_set_same marks u Waiting (slice_get_within marks u New new)) ∙ ap (slice_get (slice_set marks u Waiting)) p ∙ d in absurd cc
+    closed : (t y : ℕ) → slice_get (slice_set marks u Waiting) t ≡ Some Seen → HoldsType types t y → slice_get (slice_set marks u Waiting) y ≡ Some New → (u ≡ t) ⊎ (u ≡ t → ⊥) → (u ≡ y) ⊎ (u ≡ y → ⊥) → (t ≡ place) × IsTrue (list_any (is_of y) left)
+    closed t y d h e (inl p) q = let f : Some Waiting ≡ Some Seen = sym (get_set_same marks u Waiting (slice_get_within marks u New new)) ∙ ap (slice_get (slice_set marks u Waiting)) p ∙ d in absurd cc
     closed t y d h e (inr p) q =
         let o = old y e q in
         let c = b.closed t y (sym (get_set_other marks u t Waiting p) ∙ d) h o.0 in
@@ -185,16 +185,16 @@ wait_one types first place (Of u) left marks b = by_mark (slice_get marks u) ref
     by_mark None e = wait_old types first place (Of u) left marks b (seen None e (λ x. absurd cc))
     by_mark (Some New) e = wait_met types first place u left marks b e
     by_mark (Some Waiting) e = wait_old types first place (Of u) left marks b (seen (Some Waiting) e (λ x. absurd cc))
-    by_mark (Some Done) e = wait_old types first place (Of u) left marks b (seen (Some Done) e (λ x. absurd cc))
+    by_mark (Some Seen) e = wait_old types first place (Of u) left marks b (seen (Some Seen) e (λ x. absurd cc))
 
 wait_all : (types : List DataType) (first place : ℕ) (left : List Kind) (marks : List Mark) → Between types first place left marks → Between types first place [] (spread left marks)
 wait_all types first place [] marks b = b
 wait_all types first place (q ∷ left) marks b = wait_all types first place left (wait q marks) (wait_one types first place q left marks b)
 
 pub one_type_more : (types : List DataType) (first place : ℕ) (marks : List Mark) → Searched types first marks → slice_get marks place ≡ Some Waiting
-    → Searched types first (spread (fields_at types place) (slice_set marks place Done))
+    → Searched types first (spread (fields_at types place) (slice_set marks place Seen))
 one_type_more types first place marks s w =
-    let b = wait_all types first place (fields_at types place) (slice_set marks place Done) (begin_fields types first place marks s w) in
+    let b = wait_all types first place (fields_at types place) (slice_set marks place Seen) (begin_fields types first place marks s w) in
     record { size = b.size; begun = b.begun; sound = b.sound; closed = λ t u d h e. let c = b.closed t u d h e in absurd cc }
 
 -- ---- the measure: what is still to be done
@@ -202,7 +202,7 @@ one_type_more types first place marks s w =
 abbrev pub weight_of : Mark → ℕ
 weight_of New = 2
 weight_of Waiting = 1
-weight_of Done = 0
+weight_of Seen = 0
 
 abbrev pub weight : List Mark → ℕ
 weight [] = 0
@@ -223,16 +223,16 @@ weight_wait (Of u) ms = by_mark (slice_get ms u) refl
     by_mark None e = omega arith
     by_mark (Some New) e = let w : weight (slice_set ms u Waiting) + 2 ≡ weight ms + 1 = weight_set ms u New Waiting e in omega arith
     by_mark (Some Waiting) e = omega arith
-    by_mark (Some Done) e = omega arith
+    by_mark (Some Seen) e = omega arith
 
 weight_spread : (qs : List Kind) (ms : List Mark) → weight (spread qs ms) ≤ weight ms
 weight_spread [] ms = omega arith
 weight_spread (q ∷ qs) ms = omega (arith, weight_spread qs (wait q ms), weight_wait q ms)
 
-pub less_left : (qs : List Kind) (ms : List Mark) (place : ℕ) → slice_get ms place ≡ Some Waiting → weight (spread qs (slice_set ms place Done)) < weight ms
+pub less_left : (qs : List Kind) (ms : List Mark) (place : ℕ) → slice_get ms place ≡ Some Waiting → weight (spread qs (slice_set ms place Seen)) < weight ms
 less_left qs ms place e =
-    let w : weight (slice_set ms place Done) + 1 ≡ weight ms + 0 = weight_set ms place Waiting Done e in
-    omega (arith, weight_spread qs (slice_set ms place Done))
+    let w : weight (slice_set ms place Seen) + 1 ≡ weight ms + 0 = weight_set ms place Waiting Seen e in
+    omega (arith, weight_spread qs (slice_set ms place Seen))
 
 -- ---- the beginning and the end
 
@@ -263,9 +263,9 @@ starts_new types n first size h = record {
     sound u m e o (inl p) = ([], p)
     sound u m e o (inr p) = absurd (o (all_new n u m (sym (get_set_other (replicate n New) first u Waiting p) ∙ e)))
 
-    none : (t : ℕ) → slice_get (slice_set (replicate n New) first Waiting) t ≡ Some Done → (first ≡ t) ⊎ (first ≡ t → ⊥) → ⊥
-    none t d (inl p) = let f : Some Waiting ≡ Some Done = sym (get_set_same (replicate n New) first Waiting (omega (arith, length_new n))) ∙ ap (slice_get (slice_set (replicate n New) first Waiting)) p ∙ d in absurd cc
-    none t d (inr p) = let f : Done ≡ New = all_new n t Done (sym (get_set_other (replicate n New) first t Waiting p) ∙ d) in absurd cc
+    none : (t : ℕ) → slice_get (slice_set (replicate n New) first Waiting) t ≡ Some Seen → (first ≡ t) ⊎ (first ≡ t → ⊥) → ⊥
+    none t d (inl p) = let f : Some Waiting ≡ Some Seen = sym (get_set_same (replicate n New) first Waiting (omega (arith, length_new n))) ∙ ap (slice_get (slice_set (replicate n New) first Waiting)) p ∙ d in absurd cc
+    none t d (inr p) = let f : Seen ≡ New = all_new n t Seen (sym (get_set_other (replicate n New) first t Waiting p) ∙ d) in absurd cc
 
 pub first_search : (types : List DataType) (first : ℕ) → first < 64 → Searched types first (slice_set (replicate 64 New) first Waiting)
 first_search types first h = starts_new types 64 first refl h
@@ -290,7 +290,7 @@ met_all types first marks few s done t (v ∷ path) u l n e =
     by_mark None is f = holds_none types t v (omega (arith, beyond marks t is, s.size)) l.0
     by_mark (Some New) is f = n is
     by_mark (Some Waiting) is f = done t is
-    by_mark (Some Done) is f = s.closed t v is l.0 f
+    by_mark (Some Seen) is f = s.closed t v is l.0 f
 
 -- the answer by the mark of the type that was looked for
 pub found_is : (types : List DataType) (first last : ℕ) (marks : List Mark) (met : Bool) → length types ≤ 64 → last < 64 → Searched types first marks → NoneWaits marks
@@ -301,7 +301,7 @@ found_is types first last marks met few h s done answer = (λ t. by_mark (slice_
     by_mark None e t = absurd (omega (arith, beyond marks last e, s.size))
     by_mark (Some New) e t = absurd (answer.0 t e)
     by_mark (Some Waiting) e t = s.sound last Waiting e (λ f. absurd cc)
-    by_mark (Some Done) e t = s.sound last Done e (λ f. absurd cc)
+    by_mark (Some Seen) e t = s.sound last Seen e (λ f. absurd cc)
 
 -- ---- what a kind reaches
 

@@ -4,7 +4,7 @@ use Rattle.camelot_values.specs.Outcome.{Outcome, Done, Fuel, Deep, Stuck, after
 use Rattle.std.specs.Prelude.{List}
 use Rattle.camelot_values.specs.Value.{Value}
 use Rattle.camelot_values.specs.Kinds.{DataType}
-use Rattle.camelot_values.specs.Typing.{Fits, IsSound}
+use Rattle.camelot_values.specs.Typing.{Fits, IsSafe}
 use Rattle.camelot_values.specs.declared.kinds.Kind.{Kind}
 use Rattle.camelot_values.specs.Bounds.{Yields, IsPaidBy, IsStop, same_stop}
 
@@ -22,7 +22,7 @@ yields_then P Q k (Deep p) next h go = tt
 yields_then P Q k Stuck next h go = absurd h
 
 pub sound_then : (types : List DataType) (q r : Kind) (k : ℕ) (o : Outcome Value) (next : ℕ → Value → Outcome Value)
-    → IsSound types q o → ((j : ℕ) (v : Value) → Fits types q v → IsSound types r (next j v)) → IsSound types r (first_then k o next)
+    → IsSafe types q o → ((j : ℕ) (v : Value) → Fits types q v → IsSafe types r (next j v)) → IsSafe types r (first_then k o next)
 sound_then types q r k o next h go = yields_then (Fits types q) (Fits types r) k o next h go
 
 peaks : (u top mid p l q : ℕ) → u * p ≤ top → u * p + mid ≤ top + u * l → u * q ≤ mid → u * (p + (q - l)) ≤ top

@@ -11,7 +11,7 @@ use Rattle.camelot_values.specs.Value.{Value, IsInt32, is_int32}
 use Rattle.camelot_values.specs.Operator as operator
 use Rattle.camelot_values.specs.Operator.{Operator, on_ints, operate}
 use Rattle.camelot_values.specs.Kinds.{DataType, type_of}
-use Rattle.camelot_values.specs.Typing.{Fits, operator_kind, IsSound}
+use Rattle.camelot_values.specs.Typing.{Fits, operator_kind, IsSafe}
 use Rattle.camelot_values.specs.declared.kinds.Kind.{Kind}
 use Rattle.camelot_values.specs.declared.kinds.Kind.TheVariants as kind
 use Rattle.std.specs.Option.{option_map}
@@ -33,7 +33,7 @@ int_passes (pos n) h = let k : n < 2147483648 = omega (arith, h) in grind (arith
 int_passes (negsuc n) h = let k : n < 2147483648 = omega (arith, h) in grind (arith, nat_tests, k)
 
 -- What an operator gives for two ints of 32 bits is of its kind, and its ints have 32 bits.
-on_ints_sound : (types : List DataType) (op : Operator) (x y : ℤ) → IsInt32 x → IsInt32 y → IsSound types (operator_kind op) (on_ints op x y)
+on_ints_sound : (types : List DataType) (op : Operator) (x y : ℤ) → IsInt32 x → IsInt32 y → IsSafe types (operator_kind op) (on_ints op x y)
 on_ints_sound types operator.Add x y f g = (refl, subst IsInt32 (sym (wrapping_add_is w32 x y f g)) (SFits-int_wrap w32 _))
 on_ints_sound types operator.Sub x y f g = (refl, subst IsInt32 (sym (wrapping_sub_is w32 x y f g)) (SFits-int_wrap w32 _))
 on_ints_sound types operator.Mul x y f g = (refl, subst IsInt32 (sym (wrapping_mul_is w32 x y f g)) (SFits-int_wrap w32 _))
@@ -51,7 +51,7 @@ no_con types c e = by_type (type_of types c) e
     by_type None e = absurd cc
     by_type (Some t) e = absurd cc
 
-pub operate_sound : (types : List DataType) (op : Operator) (u v : Value) → Fits types kind.Int u → Fits types kind.Int v → IsSound types (operator_kind op) (operate op u v)
+pub operate_sound : (types : List DataType) (op : Operator) (u v : Value) → Fits types kind.Int u → Fits types kind.Int v → IsSafe types (operator_kind op) (operate op u v)
 operate_sound types op (value.Int x) (value.Int y) h g = on_ints_sound types op x y h.1 g.1
 operate_sound types op (value.Int x) (value.Flag y) h g = absurd cc
 operate_sound types op (value.Int x) value.Dia h g = absurd cc

@@ -2,7 +2,7 @@
 use Rattle.std.specs.Prelude.{◌≡◌, ℕ, zero, suc, Option, Some, None, List, [], ◌∷◌, refl}
 use Rattle.std.proofs.Common.{sym, ap, ◌∙◌}
 use Rattle.camelot_values.specs.Value as value
-use Rattle.camelot_values.specs.Value.{Value, Values, count}
+use Rattle.camelot_values.specs.Value.{Value, Values, part_count}
 use Rattle.camelot_values.specs.declared.value.Item.{Item}
 use Rattle.camelot_values.specs.declared.value.Item.TheVariants as item
 
@@ -12,7 +12,7 @@ abbrev mutual
   nodes (value.Int z) rest = item.Int z ∷ rest
   nodes (value.Flag b) rest = item.Flag b ∷ rest
   nodes value.Dia rest = item.Dia ∷ rest
-  nodes (value.Con c vs) rest = item.Con c (count vs) ∷ nodes_all vs rest
+  nodes (value.Con c vs) rest = item.Con c (part_count vs) ∷ nodes_all vs rest
 
   pub nodes_all : Values → List Item → List Item
   nodes_all value.End rest = rest
@@ -81,11 +81,11 @@ abbrev in_front : Values → Option Values → Option Values
 in_front vs None = None
 in_front vs (Some ws) = Some (before_all vs ws)
 
-split-before_all : (vs ws : Values) → split (count vs) (before_all vs ws) ≡ Some (vs, ws)
+split-before_all : (vs ws : Values) → split (part_count vs) (before_all vs ws) ≡ Some (vs, ws)
 split-before_all value.End ws = refl
 split-before_all (value.And v vs) ws = ap (behind v) (split-before_all vs ws)
 
-take_parts-in_front : (c : ℕ) (vs : Values) (o : Option Values) → take_parts c (count vs) (in_front vs o) ≡ before (value.Con c vs) o
+take_parts-in_front : (c : ℕ) (vs : Values) (o : Option Values) → take_parts c (part_count vs) (in_front vs o) ≡ before (value.Con c vs) o
 take_parts-in_front c vs None = refl
 take_parts-in_front c vs (Some ws) = ap (gather c) (split-before_all vs ws)
 
@@ -102,7 +102,7 @@ mutual
   values_of-nodes (value.Int z) rest = refl
   values_of-nodes (value.Flag b) rest = refl
   values_of-nodes value.Dia rest = refl
-  values_of-nodes (value.Con c vs) rest = ap (take_parts c (count vs)) (values_of-nodes_all vs rest) ∙ take_parts-in_front c vs (values_of rest)
+  values_of-nodes (value.Con c vs) rest = ap (take_parts c (part_count vs)) (values_of-nodes_all vs rest) ∙ take_parts-in_front c vs (values_of rest)
 
   pub values_of-nodes_all : (vs : Values) (rest : List Item) → values_of (nodes_all vs rest) ≡ in_front vs (values_of rest)
   values_of-nodes_all value.End rest = in_front-End (values_of rest)

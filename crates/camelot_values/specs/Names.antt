@@ -66,11 +66,11 @@ place_among (n ∷ ns) name = if bytes_eq n name then Some 0 else option_map suc
 -- ---- names in scope
 
 -- a name that is bound, and to what
-pub record Bound (A : Type 0) : Type 0 where
+pub record Binder (A : Type 0) : Type 0 where
   pub name : List ℕ
   pub is : A
 
 -- what a name means in a scope: the innermost binding is first and hides those behind it
-abbrev pub find : {A : Type 0} → List (Bound A) → List ℕ → Option A
+abbrev pub find : {A : Type 0} → List (Binder A) → List ℕ → Option A
 find [] name = None
 find (b ∷ bs) name = if bytes_eq b.name name then Some b.is else find bs name

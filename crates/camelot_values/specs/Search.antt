@@ -5,7 +5,7 @@ use Rattle.camelot_values.specs.Heap.{HoldsType, IsLedTo}
 use Rattle.camelot_values.specs.declared.kinds.Kind.{Kind}
 use Rattle.camelot_values.specs.declared.kinds.Kind.TheVariants.{Of}
 use Rattle.camelot_values.specs.declared.reach.Mark.{Mark}
-use Rattle.camelot_values.specs.declared.reach.Mark.TheVariants.{New, Waiting, Done}
+use Rattle.camelot_values.specs.declared.reach.Mark.TheVariants.{New, Waiting, Seen}
 
 -- a type that is new waits now
 abbrev pub met : Option Mark → ℕ → List Mark → List Mark
@@ -28,4 +28,4 @@ pub record Searched (types : List DataType) (first : ℕ) (marks : List Mark) : 
   pub size : length marks ≡ 64
   pub begun : slice_get marks first ≡ Some New → ⊥
   pub sound : (u : ℕ) (m : Mark) → slice_get marks u ≡ Some m → (m ≡ New → ⊥) → IsLedTo types first u
-  pub closed : (t u : ℕ) → slice_get marks t ≡ Some Done → HoldsType types t u → slice_get marks u ≡ Some New → ⊥
+  pub closed : (t u : ℕ) → slice_get marks t ≡ Some Seen → HoldsType types t u → slice_get marks u ≡ Some New → ⊥

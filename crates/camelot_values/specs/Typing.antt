@@ -42,5 +42,5 @@ abbrev pub ArgumentsFit : List DataType → List Kind → List Value → Type 0
 ArgumentsFit types qs args = FitAll types qs (parts args)
 
 -- the run isn't stuck, and where it comes to a value, this is of the kind
-abbrev pub IsSound : List DataType → Kind → Outcome Value → Type 0
-IsSound types q o = Yields (Fits types q) o
+abbrev pub IsSafe : List DataType → Kind → Outcome Value → Type 0
+IsSafe types q o = Yields (Fits types q) o

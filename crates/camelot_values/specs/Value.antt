@@ -32,6 +32,6 @@ parts [] = End
 parts (v ∷ vs) = And v (parts vs)
 
 -- how many parts there are
-abbrev pub count : Values → ℕ
-count End = 0
-count (And v vs) = suc (count vs)
+abbrev pub part_count : Values → ℕ
+part_count End = 0
+part_count (And v vs) = suc (part_count vs)

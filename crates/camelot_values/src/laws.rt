@@ -8,7 +8,7 @@ ghost use Rattle.camelot_values.specs.Operator.{Operator, operate};
 ghost use Rattle.camelot_values.specs.Kinds.{DataType};
 ghost use Rattle.camelot_values.specs.Lists.{Ascend, is_among};
 ghost use Rattle.camelot_values.specs.Heap.{Reaches, reached};
-ghost use Rattle.camelot_values.specs.Typing.{Fits, IsSound, operator_kind};
+ghost use Rattle.camelot_values.specs.Typing.{Fits, IsSafe, operator_kind};
 ghost use Rattle.camelot_values.specs.declared.kinds.Kind.{Kind};
 ghost use Rattle.camelot_values.specs.declared.kinds.Kind.TheVariants.{Int};
 
@@ -34,14 +34,14 @@ pub fn law_of_bounds()
         → IsPaidBy unit units between first → ((k : ℕ) (v : Value) → IsPaidBy unit (between v) left (next k v))
         → IsPaidBy unit units left (first_then fuel first next) }
     ensures value { (types : List DataType) (kind last : Kind) (fuel : ℕ) (first : Outcome Value) (next : ℕ → Value → Outcome Value)
-        → IsSound types kind first → ((k : ℕ) (v : Value) → Fits types kind v → IsSound types last (next k v)) → IsSound types last (first_then fuel first next) }
+        → IsSafe types kind first → ((k : ℕ) (v : Value) → Fits types kind v → IsSafe types last (next k v)) → IsSafe types last (first_then fuel first next) }
     ensures stop { (fuel : ℕ) (first : Outcome Value) (next : ℕ → Value → Outcome Value) → IsStop first → first_then fuel first next ≡ same_stop first }
 {}
 
 /// An operator on two ints of 32 bits comes to a value of its kind, and an int of it has 32 bits.
 #[tactic(auto, using(crate::specs::IntLaws::operate_sound))]
 pub fn law_of_operators()
-    ensures { (types : List DataType) (op : Operator) (u v : Value) → Fits types Int u → Fits types Int v → IsSound types (operator_kind op) (operate op u v) }
+    ensures { (types : List DataType) (op : Operator) (u v : Value) → Fits types Int u → Fits types Int v → IsSafe types (operator_kind op) (operate op u v) }
 {}
 
 /// The list of the constructors that a kind reaches has just these, ascending.

@@ -2,7 +2,7 @@ ghost use Rattle.std.specs.Prelude.{◌≡◌, ◌≢◌, ℕ, ◌<◌, ◌≤�
 ghost use Rattle.camelot_values.specs.Kinds.{data_type_of, constructor_of};
 ghost use Rattle.camelot_values.specs.Heap.{fields_of, fields_at, IsLedTo};
 ghost use Rattle.camelot_values.specs.Search.{wait, spread, NoneWaits, Searched};
-ghost use Rattle.camelot_values.specs.declared.reach.Mark.TheVariants.{New, Waiting, Done};
+ghost use Rattle.camelot_values.specs.declared.reach.Mark.TheVariants.{New, Waiting, Seen};
 
 use super::kinds::{Con, Kind, TypeDef};
 
@@ -17,7 +17,7 @@ pub(crate) enum Mark {
     // It was met, and its fields are still to be looked at.
     Waiting,
     // It was met, and so were the types of its fields.
-    Done,
+    Seen,
 }
 
 // Whether the type at this place was met.
@@ -27,7 +27,7 @@ fn is_met(marks: &[Mark], place: usize) -> bool
 {
     match marks[place] {
         Mark::New => false,
-        Mark::Waiting | Mark::Done => true,
+        Mark::Waiting | Mark::Seen => true,
     }
 }
 
@@ -77,9 +77,9 @@ fn first_waiting(marks: &[Mark]) -> Option<usize>
 // Looks at the fields of the type at this place, which is then done.
 fn visit(types: &[TypeDef], marks: &mut [Mark], place: usize)
     requires { place < length marks.old }
-    ensures { marks.new ≡ spread (fields_at (map data_type_of types.now) place) (slice_set marks.old place Done) }
+    ensures { marks.new ≡ spread (fields_at (map data_type_of types.now) place) (slice_set marks.old place Seen) }
 {
-    marks[place] = Mark::Done;
+    marks[place] = Mark::Seen;
     if let Some(def) = types.get(place) {
         meet_all(marks, def);
     }

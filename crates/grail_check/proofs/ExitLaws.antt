@@ -9,7 +9,7 @@ use Rattle.camelot_values.specs.declared.kinds.Kind.TheVariants as kind
 use Rattle.grail_code.specs.declared.code.CaseCell.{CaseCell}
 use Rattle.grail_code.specs.declared.code.CaseCell.TheVariants as cell
 use Rattle.grail_code.specs.Code.{Arm, Exit, Ret, Tail, Goto, If, Case, Function, Program}
-use Rattle.grail_code.specs.WellFormed.{kind_of, HaveKinds, Ascend, CellFits, kept, bound_by, ArmsFit, data_type, ExitFits, Event, Use, Bind, exit_uses, params_of, jump_events, ways}
+use Rattle.grail_code.specs.WellFormed.{kind_of, HaveKinds, Ascend, CellFits, kept_diamond, bound_by, ArmsFit, data_type, ExitFits, Event, Use, Bind, exit_uses, params_of, jump_events, ways}
 use Rattle.grail_check.specs.declared.fault.CodeKind.TheVariants as fault
 use Rattle.grail_check.specs.declared.locals.Local.{Local}
 use Rattle.grail_check.specs.declared.locals.Mark.{Mark}
@@ -159,7 +159,7 @@ cell_is types f inline cell.Free h k = not_true inline h
 cell_is types f inline (cell.Keep d) h k = (not_true inline h, kind_of_is types f d kind.Dia (has_the_kind (locals_of types f) d kind.Dia k))
 
 is_cell : (types : List DataType) (f : Function) (inline : Bool) (c : CaseCell) → CellFits f inline c
-    → (cell_fits inline c ≡ true) × (kept_fits (locals_of types f) c ≡ true) × (list_all (is_local (locals_of types f)) (kept c) ≡ true)
+    → (cell_fits inline c ≡ true) × (kept_fits (locals_of types f) c ≡ true) × (list_all (is_local (locals_of types f)) (kept_diamond c) ≡ true)
 is_cell types f inline cell.Inline h = (h, refl, refl)
 is_cell types f inline cell.Free h = (true_not inline h, refl, refl)
 is_cell types f inline (cell.Keep d) h =
@@ -170,19 +170,19 @@ is_cell types f inline (cell.Keep d) h =
 -- what an arm names is there
 record There (f : Function) (locals : List Local) (a : Arm) : Type 0 where
   fields : list_all (is_local locals) a.fields ≡ true
-  kept_one : list_all (is_local locals) (kept a.cell) ≡ true
+  kept_one : list_all (is_local locals) (kept_diamond a.cell) ≡ true
   target : is_block f a.target ≡ true
 
 there : (f : Function) (locals : List Local) (a : Arm) → arm_is_there f locals a ≡ true → There f locals a
 there f locals a h =
-    let p = both (list_all (is_local locals) a.fields && list_all (is_local locals) (kept a.cell)) (is_block f a.target) h in
-    let q = both (list_all (is_local locals) a.fields) (list_all (is_local locals) (kept a.cell)) p.0 in
+    let p = both (list_all (is_local locals) a.fields && list_all (is_local locals) (kept_diamond a.cell)) (is_block f a.target) h in
+    let q = both (list_all (is_local locals) a.fields) (list_all (is_local locals) (kept_diamond a.cell)) p.0 in
     record { fields = q.0; kept_one = q.1; target = p.1 }
 
 pub bound_below : (f : Function) (locals : List Local) (a : Arm) → arm_is_there f locals a ≡ true → AreBelow (length locals) (bound_by a)
 bound_below f locals a h =
     let t = there f locals a h in
-    all_both (λ x. x < length locals) a.fields (kept a.cell) (there_below locals a.fields t.fields) (there_below locals (kept a.cell) t.kept_one)
+    all_both (λ x. x < length locals) a.fields (kept_diamond a.cell) (there_below locals a.fields t.fields) (there_below locals (kept_diamond a.cell) t.kept_one)
 
 abbrev pub arm_way : Function → Arm → List Event
 arm_way f a = way f (bound_by a) a.target
@@ -250,8 +250,8 @@ are_arms types f number (a ∷ arms) (c ∷ cs) h =
       kinds = join (have_kinds locals a.fields c.fields && kept_fits locals a.cell) (arms_have_kinds locals arms cs) (join (have_kinds locals a.fields c.fields) (kept_fits locals a.cell) k.1 l.1) t.kinds;
       distinct = join (are_distinct (bound_by a)) (list_all (λ a. are_distinct (bound_by a)) arms) (is_distinct (bound_by a) h.0.distinct) t.distinct;
       named = join (arm_is_there f locals a) (list_all (arm_is_there f locals) arms)
-          (join (list_all (is_local locals) a.fields && list_all (is_local locals) (kept a.cell)) (is_block f a.target)
-          (join (list_all (is_local locals) a.fields) (list_all (is_local locals) (kept a.cell)) (kinds_there locals a.fields c.fields q) l.2)
+          (join (list_all (is_local locals) a.fields && list_all (is_local locals) (kept_diamond a.cell)) (is_block f a.target)
+          (join (list_all (is_local locals) a.fields) (list_all (is_local locals) (kept_diamond a.cell)) (kinds_there locals a.fields c.fields q) l.2)
           (is_below a.target (length f.blocks) j.1)) t.named;
       forward = join (nat_lt number a.target) (list_all (λ a. nat_lt number a.target) arms) (is_below number a.target j.0) t.forward;
     }

@@ -23,7 +23,7 @@ use Rattle.grail_code.specs.declared.code.Place.TheVariants as place
 use Rattle.grail_code.specs.declared.code.CaseCell.{CaseCell}
 use Rattle.grail_code.specs.declared.code.CaseCell.TheVariants as cell
 use Rattle.grail_code.specs.Code.{Operation, Lit, Flag, Copy, Prim, Make, Call, Binding, Arm, Exit, Ret, Tail, Goto, If, Case, BasicBlock, Function, Program}
-use Rattle.grail_code.specs.WellFormed.{local_kinds, operator_kind, operands_of, kept, bound_by, params_of, data_type}
+use Rattle.grail_code.specs.WellFormed.{local_kinds, operator_kind, operands_of, kept_diamond, bound_by, params_of, data_type}
 use Rattle.grail_check.specs.declared.fault.CodeKind.{CodeKind}
 use Rattle.grail_check.specs.declared.fault.CodeKind.TheVariants as fault
 use Rattle.grail_check.specs.declared.fault.CodeFault.{CodeFault}
@@ -226,7 +226,7 @@ tail_fault f locals marks callee args = first_of (
 
 -- what an arm names is there
 abbrev pub arm_is_there : Function → List Local → Arm → Bool
-arm_is_there f locals a = list_all (is_local locals) a.fields && list_all (is_local locals) (kept a.cell) && is_block f a.target
+arm_is_there f locals a = list_all (is_local locals) a.fields && list_all (is_local locals) (kept_diamond a.cell) && is_block f a.target
 
 -- a local for each field
 abbrev pub fields_count : List Arm → List Constructor → Bool
@@ -246,7 +246,7 @@ abbrev pub cells_fit : List Arm → List Constructor → Bool
 cells_fit (a ∷ arms) (c ∷ cs) = cell_fits c.inline a.cell && cells_fit arms cs
 cells_fit arms cs = true
 
--- a kept cell becomes a diamond
+-- a kept_diamond cell becomes a diamond
 abbrev pub kept_fits : List Local → CaseCell → Bool
 kept_fits locals (cell.Keep d) = has_kind locals d kind.Dia
 kept_fits locals c = true

@@ -2,7 +2,7 @@ ghost use Rattle.std.specs.Prelude.{◌≡◌, ◌++◌, nat_lt, map};
 ghost use Rattle.std.specs.List.{list_all};
 ghost use Rattle.camelot_values.specs.Kinds.{constructor_of};
 ghost use Rattle.grail_code.specs.Code.{arm_of, function_of};
-ghost use Rattle.grail_code.specs.WellFormed.{kept, bound_by};
+ghost use Rattle.grail_code.specs.WellFormed.{kept_diamond, bound_by};
 ghost use Rattle.grail_check.specs.Walk.{is_local, is_among, have_kinds, is_block, arm_is_there, fields_count, arms_count, cell_fits, cells_fit, kept_fits, arms_have_kinds, are_distinct};
 
 use super::lets::are_locals;
@@ -17,9 +17,9 @@ pub(crate) fn is_block(func: &Func, block: u32) -> bool
     (block as usize) < func.blocks.len()
 }
 
-/// Whether the cell is kept as a diamond in this local.
+/// Whether the cell is kept_diamond as a diamond in this local.
 pub(crate) fn keeps(cell: CaseCell, local: u32) -> bool
-    ensures { result ≡ is_among (kept cell) local }
+    ensures { result ≡ is_among (kept_diamond cell) local }
 {
     match cell {
         CaseCell::Keep(diamond) => diamond == local,
@@ -125,7 +125,7 @@ fn have_kinds(locals: &[Local], fields: &[u32], kinds: &[Kind]) -> bool
     true
 }
 
-// Whether a kept cell becomes a diamond.
+// Whether a kept_diamond cell becomes a diamond.
 fn kept_fits(locals: &[Local], cell: CaseCell) -> bool
     ensures { result ≡ kept_fits locals.now cell }
 {
@@ -150,9 +150,9 @@ pub(crate) fn arms_have_kinds(locals: &[Local], arms: &[CaseArm], cons: &[Con]) 
     true
 }
 
-// Whether the fields and the diamond of a kept cell are bound to distinct locals.
+// Whether the fields and the diamond of a kept_diamond cell are bound to distinct locals.
 fn binds_once(fields: &[u32], cell: CaseCell) -> bool
-    ensures { result ≡ are_distinct (fields.now ++ kept cell) }
+    ensures { result ≡ are_distinct (fields.now ++ kept_diamond cell) }
 {
     'fields: for (index, field) in fields.iter().enumerate() {
         if fields[index + 1..].contains(field) || keeps(cell, *field) {

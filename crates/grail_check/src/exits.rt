@@ -2,7 +2,7 @@ ghost use Rattle.std.specs.Prelude.{◌≡◌, ◌++◌, [], map, slice_get, Som
 ghost use Rattle.std.specs.Option.{option_map};
 ghost use Rattle.camelot_values.specs.Kinds.{data_type_of};
 ghost use Rattle.grail_code.specs.Code.{arm_of, exit_of, function_of, program_of};
-ghost use Rattle.grail_code.specs.WellFormed.{kept, data_type};
+ghost use Rattle.grail_code.specs.WellFormed.{kept_diamond, data_type};
 ghost use Rattle.grail_check.specs.Finding.{Finds};
 ghost use Rattle.grail_check.specs.Walk.{uses_fault, jump_fault, arms_jump_fault, tail_fault, arms_fault, case_fault, ret_fault, goto_fault, if_fault, exit_fault};
 
@@ -26,7 +26,7 @@ fn check_uses(
     cell: CaseCell,
     locals: &[u32],
 ) -> Result<(), CodeKind>
-    ensures { Finds result (uses_fault marks.now (fields.now ++ kept cell) locals.now) }
+    ensures { Finds result (uses_fault marks.now (fields.now ++ kept_diamond cell) locals.now) }
 {
     'locals: for local in locals {
         if !fields.contains(local) && !keeps(cell, *local) {
@@ -44,7 +44,7 @@ fn check_jump(
     cell: CaseCell,
     target: u32,
 ) -> Result<(), CodeKind>
-    ensures { Finds result (jump_fault (function_of func.now) marks.now (fields.now ++ kept cell) target) }
+    ensures { Finds result (jump_fault (function_of func.now) marks.now (fields.now ++ kept_diamond cell) target) }
 {
     match func.blocks.get(target as usize) {
         Some(block) => check_uses(marks, fields, cell, &block.params),

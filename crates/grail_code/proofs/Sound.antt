@@ -21,9 +21,9 @@ use Rattle.grail_code.specs.declared.code.Place.TheVariants as place
 use Rattle.grail_code.specs.declared.code.CaseCell.{CaseCell}
 use Rattle.grail_code.specs.declared.code.CaseCell.TheVariants as cell
 use Rattle.grail_code.specs.Code.{Operation, Lit, Flag, Copy, Prim, Make, Call, Binding, Arm, Exit, Ret, Tail, Goto, If, Case, BasicBlock, Function, Program}
-use Rattle.grail_code.specs.WellFormed.{kind_of, is_heap_local, HaveKinds, operator_kind, PlaceFits, Gives, LetFits, kept, bound_by, CellFits, ArmFits, ArmsFit, data_type, ExitFits, Event, Use, Bind, taken, operands_of, let_events, exit_uses, params_of, jump_events, ways, block_events, Binds, IsUsedWell, BlockFits, BlocksFit, FunctionFits, IsWellFormed}
+use Rattle.grail_code.specs.WellFormed.{kind_of, is_heap_local, HaveKinds, operator_kind, PlaceFits, Gives, LetFits, kept_diamond, bound_by, CellFits, ArmFits, ArmsFit, data_type, ExitFits, Event, Use, Bind, taken, operands_of, let_events, exit_uses, params_of, jump_events, ways, block_events, Binds, IsUsedWell, BlockFits, BlocksFit, FunctionFits, IsWellFormed}
 use Rattle.grail_code.specs.Meaning.{Locals, Later, put, arguments, narrowed, in_front, values_of, operands, built, op_run, lets_run, put_all, cell_run, arm_run, arm_at, case_run, exit_run, block_run, jump_run, blocks_run, body_run, calls, run_of}
-use Rattle.grail_code.specs.Soundness.{IsSound, ArgumentsFit, HaveBlocks}
+use Rattle.grail_code.specs.Soundness.{IsSafe, ArgumentsFit, HaveBlocks}
 
 -- the local has a value of its kind
 abbrev Holds : List DataType → Function → Locals → ℕ → Type 0
@@ -138,13 +138,13 @@ found_all types f es env (x ∷ xs) (q ∷ qs) h b k =
 
 -- ---- outcomes
 
-sound_after : (types : List DataType) (q : Kind) (c p l : ℕ) (o : Outcome Value) → IsSound types q o → IsSound types q (after c p l o)
+sound_after : (types : List DataType) (q : Kind) (c p l : ℕ) (o : Outcome Value) → IsSafe types q o → IsSafe types q (after c p l o)
 sound_after types q c p l (Done v d r m) h = h
 sound_after types q c p l (Fuel d r) h = tt
 sound_after types q c p l (Deep r) h = tt
 sound_after types q c p l Stuck h = absurd h
 
-sound_then : (types : List DataType) (q r : Kind) (k : ℕ) (o : Outcome Value) (next : ℕ → Value → Outcome Value) → IsSound types q o → ((j : ℕ) (v : Value) → Fits types q v → IsSound types r (next j v)) → IsSound types r (first_then k o next)
+sound_then : (types : List DataType) (q r : Kind) (k : ℕ) (o : Outcome Value) (next : ℕ → Value → Outcome Value) → IsSafe types q o → ((j : ℕ) (v : Value) → Fits types q v → IsSafe types r (next j v)) → IsSafe types r (first_then k o next)
 sound_then types q r k (Done v c p l) next h go = sound_after types r c p l (next (k - c) v) (go (k - c) v h)
 sound_then types q r k (Fuel c p) next h go = tt
 sound_then types q r k (Deep p) next h go = tt
@@ -154,9 +154,9 @@ sound_then types q r k Stuck next h go = absurd h
 
 -- calls of the program's functions on fitting arguments are sound
 abbrev CallsSound : Program → Enter → Type 0
-CallsSound p enter = (k w : ℕ) (t : Bool) (g : ℕ) (args : List Value) (callee : Function) → slice_get p.funcs g ≡ Some callee → ArgumentsFit p.types callee.params args → IsSound p.types callee.result (enter k w t g args)
+CallsSound p enter = (k w : ℕ) (t : Bool) (g : ℕ) (args : List Value) (callee : Function) → slice_get p.funcs g ≡ Some callee → ArgumentsFit p.types callee.params args → IsSafe p.types callee.result (enter k w t g args)
 
-operator_sound : (types : List DataType) (op : Operator) (u v : Value) → Fits types kind.Int u → Fits types kind.Int v → IsSound types (operator_kind op) (known (operands op (Some u) (Some v)))
+operator_sound : (types : List DataType) (op : Operator) (u v : Value) → Fits types kind.Int u → Fits types kind.Int v → IsSafe types (operator_kind op) (known (operands op (Some u) (Some v)))
 operator_sound types operator.Add (value.Int x) (value.Int y) h g = refl
 operator_sound types operator.Sub (value.Int x) (value.Int y) h g = refl
 operator_sound types operator.Mul (value.Int x) (value.Int y) h g = refl
@@ -188,7 +188,7 @@ operator_sound types op (value.Con c vs) v h g = absurd (no_con types c h.0)
         by_type (Some t) e = absurd cc
 
 -- a diamond is one
-on_diamond_sound : (types : List DataType) (q : Kind) (u : Value) (o : Outcome Value) → Fits types kind.Dia u → IsSound types q o → IsSound types q (on_diamond u o)
+on_diamond_sound : (types : List DataType) (q : Kind) (u : Value) (o : Outcome Value) → Fits types kind.Dia u → IsSafe types q o → IsSafe types q (on_diamond u o)
 on_diamond_sound types q value.Dia o h g = g
 on_diamond_sound types q (value.Int z) o h g = absurd cc
 on_diamond_sound types q (value.Flag b) o h g = absurd cc
@@ -199,52 +199,52 @@ on_diamond_sound types q (value.Con c vs) o h g = absurd (by_type (type_of types
     by_type (Some t) e = absurd cc
 
 built_sound : (types : List DataType) (f : Function) (es : List Event) (env : Locals) (con : ℕ) (vs : List Value) (at : Place) (inline : Bool) (q : Kind) → EnvFits types f es env
-    → AllByRecursion (λ x. Binds x es) (taken at) → PlaceFits f inline at → Fits types q (value.Con con (parts vs)) → IsSound types q (built con vs at env)
+    → AllByRecursion (λ x. Binds x es) (taken at) → PlaceFits f inline at → Fits types q (value.Con con (parts vs)) → IsSafe types q (built con vs at env)
 built_sound types f es env con vs place.Inline inline q h b k fit = fit
 built_sound types f es env con vs place.New inline q h b k fit = fit
 built_sound types f es env con vs (place.Reuse d) inline q h b k fit =
     let dia = found types f env d kind.Dia (h.holds d b.0) k.1 in
-    subst (λ o. IsSound types q (given o (λ v. on_diamond v (Done (value.Con con (parts vs)) 0 0 0)))) (sym dia.is) (on_diamond_sound types q dia.value (Done (value.Con con (parts vs)) 0 0 0) dia.fits fit)
+    subst (λ o. IsSafe types q (given o (λ v. on_diamond v (Done (value.Con con (parts vs)) 0 0 0)))) (sym dia.is) (on_diamond_sound types q dia.value (Done (value.Con con (parts vs)) 0 0 0) dia.fits fit)
 
 all_front : (P : ℕ → Type 0) (xs ys : List ℕ) → AllByRecursion P (xs ++ ys) → AllByRecursion P xs × AllByRecursion P ys
 all_front P [] ys h = (tt, h)
 all_front P (x ∷ xs) ys h = let r = all_front P xs ys h.1 in ((h.0, r.0), r.1)
 
 op_sound : (p : Program) (f : Function) (enter : Enter) → CallsSound p enter → (es : List Event) (env : Locals) → EnvFits p.types f es env → (op : Operation) (q : Kind) (k w : ℕ) → AllByRecursion (λ x. Binds x es) (operands_of op)
-    → Gives p f op q → IsSound p.types q (op_run enter k w env op)
+    → Gives p f op q → IsSafe p.types q (op_run enter k w env op)
 op_sound p f enter calls es env h (Lit z) q k w b g = g
 op_sound p f enter calls es env h (Flag z) q k w b g = g
 op_sound p f enter calls es env h (Copy x) q k w b g =
-    let v = found p.types f env x q (h.holds x b.0) g in subst (λ o. IsSound p.types q (known o)) (sym v.is) v.fits
+    let v = found p.types f env x q (h.holds x b.0) g in subst (λ o. IsSafe p.types q (known o)) (sym v.is) v.fits
 op_sound p f enter calls es env h (Prim op x y) q k w b g =
     let u = found p.types f env x kind.Int (h.holds x b.0) cc in
     let v = found p.types f env y kind.Int (h.holds y b.1.0) cc in
-    subst (λ r. IsSound p.types r (known (operands op (env x) (env y)))) (sym g.1)
-    (subst (λ o. IsSound p.types (operator_kind op) (known (operands op o (env y)))) (sym u.is) (subst (λ o. IsSound p.types (operator_kind op) (known (operands op (Some u.value) o))) (sym v.is) (operator_sound p.types op u.value v.value u.fits v.fits)))
+    subst (λ r. IsSafe p.types r (known (operands op (env x) (env y)))) (sym g.1)
+    (subst (λ o. IsSafe p.types (operator_kind op) (known (operands op o (env y)))) (sym u.is) (subst (λ o. IsSafe p.types (operator_kind op) (known (operands op (Some u.value) o))) (sym v.is) (operator_sound p.types op u.value v.value u.fits v.fits)))
 op_sound p f enter calls es env h (Make con args at) q k w b g = by_con (constructor p.types con) refl g
   where
-    by_con : (o : Option Constructor) → constructor p.types con ≡ o → IsSomeAnd o (λ c. HaveKinds f args c.fields × PlaceFits f c.inline at × (option_map kind.Of (type_of p.types con) ≡ Some q)) → IsSound p.types q (op_run enter k w env (Make con args at))
+    by_con : (o : Option Constructor) → constructor p.types con ≡ o → IsSomeAnd o (λ c. HaveKinds f args c.fields × PlaceFits f c.inline at × (option_map kind.Of (type_of p.types con) ≡ Some q)) → IsSafe p.types q (op_run enter k w env (Make con args at))
     by_con None e r = absurd r
     by_con (Some c) e r =
         let both = all_front (λ x. Binds x es) args (taken at) b in
         let vs = found_all p.types f es env args c.fields h both.0 r.0 in
         let fit : Fits p.types q (value.Con con (parts vs.values)) = (r.2, subst (λ o. IsSomeAnd o (λ d. FitAll p.types d.fields (parts vs.values))) (sym e) vs.fit) in
-        subst (λ o. IsSound p.types q (given o (λ us. built con us at env))) (sym vs.is) (built_sound p.types f es env con vs.values at c.inline q h both.1 r.1 fit)
+        subst (λ o. IsSafe p.types q (given o (λ us. built con us at env))) (sym vs.is) (built_sound p.types f es env con vs.values at c.inline q h both.1 r.1 fit)
 op_sound p f enter calls es env h (Call func args) q k w b g = by_func (slice_get p.funcs func) refl g
   where
-    by_func : (o : Option Function) → slice_get p.funcs func ≡ o → IsSomeAnd o (λ callee. HaveKinds f args callee.params × (q ≡ callee.result)) → IsSound p.types q (op_run enter k w env (Call func args))
+    by_func : (o : Option Function) → slice_get p.funcs func ≡ o → IsSomeAnd o (λ callee. HaveKinds f args callee.params × (q ≡ callee.result)) → IsSafe p.types q (op_run enter k w env (Call func args))
     by_func None e r = absurd r
     by_func (Some callee) e r =
         let vs = found_all p.types f es env args callee.params h b r.0 in
-        subst (λ o. IsSound p.types q (given o (λ us. enter k w false func us))) (sym vs.is) (subst (λ s. IsSound p.types s (enter k w false func vs.values)) (sym r.1) (calls k w false func vs.values callee e vs.fit))
+        subst (λ o. IsSafe p.types q (given o (λ us. enter k w false func us))) (sym vs.is) (subst (λ s. IsSafe p.types s (enter k w false func vs.values)) (sym r.1) (calls k w false func vs.values callee e vs.fit))
 
 -- one let, where those behind it are sound
 let_sound : (p : Program) (f : Function) (enter : Enter) → CallsSound p enter → (b : Binding) (bs : List Binding) (es : List Event) (env : Locals) (k w : ℕ) (next : ℕ → Locals → Outcome Value) → EnvFits p.types f es env
     → AllByRecursion (λ x. Binds x es) (operands_of b.op) → LetFits p f b
-    → ((j : ℕ) (last : Locals) → EnvFits p.types f (es ++ let_events b) last → IsSound p.types f.result (lets_run enter bs j w last next)) → IsSound p.types f.result (lets_run enter (b ∷ bs) k w env next)
+    → ((j : ℕ) (last : Locals) → EnvFits p.types f (es ++ let_events b) last → IsSafe p.types f.result (lets_run enter bs j w last next)) → IsSafe p.types f.result (lets_run enter (b ∷ bs) k w env next)
 let_sound p f enter calls b bs es env k w next h bound fit rest = by_target (kind_of f b.target) refl fit
   where
-    by_target : (o : Option Kind) → kind_of f b.target ≡ o → IsSomeAnd o (Gives p f b.op) → IsSound p.types f.result (lets_run enter (b ∷ bs) k w env next)
+    by_target : (o : Option Kind) → kind_of f b.target ≡ o → IsSomeAnd o (Gives p f b.op) → IsSafe p.types f.result (lets_run enter (b ∷ bs) k w env next)
     by_target None t g = absurd g
     by_target (Some q) t g =
         sound_then p.types q f.result k (op_run enter k w env b.op) (λ left v. lets_run enter bs left w (put env b.target v) next)
@@ -255,7 +255,7 @@ let_sound p f enter calls b bs es env k w next h bound fit rest = by_target (kin
 
 lets_sound : (p : Program) (f : Function) (enter : Enter) → CallsSound p enter → (heap : ℕ → Bool) (all : List Event) → IsUsedWell heap all → (bs : List Binding) (es rest : List Event) (env : Locals) (k w : ℕ) (next : ℕ → Locals → Outcome Value)
     → all ≡ es ++ (flat_map let_events bs ++ rest) → EnvFits p.types f es env → AllByRecursion (LetFits p f) bs
-    → ((j : ℕ) (last : Locals) → EnvFits p.types f (es ++ flat_map let_events bs) last → IsSound p.types f.result (next j last)) → IsSound p.types f.result (lets_run enter bs k w env next)
+    → ((j : ℕ) (last : Locals) → EnvFits p.types f (es ++ flat_map let_events bs) last → IsSafe p.types f.result (next j last)) → IsSafe p.types f.result (lets_run enter bs k w env next)
 lets_sound p f enter calls heap all well [] es rest env k w next e h fit go = go k env (subst (λ x. EnvFits p.types f x env) (sym (append-nil es)) h)
 lets_sound p f enter calls heap all well (b ∷ bs) es rest env k w next e h fit go =
     let others : List Event = flat_map let_events bs in
@@ -270,18 +270,18 @@ lets_sound p f enter calls heap all well (b ∷ bs) es rest env k w next e h fit
 
 -- a jump to a later block is sound where the block's parameters have values
 abbrev LaterSound : List DataType → Function → ℕ → Later → Type 0
-LaterSound types f first later = (b k w : ℕ) (env : Locals) → first ≤ b → b < length f.blocks → AllByRecursion (Holds types f env) (params_of f b) → IsSound types f.result (later b k w env)
+LaterSound types f first later = (b k w : ℕ) (env : Locals) → first ≤ b → b < length f.blocks → AllByRecursion (Holds types f env) (params_of f b) → IsSafe types f.result (later b k w env)
 
 all_hold : (types : List DataType) (f : Function) (es : List Event) (env : Locals) (xs : List ℕ) → EnvFits types f es env → AllByRecursion (λ x. Binds x es) xs → AllByRecursion (Holds types f env) xs
 all_hold types f es env [] h b = tt
 all_hold types f es env (x ∷ xs) h b = (h.holds x b.0, all_hold types f es env xs h b.1)
 
 jump_on : (types : List DataType) (f : Function) (heap : ℕ → Bool) (first : ℕ) (later : Later) → LaterSound types f first later → (es : List Event) (env : Locals) (b k w : ℕ) → first ≤ b → b < length f.blocks → EnvFits types f es env
-    → IsUsedWell heap (es ++ jump_events f b) → IsSound types f.result (later b k w env)
+    → IsUsedWell heap (es ++ jump_events f b) → IsSafe types f.result (later b k w env)
 jump_on types f heap first later sound es env b k w less there h well =
     sound b k w env less there (all_hold types f es env (params_of f b) h (operands_bound heap (es ++ jump_events f b) es (params_of f b) [] well (ap (λ x. es ++ x) (sym (append-nil (jump_events f b))))))
 
-chosen_sound : (types : List DataType) (q : Kind) (v : Value) (a b : Outcome Value) → Fits types kind.Flag v → IsSound types q a → IsSound types q b → IsSound types q (chosen v a b)
+chosen_sound : (types : List DataType) (q : Kind) (v : Value) (a b : Outcome Value) → Fits types kind.Flag v → IsSafe types q a → IsSafe types q b → IsSafe types q (chosen v a b)
 chosen_sound types q (value.Flag true) a b h s t = s
 chosen_sound types q (value.Flag false) a b h s t = t
 chosen_sound types q (value.Int z) a b h s t = absurd cc
@@ -313,20 +313,20 @@ map_append [] ys = refl
 map_append (x ∷ xs) ys = ap (λ l. Bind x ∷ l) (map_append xs ys)
 
 cell_sound : (types : List DataType) (f : Function) (es : List Event) (env : Locals) (c : CaseCell) (inline : Bool) (next : Locals → Outcome Value) → EnvFits types f es env → CellFits f inline c
-    → ((last : Locals) → EnvFits types f (es ++ map Bind (kept c)) last → IsSound types f.result (next last)) → IsSound types f.result (cell_run c env next)
+    → ((last : Locals) → EnvFits types f (es ++ map Bind (kept_diamond c)) last → IsSafe types f.result (next last)) → IsSafe types f.result (cell_run c env next)
 cell_sound types f es env cell.Inline inline next h fit go = go env (subst (λ x. EnvFits types f x env) (sym (append-nil es)) h)
 cell_sound types f es env cell.Free inline next h fit go = sound_after types f.result 0 0 1 (next env) (go env (subst (λ x. EnvFits types f x env) (sym (append-nil es)) h))
 cell_sound types f es env (cell.Keep d) inline next h fit go = go (put env d value.Dia) (fits_bind types f es env d value.Dia kind.Dia h fit.1 refl)
 
 arm_sound : (types : List DataType) (f : Function) (heap : ℕ → Bool) (number : ℕ) (later : Later) → LaterSound types f (suc number) later → (es : List Event) (env : Locals) (con : Constructor) (a : Arm) (vs : Values) (k w : ℕ) → EnvFits types f es env
-    → ArmFits f number con a → FitAll types con.fields vs → IsUsedWell heap (es ++ (map Bind (bound_by a) ++ jump_events f a.target)) → IsSound types f.result (arm_run later (Some a) vs k w env)
+    → ArmFits f number con a → FitAll types con.fields vs → IsUsedWell heap (es ++ (map Bind (bound_by a) ++ jump_events f a.target)) → IsSafe types f.result (arm_run later (Some a) vs k w env)
 arm_sound types f heap number later sound es env con a vs k w h fit parts_fit well =
     let r = bound_all types f es env a.fields con.fields vs h fit.fields parts_fit in
-    subst (λ o. IsSound types f.result (given o (λ bound. cell_run a.cell bound (λ last. later a.target k w last)))) (sym r.is)
+    subst (λ o. IsSafe types f.result (given o (λ bound. cell_run a.cell bound (λ last. later a.target k w last)))) (sym r.is)
     (cell_sound types f (es ++ map Bind a.fields) r.bound a.cell con.inline (λ last. later a.target k w last) r.fits fit.cell
-    (λ last g. jump_on types f heap (suc number) later sound ((es ++ map Bind a.fields) ++ map Bind (kept a.cell)) last a.target k w (omega (arith, fit.jump.0)) fit.jump.1 g
-    (subst (IsUsedWell heap) (ap (λ x. es ++ (x ++ jump_events f a.target)) (map_append a.fields (kept a.cell)) ∙ ap (λ x. es ++ x) (append_assoc (map Bind a.fields) (map Bind (kept a.cell)) (jump_events f a.target))
-    ∙ sym (append_assoc es (map Bind a.fields) (map Bind (kept a.cell) ++ jump_events f a.target)) ∙ sym (append_assoc (es ++ map Bind a.fields) (map Bind (kept a.cell)) (jump_events f a.target))) well)))
+    (λ last g. jump_on types f heap (suc number) later sound ((es ++ map Bind a.fields) ++ map Bind (kept_diamond a.cell)) last a.target k w (omega (arith, fit.jump.0)) fit.jump.1 g
+    (subst (IsUsedWell heap) (ap (λ x. es ++ (x ++ jump_events f a.target)) (map_append a.fields (kept_diamond a.cell)) ∙ ap (λ x. es ++ x) (append_assoc (map Bind a.fields) (map Bind (kept_diamond a.cell)) (jump_events f a.target))
+    ∙ sym (append_assoc es (map Bind a.fields) (map Bind (kept_diamond a.cell) ++ jump_events f a.target)) ∙ sym (append_assoc (es ++ map Bind a.fields) (map Bind (kept_diamond a.cell)) (jump_events f a.target))) well)))
 
 -- the arm at a constructor's place
 record ArmAt (f : Function) (heap : ℕ → Bool) (number : ℕ) (es : List Event) (con : Constructor) (arms : List Arm) (i : ℕ) : Type 0 where
@@ -345,13 +345,13 @@ arm_there f heap number es con (c ∷ cons) (a ∷ arms) (suc i) fit well e = le
 
 case_sound : (types : List DataType) (f : Function) (heap : ℕ → Bool) (number t : ℕ) (def : DataType) (later : Later) → LaterSound types f (suc number) later → (es : List Event) (env : Locals) (arms : List Arm) (v : Value) (k w : ℕ) → EnvFits types f es env
     → slice_get types t ≡ Some def → ArmsFit f number def.cons arms → AllByRecursion (λ way. IsUsedWell heap (es ++ way)) (map (λ a. map Bind (bound_by a) ++ jump_events f a.target) arms) → Fits types (kind.Of t) v
-    → IsSound types f.result (case_run types later v arms k w env)
+    → IsSafe types f.result (case_run types later v arms k w env)
 case_sound types f heap number t def later sound es env arms (value.Int z) k w h is fit well fits = absurd cc
 case_sound types f heap number t def later sound es env arms (value.Flag b) k w h is fit well fits = absurd cc
 case_sound types f heap number t def later sound es env arms value.Dia k w h is fit well fits = absurd cc
 case_sound types f heap number t def later sound es env arms (value.Con c vs) k w h is fit well fits = by_type (type_of types c) refl fits.0
   where
-    by_con : (u : ℕ) → type_of types c ≡ Some u → u ≡ t → (o : Option Constructor) → constructor types c ≡ o → IsSomeAnd o (λ con. FitAll types con.fields vs) → IsSound types f.result (arm_run later (arm_at arms (place_of types c)) vs k w env)
+    by_con : (u : ℕ) → type_of types c ≡ Some u → u ≡ t → (o : Option Constructor) → constructor types c ≡ o → IsSomeAnd o (λ con. FitAll types con.fields vs) → IsSafe types f.result (arm_run later (arm_at arms (place_of types c)) vs k w env)
     by_con u e same None con g = absurd g
     by_con u e same (Some con) con_is g =
         let l = located 0 types c u con con_is e in
@@ -359,39 +359,39 @@ case_sound types f heap number t def later sound es env arms (value.Con c vs) k 
         let one : Some def ≡ Some l.def = sym is ∙ at in
         let def_is : def ≡ l.def = cc in
         let a = arm_there f heap number es con def.cons arms l.place fit well (ap (λ d. slice_get d.cons l.place) def_is ∙ l.con_is) in
-        subst (λ o. IsSound types f.result (arm_run later o vs k w env)) (sym (ap (arm_at arms) l.place_is ∙ a.is)) (arm_sound types f heap number later sound es env con a.arm vs k w h a.fits g a.well)
+        subst (λ o. IsSafe types f.result (arm_run later o vs k w env)) (sym (ap (arm_at arms) l.place_is ∙ a.is)) (arm_sound types f heap number later sound es env con a.arm vs k w h a.fits g a.well)
 
-    by_type : (o : Option ℕ) → type_of types c ≡ o → option_map kind.Of o ≡ Some (kind.Of t) → IsSound types f.result (arm_run later (arm_at arms (place_of types c)) vs k w env)
+    by_type : (o : Option ℕ) → type_of types c ≡ o → option_map kind.Of o ≡ Some (kind.Of t) → IsSafe types f.result (arm_run later (arm_at arms (place_of types c)) vs k w env)
     by_type None e g = absurd cc
     by_type (Some u) e g = let same : u ≡ t = cc in by_con u e same (constructor types c) refl fits.1
 
 exit_sound : (p : Program) (f : Function) (enter : Enter) → CallsSound p enter → (heap : ℕ → Bool) (number : ℕ) (later : Later) → LaterSound p.types f (suc number) later → (es : List Event) (env : Locals) (exit : Exit) (k w : ℕ) → EnvFits p.types f es env
-    → ExitFits p f number exit → AllByRecursion (λ x. Binds x es) (exit_uses exit) → AllByRecursion (λ way. IsUsedWell heap (es ++ way)) (ways f exit) → IsSound p.types f.result (exit_run p.types enter later exit k w env)
+    → ExitFits p f number exit → AllByRecursion (λ x. Binds x es) (exit_uses exit) → AllByRecursion (λ way. IsUsedWell heap (es ++ way)) (ways f exit) → IsSafe p.types f.result (exit_run p.types enter later exit k w env)
 exit_sound p f enter calls heap number later sound es env (Ret x) k w h fit b well =
-    let v = found p.types f env x f.result (h.holds x b.0) fit in subst (λ o. IsSound p.types f.result (known o)) (sym v.is) v.fits
+    let v = found p.types f env x f.result (h.holds x b.0) fit in subst (λ o. IsSafe p.types f.result (known o)) (sym v.is) v.fits
 exit_sound p f enter calls heap number later sound es env (Tail func args) k w h fit b well = by_func (slice_get p.funcs func) refl fit
   where
-    by_func : (o : Option Function) → slice_get p.funcs func ≡ o → IsSomeAnd o (λ callee. HaveKinds f args callee.params × (callee.result ≡ f.result)) → IsSound p.types f.result (exit_run p.types enter later (Tail func args) k w env)
+    by_func : (o : Option Function) → slice_get p.funcs func ≡ o → IsSomeAnd o (λ callee. HaveKinds f args callee.params × (callee.result ≡ f.result)) → IsSafe p.types f.result (exit_run p.types enter later (Tail func args) k w env)
     by_func None e r = absurd r
     by_func (Some callee) e r =
         let vs = found_all p.types f es env args callee.params h b r.0 in
-        subst (λ o. IsSound p.types f.result (given o (λ us. enter k w true func us))) (sym vs.is) (subst (λ s. IsSound p.types s (enter k w true func vs.values)) r.1 (calls k w true func vs.values callee e vs.fit))
+        subst (λ o. IsSafe p.types f.result (given o (λ us. enter k w true func us))) (sym vs.is) (subst (λ s. IsSafe p.types s (enter k w true func vs.values)) r.1 (calls k w true func vs.values callee e vs.fit))
 exit_sound p f enter calls heap number later sound es env (Goto b) k w h fit bound well = jump_on p.types f heap (suc number) later sound es env b k w (omega (arith, fit.0)) fit.1 h well.0
 exit_sound p f enter calls heap number later sound es env (If x a b) k w h fit bound well =
     let v = found p.types f env x kind.Flag (h.holds x bound.0) fit.0 in
-    subst (λ o. IsSound p.types f.result (given o (λ u. chosen u (later a k w env) (later b k w env)))) (sym v.is)
+    subst (λ o. IsSafe p.types f.result (given o (λ u. chosen u (later a k w env) (later b k w env)))) (sym v.is)
     (chosen_sound p.types f.result v.value (later a k w env) (later b k w env) v.fits
     (jump_on p.types f heap (suc number) later sound es env a k w (omega (arith, fit.1.0)) fit.1.1 h well.0)
     (jump_on p.types f heap (suc number) later sound es env b k w (omega (arith, fit.2.0)) fit.2.1 h well.1.0))
 exit_sound p f enter calls heap number later sound es env (Case x arms) k w h fit bound well = by_kind (kind_of f x) refl fit
   where
-    by_def : (t : ℕ) → kind_of f x ≡ Some (kind.Of t) → (o : Option DataType) → slice_get p.types t ≡ o → IsSomeAnd o (λ d. ArmsFit f number d.cons arms) → IsSound p.types f.result (exit_run p.types enter later (Case x arms) k w env)
+    by_def : (t : ℕ) → kind_of f x ≡ Some (kind.Of t) → (o : Option DataType) → slice_get p.types t ≡ o → IsSomeAnd o (λ d. ArmsFit f number d.cons arms) → IsSafe p.types f.result (exit_run p.types enter later (Case x arms) k w env)
     by_def t e None i r = absurd r
     by_def t e (Some d) i r =
         let v = found p.types f env x (kind.Of t) (h.holds x bound.0) e in
-        subst (λ o. IsSound p.types f.result (given o (λ u. case_run p.types later u arms k w env))) (sym v.is) (case_sound p.types f heap number t d later sound es env arms v.value k w h i r well v.fits)
+        subst (λ o. IsSafe p.types f.result (given o (λ u. case_run p.types later u arms k w env))) (sym v.is) (case_sound p.types f heap number t d later sound es env arms v.value k w h i r well v.fits)
 
-    by_kind : (o : Option Kind) → kind_of f x ≡ o → IsSomeAnd (data_type p.types o) (λ d. ArmsFit f number d.cons arms) → IsSound p.types f.result (exit_run p.types enter later (Case x arms) k w env)
+    by_kind : (o : Option Kind) → kind_of f x ≡ o → IsSomeAnd (data_type p.types o) (λ d. ArmsFit f number d.cons arms) → IsSafe p.types f.result (exit_run p.types enter later (Case x arms) k w env)
     by_kind None e r = absurd r
     by_kind (Some kind.Int) e r = absurd r
     by_kind (Some kind.Flag) e r = absurd r
@@ -401,7 +401,7 @@ exit_sound p f enter calls heap number later sound es env (Case x arms) k w h fi
 -- ---- blocks and functions
 
 block_sound : (p : Program) (f : Function) (enter : Enter) → CallsSound p enter → (number : ℕ) (later : Later) → LaterSound p.types f (suc number) later → (b : BasicBlock) (env : Locals) (k w : ℕ) → EnvFits p.types f (map Bind b.params) env
-    → BlockFits p f number b → IsSound p.types f.result (block_run p.types enter later b k w env)
+    → BlockFits p f number b → IsSafe p.types f.result (block_run p.types enter later b k w env)
 block_sound p f enter calls number later sound b env k w h fit =
     let heap : ℕ → Bool = is_heap_local p.types f in
     let front : List Event = map Bind b.params ++ flat_map let_events b.lets in
@@ -460,7 +460,7 @@ later_sound p f enter calls first (block ∷ bs) at fit = λ b k w env less ther
     params_here = ap (λ o. option_map_or (λ c. c.params) o []) (ap (slice_get f.blocks) (omega arith) ∙ sym (at 0))
 
     by_test : (b k w : ℕ) (env : Locals) → first ≤ b → b < length f.blocks → AllByRecursion (Holds p.types f env) (params_of f b) → LaterSound p.types f (suc first) (jump_run p.types enter (suc first) bs) → (t : Bool) → (b == first) ≡ t
-        → IsSound p.types f.result (if t then block_run p.types enter (jump_run p.types enter (suc first) bs) block k w (narrowed block.params env) else jump_run p.types enter (suc first) bs b k w env)
+        → IsSafe p.types f.result (if t then block_run p.types enter (jump_run p.types enter (suc first) bs) block k w (narrowed block.params env) else jump_run p.types enter (suc first) bs b k w env)
     by_test b k w env less there hold rest true e =
         let same : b ≡ first = grind (arith, nat_tests, e) in
         block_sound p f enter calls first (jump_run p.types enter (suc first) bs) rest block (narrowed block.params env) k w
@@ -502,7 +502,7 @@ all_at P [] i x h e = absurd cc
 all_at P (y ∷ xs) zero x h e = let same : y ≡ x = cc in subst P same h.0
 all_at P (y ∷ xs) (suc i) x h e = all_at P xs i x h.1 e
 
-body_sound : (p : Program) (enter : Enter) → CallsSound p enter → (f : Function) (k w : ℕ) (args : List Value) → FunctionFits p f → 1 ≤ length f.blocks → ArgumentsFit p.types f.params args → IsSound p.types f.result (body_run p.types enter (Some f) k w args)
+body_sound : (p : Program) (enter : Enter) → CallsSound p enter → (f : Function) (k w : ℕ) (args : List Value) → FunctionFits p f → 1 ≤ length f.blocks → ArgumentsFit p.types f.params args → IsSafe p.types f.result (body_run p.types enter (Some f) k w args)
 body_sound p enter calls f k w args fit some args_fit = by_blocks f.blocks refl
   where
     full : (length args == length f.params) ≡ true
@@ -511,13 +511,13 @@ body_sound p enter calls f k w args fit some args_fit = by_blocks f.blocks refl
     begins : (b : BasicBlock) → b.params ≡ range_with_len 0 (length f.params) → EnvFits p.types f (map Bind b.params) (arguments args)
     begins b entry = record { holds = λ x bound. let below = range_below x 0 (length f.params) (subst (λ ps. Binds x (map Bind ps)) entry bound) in arguments_hold p.types f.params f.locals args x args_fit (omega (arith, below.1)) }
 
-    by_blocks : (bs : List BasicBlock) → f.blocks ≡ bs → IsSound p.types f.result (body_run p.types enter (Some f) k w args)
+    by_blocks : (bs : List BasicBlock) → f.blocks ≡ bs → IsSafe p.types f.result (body_run p.types enter (Some f) k w args)
     by_blocks [] e = absurd (omega (arith, ap length e))
     by_blocks (b ∷ bs) e =
         let fits : BlocksFit p f 0 (b ∷ bs) = subst (BlocksFit p f 0) e fit.blocks in
         let at : (i : ℕ) → slice_get bs i ≡ slice_get f.blocks (1 + i) = λ i. ap (λ xs. slice_get xs (suc i)) (sym e) ∙ ap (slice_get f.blocks) (omega arith) in
-        subst (λ t. IsSound p.types f.result (if t then blocks_run p.types enter f.blocks k w (arguments args) else Stuck)) (sym full)
-        (subst (λ xs. IsSound p.types f.result (blocks_run p.types enter xs k w (arguments args))) (sym e)
+        subst (λ t. IsSafe p.types f.result (if t then blocks_run p.types enter f.blocks k w (arguments args) else Stuck)) (sym full)
+        (subst (λ xs. IsSafe p.types f.result (blocks_run p.types enter xs k w (arguments args))) (sym e)
         (block_sound p f enter calls 0 (jump_run p.types enter 1 bs) (later_sound p f enter calls 1 bs at fits.1) b (arguments args) k w (begins b (fits.0.entry refl)) fits.0))
 
 calls_sound : (p : Program) → IsWellFormed p → HaveBlocks p → (limit clock : ℕ) → CallsSound p (calls p limit clock)
@@ -525,14 +525,14 @@ calls_sound p well some limit clock zero w t g args callee is fit = tt
 calls_sound p well some limit zero (suc k) w t g args callee is fit = tt
 calls_sound p well some limit (suc clock) (suc k) w t g args callee is fit =
     by_depth (is_too_deep limit w t)
-    (subst (λ o. IsSound p.types callee.result (body_run p.types (calls p limit clock) o k (cond t w (suc w)) args)) (sym is)
+    (subst (λ o. IsSafe p.types callee.result (body_run p.types (calls p limit clock) o k (cond t w (suc w)) args)) (sym is)
     (body_sound p (calls p limit clock) (calls_sound p well some limit clock) callee k (cond t w (suc w)) args
     (all_at (FunctionFits p) p.funcs g callee well.funcs is) (all_at (λ f. 1 ≤ length f.blocks) p.funcs g callee some is) fit))
   where
-    by_depth : (b : Bool) → IsSound p.types callee.result (body_run p.types (calls p limit clock) (slice_get p.funcs g) k (cond t w (suc w)) args)
-        → IsSound p.types callee.result (if b then Deep 0 else entered (body_run p.types (calls p limit clock) (slice_get p.funcs g) k (cond t w (suc w)) args))
+    by_depth : (b : Bool) → IsSafe p.types callee.result (body_run p.types (calls p limit clock) (slice_get p.funcs g) k (cond t w (suc w)) args)
+        → IsSafe p.types callee.result (if b then Deep 0 else entered (body_run p.types (calls p limit clock) (slice_get p.funcs g) k (cond t w (suc w)) args))
     by_depth true h = tt
     by_depth false h = sound_after p.types callee.result 1 0 0 (body_run p.types (calls p limit clock) (slice_get p.funcs g) k (cond t w (suc w)) args) h
 
-pub never_stuck : (p : Program) (limit func fuel : ℕ) (args : List Value) (f : Function) → IsWellFormed p → HaveBlocks p → slice_get p.funcs func ≡ Some f → ArgumentsFit p.types f.params args → IsSound p.types f.result (run_of p limit func fuel args)
+pub never_stuck : (p : Program) (limit func fuel : ℕ) (args : List Value) (f : Function) → IsWellFormed p → HaveBlocks p → slice_get p.funcs func ≡ Some f → ArgumentsFit p.types f.params args → IsSafe p.types f.result (run_of p limit func fuel args)
 never_stuck p limit func fuel args f well some is fit = calls_sound p well some limit fuel fuel 0 true func args f is fit

@@ -1,7 +1,7 @@
 -- What the law of sound code speaks of.
 use Rattle.std.specs.Prelude.{◌≤◌, length}
 use Rattle.std.specs.List.{AllByRecursion}
-pub use Rattle.camelot_values.specs.Typing.{ArgumentsFit, IsSound}
+pub use Rattle.camelot_values.specs.Typing.{ArgumentsFit, IsSafe}
 use Rattle.grail_code.specs.Code.{Program}
 
 -- each function has a block to begin in

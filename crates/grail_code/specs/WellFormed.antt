@@ -64,20 +64,20 @@ LetFits p f l = IsSomeAnd (kind_of f l.target) (Gives p f l.op)
 abbrev pub JumpFits : Function → ℕ → ℕ → Type 0
 JumpFits f number b = (number < b) × (b < length f.blocks)
 
--- an inline constructor has no cell; another one's is given back, or kept as a diamond
+-- an inline constructor has no cell; another one's is given back, or kept_diamond as a diamond
 abbrev pub CellFits : Function → Bool → CaseCell → Type 0
 CellFits f inline cell.Inline = IsTrue inline
 CellFits f inline cell.Free = inline ≡ false
 CellFits f inline (cell.Keep d) = (inline ≡ false) × (kind_of f d ≡ Some kind.Dia)
 
--- the local that a kept cell's diamond is bound to
-abbrev pub kept : CaseCell → List ℕ
-kept (cell.Keep d) = d ∷ []
-kept c = []
+-- the local that a kept_diamond cell's diamond is bound to
+abbrev pub kept_diamond : CaseCell → List ℕ
+kept_diamond (cell.Keep d) = d ∷ []
+kept_diamond c = []
 
 -- all that an arm binds
 abbrev pub bound_by : Arm → List ℕ
-bound_by a = a.fields ++ kept a.cell
+bound_by a = a.fields ++ kept_diamond a.cell
 
 pub record ArmFits (f : Function) (number : ℕ) (c : Constructor) (a : Arm) : Type 0 where
   pub fields : HaveKinds f a.fields c.fields

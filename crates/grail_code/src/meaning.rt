@@ -5,7 +5,7 @@ ghost use Rattle.camelot_values.specs.Outcome.{Done, Fuel, Deep, entered};
 ghost use Rattle.camelot_values.specs.Runs.{is_too_deep};
 ghost use Rattle.grail_code.specs.Code.{Function, Program};
 ghost use Rattle.grail_code.specs.Fuel.{StopsOnFuel};
-ghost use Rattle.grail_code.specs.Soundness.{ArgumentsFit, HaveBlocks, IsSound};
+ghost use Rattle.grail_code.specs.Soundness.{ArgumentsFit, HaveBlocks, IsSafe};
 ghost use Rattle.grail_code.specs.WellFormed.{IsWellFormed};
 ghost use Rattle.grail_code.specs.Meaning.{body_run, calls, entering, run_of};
 
@@ -43,5 +43,5 @@ pub fn law_of_fuel()
 #[tactic(auto, using(crate::proofs::Sound::never_stuck))]
 pub fn law_of_soundness()
     ensures { (program : Program) (limit func fuel : ℕ) (args : List Value) (f : Function) → IsWellFormed program → HaveBlocks program
-        → slice_get program.funcs func ≡ Some f → ArgumentsFit program.types f.params args → IsSound program.types f.result (run_of program limit func fuel args) }
+        → slice_get program.funcs func ≡ Some f → ArgumentsFit program.types f.params args → IsSafe program.types f.result (run_of program limit func fuel args) }
 {}
