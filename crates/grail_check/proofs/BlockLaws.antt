@@ -6,8 +6,8 @@ use Rattle.std.specs.Option.{option_map_or}
 use Rattle.camelot_values.specs.Kinds.{DataType}
 use Rattle.camelot_values.specs.declared.kinds.Kind.{Kind}
 use Rattle.camelot_values.specs.declared.kinds.Kind.TheVariants as kind
-use Rattle.grail_code.specs.Code.{Binding, Arm, Exit, Ret, Tail, Goto, If, Case, BasicBlock, Function, Program}
-use Rattle.grail_code.specs.WellFormed.{kind_of, HaveKinds, is_heap_local, Ascend, LetFits, Gives, bound_by, ArmsFit, data_type, ExitFits, Event, Bind, operands_of, let_events, exit_uses, params_of, jump_events, ways, block_events, IsUsedWell, BlockFits, BlocksFit}
+use Rattle.grail_code.specs.Code.{Let, CaseArm, Term, Ret, Tail, Goto, If, Case, Block, Func, Code}
+use Rattle.grail_code.specs.WellFormed.{kind_of, HaveKinds, is_heap_local, Ascend, LetFits, Gives, bound_by, ArmsFit, data_type, TermFits, Event, Bind, operands_of, let_events, term_uses, params_of, jump_events, ways, block_events, IsUsedWell, BlockFits, BlocksFit}
 use Rattle.grail_check.specs.declared.fault.CodeKind.TheVariants as fault
 use Rattle.grail_check.specs.declared.locals.Local.{Local}
 use Rattle.grail_check.specs.declared.locals.Mark.{Mark}
@@ -21,15 +21,15 @@ use Rattle.std.proofs.lemmas.List.{length-replicate}
 
 -- ---- the header
 
-entry_is : (f : Function) (number : ℕ) (params : List ℕ) → entry_fits f number params ≡ true → number ≡ 0 → params ≡ range_with_len 0 (length f.params)
+entry_is : (f : Func) (number : ℕ) (params : List ℕ) → entry_fits f number params ≡ true → number ≡ 0 → params ≡ range_with_len 0 (length f.params)
 entry_is f zero params h e = first_numbers (length f.params) params h
 entry_is f (suc number) params h e = absurd (omega arith)
 
-is_entry : (f : Function) (number : ℕ) (params : List ℕ) → (number ≡ 0 → params ≡ range_with_len 0 (length f.params)) → entry_fits f number params ≡ true
+is_entry : (f : Func) (number : ℕ) (params : List ℕ) → (number ≡ 0 → params ≡ range_with_len 0 (length f.params)) → entry_fits f number params ≡ true
 is_entry f zero params h = are_first_numbers (length f.params) params (h refl)
 is_entry f (suc number) params h = refl
 
-pub header_passes : (types : List DataType) (f : Function) (number : ℕ) (params : List ℕ) → block_header_fault f (locals_of types f) number params ≡ None
+pub header_passes : (types : List DataType) (f : Func) (number : ℕ) (params : List ℕ) → block_header_fault f (locals_of types f) number params ≡ None
     → AreBelow (length (locals_of types f)) params × Ascend params × (number ≡ 0 → params ≡ range_with_len 0 (length f.params))
 header_passes types f number params h =
     let locals = locals_of types f in
@@ -37,7 +37,7 @@ header_passes types f number params h =
     let b = both (ascends_from 0 params) (entry_fits f number params) (unless_true (ascends_from 0 params && entry_fits f number params) fault.Header a.1.0) in
     (there_below locals params (unless_true (list_all (is_local locals) params) fault.NoSuchEntry a.0), ascends_is 0 params b.0, (λ e. entry_is f number params b.1 e))
 
-pass_header : (types : List DataType) (f : Function) (number : ℕ) (params : List ℕ) → AreBelow (length (locals_of types f)) params → Ascend params → (number ≡ 0 → params ≡ range_with_len 0 (length f.params))
+pass_header : (types : List DataType) (f : Func) (number : ℕ) (params : List ℕ) → AreBelow (length (locals_of types f)) params → Ascend params → (number ≡ 0 → params ≡ range_with_len 0 (length f.params))
     → block_header_fault f (locals_of types f) number params ≡ None
 pass_header types f number params w a e =
     let locals = locals_of types f in
@@ -48,7 +48,7 @@ pass_header types f number params w a e =
 
 -- ---- lets
 
-lets_pass : (p : Program) (f : Function) (func number place : ℕ) (marks : List Mark) (ls : List Binding) → lets_fault p (locals_of p.types f) func number place marks ls ≡ None
+lets_pass : (p : Code) (f : Func) (func number place : ℕ) (marks : List Mark) (ls : List Let) → lets_fault p (locals_of p.types f) func number place marks ls ≡ None
     → AllByRecursion (LetFits p f) ls × Plays (locals_of p.types f) marks (flat_map let_events ls)
 lets_pass p f func number place marks [] h = (tt, tt)
 lets_pass p f func number place marks (l ∷ ls) h =
@@ -57,7 +57,7 @@ lets_pass p f func number place marks (l ∷ ls) h =
     let b = lets_pass p f func number (suc place) (after_let locals marks l) ls (or_second (at_place func number place (let_fault p locals marks l)) _ h) in
     ((a.0, b.0), plays_both locals marks (let_events l) (flat_map let_events ls) a.1 (subst (λ m. Plays locals m (flat_map let_events ls)) (sym (after_a_let locals marks l)) b.1))
 
-pass_lets : (p : Program) (f : Function) (func number place : ℕ) (marks : List Mark) (ls : List Binding) → AllByRecursion (LetFits p f) ls → Plays (locals_of p.types f) marks (flat_map let_events ls)
+pass_lets : (p : Code) (f : Func) (func number place : ℕ) (marks : List Mark) (ls : List Let) → AllByRecursion (LetFits p f) ls → Plays (locals_of p.types f) marks (flat_map let_events ls)
     → lets_fault p (locals_of p.types f) func number place marks ls ≡ None
 pass_lets p f func number place marks [] fits h = refl
 pass_lets p f func number place marks (l ∷ ls) fits h =
@@ -67,51 +67,51 @@ pass_lets p f func number place marks (l ∷ ls) fits h =
     (pass_lets p f func number (suc place) (after_let locals marks l) ls fits.1
     (subst (λ m. Plays locals m (flat_map let_events ls)) (after_a_let locals marks l) (plays_back locals marks (let_events l) (flat_map let_events ls) h)))
 
-pub after_all_lets : (locals : List Local) (marks : List Mark) (ls : List Binding) → after locals marks (flat_map let_events ls) ≡ after_lets locals marks ls
+pub after_all_lets : (locals : List Local) (marks : List Mark) (ls : List Let) → after locals marks (flat_map let_events ls) ≡ after_lets locals marks ls
 after_all_lets locals marks [] = refl
 after_all_lets locals marks (l ∷ ls) = after_both locals marks (let_events l) (flat_map let_events ls)
     ∙ ap (λ m. after locals m (flat_map let_events ls)) (after_a_let locals marks l) ∙ after_all_lets locals (after_let locals marks l) ls
 
 -- ---- the events of a block
 
-abbrev front_events : BasicBlock → List Event
+abbrev front_events : Block → List Event
 front_events b = map Bind b.params ++ flat_map let_events b.lets
 
-after_front : (locals : List Local) (b : BasicBlock) → after locals (unbound locals) (front_events b) ≡ after_lets locals (at_start locals b) b.lets
+after_front : (locals : List Local) (b : Block) → after locals (unbound locals) (front_events b) ≡ after_lets locals (at_start locals b) b.lets
 after_front locals b = after_both locals (unbound locals) (map Bind b.params) (flat_map let_events b.lets)
     ∙ ap (λ m. after locals m (flat_map let_events b.lets)) (after_binds locals (unbound locals) b.params) ∙ after_all_lets locals (at_start locals b) b.lets
 
-front_plays : (locals : List Local) (b : BasicBlock) → Plays locals (at_start locals b) (flat_map let_events b.lets) → Plays locals (unbound locals) (front_events b)
+front_plays : (locals : List Local) (b : Block) → Plays locals (at_start locals b) (flat_map let_events b.lets) → Plays locals (unbound locals) (front_events b)
 front_plays locals b h = plays_both locals (unbound locals) (map Bind b.params) (flat_map let_events b.lets) (binds_play locals (unbound locals) b.params)
     (subst (λ m. Plays locals m (flat_map let_events b.lets)) (sym (after_binds locals (unbound locals) b.params)) h)
 
-plays_lets : (locals : List Local) (b : BasicBlock) → Plays locals (unbound locals) (front_events b) → Plays locals (at_start locals b) (flat_map let_events b.lets)
+plays_lets : (locals : List Local) (b : Block) → Plays locals (unbound locals) (front_events b) → Plays locals (at_start locals b) (flat_map let_events b.lets)
 plays_lets locals b h = subst (λ m. Plays locals m (flat_map let_events b.lets)) (after_binds locals (unbound locals) b.params)
     (plays_back locals (unbound locals) (map Bind b.params) (flat_map let_events b.lets) h)
 
 -- the state at the end of a block
-abbrev pub at_end : List Local → BasicBlock → List Mark
+abbrev pub at_end : List Local → Block → List Mark
 at_end locals b = after_lets locals (at_start locals b) b.lets
 
-end_events : (locals : List Local) (b : BasicBlock) (es : List Event) → Plays locals (unbound locals) (front_events b) → Plays locals (at_end locals b) es → Plays locals (unbound locals) (front_events b ++ es)
+end_events : (locals : List Local) (b : Block) (es : List Event) → Plays locals (unbound locals) (front_events b) → Plays locals (at_end locals b) es → Plays locals (unbound locals) (front_events b ++ es)
 end_events locals b es h k = plays_both locals (unbound locals) (front_events b) es h (subst (λ m. Plays locals m es) (sym (after_front locals b)) k)
 
-events_end : (locals : List Local) (b : BasicBlock) (es : List Event) → Plays locals (unbound locals) (front_events b ++ es) → Plays locals (at_end locals b) es
+events_end : (locals : List Local) (b : Block) (es : List Event) → Plays locals (unbound locals) (front_events b ++ es) → Plays locals (at_end locals b) es
 events_end locals b es h = subst (λ m. Plays locals m es) (after_front locals b) (plays_back locals (unbound locals) (front_events b) es h)
 
-after_block : (locals : List Local) (b : BasicBlock) → after locals (unbound locals) (block_events b) ≡ after locals (at_end locals b) (uses (exit_uses b.exit))
-after_block locals b = after_both locals (unbound locals) (front_events b) (uses (exit_uses b.exit)) ∙ ap (λ m. after locals m (uses (exit_uses b.exit))) (after_front locals b)
+after_block : (locals : List Local) (b : Block) → after locals (unbound locals) (block_events b) ≡ after locals (at_end locals b) (uses (term_uses b.term))
+after_block locals b = after_both locals (unbound locals) (front_events b) (uses (term_uses b.term)) ∙ ap (λ m. after locals m (uses (term_uses b.term))) (after_front locals b)
 
-heap_path : (types : List DataType) (f : Function) → is_heap_at (locals_of types f) ≡ is_heap_local types f
+heap_path : (types : List DataType) (f : Func) → is_heap_at (locals_of types f) ≡ is_heap_local types f
 heap_path types f = λ i x. heap_is types f x i
 
-pub end_length : (locals : List Local) (b : BasicBlock) → length (at_end locals b) ≡ length locals
+pub end_length : (locals : List Local) (b : Block) → length (at_end locals b) ≡ length locals
 end_length locals b = ap length (sym (after_front locals b)) ∙ length_after locals (unbound locals) (front_events b) ∙ length-replicate (length locals) _
 
 -- ---- a block
 
-all_ways : (types : List DataType) (f : Function) (b : BasicBlock) (ws : List (List Event)) → Plays (locals_of types f) (unbound (locals_of types f)) (block_events b)
-    → AllByRecursion (λ w. Plays (locals_of types f) (after (locals_of types f) (at_end (locals_of types f) b) (uses (exit_uses b.exit))) w) ws
+all_ways : (types : List DataType) (f : Func) (b : Block) (ws : List (List Event)) → Plays (locals_of types f) (unbound (locals_of types f)) (block_events b)
+    → AllByRecursion (λ w. Plays (locals_of types f) (after (locals_of types f) (at_end (locals_of types f) b) (uses (term_uses b.term))) w) ws
     → AllByRecursion (λ w. IsUsedWell (is_heap_local types f) (block_events b ++ w)) ws
 all_ways types f b [] h k = tt
 all_ways types f b (w ∷ ws) h k =
@@ -121,26 +121,26 @@ all_ways types f b (w ∷ ws) h k =
       all_ways types f b ws h k.1,
     )
 
-pub block_passes : (p : Program) (f : Function) (func number : ℕ) (b : BasicBlock) → ((n : ℕ) → Ascend (params_of f n)) → block_fault p f (locals_of p.types f) func number b ≡ None → BlockFits p f number b
+pub block_passes : (p : Code) (f : Func) (func number : ℕ) (b : Block) → ((n : ℕ) → Ascend (params_of f n)) → block_fault p f (locals_of p.types f) func number b ≡ None → BlockFits p f number b
 block_passes p f func number b asc h =
     let locals = locals_of p.types f in
     let end = at_end locals b in
     let a = none_fails (at_place func number 0 (block_header_fault f locals number b.params) ∷ lets_fault p locals func number 1 (at_start locals b) b.lets
-    ∷ at_place func number (suc (length b.lets)) (exit_fault p f locals number end b.exit) ∷ []) h in
+    ∷ at_place func number (suc (length b.lets)) (exit_fault p f locals number end b.term) ∷ []) h in
     let header = header_passes p.types f number b.params (nothing_there func number 0 (block_header_fault f locals number b.params) a.0) in
     let lets = lets_pass p f func number 1 (at_start locals b) b.lets a.1.0 in
-    let exit = exit_passes p f number end b.exit asc (end_length locals b) (nothing_there func number (suc (length b.lets)) (exit_fault p f locals number end b.exit) a.1.1.0) in
+    let term = exit_passes p f number end b.term asc (end_length locals b) (nothing_there func number (suc (length b.lets)) (exit_fault p f locals number end b.term) a.1.1.0) in
     let front = front_plays locals b lets.1 in
-    let inside = end_events locals b (uses (exit_uses b.exit)) front exit.1 in
+    let inside = end_events locals b (uses (term_uses b.term)) front term.1 in
     record {
       params = subst (λ n. AreBelow n b.params) (count_is p.types f) header.0;
       ascending = header.1;
       entry = header.2;
       lets = lets.0;
-      exit = exit.0;
+      term = term.0;
       uses = record {
         inside = subst (λ t. IsUsedWell t (block_events b)) (heap_path p.types f) (used_well locals (block_events b) inside);
-        onward = all_ways p.types f b (ways f b.exit) inside exit.2;
+        onward = all_ways p.types f b (ways f b.term) inside term.2;
       };
     }
 
@@ -154,7 +154,7 @@ binds_within : (n : ℕ) (xs : List ℕ) → AreWithin n (map Bind xs)
 binds_within n [] = tt
 binds_within n (x ∷ xs) = (tt, binds_within n xs)
 
-lets_within : (p : Program) (f : Function) (ls : List Binding) → AllByRecursion (LetFits p f) ls → AreWithin (length (locals_of p.types f)) (flat_map let_events ls)
+lets_within : (p : Code) (f : Func) (ls : List Let) → AllByRecursion (LetFits p f) ls → AreWithin (length (locals_of p.types f)) (flat_map let_events ls)
 lets_within p f [] h = tt
 lets_within p f (l ∷ ls) h =
     let locals = locals_of p.types f in
@@ -164,10 +164,10 @@ lets_within p f (l ∷ ls) h =
     (all_both (IsWithin n) (uses (operands_of l.op)) (Bind l.target ∷ []) (uses_within n (operands_of l.op) (there_below locals (operands_of l.op) (operands_there p f l.op k g))) (tt, tt))
     (lets_within p f ls h.1)
 
-one_below : (p : Program) (f : Function) (x : ℕ) (k : Kind) → kind_of f x ≡ Some k → AreBelow (length (locals_of p.types f)) (x ∷ [])
+one_below : (p : Code) (f : Func) (x : ℕ) (k : Kind) → kind_of f x ≡ Some k → AreBelow (length (locals_of p.types f)) (x ∷ [])
 one_below p f x k e = (kind_there (locals_of p.types f) x k (kind_at_is p.types f x k e), tt)
 
-exit_below : (p : Program) (f : Function) (number : ℕ) (e : Exit) → ExitFits p f number e → AreBelow (length (locals_of p.types f)) (exit_uses e)
+exit_below : (p : Code) (f : Func) (number : ℕ) (e : Term) → TermFits p f number e → AreBelow (length (locals_of p.types f)) (term_uses e)
 exit_below p f number (Ret x) h = one_below p f x f.result h
 exit_below p f number (Tail func args) h =
     let (callee, e, g) = some_and (slice_get p.funcs func) (λ callee. HaveKinds f args callee.params × (callee.result ≡ f.result)) h in
@@ -179,44 +179,44 @@ exit_below p f number (Case x arms) h =
     let (k, r) = data_there p.types (kind_of f x) t e in
     one_below p f x k r
 
-arm_ways_within : (f : Function) (n : ℕ) (arms : List Arm) → ((b : ℕ) → AreBelow n (params_of f b)) → AllByRecursion (AreWithin n) (map (arm_way f) arms)
+arm_ways_within : (f : Func) (n : ℕ) (arms : List CaseArm) → ((b : ℕ) → AreBelow n (params_of f b)) → AllByRecursion (AreWithin n) (map (arm_way f) arms)
 arm_ways_within f n [] h = tt
 arm_ways_within f n (a ∷ arms) h = (all_both (IsWithin n) (map Bind (bound_by a)) (jump_events f a.target) (binds_within n (bound_by a)) (uses_within n (params_of f a.target) (h a.target)), arm_ways_within f n arms h)
 
-ways_within : (f : Function) (n : ℕ) (e : Exit) → ((b : ℕ) → AreBelow n (params_of f b)) → AllByRecursion (AreWithin n) (ways f e)
+ways_within : (f : Func) (n : ℕ) (e : Term) → ((b : ℕ) → AreBelow n (params_of f b)) → AllByRecursion (AreWithin n) (ways f e)
 ways_within f n (Ret x) h = tt
 ways_within f n (Tail func args) h = tt
 ways_within f n (Goto b) h = (uses_within n (params_of f b) (h b), tt)
 ways_within f n (If x first second) h = (uses_within n (params_of f first) (h first), (uses_within n (params_of f second) (h second), tt))
 ways_within f n (Case x arms) h = arm_ways_within f n arms h
 
-ways_all : (types : List DataType) (f : Function) (b : BasicBlock) (ws : List (List Event)) → AreWithin (length (locals_of types f)) (block_events b) → AllByRecursion (AreWithin (length (locals_of types f))) ws
+ways_all : (types : List DataType) (f : Func) (b : Block) (ws : List (List Event)) → AreWithin (length (locals_of types f)) (block_events b) → AllByRecursion (AreWithin (length (locals_of types f))) ws
     → AllByRecursion (λ w. IsUsedWell (is_heap_local types f) (block_events b ++ w)) ws
-    → AllByRecursion (λ w. Plays (locals_of types f) (after (locals_of types f) (at_end (locals_of types f) b) (uses (exit_uses b.exit))) w) ws
+    → AllByRecursion (λ w. Plays (locals_of types f) (after (locals_of types f) (at_end (locals_of types f) b) (uses (term_uses b.term))) w) ws
 ways_all types f b [] i k h = tt
 ways_all types f b (w ∷ ws) i k h =
     let locals = locals_of types f in
     let plays = plays_well locals (block_events b ++ w) (all_both (IsWithin (length locals)) (block_events b) w i k.0) (subst (λ t. IsUsedWell t (block_events b ++ w)) (sym (heap_path types f)) h.0) in
     (subst (λ m. Plays locals m w) (after_block locals b) (plays_back locals (unbound locals) (block_events b) w plays), ways_all types f b ws i k.1 h.1)
 
-pub pass_block : (p : Program) (f : Function) (func number : ℕ) (b : BasicBlock) → ((n : ℕ) → AreBelow (length (locals_of p.types f)) (params_of f n)) → BlockFits p f number b → block_fault p f (locals_of p.types f) func number b ≡ None
+pub pass_block : (p : Code) (f : Func) (func number : ℕ) (b : Block) → ((n : ℕ) → AreBelow (length (locals_of p.types f)) (params_of f n)) → BlockFits p f number b → block_fault p f (locals_of p.types f) func number b ≡ None
 pass_block p f func number b params fits =
     let locals = locals_of p.types f in
     let n = length locals in
     let end = at_end locals b in
-    let last = uses (exit_uses b.exit) in
+    let last = uses (term_uses b.term) in
     let i : AreWithin n (block_events b) = all_both (IsWithin n) (front_events b) last
-    (all_both (IsWithin n) (map Bind b.params) (flat_map let_events b.lets) (binds_within n b.params) (lets_within p f b.lets fits.lets)) (uses_within n (exit_uses b.exit) (exit_below p f number b.exit fits.exit)) in
+    (all_both (IsWithin n) (map Bind b.params) (flat_map let_events b.lets) (binds_within n b.params) (lets_within p f b.lets fits.lets)) (uses_within n (term_uses b.term) (exit_below p f number b.term fits.term)) in
     let plays = plays_well locals (block_events b) i (subst (λ t. IsUsedWell t (block_events b)) (sym (heap_path p.types f)) fits.uses.inside) in
     let front = plays_front locals (unbound locals) (front_events b) last plays in
     all_pass (at_place func number 0 (block_header_fault f locals number b.params) ∷ lets_fault p locals func number 1 (at_start locals b) b.lets
-    ∷ at_place func number (suc (length b.lets)) (exit_fault p f locals number end b.exit) ∷ []) (
+    ∷ at_place func number (suc (length b.lets)) (exit_fault p f locals number end b.term) ∷ []) (
       nowhere func number 0 (block_header_fault f locals number b.params) (pass_header p.types f number b.params (subst (λ m. AreBelow m b.params) (sym (count_is p.types f)) fits.params) fits.ascending fits.entry),
       (
         pass_lets p f func number 1 (at_start locals b) b.lets fits.lets (plays_lets locals b front),
         (
-          nowhere func number (suc (length b.lets)) (exit_fault p f locals number end b.exit)
-              (pass_exit p f number end b.exit (fits.exit, events_end locals b last plays, ways_all p.types f b (ways f b.exit) i (ways_within f n b.exit params) fits.uses.onward)),
+          nowhere func number (suc (length b.lets)) (exit_fault p f locals number end b.term)
+              (pass_exit p f number end b.term (fits.term, events_end locals b last plays, ways_all p.types f b (ways f b.term) i (ways_within f n b.term params) fits.uses.onward)),
           tt,
         ),
       ),
@@ -224,12 +224,12 @@ pass_block p f func number b params fits =
 
 -- ---- the blocks of a function
 
-params_at : (Q : List ℕ → Type 0) (bs : List BasicBlock) (n : ℕ) → Q [] → AllByRecursion (λ b. Q b.params) bs → Q (option_map_or (λ block. block.params) (slice_get bs n) [])
+params_at : (Q : List ℕ → Type 0) (bs : List Block) (n : ℕ) → Q [] → AllByRecursion (λ b. Q b.params) bs → Q (option_map_or (λ block. block.params) (slice_get bs n) [])
 params_at Q [] n e h = e
 params_at Q (b ∷ bs) zero e h = h.0
 params_at Q (b ∷ bs) (suc n) e h = params_at Q bs n e h.1
 
-blocks_ascend : (p : Program) (f : Function) (func number : ℕ) (bs : List BasicBlock) → blocks_fault p f (locals_of p.types f) func number bs ≡ None → AllByRecursion (λ b. Ascend b.params) bs
+blocks_ascend : (p : Code) (f : Func) (func number : ℕ) (bs : List Block) → blocks_fault p f (locals_of p.types f) func number bs ≡ None → AllByRecursion (λ b. Ascend b.params) bs
 blocks_ascend p f func number [] h = tt
 blocks_ascend p f func number (b ∷ bs) h =
     let locals = locals_of p.types f in
@@ -238,23 +238,23 @@ blocks_ascend p f func number (b ∷ bs) h =
       blocks_ascend p f func (suc number) bs (or_second (block_fault p f locals func number b) _ h),
     )
 
-each_passes : (p : Program) (f : Function) (func number : ℕ) (bs : List BasicBlock) → ((n : ℕ) → Ascend (params_of f n)) → blocks_fault p f (locals_of p.types f) func number bs ≡ None → BlocksFit p f number bs
+each_passes : (p : Code) (f : Func) (func number : ℕ) (bs : List Block) → ((n : ℕ) → Ascend (params_of f n)) → blocks_fault p f (locals_of p.types f) func number bs ≡ None → BlocksFit p f number bs
 each_passes p f func number [] asc h = tt
 each_passes p f func number (b ∷ bs) asc h = (
   block_passes p f func number b asc (or_first _ (blocks_fault p f (locals_of p.types f) func (suc number) bs) h),
   each_passes p f func (suc number) bs asc (or_second (block_fault p f (locals_of p.types f) func number b) _ h),
 )
 
-pub blocks_pass : (p : Program) (f : Function) (func : ℕ) → blocks_fault p f (locals_of p.types f) func 0 f.blocks ≡ None → BlocksFit p f 0 f.blocks
+pub blocks_pass : (p : Code) (f : Func) (func : ℕ) → blocks_fault p f (locals_of p.types f) func 0 f.blocks ≡ None → BlocksFit p f 0 f.blocks
 blocks_pass p f func h = each_passes p f func 0 f.blocks (λ n. params_at Ascend f.blocks n tt (blocks_ascend p f func 0 f.blocks h)) h
 
-params_below : (p : Program) (f : Function) (number : ℕ) (bs : List BasicBlock) → BlocksFit p f number bs → AllByRecursion (λ b. AreBelow (length (locals_of p.types f)) b.params) bs
+params_below : (p : Code) (f : Func) (number : ℕ) (bs : List Block) → BlocksFit p f number bs → AllByRecursion (λ b. AreBelow (length (locals_of p.types f)) b.params) bs
 params_below p f number [] h = tt
 params_below p f number (b ∷ bs) h = (subst (λ m. AreBelow m b.params) (sym (count_is p.types f)) h.0.params, params_below p f (suc number) bs h.1)
 
-pass_each : (p : Program) (f : Function) (func number : ℕ) (bs : List BasicBlock) → ((n : ℕ) → AreBelow (length (locals_of p.types f)) (params_of f n)) → BlocksFit p f number bs → blocks_fault p f (locals_of p.types f) func number bs ≡ None
+pass_each : (p : Code) (f : Func) (func number : ℕ) (bs : List Block) → ((n : ℕ) → AreBelow (length (locals_of p.types f)) (params_of f n)) → BlocksFit p f number bs → blocks_fault p f (locals_of p.types f) func number bs ≡ None
 pass_each p f func number [] w h = refl
 pass_each p f func number (b ∷ bs) w h = or_none (block_fault p f (locals_of p.types f) func number b) _ (pass_block p f func number b w h.0) (pass_each p f func (suc number) bs w h.1)
 
-pub pass_blocks : (p : Program) (f : Function) (func : ℕ) → BlocksFit p f 0 f.blocks → blocks_fault p f (locals_of p.types f) func 0 f.blocks ≡ None
+pub pass_blocks : (p : Code) (f : Func) (func : ℕ) → BlocksFit p f 0 f.blocks → blocks_fault p f (locals_of p.types f) func 0 f.blocks ≡ None
 pass_blocks p f func h = pass_each p f func 0 f.blocks (λ n. params_at (AreBelow (length (locals_of p.types f))) f.blocks n tt (params_below p f 0 f.blocks h)) h

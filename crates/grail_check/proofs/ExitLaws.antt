@@ -6,10 +6,10 @@ use Rattle.std.proofs.lemmas.List.{length-set}
 use Rattle.camelot_values.specs.Kinds.{Constructor, DataType}
 use Rattle.camelot_values.specs.declared.kinds.Kind.{Kind}
 use Rattle.camelot_values.specs.declared.kinds.Kind.TheVariants as kind
-use Rattle.grail_code.specs.declared.code.CaseCell.{CaseCell}
-use Rattle.grail_code.specs.declared.code.CaseCell.TheVariants as cell
-use Rattle.grail_code.specs.Code.{Arm, Exit, Ret, Tail, Goto, If, Case, Function, Program}
-use Rattle.grail_code.specs.WellFormed.{kind_of, HaveKinds, Ascend, CellFits, kept_diamond, bound_by, ArmsFit, data_type, ExitFits, Event, Use, Bind, exit_uses, params_of, jump_events, ways}
+use Rattle.grail_blocks.specs.declared.blocks.CaseCell.{CaseCell}
+use Rattle.grail_blocks.specs.declared.blocks.CaseCell.TheVariants as cell
+use Rattle.grail_code.specs.Code.{CaseArm, Term, Ret, Tail, Goto, If, Case, Func, Code}
+use Rattle.grail_code.specs.WellFormed.{kind_of, HaveKinds, Ascend, CellFits, kept_diamond, bound_by, ArmsFit, data_type, TermFits, Event, Use, Bind, term_uses, params_of, jump_events, ways}
 use Rattle.grail_check.specs.declared.fault.CodeKind.TheVariants as fault
 use Rattle.grail_check.specs.declared.locals.Local.{Local}
 use Rattle.grail_check.specs.declared.locals.Mark.{Mark}
@@ -119,15 +119,15 @@ play_ready locals marks [] h = tt
 play_ready locals marks (x ∷ xs) h = (h.0, all_then (λ y. IsReady (spend locals marks x) y) (λ y. IsReady marks y) xs (λ y r. spend_keeps locals marks x y r) (play_ready locals (spend locals marks x) xs h.1))
 
 -- the events of a jump, after what an arm binds
-abbrev pub way : Function → List ℕ → ℕ → List Event
+abbrev pub way : Func → List ℕ → ℕ → List Event
 way f bound b = map Bind bound ++ jump_events f b
 
-jump_passes : (f : Function) (locals : List Local) (marks : List Mark) (bound : List ℕ) (b : ℕ) → Ascend (params_of f b) → AreBelow (length marks) bound
+jump_passes : (f : Func) (locals : List Local) (marks : List Mark) (bound : List ℕ) (b : ℕ) → Ascend (params_of f b) → AreBelow (length marks) bound
     → jump_fault f marks bound b ≡ None → Plays locals marks (way f bound b)
 jump_passes f locals marks bound b a w h = plays_both locals marks (map Bind bound) (jump_events f b) (binds_play locals marks bound)
     (subst (λ m. Plays locals m (jump_events f b)) (sym (after_binds locals marks bound)) (ready_play locals (bind_all marks bound) (params_of f b) a (uses_pass marks bound (params_of f b) w h)))
 
-pass_jump : (f : Function) (locals : List Local) (marks : List Mark) (bound : List ℕ) (b : ℕ) → Plays locals marks (way f bound b) → jump_fault f marks bound b ≡ None
+pass_jump : (f : Func) (locals : List Local) (marks : List Mark) (bound : List ℕ) (b : ℕ) → Plays locals marks (way f bound b) → jump_fault f marks bound b ≡ None
 pass_jump f locals marks bound b h = pass_uses marks bound (params_of f b)
     (play_ready locals (bind_all marks bound) (params_of f b) (subst (λ m. Plays locals m (jump_events f b)) (after_binds locals marks bound) (plays_back locals marks (map Bind bound) (jump_events f b) h)))
 
@@ -153,12 +153,12 @@ kinds_had locals (x ∷ xs) (k ∷ ks) h =
     let c = kinds_had locals xs ks b in
     (ap suc c.0, join (has_kind locals x k) (have_kinds locals xs ks) (the_kind_it_has locals x k a) c.1)
 
-cell_is : (types : List DataType) (f : Function) (inline : Bool) (c : CaseCell) → cell_fits inline c ≡ true → kept_fits (locals_of types f) c ≡ true → CellFits f inline c
+cell_is : (types : List DataType) (f : Func) (inline : Bool) (c : CaseCell) → cell_fits inline c ≡ true → kept_fits (locals_of types f) c ≡ true → CellFits f inline c
 cell_is types f inline cell.Inline h k = h
 cell_is types f inline cell.Free h k = not_true inline h
 cell_is types f inline (cell.Keep d) h k = (not_true inline h, kind_of_is types f d kind.Dia (has_the_kind (locals_of types f) d kind.Dia k))
 
-is_cell : (types : List DataType) (f : Function) (inline : Bool) (c : CaseCell) → CellFits f inline c
+is_cell : (types : List DataType) (f : Func) (inline : Bool) (c : CaseCell) → CellFits f inline c
     → (cell_fits inline c ≡ true) × (kept_fits (locals_of types f) c ≡ true) × (list_all (is_local (locals_of types f)) (kept_diamond c) ≡ true)
 is_cell types f inline cell.Inline h = (h, refl, refl)
 is_cell types f inline cell.Free h = (true_not inline h, refl, refl)
@@ -168,26 +168,26 @@ is_cell types f inline (cell.Keep d) h =
     (true_not inline h.0, the_kind_it_has locals d kind.Dia e, join (is_local locals d) true (is_below d (length locals) (kind_there locals d kind.Dia e)) refl)
 
 -- what an arm names is there
-record There (f : Function) (locals : List Local) (a : Arm) : Type 0 where
+record There (f : Func) (locals : List Local) (a : CaseArm) : Type 0 where
   fields : list_all (is_local locals) a.fields ≡ true
   kept_one : list_all (is_local locals) (kept_diamond a.cell) ≡ true
   target : is_block f a.target ≡ true
 
-there : (f : Function) (locals : List Local) (a : Arm) → arm_is_there f locals a ≡ true → There f locals a
+there : (f : Func) (locals : List Local) (a : CaseArm) → arm_is_there f locals a ≡ true → There f locals a
 there f locals a h =
     let p = both (list_all (is_local locals) a.fields && list_all (is_local locals) (kept_diamond a.cell)) (is_block f a.target) h in
     let q = both (list_all (is_local locals) a.fields) (list_all (is_local locals) (kept_diamond a.cell)) p.0 in
     record { fields = q.0; kept_one = q.1; target = p.1 }
 
-pub bound_below : (f : Function) (locals : List Local) (a : Arm) → arm_is_there f locals a ≡ true → AreBelow (length locals) (bound_by a)
+pub bound_below : (f : Func) (locals : List Local) (a : CaseArm) → arm_is_there f locals a ≡ true → AreBelow (length locals) (bound_by a)
 bound_below f locals a h =
     let t = there f locals a h in
     all_both (λ x. x < length locals) a.fields (kept_diamond a.cell) (there_below locals a.fields t.fields) (there_below locals (kept_diamond a.cell) t.kept_one)
 
-abbrev pub arm_way : Function → Arm → List Event
+abbrev pub arm_way : Func → CaseArm → List Event
 arm_way f a = way f (bound_by a) a.target
 
-arms_jump : (f : Function) (locals : List Local) (marks : List Mark) (arms : List Arm) → ((b : ℕ) → Ascend (params_of f b)) → length marks ≡ length locals
+arms_jump : (f : Func) (locals : List Local) (marks : List Mark) (arms : List CaseArm) → ((b : ℕ) → Ascend (params_of f b)) → length marks ≡ length locals
     → AllByRecursion (λ a. arm_is_there f locals a ≡ true) arms → arms_jump_fault f marks arms ≡ None → AllByRecursion (λ w. Plays locals marks w) (map (arm_way f) arms)
 arms_jump f locals marks [] asc e t h = tt
 arms_jump f locals marks (a ∷ arms) asc e t h = (
@@ -195,12 +195,12 @@ arms_jump f locals marks (a ∷ arms) asc e t h = (
   arms_jump f locals marks arms asc e t.1 (or_second (jump_fault f marks (bound_by a) a.target) _ h),
 )
 
-jump_arms : (f : Function) (locals : List Local) (marks : List Mark) (arms : List Arm) → AllByRecursion (λ w. Plays locals marks w) (map (arm_way f) arms) → arms_jump_fault f marks arms ≡ None
+jump_arms : (f : Func) (locals : List Local) (marks : List Mark) (arms : List CaseArm) → AllByRecursion (λ w. Plays locals marks w) (map (arm_way f) arms) → arms_jump_fault f marks arms ≡ None
 jump_arms f locals marks [] h = refl
 jump_arms f locals marks (a ∷ arms) h = or_none (jump_fault f marks (bound_by a) a.target) _ (pass_jump f locals marks (bound_by a) a.target h.0) (jump_arms f locals marks arms h.1)
 
 -- the tests of arms against constructors, apart from jumps
-record Tests (types : List DataType) (f : Function) (number : ℕ) (arms : List Arm) (cs : List Constructor) : Type 0 where
+record Tests (types : List DataType) (f : Func) (number : ℕ) (arms : List CaseArm) (cs : List Constructor) : Type 0 where
   count : length arms ≡ length cs
   fields : fields_count arms cs ≡ true
   cells : cells_fit arms cs ≡ true
@@ -209,7 +209,7 @@ record Tests (types : List DataType) (f : Function) (number : ℕ) (arms : List 
   named : list_all (arm_is_there f (locals_of types f)) arms ≡ true
   forward : list_all (λ a. nat_lt number a.target) arms ≡ true
 
-arms_are : (types : List DataType) (f : Function) (number : ℕ) (arms : List Arm) (cs : List Constructor) → Tests types f number arms cs → ArmsFit f number cs arms
+arms_are : (types : List DataType) (f : Func) (number : ℕ) (arms : List CaseArm) (cs : List Constructor) → Tests types f number arms cs → ArmsFit f number cs arms
 arms_are types f number [] [] t = tt
 arms_are types f number [] (c ∷ cs) t = let e = t.count in absurd (omega arith)
 arms_are types f number (a ∷ arms) [] t = let e = t.count in absurd (omega arith)
@@ -232,7 +232,7 @@ arms_are types f number (a ∷ arms) (c ∷ cs) t =
       arms_are types f number arms cs (record { count = omega arith; fields = n.1; cells = l.1; kinds = k.1; distinct = d.1; named = w.1; forward = g.1 }),
     )
 
-are_arms : (types : List DataType) (f : Function) (number : ℕ) (arms : List Arm) (cs : List Constructor) → ArmsFit f number cs arms → Tests types f number arms cs
+are_arms : (types : List DataType) (f : Func) (number : ℕ) (arms : List CaseArm) (cs : List Constructor) → ArmsFit f number cs arms → Tests types f number arms cs
 are_arms types f number [] [] h = record { count = refl; fields = refl; cells = refl; kinds = refl; distinct = refl; named = refl; forward = refl }
 are_arms types f number [] (c ∷ cs) h = absurd h
 are_arms types f number (a ∷ arms) [] h = absurd h
@@ -262,7 +262,7 @@ are_arms types f number (a ∷ arms) (c ∷ cs) h =
 abbrev WaysPlay : List Local → List Mark → List (List Event) → Type 0
 WaysPlay locals marks ws = AllByRecursion (λ w. Plays locals marks w) ws
 
-arms_pass : (p : Program) (f : Function) (number : ℕ) (marks : List Mark) (x : ℕ) (o : Option DataType) (arms : List Arm) → ((b : ℕ) → Ascend (params_of f b)) → length marks ≡ length (locals_of p.types f)
+arms_pass : (p : Code) (f : Func) (number : ℕ) (marks : List Mark) (x : ℕ) (o : Option DataType) (arms : List CaseArm) → ((b : ℕ) → Ascend (params_of f b)) → length marks ≡ length (locals_of p.types f)
     → list_all (arm_is_there f (locals_of p.types f)) arms ≡ true → list_all (λ a. nat_lt number a.target) arms ≡ true → arms_fault f (locals_of p.types f) marks x o arms ≡ None
     → IsSomeAnd o (λ t. ArmsFit f number t.cons arms) × IsReady marks x × WaysPlay (locals_of p.types f) (spend (locals_of p.types f) marks x) (map (arm_way f) arms)
 arms_pass p f number marks x None arms asc e named forward h = cc
@@ -284,7 +284,7 @@ arms_pass p f number marks x (Some t) arms asc e named forward h =
       arms_jump f locals (spend locals marks x) arms asc (length_step locals marks (Use x) ∙ e) (all_true (arm_is_there f locals) arms named) c.1.1.1.1.1.0,
     )
 
-pass_arms : (p : Program) (f : Function) (number : ℕ) (marks : List Mark) (x : ℕ) (t : DataType) (arms : List Arm) → ArmsFit f number t.cons arms → IsReady marks x
+pass_arms : (p : Code) (f : Func) (number : ℕ) (marks : List Mark) (x : ℕ) (t : DataType) (arms : List CaseArm) → ArmsFit f number t.cons arms → IsReady marks x
     → WaysPlay (locals_of p.types f) (spend (locals_of p.types f) marks x) (map (arm_way f) arms) → arms_fault f (locals_of p.types f) marks x (Some t) arms ≡ None
 pass_arms p f number marks x t arms fits r w =
     let locals = locals_of p.types f in
@@ -307,7 +307,7 @@ pass_arms p f number marks x t arms fits r w =
       ),
     )
 
-callee_passes : (p : Program) (f : Function) (marks : List Mark) (o : Option Function) (args : List ℕ) → callee_fault f (locals_of p.types f) marks o args ≡ None
+callee_passes : (p : Code) (f : Func) (marks : List Mark) (o : Option Func) (args : List ℕ) → callee_fault f (locals_of p.types f) marks o args ≡ None
     → IsSomeAnd o (λ callee. HaveKinds f args callee.params × (callee.result ≡ f.result)) × Plays (locals_of p.types f) marks (uses args)
 callee_passes p f marks None args h = cc
 callee_passes p f marks (Some callee) args h =
@@ -316,7 +316,7 @@ callee_passes p f marks (Some callee) args h =
     let b = arguments_pass locals marks args callee.params a.0 in
     ((have_the_kinds p.types f args callee.params b.0, kinds_same callee.result f.result (unless_true (same_kind callee.result f.result) fault.Kind a.1.0)), b.1)
 
-pass_callee : (p : Program) (f : Function) (marks : List Mark) (o : Option Function) (args : List ℕ)
+pass_callee : (p : Code) (f : Func) (marks : List Mark) (o : Option Func) (args : List ℕ)
     → IsSomeAnd o (λ callee. HaveKinds f args callee.params × (callee.result ≡ f.result)) → Plays (locals_of p.types f) marks (uses args)
     → (callee_fault f (locals_of p.types f) marks o args ≡ None) × (list_all (is_local (locals_of p.types f)) args ≡ true)
 pass_callee p f marks None args h w = absurd h
@@ -329,17 +329,17 @@ pass_callee p f marks (Some callee) args h w =
     )
 
 -- a jump that binds nothing
-plain_jump : (f : Function) (locals : List Local) (marks : List Mark) (b : ℕ) → Ascend (params_of f b) → jump_fault f marks [] b ≡ None → Plays locals marks (jump_events f b)
+plain_jump : (f : Func) (locals : List Local) (marks : List Mark) (b : ℕ) → Ascend (params_of f b) → jump_fault f marks [] b ≡ None → Plays locals marks (jump_events f b)
 plain_jump f locals marks b a h = jump_passes f locals marks [] b a tt h
 
-jump_plain : (f : Function) (locals : List Local) (marks : List Mark) (b : ℕ) → Plays locals marks (jump_events f b) → jump_fault f marks [] b ≡ None
+jump_plain : (f : Func) (locals : List Local) (marks : List Mark) (b : ℕ) → Plays locals marks (jump_events f b) → jump_fault f marks [] b ≡ None
 jump_plain f locals marks b h = pass_jump f locals marks [] b h
 
-abbrev pub ExitPlays : Program → Function → ℕ → List Mark → Exit → Type 0
-ExitPlays p f number marks e = ExitFits p f number e × Plays (locals_of p.types f) marks (uses (exit_uses e))
-    × WaysPlay (locals_of p.types f) (after (locals_of p.types f) marks (uses (exit_uses e))) (ways f e)
+abbrev pub ExitPlays : Code → Func → ℕ → List Mark → Term → Type 0
+ExitPlays p f number marks e = TermFits p f number e × Plays (locals_of p.types f) marks (uses (term_uses e))
+    × WaysPlay (locals_of p.types f) (after (locals_of p.types f) marks (uses (term_uses e))) (ways f e)
 
-pub exit_passes : (p : Program) (f : Function) (number : ℕ) (marks : List Mark) (e : Exit) → ((b : ℕ) → Ascend (params_of f b)) → length marks ≡ length (locals_of p.types f)
+pub exit_passes : (p : Code) (f : Func) (number : ℕ) (marks : List Mark) (e : Term) → ((b : ℕ) → Ascend (params_of f b)) → length marks ≡ length (locals_of p.types f)
     → exit_fault p f (locals_of p.types f) number marks e ≡ None → ExitPlays p f number marks e
 exit_passes p f number marks (Ret x) asc q h =
     let locals = locals_of p.types f in
@@ -379,7 +379,7 @@ pub data_there : (types : List DataType) (o : Option Kind) (t : DataType) → da
 data_there types None t h = cc
 data_there types (Some k) t h = (k, refl)
 
-pub pass_exit : (p : Program) (f : Function) (number : ℕ) (marks : List Mark) (e : Exit) → ExitPlays p f number marks e → exit_fault p f (locals_of p.types f) number marks e ≡ None
+pub pass_exit : (p : Code) (f : Func) (number : ℕ) (marks : List Mark) (e : Term) → ExitPlays p f number marks e → exit_fault p f (locals_of p.types f) number marks e ≡ None
 pass_exit p f number marks (Ret x) (fits, plays, onward) =
     let locals = locals_of p.types f in
     let k = kind_at_is p.types f x f.result fits in

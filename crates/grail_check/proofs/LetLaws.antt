@@ -9,9 +9,9 @@ use Rattle.camelot_values.specs.Kinds.{Constructor, DataType, constructor, type_
 use Rattle.camelot_values.specs.Heap.{is_heap}
 use Rattle.camelot_values.specs.declared.kinds.Kind.{Kind}
 use Rattle.camelot_values.specs.declared.kinds.Kind.TheVariants as kind
-use Rattle.grail_code.specs.declared.code.Place.{Place}
-use Rattle.grail_code.specs.declared.code.Place.TheVariants as place
-use Rattle.grail_code.specs.Code.{Operation, Lit, Flag, Copy, Prim, Make, Call, Binding, Function, Program}
+use Rattle.grail_blocks.specs.declared.blocks.Place.{Place}
+use Rattle.grail_blocks.specs.declared.blocks.Place.TheVariants as place
+use Rattle.grail_code.specs.Code.{Op, Lit, Flag, Copy, Prim, Make, Call, Let, Func, Code}
 use Rattle.grail_code.specs.WellFormed.{local_kinds, kind_of, HaveKinds, is_heap_local, operator_kind, PlaceFits, Gives, LetFits, Event, Use, Bind, taken, operands_of, let_events}
 use Rattle.grail_check.specs.declared.fault.CodeKind.TheVariants as fault
 use Rattle.grail_check.specs.declared.locals.Local.{Local}
@@ -23,24 +23,24 @@ use Rattle.grail_check.proofs.Playing.{after, IsReady, Plays, plays_front, plays
 
 -- ---- kinds
 
-pub kind_is : (types : List DataType) (f : Function) (x : ℕ) → kind_at (locals_of types f) x ≡ kind_of f x
+pub kind_is : (types : List DataType) (f : Func) (x : ℕ) → kind_at (locals_of types f) x ≡ kind_of f x
 kind_is types f x = ap (option_map (λ l. l.kind)) (slice_get-map (local_of types) (local_kinds f) x) ∙ there (slice_get (local_kinds f) x)
   where
     there : (o : Option Kind) → option_map (λ l. l.kind) (option_map (local_of types) o) ≡ o
     there None = refl
     there (Some k) = refl
 
-pub heap_is : (types : List DataType) (f : Function) (x : ℕ) → is_heap_at (locals_of types f) x ≡ is_heap_local types f x
+pub heap_is : (types : List DataType) (f : Func) (x : ℕ) → is_heap_at (locals_of types f) x ≡ is_heap_local types f x
 heap_is types f x = ap (λ o. option_map_or (λ l. l.heap) o false) (slice_get-map (local_of types) (local_kinds f) x) ∙ there (slice_get (local_kinds f) x)
   where
     there : (o : Option Kind) → option_map_or (λ l. l.heap) (option_map (local_of types) o) false ≡ option_map_or (is_heap types) o false
     there None = refl
     there (Some k) = refl
 
-pub count_is : (types : List DataType) (f : Function) → length (locals_of types f) ≡ length (local_kinds f)
+pub count_is : (types : List DataType) (f : Func) → length (locals_of types f) ≡ length (local_kinds f)
 count_is types f = length-map (local_kinds f) (local_of types)
 
-pub kinds_are : (types : List DataType) (f : Function) (xs : List ℕ) → map (kind_at (locals_of types f)) xs ≡ map (kind_of f) xs
+pub kinds_are : (types : List DataType) (f : Func) (xs : List ℕ) → map (kind_at (locals_of types f)) xs ≡ map (kind_of f) xs
 kinds_are types f [] = refl
 kinds_are types f (x ∷ xs) = let e : kind_at (locals_of types f) x ≡ kind_of f x = kind_is types f x in let q : map (kind_at (locals_of types f)) xs ≡ map (kind_of f) xs = kinds_are types f xs in cc
 
@@ -193,16 +193,16 @@ some_and (Some a) P h = (a, refl, h)
 pub and_some : {A : Type 0} (o : Option A) (P : A → Type 0) (a : A) → o ≡ Some a → P a → IsSomeAnd o P
 and_some o P a e h = subst (λ q. IsSomeAnd q P) (sym e) h
 
-pub kind_of_is : (types : List DataType) (f : Function) (x : ℕ) (k : Kind) → kind_at (locals_of types f) x ≡ Some k → kind_of f x ≡ Some k
+pub kind_of_is : (types : List DataType) (f : Func) (x : ℕ) (k : Kind) → kind_at (locals_of types f) x ≡ Some k → kind_of f x ≡ Some k
 kind_of_is types f x k h = sym (kind_is types f x) ∙ h
 
-pub kind_at_is : (types : List DataType) (f : Function) (x : ℕ) (k : Kind) → kind_of f x ≡ Some k → kind_at (locals_of types f) x ≡ Some k
+pub kind_at_is : (types : List DataType) (f : Func) (x : ℕ) (k : Kind) → kind_of f x ≡ Some k → kind_at (locals_of types f) x ≡ Some k
 kind_at_is types f x k h = kind_is types f x ∙ h
 
-pub have_the_kinds : (types : List DataType) (f : Function) (xs : List ℕ) (ks : List Kind) → map (kind_at (locals_of types f)) xs ≡ map Some ks → HaveKinds f xs ks
+pub have_the_kinds : (types : List DataType) (f : Func) (xs : List ℕ) (ks : List Kind) → map (kind_at (locals_of types f)) xs ≡ map Some ks → HaveKinds f xs ks
 have_the_kinds types f xs ks h = sym (kinds_are types f xs) ∙ h
 
-pub the_kinds_had : (types : List DataType) (f : Function) (xs : List ℕ) (ks : List Kind) → HaveKinds f xs ks → map (kind_at (locals_of types f)) xs ≡ map Some ks
+pub the_kinds_had : (types : List DataType) (f : Func) (xs : List ℕ) (ks : List Kind) → HaveKinds f xs ks → map (kind_at (locals_of types f)) xs ≡ map Some ks
 the_kinds_had types f xs ks h = kinds_are types f xs ∙ h
 
 target_passes : (locals : List Local) (x : ℕ) (o : Option Kind) → target_fault locals x o ≡ None → (k : Kind) × (kind_at locals x ≡ Some k) × (o ≡ Some k)
@@ -211,7 +211,7 @@ target_passes locals x o h = some_same (kind_at locals x) o (unless_true (same_k
 pass_target : (locals : List Local) (x : ℕ) (o : Option Kind) (k : Kind) → kind_at locals x ≡ Some k → o ≡ Some k → target_fault locals x o ≡ None
 pass_target locals x o k a b = true_unless (same_kinds (kind_at locals x) o) fault.Kind (same_some (kind_at locals x) o k a b)
 
-place_passes : (types : List DataType) (f : Function) (marks : List Mark) (inline : Bool) (at : Place)
+place_passes : (types : List DataType) (f : Func) (marks : List Mark) (inline : Bool) (at : Place)
     → taken_fault (locals_of types f) marks at ≡ None → place_fits inline at ≡ true → PlaceFits f inline at × Plays (locals_of types f) marks (uses (taken at))
 place_passes types f marks inline place.Inline h k = (k, tt)
 place_passes types f marks inline place.New h k = (not_true inline k, tt)
@@ -219,17 +219,17 @@ place_passes types f marks inline (place.Reuse d) h k =
     let a = operand_passes (locals_of types f) marks d kind.Dia h in
     ((not_true inline k, kind_of_is types f d kind.Dia a.1), (a.0, tt))
 
-pass_place : (types : List DataType) (f : Function) (marks : List Mark) (inline : Bool) (at : Place)
+pass_place : (types : List DataType) (f : Func) (marks : List Mark) (inline : Bool) (at : Place)
     → PlaceFits f inline at → Plays (locals_of types f) marks (uses (taken at)) → (taken_fault (locals_of types f) marks at ≡ None) × (place_fits inline at ≡ true)
 pass_place types f marks inline place.Inline h k = (refl, h)
 pass_place types f marks inline place.New h k = (refl, true_not inline h)
 pass_place types f marks inline (place.Reuse d) h k = (pass_operand (locals_of types f) marks d kind.Dia k.0 (kind_at_is types f d kind.Dia h.1), true_not inline h.0)
 
 -- what is asked of a build of this constructor
-abbrev MakeFits : Function → List ℕ → Place → Option Kind → Kind → Constructor → Type 0
+abbrev MakeFits : Func → List ℕ → Place → Option Kind → Kind → Constructor → Type 0
 MakeFits f args at owner k c = HaveKinds f args c.fields × PlaceFits f c.inline at × (owner ≡ Some k)
 
-make_passes : (types : List DataType) (f : Function) (marks : List Mark) (x : ℕ) (o : Option Constructor) (owner : Option Kind) (args : List ℕ) (at : Place)
+make_passes : (types : List DataType) (f : Func) (marks : List Mark) (x : ℕ) (o : Option Constructor) (owner : Option Kind) (args : List ℕ) (at : Place)
     → make_fault (locals_of types f) marks x o owner args at ≡ None
     → (k : Kind) × (kind_at (locals_of types f) x ≡ Some k) × IsSomeAnd o (MakeFits f args at owner k) × Plays (locals_of types f) marks (uses (args ++ taken at))
 make_passes types f marks x None owner args at h = cc
@@ -241,7 +241,7 @@ make_passes types f marks x (Some c) owner args at h =
     let (k, e, q) = target_passes locals x owner a.1.1.1.0 in
     (k, e, (have_the_kinds types f args c.fields b.0, d.0, q), play_both locals marks args (taken at) b.1 d.1)
 
-pass_make : (types : List DataType) (f : Function) (marks : List Mark) (x : ℕ) (o : Option Constructor) (owner : Option Kind) (args : List ℕ) (at : Place) (k : Kind)
+pass_make : (types : List DataType) (f : Func) (marks : List Mark) (x : ℕ) (o : Option Constructor) (owner : Option Kind) (args : List ℕ) (at : Place) (k : Kind)
     → kind_at (locals_of types f) x ≡ Some k → IsSomeAnd o (MakeFits f args at owner k) → Plays (locals_of types f) marks (uses (args ++ taken at))
     → make_fault (locals_of types f) marks x o owner args at ≡ None
 pass_make types f marks x None owner args at k e h plays = absurd h
@@ -252,10 +252,10 @@ pass_make types f marks x (Some c) owner args at k e h plays =
     all_pass (arguments_fault locals marks args c.fields ∷ taken_fault locals (spend_all locals marks args) at ∷ unless (place_fits c.inline at) fault.Place ∷ target_fault locals x owner ∷ [])
     (pass_arguments locals marks args c.fields (the_kinds_had types f args c.fields h.0) b.0, (d.0, (true_unless (place_fits c.inline at) fault.Place d.1, (pass_target locals x owner k e h.2, tt))))
 
-abbrev CallFits : Function → List ℕ → Kind → Function → Type 0
+abbrev CallFits : Func → List ℕ → Kind → Func → Type 0
 CallFits f args k callee = HaveKinds f args callee.params × (k ≡ callee.result)
 
-call_passes : (types : List DataType) (f : Function) (marks : List Mark) (x : ℕ) (o : Option Function) (args : List ℕ)
+call_passes : (types : List DataType) (f : Func) (marks : List Mark) (x : ℕ) (o : Option Func) (args : List ℕ)
     → call_fault (locals_of types f) marks x o args ≡ None
     → (k : Kind) × (kind_at (locals_of types f) x ≡ Some k) × IsSomeAnd o (CallFits f args k) × Plays (locals_of types f) marks (uses args)
 call_passes types f marks x None args h = cc
@@ -267,7 +267,7 @@ call_passes types f marks x (Some callee) args h =
     let r : k ≡ callee.result = cc in
     (k, e, (have_the_kinds types f args callee.params b.0, r), b.1)
 
-pass_call : (types : List DataType) (f : Function) (marks : List Mark) (x : ℕ) (o : Option Function) (args : List ℕ) (k : Kind)
+pass_call : (types : List DataType) (f : Func) (marks : List Mark) (x : ℕ) (o : Option Func) (args : List ℕ) (k : Kind)
     → kind_at (locals_of types f) x ≡ Some k → IsSomeAnd o (CallFits f args k) → Plays (locals_of types f) marks (uses args)
     → call_fault (locals_of types f) marks x o args ≡ None
 pass_call types f marks x None args k e h plays = absurd h
@@ -277,10 +277,10 @@ pass_call types f marks x (Some callee) args k e h plays =
     (pass_arguments locals marks args callee.params (the_kinds_had types f args callee.params h.0) plays, (pass_target locals x (Some callee.result) k e (ap Some (sym h.1)), tt))
 
 -- the local that is bound has a kind that the operation gives
-abbrev Binds_kind : Program → Function → ℕ → Operation → Type 0
+abbrev Binds_kind : Code → Func → ℕ → Op → Type 0
 Binds_kind p f x op = (k : Kind) × (kind_at (locals_of p.types f) x ≡ Some k) × Gives p f op k
 
-operation_passes : (p : Program) (f : Function) (marks : List Mark) (x : ℕ) (op : Operation)
+operation_passes : (p : Code) (f : Func) (marks : List Mark) (x : ℕ) (op : Op)
     → operation_fault p (locals_of p.types f) marks x op ≡ None → Binds_kind p f x op × Plays (locals_of p.types f) marks (uses (operands_of op))
 operation_passes p f marks x (Lit z) h = let (k, e, q) = target_passes (locals_of p.types f) x (Some kind.Int) h in let r : k ≡ kind.Int = cc in ((k, e, r), tt)
 operation_passes p f marks x (Flag b) h = let (k, e, q) = target_passes (locals_of p.types f) x (Some kind.Flag) h in let r : k ≡ kind.Flag = cc in ((k, e, r), tt)
@@ -307,7 +307,7 @@ operation_passes p f marks x (Call func args) h =
     let (k, e, fits, plays) = call_passes p.types f marks x (slice_get p.funcs func) args h in
     ((k, e, fits), plays)
 
-pass_operation : (p : Program) (f : Function) (marks : List Mark) (x : ℕ) (op : Operation)
+pass_operation : (p : Code) (f : Func) (marks : List Mark) (x : ℕ) (op : Op)
     → Binds_kind p f x op → Plays (locals_of p.types f) marks (uses (operands_of op)) → operation_fault p (locals_of p.types f) marks x op ≡ None
 pass_operation p f marks x (Lit z) (k, e, g) h = pass_target (locals_of p.types f) x (Some kind.Int) k e (ap Some (sym g))
 pass_operation p f marks x (Flag b) (k, e, g) h = pass_target (locals_of p.types f) x (Some kind.Flag) k e (ap Some (sym g))
@@ -330,7 +330,7 @@ pass_operation p f marks x (Make con args at) (k, e, g) h = pass_make p.types f 
 pass_operation p f marks x (Call func args) (k, e, g) h = pass_call p.types f marks x (slice_get p.funcs func) args k e g h
 
 -- what is used is there
-taken_there : (types : List DataType) (f : Function) (inline : Bool) (at : Place) → PlaceFits f inline at → list_all (is_local (locals_of types f)) (taken at) ≡ true
+taken_there : (types : List DataType) (f : Func) (inline : Bool) (at : Place) → PlaceFits f inline at → list_all (is_local (locals_of types f)) (taken at) ≡ true
 taken_there types f inline place.Inline h = refl
 taken_there types f inline place.New h = refl
 taken_there types f inline (place.Reuse d) h = kinds_there (locals_of types f) (d ∷ []) (kind.Dia ∷ []) (ap (λ o. o ∷ []) (kind_at_is types f d kind.Dia h.1))
@@ -339,7 +339,7 @@ all_there : (locals : List Local) (xs ys : List ℕ) → list_all (is_local loca
 all_there locals [] ys h k = k
 all_there locals (x ∷ xs) ys h k = let a : (is_local locals x ≡ true) × (list_all (is_local locals) xs ≡ true) = both (is_local locals x) (list_all (is_local locals) xs) h in join (is_local locals x) (list_all (is_local locals) (xs ++ ys)) a.0 (all_there locals xs ys a.1 k)
 
-pub operands_there : (p : Program) (f : Function) (op : Operation) (k : Kind) → Gives p f op k → list_all (is_local (locals_of p.types f)) (operands_of op) ≡ true
+pub operands_there : (p : Code) (f : Func) (op : Op) (k : Kind) → Gives p f op k → list_all (is_local (locals_of p.types f)) (operands_of op) ≡ true
 operands_there p f (Lit z) k g = refl
 operands_there p f (Flag b) k g = refl
 operands_there p f (Copy y) k g = kinds_there (locals_of p.types f) (y ∷ []) (k ∷ []) (ap (λ o. o ∷ []) (kind_at_is p.types f y k g))
@@ -351,17 +351,17 @@ operands_there p f (Call func args) k g =
     let (callee, e, h) = some_and (slice_get p.funcs func) (CallFits f args k) g in
     kinds_there (locals_of p.types f) args callee.params (the_kinds_had p.types f args callee.params h.0)
 
-pub after_a_let : (locals : List Local) (marks : List Mark) (l : Binding) → after locals marks (let_events l) ≡ after_let locals marks l
+pub after_a_let : (locals : List Local) (marks : List Mark) (l : Let) → after locals marks (let_events l) ≡ after_let locals marks l
 after_a_let locals marks l = after_both locals marks (uses (operands_of l.op)) (Bind l.target ∷ []) ∙ ap (λ m. bind m l.target) (after_uses locals marks (operands_of l.op))
 
-pub let_passes : (p : Program) (f : Function) (marks : List Mark) (l : Binding) → let_fault p (locals_of p.types f) marks l ≡ None → LetFits p f l × Plays (locals_of p.types f) marks (let_events l)
+pub let_passes : (p : Code) (f : Func) (marks : List Mark) (l : Let) → let_fault p (locals_of p.types f) marks l ≡ None → LetFits p f l × Plays (locals_of p.types f) marks (let_events l)
 let_passes p f marks l h =
     let locals = locals_of p.types f in
     let a = or_second (unless (is_local locals l.target && list_all (is_local locals) (operands_of l.op)) fault.NoSuchEntry) _ h in
     let ((k, e, g), plays) = operation_passes p f marks l.target l.op (or_first (operation_fault p locals marks l.target l.op) None a) in
     (and_some (kind_of f l.target) (Gives p f l.op) k (kind_of_is p.types f l.target k e) g, plays_both locals marks (uses (operands_of l.op)) (Bind l.target ∷ []) plays (tt, tt))
 
-pub pass_let : (p : Program) (f : Function) (marks : List Mark) (l : Binding) → LetFits p f l → Plays (locals_of p.types f) marks (let_events l) → let_fault p (locals_of p.types f) marks l ≡ None
+pub pass_let : (p : Code) (f : Func) (marks : List Mark) (l : Let) → LetFits p f l → Plays (locals_of p.types f) marks (let_events l) → let_fault p (locals_of p.types f) marks l ≡ None
 pass_let p f marks l fits plays =
     let locals = locals_of p.types f in
     let (k, e, g) = some_and (kind_of f l.target) (Gives p f l.op) fits in

@@ -7,10 +7,10 @@ use Rattle.std.proofs.lemmas.List.{length-replicate}
 use Rattle.camelot_values.specs.Kinds.{Constructor, DataType, constructor, type_of}
 use Rattle.camelot_values.specs.declared.kinds.Kind.{Kind}
 use Rattle.camelot_values.specs.declared.kinds.Kind.TheVariants as kind
-use Rattle.grail_code.specs.declared.code.Place.{Place}
-use Rattle.grail_code.specs.declared.code.Place.TheVariants as place
-use Rattle.grail_code.specs.Code.{Operation, Lit, Flag, Copy, Prim, Make, Call, Binding, Arm, Exit, Ret, Tail, Goto, If, Case, BasicBlock, Function, Program}
-use Rattle.grail_code.specs.WellFormed.{Event, Use, Bind, Binds, is_heap_local, operator_kind, taken, operands_of, let_events, exit_uses, params_of, jump_events, ways, bound_by, data_type}
+use Rattle.grail_blocks.specs.declared.blocks.Place.{Place}
+use Rattle.grail_blocks.specs.declared.blocks.Place.TheVariants as place
+use Rattle.grail_code.specs.Code.{Op, Lit, Flag, Copy, Prim, Make, Call, Let, CaseArm, Term, Ret, Tail, Goto, If, Case, Block, Func, Code}
+use Rattle.grail_code.specs.WellFormed.{Event, Use, Bind, Binds, is_heap_local, operator_kind, taken, operands_of, let_events, term_uses, params_of, jump_events, ways, bound_by, data_type}
 use Rattle.grail_check.specs.declared.fault.CodeKind.{CodeKind}
 use Rattle.grail_check.specs.declared.fault.CodeKind.TheVariants as fault
 use Rattle.grail_check.specs.declared.fault.CodeFault.{CodeFault}
@@ -135,7 +135,7 @@ make_hit locals marks x (Some c) owner args at k u h =
       ]
     ]
 
-call_hit : (locals : List Local) (marks : List Mark) (x : ℕ) (o : Option Function) (args : List ℕ) (k : CodeKind) → is_use k ≡ true → call_fault locals marks x o args ≡ Some k → Hit locals marks args k
+call_hit : (locals : List Local) (marks : List Mark) (x : ℕ) (o : Option Func) (args : List ℕ) (k : CodeKind) → is_use k ≡ true → call_fault locals marks x o args ≡ Some k → Hit locals marks args k
 call_hit locals marks x None args k u h = no_other fault.NoSuchEntry k refl u h
 call_hit locals marks x (Some callee) args k u h =
     elim (either (arguments_fault locals marks args callee.params) (option_or (target_fault locals x (Some callee.result)) None) k h) as (λ z. Hit locals marks args k) [
@@ -143,7 +143,7 @@ call_hit locals marks x (Some callee) args k u h =
       | inr (a, b) ↦ no_target locals x (Some callee.result) k u b
     ]
 
-operation_hit : (p : Program) (locals : List Local) (marks : List Mark) (x : ℕ) (op : Operation) (k : CodeKind) → is_use k ≡ true → operation_fault p locals marks x op ≡ Some k → Hit locals marks (operands_of op) k
+operation_hit : (p : Code) (locals : List Local) (marks : List Mark) (x : ℕ) (op : Op) (k : CodeKind) → is_use k ≡ true → operation_fault p locals marks x op ≡ Some k → Hit locals marks (operands_of op) k
 operation_hit p locals marks x (Lit z) k u h = no_test (same_kinds (kind_at locals x) (Some kind.Int)) fault.Kind k refl u h
 operation_hit p locals marks x (Flag b) k u h = no_test (same_kinds (kind_at locals x) (Some kind.Flag)) fault.Kind k refl u h
 operation_hit p locals marks x (Copy y) k u h =
@@ -163,7 +163,7 @@ operation_hit p locals marks x (Prim op left right) k u h =
 operation_hit p locals marks x (Make con args at) k u h = make_hit locals marks x (constructor p.types con) (option_map kind.Of (type_of p.types con)) args at k u h
 operation_hit p locals marks x (Call func args) k u h = call_hit locals marks x (slice_get p.funcs func) args k u h
 
-let_hit : (p : Program) (locals : List Local) (marks : List Mark) (l : Binding) (k : CodeKind) → is_use k ≡ true → let_fault p locals marks l ≡ Some k → Hit locals marks (operands_of l.op) k
+let_hit : (p : Code) (locals : List Local) (marks : List Mark) (l : Let) (k : CodeKind) → is_use k ≡ true → let_fault p locals marks l ≡ Some k → Hit locals marks (operands_of l.op) k
 let_hit p locals marks l k u h =
     let c = behind_test (is_local locals l.target && list_all (is_local locals) (operands_of l.op)) fault.NoSuchEntry k (option_or (operation_fault p locals marks l.target l.op) None) refl u h in
     operation_hit p locals marks l.target l.op k u (alone (operation_fault p locals marks l.target l.op) k c.1)
@@ -281,7 +281,7 @@ binds_within_are : (n : ℕ) (xs : List ℕ) → AreBelow n xs → BindWithin n 
 binds_within_are n [] h = tt
 binds_within_are n (x ∷ xs) h = (h.0, binds_within_are n xs h.1)
 
-jump_strikes : (f : Function) (locals : List Local) (marks : List Mark) (bound : List ℕ) (b : ℕ) (k : CodeKind) → length marks ≡ length locals → AreBelow (length locals) bound
+jump_strikes : (f : Func) (locals : List Local) (marks : List Mark) (bound : List ℕ) (b : ℕ) (k : CodeKind) → length marks ≡ length locals → AreBelow (length locals) bound
     → jump_fault f marks bound b ≡ Some k → Strikes locals marks (way f bound b) k
 jump_strikes f locals marks bound b k e w h =
     strikes_back locals marks (map Bind bound) (jump_events f b) k (binds_within_are (length locals) bound w)
@@ -297,7 +297,7 @@ record Ahead (locals : List Local) (marks : List Mark) (ws : List (List Event)) 
   is : slice_get ws index ≡ Some way_on
   strikes : Strikes locals marks way_on k
 
-arms_hit : (f : Function) (locals : List Local) (marks : List Mark) (arms : List Arm) (k : CodeKind) → length marks ≡ length locals → AllByRecursion (λ a. arm_is_there f locals a ≡ true) arms
+arms_hit : (f : Func) (locals : List Local) (marks : List Mark) (arms : List CaseArm) (k : CodeKind) → length marks ≡ length locals → AllByRecursion (λ a. arm_is_there f locals a ≡ true) arms
     → arms_jump_fault f marks arms ≡ Some k → Ahead locals marks (map (arm_way f) arms) k
 arms_hit f locals marks [] k e t h = cc
 arms_hit f locals marks (a ∷ arms) k e t h =
@@ -307,10 +307,10 @@ arms_hit f locals marks (a ∷ arms) k e t h =
     ]
 
 -- what the end itself uses, or what a way on does
-abbrev EndHit : Function → List Local → List Mark → Exit → CodeKind → Type 0
-EndHit f locals marks e k = Hit locals marks (exit_uses e) k ⊎ Ahead locals (after locals marks (uses (exit_uses e))) (ways f e) k
+abbrev EndHit : Func → List Local → List Mark → Term → CodeKind → Type 0
+EndHit f locals marks e k = Hit locals marks (term_uses e) k ⊎ Ahead locals (after locals marks (uses (term_uses e))) (ways f e) k
 
-callee_hit : (f : Function) (locals : List Local) (marks : List Mark) (o : Option Function) (args : List ℕ) (k : CodeKind) → is_use k ≡ true → callee_fault f locals marks o args ≡ Some k → Hit locals marks args k
+callee_hit : (f : Func) (locals : List Local) (marks : List Mark) (o : Option Func) (args : List ℕ) (k : CodeKind) → is_use k ≡ true → callee_fault f locals marks o args ≡ Some k → Hit locals marks args k
 callee_hit f locals marks None args k u h = no_other fault.NoSuchEntry k refl u h
 callee_hit f locals marks (Some callee) args k u h =
     elim (either (arguments_fault locals marks args callee.params) (option_or (unless (same_kind callee.result f.result) fault.Kind) None) k h) as (λ z. Hit locals marks args k) [
@@ -318,7 +318,7 @@ callee_hit f locals marks (Some callee) args k u h =
       | inr (a, b) ↦ no_test (same_kind callee.result f.result) fault.Kind k refl u (alone (unless (same_kind callee.result f.result) fault.Kind) k b)
     ]
 
-case_hit : (f : Function) (locals : List Local) (marks : List Mark) (x : ℕ) (o : Option DataType) (arms : List Arm) (k : CodeKind) → length marks ≡ length locals → is_use k ≡ true
+case_hit : (f : Func) (locals : List Local) (marks : List Mark) (x : ℕ) (o : Option DataType) (arms : List CaseArm) (k : CodeKind) → length marks ≡ length locals → is_use k ≡ true
     → AllByRecursion (λ a. arm_is_there f locals a ≡ true) arms → arms_fault f locals marks x o arms ≡ Some k → EndHit f locals marks (Case x arms) k
 case_hit f locals marks x None arms k e u t h = no_other fault.Kind k refl u h
 case_hit f locals marks x (Some d) arms k e u t h =
@@ -336,10 +336,10 @@ case_hit f locals marks x (Some d) arms k e u t h =
           inr (arms_hit f locals (spend locals marks x) arms k (length_step locals marks (Use x) ∙ e) t (alone jumps k g.1)))
     ]
 
-jump_ahead : (f : Function) (locals : List Local) (marks : List Mark) (b : ℕ) (k : CodeKind) → length marks ≡ length locals → jump_fault f marks [] b ≡ Some k → Strikes locals marks (jump_events f b) k
+jump_ahead : (f : Func) (locals : List Local) (marks : List Mark) (b : ℕ) (k : CodeKind) → length marks ≡ length locals → jump_fault f marks [] b ≡ Some k → Strikes locals marks (jump_events f b) k
 jump_ahead f locals marks b k e h = jump_strikes f locals marks [] b k e tt h
 
-exit_hit : (p : Program) (f : Function) (locals : List Local) (number : ℕ) (marks : List Mark) (e : Exit) (k : CodeKind) → length marks ≡ length locals → is_use k ≡ true
+exit_hit : (p : Code) (f : Func) (locals : List Local) (number : ℕ) (marks : List Mark) (e : Term) (k : CodeKind) → length marks ≡ length locals → is_use k ≡ true
     → exit_fault p f locals number marks e ≡ Some k → EndHit f locals marks e k
 exit_hit p f locals number marks (Ret x) k q u h =
     let a = behind_test (is_local locals x) fault.NoSuchEntry k (option_or (operand_fault locals marks x f.result) None) refl u h in
@@ -392,10 +392,10 @@ at_found func block place (Some k) e h =
     let q : r ≡ e = same_Some r e h in
     record { found = ap (λ x. Some x.kind) q; place_is = sym (ap (λ x. x.place) q); block_is = sym (ap (λ x. x.block) q); func_is = sym (ap (λ x. x.func) q) }
 
-record LetHit (locals : List Local) (marks : List Mark) (ls : List Binding) (func block place : ℕ) (e : CodeFault) : Type 0 where
-  earlier : List Binding
-  l : Binding
-  rest : List Binding
+record LetHit (locals : List Local) (marks : List Mark) (ls : List Let) (func block place : ℕ) (e : CodeFault) : Type 0 where
+  earlier : List Let
+  l : Let
+  rest : List Let
   is : ls ≡ earlier ++ l ∷ rest
   hit : Hit locals (after_lets locals marks earlier) (operands_of l.op) e.kind
   inside : BindWithin (length locals) (flat_map let_events earlier)
@@ -403,7 +403,7 @@ record LetHit (locals : List Local) (marks : List Mark) (ls : List Binding) (fun
   block_is : e.block ≡ block
   func_is : e.func ≡ func
 
-lets_hit : (p : Program) (locals : List Local) (func number place : ℕ) (marks : List Mark) (ls : List Binding) (e : CodeFault) → is_use e.kind ≡ true
+lets_hit : (p : Code) (locals : List Local) (func number place : ℕ) (marks : List Mark) (ls : List Let) (e : CodeFault) → is_use e.kind ≡ true
     → lets_fault p locals func number place marks ls ≡ Some e → LetHit locals marks ls func number place e
 lets_hit p locals func number place marks [] e u h = cc
 lets_hit p locals func number place marks (l ∷ ls) e u h =
@@ -429,7 +429,7 @@ lets_hit p locals func number place marks (l ∷ ls) e u h =
     ]
 
 -- what happens at a place of a block, with the state that the walk has there
-record Struck (f : Function) (locals : List Local) (b : BasicBlock) (func block : ℕ) (e : CodeFault) : Type 0 where
+record Struck (f : Func) (locals : List Local) (b : Block) (func block : ℕ) (e : CodeFault) : Type 0 where
   before : List Event
   here : List Event
   comes : Comes f b before here e.place
@@ -438,11 +438,11 @@ record Struck (f : Function) (locals : List Local) (b : BasicBlock) (func block 
   block_is : e.block ≡ block
   func_is : e.func ≡ func
 
-after_events : (locals : List Local) (b : BasicBlock) (ls : List Binding) → after locals (unbound locals) (events_of b ls) ≡ after_lets locals (at_start locals b) ls
+after_events : (locals : List Local) (b : Block) (ls : List Let) → after locals (unbound locals) (events_of b ls) ≡ after_lets locals (at_start locals b) ls
 after_events locals b ls = after_both locals (unbound locals) (map Bind b.params) (flat_map let_events ls)
     ∙ ap (λ m. after locals m (flat_map let_events ls)) (after_binds locals (unbound locals) b.params) ∙ after_all_lets locals (at_start locals b) ls
 
-all_lets_inside : (p : Program) (locals : List Local) (func number place : ℕ) (marks : List Mark) (ls : List Binding) → lets_fault p locals func number place marks ls ≡ None → BindWithin (length locals) (flat_map let_events ls)
+all_lets_inside : (p : Code) (locals : List Local) (func number place : ℕ) (marks : List Mark) (ls : List Let) → lets_fault p locals func number place marks ls ≡ None → BindWithin (length locals) (flat_map let_events ls)
 all_lets_inside p locals func number place marks [] h = tt
 all_lets_inside p locals func number place marks (l ∷ ls) h =
     let a = nothing_there func number place (let_fault p locals marks l) (or_first _ _ h) in
@@ -452,7 +452,7 @@ all_lets_inside p locals func number place marks (l ∷ ls) h =
     (all_both (IsBindWithin (length locals)) (uses (operands_of l.op)) (Bind l.target ∷ []) (uses_bind_nothing (length locals) (operands_of l.op)) (below l.target (length locals) t.0, tt))
     (all_lets_inside p locals func number (suc place) (after_let locals marks l) ls (or_second (at_place func number place (let_fault p locals marks l)) _ h))
 
-at_the_let : (f : Function) (locals : List Local) (b : BasicBlock) (func number : ℕ) (e : CodeFault) → AreBelow (length locals) b.params → LetHit locals (at_start locals b) b.lets func number 1 e → Struck f locals b func number e
+at_the_let : (f : Func) (locals : List Local) (b : Block) (func number : ℕ) (e : CodeFault) → AreBelow (length locals) b.params → LetHit locals (at_start locals b) b.lets func number 1 e → Struck f locals b func number e
 at_the_let f locals b func number e w h = record {
   before = events_of b h.earlier;
   here = uses (operands_of h.l.op);
@@ -463,36 +463,36 @@ at_the_let f locals b func number e w h = record {
   func_is = h.func_is;
 }
 
-at_the_end : (f : Function) (locals : List Local) (b : BasicBlock) (func number : ℕ) (e : CodeFault) → BindWithin (length locals) (events_of b b.lets) → e.place ≡ suc (length b.lets) → e.block ≡ number → e.func ≡ func
-    → EndHit f locals (after_lets locals (at_start locals b) b.lets) b.exit e.kind → Struck f locals b func number e
+at_the_end : (f : Func) (locals : List Local) (b : Block) (func number : ℕ) (e : CodeFault) → BindWithin (length locals) (events_of b b.lets) → e.place ≡ suc (length b.lets) → e.block ≡ number → e.func ≡ func
+    → EndHit f locals (after_lets locals (at_start locals b) b.lets) b.term e.kind → Struck f locals b func number e
 at_the_end f locals b func number e w place block in_func (inl h) = record {
   before = events_of b b.lets;
-  here = uses (exit_uses b.exit);
-  comes = subst (λ n. Comes f b (events_of b b.lets) (uses (exit_uses b.exit)) n) (sym place) (ToEnd refl refl);
+  here = uses (term_uses b.term);
+  comes = subst (λ n. Comes f b (events_of b b.lets) (uses (term_uses b.term)) n) (sym place) (ToEnd refl refl);
   inside = w;
-  strikes = subst (λ m. Strikes locals m (uses (exit_uses b.exit)) e.kind) (sym (after_events locals b b.lets)) (hit_strikes locals (after_lets locals (at_start locals b) b.lets) (exit_uses b.exit) e.kind h);
+  strikes = subst (λ m. Strikes locals m (uses (term_uses b.term)) e.kind) (sym (after_events locals b b.lets)) (hit_strikes locals (after_lets locals (at_start locals b) b.lets) (term_uses b.term) e.kind h);
   block_is = block;
   func_is = in_func;
 }
 at_the_end f locals b func number e w place block in_func (inr h) = record {
   before = events_of b b.lets;
-  here = uses (exit_uses b.exit) ++ h.way_on;
-  comes = subst (λ n. Comes f b (events_of b b.lets) (uses (exit_uses b.exit) ++ h.way_on) n) (sym place) (Onward h.index h.way_on h.is refl refl);
+  here = uses (term_uses b.term) ++ h.way_on;
+  comes = subst (λ n. Comes f b (events_of b b.lets) (uses (term_uses b.term) ++ h.way_on) n) (sym place) (Onward h.index h.way_on h.is refl refl);
   inside = w;
-  strikes = subst (λ m. Strikes locals m (uses (exit_uses b.exit) ++ h.way_on) e.kind) (sym (after_events locals b b.lets))
-      (strikes_back locals (after_lets locals (at_start locals b) b.lets) (uses (exit_uses b.exit)) h.way_on e.kind (uses_bind_nothing (length locals) (exit_uses b.exit)) h.strikes);
+  strikes = subst (λ m. Strikes locals m (uses (term_uses b.term) ++ h.way_on) e.kind) (sym (after_events locals b b.lets))
+      (strikes_back locals (after_lets locals (at_start locals b) b.lets) (uses (term_uses b.term)) h.way_on e.kind (uses_bind_nothing (length locals) (term_uses b.term)) h.strikes);
   block_is = block;
   func_is = in_func;
 }
 
-block_hit : (p : Program) (f : Function) (func number : ℕ) (b : BasicBlock) (e : CodeFault) → is_use e.kind ≡ true → block_fault p f (locals_of p.types f) func number b ≡ Some e → Struck f (locals_of p.types f) b func number e
+block_hit : (p : Code) (f : Func) (func number : ℕ) (b : Block) (e : CodeFault) → is_use e.kind ≡ true → block_fault p f (locals_of p.types f) func number b ≡ Some e → Struck f (locals_of p.types f) b func number e
 block_hit p f func number b e u h =
     let locals = locals_of p.types f in
     let end = after_lets locals (at_start locals b) b.lets in
     let header = at_place func number 0 (block_header_fault f locals number b.params) in
     let lets = lets_fault p locals func number 1 (at_start locals b) b.lets in
-    let exit = exit_fault p f locals number end b.exit in
-    let last = option_or (at_place func number (suc (length b.lets)) exit) None in
+    let term = exit_fault p f locals number end b.term in
+    let last = option_or (at_place func number (suc (length b.lets)) term) None in
     elim (either header (option_or lets last) e h) as (λ z. Struck f locals b func number e) [
       | inl a ↦ (
           let c = at_found func number 0 (block_header_fault f locals number b.params) e a in
@@ -503,22 +503,22 @@ block_hit p f func number b e u h =
           elim (either lets last e c) as (λ z. Struck f locals b func number e) [
             | inl d ↦ at_the_let f locals b func number e w (lets_hit p locals func number 1 (at_start locals b) b.lets e u d)
             | inr (d, g) ↦ (
-                let t = at_found func number (suc (length b.lets)) exit e (alone_fault (at_place func number (suc (length b.lets)) exit) e g) in
+                let t = at_found func number (suc (length b.lets)) term e (alone_fault (at_place func number (suc (length b.lets)) term) e g) in
                 at_the_end f locals b func number e
                 (all_both (IsBindWithin (length locals)) (map Bind b.params) (flat_map let_events b.lets) (binds_within_are (length locals) b.params w) (all_lets_inside p locals func number 1 (at_start locals b) b.lets d))
-                t.place_is t.block_is t.func_is (exit_hit p f locals number end b.exit e.kind (end_length locals b) u t.found))
+                t.place_is t.block_is t.func_is (exit_hit p f locals number end b.term e.kind (end_length locals b) u t.found))
           ])
     ]
 
 -- ---- functions and programs
 
-record BlockHit (p : Program) (f : Function) (func number : ℕ) (bs : List BasicBlock) (e : CodeFault) : Type 0 where
+record BlockHit (p : Code) (f : Func) (func number : ℕ) (bs : List Block) (e : CodeFault) : Type 0 where
   index : ℕ
-  b : BasicBlock
+  b : Block
   is : slice_get bs index ≡ Some b
   fault : block_fault p f (locals_of p.types f) func (number + index) b ≡ Some e
 
-blocks_hit : (p : Program) (f : Function) (func number : ℕ) (bs : List BasicBlock) (e : CodeFault) → blocks_fault p f (locals_of p.types f) func number bs ≡ Some e → BlockHit p f func number bs e
+blocks_hit : (p : Code) (f : Func) (func number : ℕ) (bs : List Block) (e : CodeFault) → blocks_fault p f (locals_of p.types f) func number bs ≡ Some e → BlockHit p f func number bs e
 blocks_hit p f func number [] e h = cc
 blocks_hit p f func number (b ∷ bs) e h =
     let locals = locals_of p.types f in
@@ -528,13 +528,13 @@ blocks_hit p f func number (b ∷ bs) e h =
           record { index = suc d.index; b = d.b; is = d.is; fault = subst (λ n. block_fault p f locals func n d.b ≡ Some e) (let q : suc number + d.index ≡ number + suc d.index = omega arith in q) d.fault })
     ]
 
-record FunctionHit (p : Program) (func : ℕ) (fs : List Function) (e : CodeFault) : Type 0 where
+record FunctionHit (p : Code) (func : ℕ) (fs : List Func) (e : CodeFault) : Type 0 where
   index : ℕ
-  f : Function
+  f : Func
   is : slice_get fs index ≡ Some f
   fault : blocks_fault p f (locals_of p.types f) (func + index) 0 f.blocks ≡ Some e
 
-function_hit : (p : Program) (func : ℕ) (new : Bool) (f : Function) (e : CodeFault) → is_use e.kind ≡ true → function_fault p func new f ≡ Some e → blocks_fault p f (locals_of p.types f) func 0 f.blocks ≡ Some e
+function_hit : (p : Code) (func : ℕ) (new : Bool) (f : Func) (e : CodeFault) → is_use e.kind ≡ true → function_fault p func new f ≡ Some e → blocks_fault p f (locals_of p.types f) func 0 f.blocks ≡ Some e
 function_hit p func new f e u h =
     let types = p.types in
     let known = list_all (is_known types) f.params && is_known types f.result && list_all (is_known types) f.locals in
@@ -547,7 +547,7 @@ function_hit p func new f e u h =
       | inr (a, c) ↦ alone_fault blocks e c
     ]
 
-functions_hit : (p : Program) (func : ℕ) (earlier : List (List ℕ)) (fs : List Function) (e : CodeFault) → is_use e.kind ≡ true → functions_fault p func earlier fs ≡ Some e → FunctionHit p func fs e
+functions_hit : (p : Code) (func : ℕ) (earlier : List (List ℕ)) (fs : List Func) (e : CodeFault) → is_use e.kind ≡ true → functions_fault p func earlier fs ≡ Some e → FunctionHit p func fs e
 functions_hit p func earlier [] e u h = cc
 functions_hit p func earlier (f ∷ fs) e u h =
     elim (either (function_fault p func (not (stands earlier f.name)) f) (functions_fault p (suc func) (earlier ++ f.name ∷ []) fs) e h) as (λ z. FunctionHit p func (f ∷ fs) e) [
@@ -576,14 +576,14 @@ types_hit {P} types earlier cons (t ∷ ts) k u h =
       | inr (a, b) ↦ types_hit types (earlier ++ t.name ∷ []) (cons ++ map (λ c. c.name) t.cons) ts k u b
     ]
 
-record ProgramHit (p : Program) (e : CodeFault) : Type 0 where
-  f : Function
+record ProgramHit (p : Code) (e : CodeFault) : Type 0 where
+  f : Func
   function : slice_get p.funcs e.func ≡ Some f
-  b : BasicBlock
+  b : Block
   in_block : slice_get f.blocks e.block ≡ Some b
   struck : Struck f (locals_of p.types f) b e.func e.block e
 
-in_functions : (p : Program) (e : CodeFault) → is_use e.kind ≡ true → FunctionHit p 0 p.funcs e → ProgramHit p e
+in_functions : (p : Code) (e : CodeFault) → is_use e.kind ≡ true → FunctionHit p 0 p.funcs e → ProgramHit p e
 in_functions p e u h =
     let g = blocks_hit p h.f (0 + h.index) 0 h.f.blocks e h.fault in
     let s = block_hit p h.f (0 + h.index) (0 + g.index) g.b e u g.fault in
@@ -597,7 +597,7 @@ in_functions p e u h =
       struck = record { before = s.before; here = s.here; comes = s.comes; inside = s.inside; strikes = s.strikes; block_is = refl; func_is = refl };
     }
 
-program_hit : (p : Program) (e : CodeFault) → is_use e.kind ≡ true → first_fault p ≡ Some e → ProgramHit p e
+program_hit : (p : Code) (e : CodeFault) → is_use e.kind ≡ true → first_fault p ≡ Some e → ProgramHit p e
 program_hit p e u h =
     elim (either (table_fault p) (functions_fault p 0 [] p.funcs) e h) as (λ z. ProgramHit p e) [
       | inl a ↦ types_hit p.types [] [] p.types e.kind u (at_found (length p.funcs) 0 0 (types_fault p.types [] [] p.types) e a).found
@@ -724,7 +724,7 @@ spent_mark (Some mark.Unbound) h = cc
 was_used : (locals : List Local) (es : List Event) (x : ℕ) → IsSpent (after locals (unbound locals) es) x → Since locals es x
 was_used locals es x h = elim (spent_since locals (unbound locals) es x h) as (λ z. Since locals es x) [ inl (s, n) ↦ absurd (never_spent (length locals) x s) | inr s ↦ s ]
 
-uses_again : (types : List DataType) (f : Function) (before here : List Event) → Strikes (locals_of types f) (after (locals_of types f) (unbound (locals_of types f)) before) here fault.Spent → UsesAgain (is_heap_local types f) before here
+uses_again : (types : List DataType) (f : Func) (before here : List Event) → Strikes (locals_of types f) (after (locals_of types f) (unbound (locals_of types f)) before) here fault.Spent → UsesAgain (is_heap_local types f) before here
 uses_again types f before here s =
     let locals = locals_of types f in
     let d = was_used locals (before ++ s.front) s.local
@@ -733,7 +733,7 @@ uses_again types f before here s =
 
 -- ---- what the faults of use say
 
-pub unbound_misuse : (p : Program) (e : CodeFault) → e.kind ≡ fault.Unbound → first_fault p ≡ Some e → Happens p e.func e.block e.place (λ f before here. UsesUnbound before here)
+pub unbound_misuse : (p : Code) (e : CodeFault) → e.kind ≡ fault.Unbound → first_fault p ≡ Some e → Happens p e.func e.block e.place (λ f before here. UsesUnbound before here)
 unbound_misuse p e k h =
     let g = program_hit p e (ap is_use k) h in
     let s = g.struck in
@@ -748,7 +748,7 @@ unbound_misuse p e k h =
       bad = uses_unbound (locals_of p.types g.f) s.before s.here s.inside (subst (λ q. Strikes (locals_of p.types g.f) (after (locals_of p.types g.f) (unbound (locals_of p.types g.f)) s.before) s.here q) k s.strikes);
     }
 
-pub spent_misuse : (p : Program) (e : CodeFault) → e.kind ≡ fault.Spent → first_fault p ≡ Some e → Happens p e.func e.block e.place (λ f before here. UsesAgain (is_heap_local p.types f) before here)
+pub spent_misuse : (p : Code) (e : CodeFault) → e.kind ≡ fault.Spent → first_fault p ≡ Some e → Happens p e.func e.block e.place (λ f before here. UsesAgain (is_heap_local p.types f) before here)
 spent_misuse p e k h =
     let g = program_hit p e (ap is_use k) h in
     let s = g.struck in

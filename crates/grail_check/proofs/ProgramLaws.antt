@@ -5,8 +5,8 @@ use Rattle.std.specs.List.{list_all, AllByRecursion}
 use Rattle.camelot_values.specs.Kinds.{Constructor, DataType, constructors}
 use Rattle.camelot_values.specs.declared.kinds.Kind.{Kind}
 use Rattle.camelot_values.specs.declared.kinds.Kind.TheVariants as kind
-use Rattle.grail_code.specs.Code.{Function, Program}
-use Rattle.grail_code.specs.WellFormed.{IsKnownKind, FunctionFits, IsWellFormed}
+use Rattle.grail_code.specs.Code.{Func, Code}
+use Rattle.grail_code.specs.WellFormed.{IsKnownKind, FuncFits, IsWellFormed}
 use Rattle.grail_check.specs.declared.fault.CodeKind.TheVariants as fault
 use Rattle.grail_check.specs.declared.fault.CodeFault.{CodeFault}
 use Rattle.grail_check.specs.Walk.{unless, at_place, stands, is_known, locals_of, blocks_fault, header_fault, function_fault, functions_fault, constructor_fault, constructors_fault, type_fault, types_fault, table_fault, first_fault}
@@ -36,7 +36,7 @@ known_all types ks h = true_all (is_known types) ks (all_then (IsKnownKind types
 
 -- ---- functions
 
-function_passes : (p : Program) (func : ℕ) (new : Bool) (f : Function) → function_fault p func new f ≡ None → (new ≡ true) × FunctionFits p f
+function_passes : (p : Code) (func : ℕ) (new : Bool) (f : Func) → function_fault p func new f ≡ None → (new ≡ true) × FuncFits p f
 function_passes p func new f h =
     let types = p.types in
     let a = none_fails (at_place func 0 0 (header_fault types new f) ∷ blocks_fault p f (locals_of types f) func 0 f.blocks ∷ []) h in
@@ -53,7 +53,7 @@ function_passes p func new f h =
       },
     )
 
-pass_function : (p : Program) (func : ℕ) (new : Bool) (f : Function) → new ≡ true → FunctionFits p f → function_fault p func new f ≡ None
+pass_function : (p : Code) (func : ℕ) (new : Bool) (f : Func) → new ≡ true → FuncFits p f → function_fault p func new f ≡ None
 pass_function p func new f e fits =
     let types = p.types in
     all_pass (at_place func 0 0 (header_fault types new f) ∷ blocks_fault p f (locals_of types f) func 0 f.blocks ∷ []) (
@@ -71,17 +71,17 @@ pass_function p func new f e fits =
       (pass_blocks p f func fits.blocks, tt),
     )
 
-abbrev names : List Function → List (List ℕ)
+abbrev names : List Func → List (List ℕ)
 names fs = map (λ f. f.name) fs
 
-functions_pass : (p : Program) (func : ℕ) (earlier : List (List ℕ)) (fs : List Function) → functions_fault p func earlier fs ≡ None → AreNew earlier (names fs) × AllByRecursion (FunctionFits p) fs
+functions_pass : (p : Code) (func : ℕ) (earlier : List (List ℕ)) (fs : List Func) → functions_fault p func earlier fs ≡ None → AreNew earlier (names fs) × AllByRecursion (FuncFits p) fs
 functions_pass p func earlier [] h = (tt, tt)
 functions_pass p func earlier (f ∷ fs) h =
     let a = function_passes p func (not (stands earlier f.name)) f (or_first _ _ h) in
     let b = functions_pass p (suc func) (earlier ++ f.name ∷ []) fs (or_second (function_fault p func (not (stands earlier f.name)) f) _ h) in
     ((a.0, b.0), (a.1, b.1))
 
-pass_functions : (p : Program) (func : ℕ) (earlier : List (List ℕ)) (fs : List Function) → AreNew earlier (names fs) → AllByRecursion (FunctionFits p) fs → functions_fault p func earlier fs ≡ None
+pass_functions : (p : Code) (func : ℕ) (earlier : List (List ℕ)) (fs : List Func) → AreNew earlier (names fs) → AllByRecursion (FuncFits p) fs → functions_fault p func earlier fs ≡ None
 pass_functions p func earlier [] h k = refl
 pass_functions p func earlier (f ∷ fs) h k = or_none (function_fault p func (not (stands earlier f.name)) f) _
     (pass_function p func (not (stands earlier f.name)) f h.0 k.0) (pass_functions p (suc func) (earlier ++ f.name ∷ []) fs h.1 k.1)
@@ -155,21 +155,21 @@ pass_types types earlier cons (t ∷ ts) h k l =
 
 -- ---- programs
 
-pub faultless_is_well_formed : (p : Program) → first_fault p ≡ None → IsWellFormed p
+pub faultless_is_well_formed : (p : Code) → first_fault p ≡ None → IsWellFormed p
 faultless_is_well_formed p h =
     let a = types_pass p.types [] [] p.types (nothing_there (length p.funcs) 0 0 (types_fault p.types [] [] p.types) (or_first (table_fault p) _ h)) in
     let b = functions_pass p 0 [] p.funcs (or_second (table_fault p) _ h) in
     record { type_names = new_distinct (type_names p.types) a.0; con_names = new_distinct (con_names (constructors p.types)) a.1; func_names = new_distinct (names p.funcs) b.0; fields = a.2; funcs = b.1 }
 
-pub well_formed_is_faultless : (p : Program) → IsWellFormed p → first_fault p ≡ None
+pub well_formed_is_faultless : (p : Code) → IsWellFormed p → first_fault p ≡ None
 well_formed_is_faultless p well = or_none (table_fault p) _
     (nowhere (length p.funcs) 0 0 (types_fault p.types [] [] p.types) (pass_types p.types [] [] p.types (distinct_new (type_names p.types) well.type_names) (distinct_new (con_names (constructors p.types)) well.con_names) well.fields))
     (pass_functions p 0 [] p.funcs (distinct_new (names p.funcs) well.func_names) well.funcs)
 
 -- ---- the answer
 
-pub right_answer : (p : Program) → first_fault p ≡ None → IsTrue true ↔ IsWellFormed p
+pub right_answer : (p : Code) → first_fault p ≡ None → IsTrue true ↔ IsWellFormed p
 right_answer p h = ((λ _. faultless_is_well_formed p h), (λ _. refl))
 
-pub right_refusal : (p : Program) (e : CodeFault) → first_fault p ≡ Some e → IsTrue false ↔ IsWellFormed p
+pub right_refusal : (p : Code) (e : CodeFault) → first_fault p ≡ Some e → IsTrue false ↔ IsWellFormed p
 right_refusal p e h = ((λ k. cc), (λ well. let q : first_fault p ≡ None = well_formed_is_faultless p well in cc))

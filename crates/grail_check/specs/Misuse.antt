@@ -1,19 +1,19 @@
 -- What the two faults of use say of the code: on some way through a block, a local is used that isn't bound before, or a
 -- local of a heap kind is used again before it is bound anew. This speaks of the events on the way alone, and of no state.
 use Rattle.std.specs.Prelude.{◌≡◌, ℕ, suc, Bool, List, ◌∷◌, ◌++◌, length, map, flat_map, slice_get, Some, IsTrue}
-use Rattle.grail_code.specs.Code.{Binding, BasicBlock, Function, Program}
-use Rattle.grail_code.specs.WellFormed.{Event, Use, Bind, Binds, operands_of, let_events, exit_uses, ways}
+use Rattle.grail_code.specs.Code.{Let, Block, Func, Code}
+use Rattle.grail_code.specs.WellFormed.{Event, Use, Bind, Binds, operands_of, let_events, term_uses, ways}
 
 -- a block's parameters are bound, and then these lets are made
-abbrev pub events_of : BasicBlock → List Binding → List Event
+abbrev pub events_of : Block → List Let → List Event
 events_of b lets = map Bind b.params ++ flat_map let_events lets
 
 -- A way through a block comes to a place after the events `before`, and these are the events there: what a let uses, or
 -- what the end uses itself, or that and a way on.
-pub data Comes (f : Function) (b : BasicBlock) (before here : List Event) : ℕ → Type 0 where
-  ToLet : (earlier rest : List Binding) (l : Binding) → b.lets ≡ earlier ++ l ∷ rest → before ≡ events_of b earlier → here ≡ map Use (operands_of l.op) → Comes f b before here (suc (length earlier))
-  ToEnd : before ≡ events_of b b.lets → here ≡ map Use (exit_uses b.exit) → Comes f b before here (suc (length b.lets))
-  Onward : (i : ℕ) (way : List Event) → slice_get (ways f b.exit) i ≡ Some way → before ≡ events_of b b.lets → here ≡ map Use (exit_uses b.exit) ++ way → Comes f b before here (suc (length b.lets))
+pub data Comes (f : Func) (b : Block) (before here : List Event) : ℕ → Type 0 where
+  ToLet : (earlier rest : List Let) (l : Let) → b.lets ≡ earlier ++ l ∷ rest → before ≡ events_of b earlier → here ≡ map Use (operands_of l.op) → Comes f b before here (suc (length earlier))
+  ToEnd : before ≡ events_of b b.lets → here ≡ map Use (term_uses b.term) → Comes f b before here (suc (length b.lets))
+  Onward : (i : ℕ) (way : List Event) → slice_get (ways f b.term) i ≡ Some way → before ≡ events_of b b.lets → here ≡ map Use (term_uses b.term) ++ way → Comes f b before here (suc (length b.lets))
 
 -- a local is used here that isn't bound before
 pub record UsesUnbound (before here : List Event) : Type 0 where
@@ -36,10 +36,10 @@ pub record UsesAgain (is_heap_at : ℕ → Bool) (before here : List Event) : Ty
   pub kept : Binds local between → ⊥
 
 -- this place is there, and what happens there is bad
-pub record Happens (p : Program) (func block place : ℕ) (Bad : Function → List Event → List Event → Type 0) : Type 0 where
-  pub f : Function
+pub record Happens (p : Code) (func block place : ℕ) (Bad : Func → List Event → List Event → Type 0) : Type 0 where
+  pub f : Func
   pub function : slice_get p.funcs func ≡ Some f
-  pub b : BasicBlock
+  pub b : Block
   pub in_block : slice_get f.blocks block ≡ Some b
   pub before : List Event
   pub here : List Event

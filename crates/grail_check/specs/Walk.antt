@@ -18,11 +18,11 @@ pub use Rattle.camelot_values.specs.Kinds.{same_kind}
 use Rattle.camelot_values.specs.Operator.{Operator}
 use Rattle.camelot_values.specs.declared.kinds.Kind.{Kind}
 use Rattle.camelot_values.specs.declared.kinds.Kind.TheVariants as kind
-use Rattle.grail_code.specs.declared.code.Place.{Place}
-use Rattle.grail_code.specs.declared.code.Place.TheVariants as place
-use Rattle.grail_code.specs.declared.code.CaseCell.{CaseCell}
-use Rattle.grail_code.specs.declared.code.CaseCell.TheVariants as cell
-use Rattle.grail_code.specs.Code.{Operation, Lit, Flag, Copy, Prim, Make, Call, Binding, Arm, Exit, Ret, Tail, Goto, If, Case, BasicBlock, Function, Program}
+use Rattle.grail_blocks.specs.declared.blocks.Place.{Place}
+use Rattle.grail_blocks.specs.declared.blocks.Place.TheVariants as place
+use Rattle.grail_blocks.specs.declared.blocks.CaseCell.{CaseCell}
+use Rattle.grail_blocks.specs.declared.blocks.CaseCell.TheVariants as cell
+use Rattle.grail_code.specs.Code.{Op, Lit, Flag, Copy, Prim, Make, Call, Let, CaseArm, Term, Ret, Tail, Goto, If, Case, Block, Func, Code}
 use Rattle.grail_code.specs.WellFormed.{local_kinds, operator_kind, operands_of, kept_diamond, bound_by, params_of, data_type}
 use Rattle.grail_check.specs.declared.fault.CodeKind.{CodeKind}
 use Rattle.grail_check.specs.declared.fault.CodeKind.TheVariants as fault
@@ -55,7 +55,7 @@ at_place func block place found = option_map (λ k. record { func = func; block 
 abbrev pub local_of : List DataType → Kind → Local
 local_of types k = record { kind = k; heap = is_heap types k }
 
-abbrev pub locals_of : List DataType → Function → List Local
+abbrev pub locals_of : List DataType → Func → List Local
 locals_of types f = map (local_of types) (local_kinds f)
 
 abbrev pub is_local : List Local → ℕ → Bool
@@ -152,7 +152,7 @@ make_fault locals marks x (Some c) owner args at = first_of (
     ∷ unless (place_fits c.inline at) fault.Place
     ∷ target_fault locals x owner ∷ [])
 
-abbrev pub call_fault : List Local → List Mark → ℕ → Option Function → List ℕ → Option CodeKind
+abbrev pub call_fault : List Local → List Mark → ℕ → Option Func → List ℕ → Option CodeKind
 call_fault locals marks x None args = Some fault.NoSuchEntry
 call_fault locals marks x (Some callee) args = first_of (
     arguments_fault locals marks args callee.params
@@ -169,7 +169,7 @@ operator_fault locals marks x op left right = first_of (
     ∷ operand_fault locals (spend locals marks left) right kind.Int
     ∷ target_fault locals x (Some (operator_kind op)) ∷ [])
 
-abbrev pub operation_fault : Program → List Local → List Mark → ℕ → Operation → Option CodeKind
+abbrev pub operation_fault : Code → List Local → List Mark → ℕ → Op → Option CodeKind
 operation_fault p locals marks x (Lit z) = target_fault locals x (Some kind.Int)
 operation_fault p locals marks x (Flag b) = target_fault locals x (Some kind.Flag)
 operation_fault p locals marks x (Copy y) = copy_fault locals marks x y
@@ -177,23 +177,23 @@ operation_fault p locals marks x (Prim op left right) = operator_fault locals ma
 operation_fault p locals marks x (Make con args at) = make_fault locals marks x (constructor p.types con) (option_map kind.Of (type_of p.types con)) args at
 operation_fault p locals marks x (Call func args) = call_fault locals marks x (slice_get p.funcs func) args
 
-abbrev pub let_fault : Program → List Local → List Mark → Binding → Option CodeKind
+abbrev pub let_fault : Code → List Local → List Mark → Let → Option CodeKind
 let_fault p locals marks l = first_of (
     unless (is_local locals l.target && list_all (is_local locals) (operands_of l.op)) fault.NoSuchEntry
     ∷ operation_fault p locals marks l.target l.op ∷ [])
 
 -- a let uses its operands, and then binds its local
-abbrev pub after_let : List Local → List Mark → Binding → List Mark
+abbrev pub after_let : List Local → List Mark → Let → List Mark
 after_let locals marks l = bind (spend_all locals marks (operands_of l.op)) l.target
 
-abbrev pub after_lets : List Local → List Mark → List Binding → List Mark
+abbrev pub after_lets : List Local → List Mark → List Let → List Mark
 after_lets locals marks [] = marks
 after_lets locals marks (l ∷ ls) = after_lets locals (after_let locals marks l) ls
 
 -- ---- the end of a block
 
 -- the target of a jump is there
-abbrev pub is_block : Function → ℕ → Bool
+abbrev pub is_block : Func → ℕ → Bool
 is_block f b = nat_lt b (length f.blocks)
 
 -- the number is among these
@@ -209,32 +209,32 @@ uses_fault marks bound [] = None
 uses_fault marks bound (x ∷ xs) = option_or (use_fault marks bound x) (uses_fault marks bound xs)
 
 -- a jump uses the parameters of its target, and marks nothing
-abbrev pub jump_fault : Function → List Mark → List ℕ → ℕ → Option CodeKind
+abbrev pub jump_fault : Func → List Mark → List ℕ → ℕ → Option CodeKind
 jump_fault f marks bound b = uses_fault marks bound (params_of f b)
 
 -- another function's result is this one's
-abbrev pub callee_fault : Function → List Local → List Mark → Option Function → List ℕ → Option CodeKind
+abbrev pub callee_fault : Func → List Local → List Mark → Option Func → List ℕ → Option CodeKind
 callee_fault f locals marks None args = Some fault.NoSuchEntry
 callee_fault f locals marks (Some callee) args = first_of (
     arguments_fault locals marks args callee.params
     ∷ unless (same_kind callee.result f.result) fault.Kind ∷ [])
 
-abbrev pub tail_fault : Function → List Local → List Mark → Option Function → List ℕ → Option CodeKind
+abbrev pub tail_fault : Func → List Local → List Mark → Option Func → List ℕ → Option CodeKind
 tail_fault f locals marks callee args = first_of (
     unless (list_all (is_local locals) args) fault.NoSuchEntry
     ∷ callee_fault f locals marks callee args ∷ [])
 
 -- what an arm names is there
-abbrev pub arm_is_there : Function → List Local → Arm → Bool
+abbrev pub arm_is_there : Func → List Local → CaseArm → Bool
 arm_is_there f locals a = list_all (is_local locals) a.fields && list_all (is_local locals) (kept_diamond a.cell) && is_block f a.target
 
 -- a local for each field
-abbrev pub fields_count : List Arm → List Constructor → Bool
+abbrev pub fields_count : List CaseArm → List Constructor → Bool
 fields_count (a ∷ arms) (c ∷ cs) = (length a.fields == length c.fields) && fields_count arms cs
 fields_count arms cs = true
 
 -- an arm for each constructor
-abbrev pub arms_count : List Arm → List Constructor → Bool
+abbrev pub arms_count : List CaseArm → List Constructor → Bool
 arms_count arms cs = (length arms == length cs) && fields_count arms cs
 
 -- matched as Inline exactly where the constructor is inline
@@ -242,17 +242,17 @@ abbrev pub cell_fits : Bool → CaseCell → Bool
 cell_fits inline cell.Inline = inline
 cell_fits inline c = not inline
 
-abbrev pub cells_fit : List Arm → List Constructor → Bool
+abbrev pub cells_fit : List CaseArm → List Constructor → Bool
 cells_fit (a ∷ arms) (c ∷ cs) = cell_fits c.inline a.cell && cells_fit arms cs
 cells_fit arms cs = true
 
--- a kept_diamond cell becomes a diamond
+-- a kept cell becomes a diamond
 abbrev pub kept_fits : List Local → CaseCell → Bool
 kept_fits locals (cell.Keep d) = has_kind locals d kind.Dia
 kept_fits locals c = true
 
 -- what arms bind has the kinds of the fields, and of a diamond
-abbrev pub arms_have_kinds : List Local → List Arm → List Constructor → Bool
+abbrev pub arms_have_kinds : List Local → List CaseArm → List Constructor → Bool
 arms_have_kinds locals (a ∷ arms) (c ∷ cs) = have_kinds locals a.fields c.fields && kept_fits locals a.cell && arms_have_kinds locals arms cs
 arms_have_kinds locals arms cs = true
 
@@ -262,12 +262,12 @@ are_distinct [] = true
 are_distinct (x ∷ xs) = not (is_among xs x) && are_distinct xs
 
 -- the jump of each arm
-abbrev pub arms_jump_fault : Function → List Mark → List Arm → Option CodeKind
+abbrev pub arms_jump_fault : Func → List Mark → List CaseArm → Option CodeKind
 arms_jump_fault f marks [] = None
 arms_jump_fault f marks (a ∷ arms) = option_or (jump_fault f marks (bound_by a) a.target) (arms_jump_fault f marks arms)
 
 -- the arms of a case on a local of this type
-abbrev pub arms_fault : Function → List Local → List Mark → ℕ → Option DataType → List Arm → Option CodeKind
+abbrev pub arms_fault : Func → List Local → List Mark → ℕ → Option DataType → List CaseArm → Option CodeKind
 arms_fault f locals marks x None arms = Some fault.Kind
 arms_fault f locals marks x (Some t) arms = first_of (
     unless (arms_count arms t.cons) fault.Arms
@@ -277,25 +277,25 @@ arms_fault f locals marks x (Some t) arms = first_of (
     ∷ unless (list_all (λ a. are_distinct (bound_by a)) arms) fault.Header
     ∷ arms_jump_fault f (spend locals marks x) arms ∷ [])
 
-abbrev pub case_fault : Function → List Local → ℕ → List Mark → ℕ → Option DataType → List Arm → Option CodeKind
+abbrev pub case_fault : Func → List Local → ℕ → List Mark → ℕ → Option DataType → List CaseArm → Option CodeKind
 case_fault f locals number marks x t arms = first_of (
     unless (is_local locals x && list_all (arm_is_there f locals) arms) fault.NoSuchEntry
     ∷ unless (list_all (λ a. nat_lt number a.target) arms) fault.Backward
     ∷ arms_fault f locals marks x t arms ∷ [])
 
-abbrev pub ret_fault : Function → List Local → List Mark → ℕ → Option CodeKind
+abbrev pub ret_fault : Func → List Local → List Mark → ℕ → Option CodeKind
 ret_fault f locals marks x = first_of (
     unless (is_local locals x) fault.NoSuchEntry
     ∷ operand_fault locals marks x f.result ∷ [])
 
-abbrev pub goto_fault : Function → ℕ → List Mark → ℕ → Option CodeKind
+abbrev pub goto_fault : Func → ℕ → List Mark → ℕ → Option CodeKind
 goto_fault f number marks b = first_of (
     unless (is_block f b) fault.NoSuchEntry
     ∷ unless (nat_lt number b) fault.Backward
     ∷ jump_fault f marks [] b ∷ [])
 
 -- the jump where the value is true, and then the one where it is false
-abbrev pub if_fault : Function → List Local → ℕ → List Mark → ℕ → ℕ → ℕ → Option CodeKind
+abbrev pub if_fault : Func → List Local → ℕ → List Mark → ℕ → ℕ → ℕ → Option CodeKind
 if_fault f locals number marks x first second = first_of (
     unless (is_local locals x && is_block f first && is_block f second) fault.NoSuchEntry
     ∷ unless (nat_lt number first && nat_lt number second) fault.Backward
@@ -303,7 +303,7 @@ if_fault f locals number marks x first second = first_of (
     ∷ jump_fault f (spend locals marks x) [] first
     ∷ jump_fault f (spend locals marks x) [] second ∷ [])
 
-abbrev pub exit_fault : Program → Function → List Local → ℕ → List Mark → Exit → Option CodeKind
+abbrev pub exit_fault : Code → Func → List Local → ℕ → List Mark → Term → Option CodeKind
 exit_fault p f locals number marks (Ret x) = ret_fault f locals marks x
 exit_fault p f locals number marks (Tail func args) = tail_fault f locals marks (slice_get p.funcs func) args
 exit_fault p f locals number marks (Goto b) = goto_fault f number marks b
@@ -323,52 +323,52 @@ counts_from from to [] = from == to
 counts_from from to (x ∷ xs) = (x == from) && counts_from (suc from) to xs
 
 -- the first block has the function's parameters
-abbrev pub entry_fits : Function → ℕ → List ℕ → Bool
+abbrev pub entry_fits : Func → ℕ → List ℕ → Bool
 entry_fits f zero params = counts_from 0 (length f.params) params
 entry_fits f (suc number) params = true
 
-abbrev pub block_header_fault : Function → List Local → ℕ → List ℕ → Option CodeKind
+abbrev pub block_header_fault : Func → List Local → ℕ → List ℕ → Option CodeKind
 block_header_fault f locals number params = first_of (
     unless (list_all (is_local locals) params) fault.NoSuchEntry
     ∷ unless (ascends_from 0 params && entry_fits f number params) fault.Header ∷ [])
 
 -- the lets from this place on
-abbrev pub lets_fault : Program → List Local → ℕ → ℕ → ℕ → List Mark → List Binding → Option CodeFault
+abbrev pub lets_fault : Code → List Local → ℕ → ℕ → ℕ → List Mark → List Let → Option CodeFault
 lets_fault p locals func number place marks [] = None
 lets_fault p locals func number place marks (l ∷ ls) = option_or
     (at_place func number place (let_fault p locals marks l))
     (lets_fault p locals func number (suc place) (after_let locals marks l) ls)
 
 -- at a block's beginning its parameters are bound
-abbrev pub at_start : List Local → BasicBlock → List Mark
+abbrev pub at_start : List Local → Block → List Mark
 at_start locals b = bind_all (unbound locals) b.params
 
-abbrev pub block_fault : Program → Function → List Local → ℕ → ℕ → BasicBlock → Option CodeFault
+abbrev pub block_fault : Code → Func → List Local → ℕ → ℕ → Block → Option CodeFault
 block_fault p f locals func number b = first_of (
     at_place func number 0 (block_header_fault f locals number b.params)
     ∷ lets_fault p locals func number 1 (at_start locals b) b.lets
-    ∷ at_place func number (suc (length b.lets)) (exit_fault p f locals number (after_lets locals (at_start locals b) b.lets) b.exit) ∷ [])
+    ∷ at_place func number (suc (length b.lets)) (exit_fault p f locals number (after_lets locals (at_start locals b) b.lets) b.term) ∷ [])
 
 -- the blocks from this number on
-abbrev pub blocks_fault : Program → Function → List Local → ℕ → ℕ → List BasicBlock → Option CodeFault
+abbrev pub blocks_fault : Code → Func → List Local → ℕ → ℕ → List Block → Option CodeFault
 blocks_fault p f locals func number [] = None
 blocks_fault p f locals func number (b ∷ bs) = option_or (block_fault p f locals func number b) (blocks_fault p f locals func (suc number) bs)
 
 -- ---- functions, types and programs
 
 -- a function's name must be new
-abbrev pub header_fault : List DataType → Bool → Function → Option CodeKind
+abbrev pub header_fault : List DataType → Bool → Func → Option CodeKind
 header_fault types new f = first_of (
     unless new fault.Name
     ∷ unless (list_all (is_known types) f.params && is_known types f.result && list_all (is_known types) f.locals) fault.NoSuchEntry ∷ [])
 
-abbrev pub function_fault : Program → ℕ → Bool → Function → Option CodeFault
+abbrev pub function_fault : Code → ℕ → Bool → Func → Option CodeFault
 function_fault p func new f = first_of (
     at_place func 0 0 (header_fault p.types new f)
     ∷ blocks_fault p f (locals_of p.types f) func 0 f.blocks ∷ [])
 
 -- the functions from this number on, after those of these names
-abbrev pub functions_fault : Program → ℕ → List (List ℕ) → List Function → Option CodeFault
+abbrev pub functions_fault : Code → ℕ → List (List ℕ) → List Func → Option CodeFault
 functions_fault p func earlier [] = None
 functions_fault p func earlier (f ∷ fs) = option_or
     (function_fault p func (not (stands earlier f.name)) f)
@@ -400,9 +400,9 @@ types_fault types earlier cons (t ∷ ts) = option_or
     (types_fault types (earlier ++ t.name ∷ []) (cons ++ map (λ c. c.name) t.cons) ts)
 
 -- a fault of the types has the number of functions in place of a function
-abbrev pub table_fault : Program → Option CodeFault
+abbrev pub table_fault : Code → Option CodeFault
 table_fault p = at_place (length p.funcs) 0 0 (types_fault p.types [] [] p.types)
 
 -- the types, and then the functions
-abbrev pub first_fault : Program → Option CodeFault
+abbrev pub first_fault : Code → Option CodeFault
 first_fault p = option_or (table_fault p) (functions_fault p 0 [] p.funcs)

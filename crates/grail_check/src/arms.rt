@@ -1,7 +1,7 @@
 ghost use Rattle.std.specs.Prelude.{◌≡◌, ◌++◌, nat_lt, map};
 ghost use Rattle.std.specs.List.{list_all};
 ghost use Rattle.camelot_values.specs.Kinds.{constructor_of};
-ghost use Rattle.grail_code.specs.Code.{arm_of, function_of};
+ghost use Rattle.grail_code.specs.Code.{arm_of, func_of};
 ghost use Rattle.grail_code.specs.WellFormed.{kept_diamond, bound_by};
 ghost use Rattle.grail_check.specs.Walk.{is_local, is_among, have_kinds, is_block, arm_is_there, fields_count, arms_count, cell_fits, cells_fit, kept_fits, arms_have_kinds, are_distinct};
 
@@ -12,12 +12,12 @@ use grail_code::{CaseArm, CaseCell, Func};
 
 /// Whether there is a block of this number.
 pub(crate) fn is_block(func: &Func, block: u32) -> bool
-    ensures { result ≡ is_block (function_of func.now) block }
+    ensures { result ≡ is_block (func_of func.now) block }
 {
     (block as usize) < func.blocks.len()
 }
 
-/// Whether the cell is kept_diamond as a diamond in this local.
+/// Whether the cell is kept as a diamond in this local.
 pub(crate) fn keeps(cell: CaseCell, local: u32) -> bool
     ensures { result ≡ is_among (kept_diamond cell) local }
 {
@@ -29,7 +29,7 @@ pub(crate) fn keeps(cell: CaseCell, local: u32) -> bool
 
 // Whether what an arm names is there.
 fn arm_is_there(func: &Func, locals: &[Local], arm: &CaseArm) -> bool
-    ensures { result ≡ arm_is_there (function_of func.now) locals.now (arm_of arm.now) }
+    ensures { result ≡ arm_is_there (func_of func.now) locals.now (arm_of arm.now) }
 {
     let has_diamond = match arm.cell {
         CaseCell::Keep(diamond) => is_local(locals, diamond),
@@ -40,7 +40,7 @@ fn arm_is_there(func: &Func, locals: &[Local], arm: &CaseArm) -> bool
 
 /// Whether what arms name is there.
 pub(crate) fn arms_are_there(func: &Func, locals: &[Local], arms: &[CaseArm]) -> bool
-    ensures { result ≡ list_all (arm_is_there (function_of func.now) locals.now) (map arm_of arms.now) }
+    ensures { result ≡ list_all (arm_is_there (func_of func.now) locals.now) (map arm_of arms.now) }
 {
     'arms: for arm in arms {
         if !arm_is_there(func, locals, arm) {
@@ -125,7 +125,7 @@ fn have_kinds(locals: &[Local], fields: &[u32], kinds: &[Kind]) -> bool
     true
 }
 
-// Whether a kept_diamond cell becomes a diamond.
+// Whether a kept cell becomes a diamond.
 fn kept_fits(locals: &[Local], cell: CaseCell) -> bool
     ensures { result ≡ kept_fits locals.now cell }
 {
@@ -150,7 +150,7 @@ pub(crate) fn arms_have_kinds(locals: &[Local], arms: &[CaseArm], cons: &[Con]) 
     true
 }
 
-// Whether the fields and the diamond of a kept_diamond cell are bound to distinct locals.
+// Whether the fields and the diamond of a kept cell are bound to distinct locals.
 fn binds_once(fields: &[u32], cell: CaseCell) -> bool
     ensures { result ≡ are_distinct (fields.now ++ kept_diamond cell) }
 {

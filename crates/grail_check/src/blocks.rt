@@ -1,5 +1,5 @@
 ghost use Rattle.std.specs.Prelude.{◌≡◌, ◌≤◌, length, map, OnOk};
-ghost use Rattle.grail_code.specs.Code.{binding_of, block_of, function_of, program_of};
+ghost use Rattle.grail_code.specs.Code.{let_of, block_of, func_of, code_of};
 ghost use Rattle.grail_check.specs.Finding.{Finds};
 ghost use Rattle.grail_check.specs.Walk.{ascends_from, counts_from, entry_fits, block_header_fault, lets_fault, after_lets, block_fault, blocks_fault};
 
@@ -37,14 +37,14 @@ fn counts(count: usize, numbers: &[u32]) -> bool
 
 // Whether the parameters are the function's, if this is its first block.
 fn entry_fits(func: &Func, number: u32, params: &[u32]) -> bool
-    ensures { result ≡ entry_fits (function_of func.now) number params.now }
+    ensures { result ≡ entry_fits (func_of func.now) number params.now }
 {
     number != 0 || counts(func.params.len(), params)
 }
 
 // The parameters of a block.
 fn check_params(func: &Func, locals: &[Local], number: u32, params: &[u32]) -> Result<(), CodeKind>
-    ensures { Finds result (block_header_fault (function_of func.now) locals.now number params.now) }
+    ensures { Finds result (block_header_fault (func_of func.now) locals.now number params.now) }
 {
     require(are_locals(locals, params), CodeKind::NoSuchEntry)?;
     let orderly = ascends(params) && entry_fits(func, number, params);
@@ -61,8 +61,8 @@ fn check_lets(
     lets: &[Let],
 ) -> Result<(), CodeFault>
     requires { length lets.now ≤ 256 }
-    ensures found { Finds result (lets_fault (program_of code.now) locals.now func number 1 marks.old (map binding_of lets.now)) }
-    ensures marks { OnOk result (marks.new ≡ after_lets locals.now marks.old (map binding_of lets.now)) }
+    ensures found { Finds result (lets_fault (code_of code.now) locals.now func number 1 marks.old (map let_of lets.now)) }
+    ensures marks { OnOk result (marks.new ≡ after_lets locals.now marks.old (map let_of lets.now)) }
 {
     let mut place = 1;
     'lets: for binding in lets {
@@ -88,7 +88,7 @@ fn check_block(
     block: &Block,
 ) -> Result<(), CodeFault>
     requires { length marks.old ≡ length locals.now }
-    ensures { Finds result (block_fault (program_of code.now) (function_of func.now) locals.now func_number number (block_of block.now)) }
+    ensures { Finds result (block_fault (code_of code.now) (func_of func.now) locals.now func_number number (block_of block.now)) }
 {
     let at = |place, kind| CodeFault {
         func: func_number,
@@ -113,7 +113,7 @@ pub(crate) fn check_blocks(
     marks: &mut [Mark],
 ) -> Result<(), CodeFault>
     requires { length marks.old ≡ length locals.now }
-    ensures { Finds result (blocks_fault (program_of code.now) (function_of func.now) locals.now func_number 0 (map block_of func.now.blocks.items)) }
+    ensures { Finds result (blocks_fault (code_of code.now) (func_of func.now) locals.now func_number 0 (map block_of func.now.blocks.items)) }
 {
     let mut number = 0;
     'walk: for block in &func.blocks {

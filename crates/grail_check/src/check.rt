@@ -1,5 +1,5 @@
 ghost use Rattle.std.specs.Prelude.{◌≡◌, ◌↔◌, Some, None, IsTrue, is_ok, IfOk, MatchResult};
-ghost use Rattle.grail_code.specs.Code.{program_of};
+ghost use Rattle.grail_code.specs.Code.{code_of};
 ghost use Rattle.grail_code.specs.WellFormed.{IsWellFormed};
 ghost use Rattle.grail_check.specs.Finding.{Answers};
 ghost use Rattle.grail_check.specs.Walk.{table_fault, first_fault};
@@ -12,7 +12,7 @@ use std::alloc::{AllocError, Global};
 
 // A fault of the types has the number of functions in place of a function.
 fn check_table(alloc: Global, code: &Code) -> Result<(), Stop<CodeFault>>
-    ensures { Answers result (table_fault (program_of code.now)) }
+    ensures { Answers result (table_fault (code_of code.now)) }
 {
     match check_types(alloc, &code.types) {
         Ok(()) => Ok(()),
@@ -28,7 +28,7 @@ fn check_table(alloc: Global, code: &Code) -> Result<(), Stop<CodeFault>>
 
 // The whole walk.
 fn walk(alloc: Global, code: &Code) -> Result<(), Stop<CodeFault>>
-    ensures { Answers result (first_fault (program_of code.now)) }
+    ensures { Answers result (first_fault (code_of code.now)) }
 {
     check_table(alloc, code)?;
     check_functions(alloc, code)
@@ -36,8 +36,8 @@ fn walk(alloc: Global, code: &Code) -> Result<(), Stop<CodeFault>>
 
 /// Whether the code is well formed, and if not, the first check of the walk that fails; `AllocError` where memory runs out.
 pub fn check_code(alloc: Global, code: &Code) -> Result<Result<(), CodeFault>, AllocError>
-    ensures first_fault { IfOk result (λ answer. MatchResult answer (λ _. first_fault (program_of code.now) ≡ None) (λ fault. first_fault (program_of code.now) ≡ Some fault)) }
-    ensures well_formed { IfOk result (λ answer. IsTrue (is_ok answer) ↔ IsWellFormed (program_of code.now)) }
+    ensures first_fault { IfOk result (λ answer. MatchResult answer (λ _. first_fault (code_of code.now) ≡ None) (λ fault. first_fault (code_of code.now) ≡ Some fault)) }
+    ensures well_formed { IfOk result (λ answer. IsTrue (is_ok answer) ↔ IsWellFormed (code_of code.now)) }
 {
     match walk(alloc, code) {
         Ok(()) => Ok(Ok(())),

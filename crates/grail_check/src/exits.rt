@@ -1,7 +1,7 @@
 ghost use Rattle.std.specs.Prelude.{◌≡◌, ◌++◌, [], map, slice_get, Some};
 ghost use Rattle.std.specs.Option.{option_map};
 ghost use Rattle.camelot_values.specs.Kinds.{data_type_of};
-ghost use Rattle.grail_code.specs.Code.{arm_of, exit_of, function_of, program_of};
+ghost use Rattle.grail_code.specs.Code.{arm_of, term_of, func_of, code_of};
 ghost use Rattle.grail_code.specs.WellFormed.{kept_diamond, data_type};
 ghost use Rattle.grail_check.specs.Finding.{Finds};
 ghost use Rattle.grail_check.specs.Walk.{uses_fault, jump_fault, arms_jump_fault, tail_fault, arms_fault, case_fault, ret_fault, goto_fault, if_fault, exit_fault};
@@ -44,7 +44,7 @@ fn check_jump(
     cell: CaseCell,
     target: u32,
 ) -> Result<(), CodeKind>
-    ensures { Finds result (jump_fault (function_of func.now) marks.now (fields.now ++ kept_diamond cell) target) }
+    ensures { Finds result (jump_fault (func_of func.now) marks.now (fields.now ++ kept_diamond cell) target) }
 {
     match func.blocks.get(target as usize) {
         Some(block) => check_uses(marks, fields, cell, &block.params),
@@ -54,14 +54,14 @@ fn check_jump(
 
 // A jump that binds nothing.
 fn check_plain_jump(func: &Func, marks: &[Mark], target: u32) -> Result<(), CodeKind>
-    ensures { Finds result (jump_fault (function_of func.now) marks.now [] target) }
+    ensures { Finds result (jump_fault (func_of func.now) marks.now [] target) }
 {
     check_jump(func, marks, &[], CaseCell::Inline, target)
 }
 
 // The jumps of arms, one after the other.
 fn check_arm_jumps(func: &Func, marks: &[Mark], arms: &[CaseArm]) -> Result<(), CodeKind>
-    ensures { Finds result (arms_jump_fault (function_of func.now) marks.now (map arm_of arms.now)) }
+    ensures { Finds result (arms_jump_fault (func_of func.now) marks.now (map arm_of arms.now)) }
 {
     'arms: for arm in arms {
         check_jump(func, marks, &arm.fields, arm.cell, arm.target)?;
@@ -81,7 +81,7 @@ fn data_type(types: &Types, kind: Option<Kind>) -> Option<&TypeDef>
 
 // The function of this number, where there is one.
 fn callee(code: &Code, number: u32) -> Option<&Func>
-    ensures { option_map (λ f. function_of f.now) result ≡ slice_get (program_of code.now).funcs number }
+    ensures { option_map (λ f. func_of f.now) result ≡ slice_get (code_of code.now).funcs number }
 {
     code.funcs.get(number as usize)
 }
@@ -94,7 +94,7 @@ fn check_tail(
     callee: Option<&Func>,
     args: &[u32],
 ) -> Result<(), CodeKind>
-    ensures { Finds result (tail_fault (function_of func.now) locals.now marks.old (option_map (λ f. function_of f.now) callee.entry) args.now) }
+    ensures { Finds result (tail_fault (func_of func.now) locals.now marks.old (option_map (λ f. func_of f.now) callee.entry) args.now) }
 {
     require(are_locals(locals, args), CodeKind::NoSuchEntry)?;
     let Some(callee) = callee else {
@@ -113,7 +113,7 @@ fn check_arms(
     def: &TypeDef,
     arms: &[CaseArm],
 ) -> Result<(), CodeKind>
-    ensures { Finds result (arms_fault (function_of func.now) locals.now marks.old on (Some (data_type_of def.now)) (map arm_of arms.now)) }
+    ensures { Finds result (arms_fault (func_of func.now) locals.now marks.old on (Some (data_type_of def.now)) (map arm_of arms.now)) }
 {
     require(arms_count(arms, &def.cons), CodeKind::Arms)?;
     check_mark(marks, on)?;
@@ -134,7 +134,7 @@ fn check_case(
     def: Option<&TypeDef>,
     arms: &[CaseArm],
 ) -> Result<(), CodeKind>
-    ensures { Finds result (case_fault (function_of func.now) locals.now number marks.old on (option_map (λ t. data_type_of t.now) def.entry) (map arm_of arms.now)) }
+    ensures { Finds result (case_fault (func_of func.now) locals.now number marks.old on (option_map (λ t. data_type_of t.now) def.entry) (map arm_of arms.now)) }
 {
     let there = is_local(locals, on) && arms_are_there(func, locals, arms);
     require(there, CodeKind::NoSuchEntry)?;
@@ -147,7 +147,7 @@ fn check_case(
 
 // The function's result.
 fn check_ret(func: &Func, locals: &[Local], marks: &mut [Mark], local: u32) -> Result<(), CodeKind>
-    ensures { Finds result (ret_fault (function_of func.now) locals.now marks.old local) }
+    ensures { Finds result (ret_fault (func_of func.now) locals.now marks.old local) }
 {
     require(is_local(locals, local), CodeKind::NoSuchEntry)?;
     check_operand(locals, marks, local, func.result)
@@ -155,7 +155,7 @@ fn check_ret(func: &Func, locals: &[Local], marks: &mut [Mark], local: u32) -> R
 
 // A jump to one block.
 fn check_goto(func: &Func, number: u32, marks: &[Mark], target: u32) -> Result<(), CodeKind>
-    ensures { Finds result (goto_fault (function_of func.now) number marks.now target) }
+    ensures { Finds result (goto_fault (func_of func.now) number marks.now target) }
 {
     require(is_block(func, target), CodeKind::NoSuchEntry)?;
     require(number < target, CodeKind::Backward)?;
@@ -172,7 +172,7 @@ fn check_if(
     yes: u32,
     no: u32,
 ) -> Result<(), CodeKind>
-    ensures { Finds result (if_fault (function_of func.now) locals.now number marks.old cond yes no) }
+    ensures { Finds result (if_fault (func_of func.now) locals.now number marks.old cond yes no) }
 {
     let there = is_local(locals, cond) && is_block(func, yes) && is_block(func, no);
     require(there, CodeKind::NoSuchEntry)?;
@@ -191,7 +191,7 @@ pub(crate) fn check_exit(
     marks: &mut [Mark],
     term: &Term,
 ) -> Result<(), CodeKind>
-    ensures { Finds result (exit_fault (program_of code.now) (function_of func.now) locals.now number marks.old (exit_of term.now)) }
+    ensures { Finds result (exit_fault (code_of code.now) (func_of func.now) locals.now number marks.old (term_of term.now)) }
 {
     match term {
         Term::Ret(local) => check_ret(func, locals, marks, *local),

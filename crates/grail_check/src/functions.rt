@@ -1,6 +1,6 @@
 ghost use Rattle.std.specs.Prelude.{◌≡◌, ◌++◌, [], OnOk, IfOk, map};
 ghost use Rattle.std.specs.List.{list_all};
-ghost use Rattle.grail_code.specs.Code.{function_of, program_of};
+ghost use Rattle.grail_code.specs.Code.{func_of, code_of};
 ghost use Rattle.grail_check.specs.Finding.{Finds, Answers};
 ghost use Rattle.grail_check.specs.Walk.{is_known, local_of, locals_of, header_fault, function_fault, functions_fault};
 
@@ -37,7 +37,7 @@ pub(crate) fn are_known(types: &Types, kinds: &[Kind]) -> bool
 
 // The locals of a function, with their kinds.
 fn locals_of(alloc: Global, types: &Types, func: &Func) -> Result<Vec<Local>, AllocError>
-    ensures { IfOk result (λ locals. locals.items ≡ locals_of types.now (function_of func.now)) }
+    ensures { IfOk result (λ locals. locals.items ≡ locals_of types.now (func_of func.now)) }
 {
     let mut locals = Vec::new(alloc);
     add_locals(&mut locals, types, &func.params)?;
@@ -58,7 +58,7 @@ fn add_locals(locals: &mut Vec<Local>, types: &Types, kinds: &[Kind]) -> Result<
 
 // The header of a function, whose name is new or not.
 fn check_header(types: &Types, new: bool, func: &Func) -> Result<(), CodeKind>
-    ensures { Finds result (header_fault types.now new (function_of func.now)) }
+    ensures { Finds result (header_fault types.now new (func_of func.now)) }
 {
     require(new, CodeKind::Name)?;
     let known = are_known(types, &func.params)
@@ -75,7 +75,7 @@ fn check_function(
     new: bool,
     func: &Func,
 ) -> Result<(), Stop<CodeFault>>
-    ensures { Answers result (function_fault (program_of code.now) number new (function_of func.now)) }
+    ensures { Answers result (function_fault (code_of code.now) number new (func_of func.now)) }
 {
     check_header(&code.types, new, func).map_err(|kind| CodeFault {
         func: number,
@@ -90,7 +90,7 @@ fn check_function(
 
 /// Checks the functions one after the other.
 pub(crate) fn check_functions(alloc: Global, code: &Code) -> Result<(), Stop<CodeFault>>
-    ensures { Answers result (functions_fault (program_of code.now) 0 [] (program_of code.now).funcs) }
+    ensures { Answers result (functions_fault (code_of code.now) 0 [] (code_of code.now).funcs) }
 {
     let mut names = IndexSet::new(alloc);
     let mut number = 0;

@@ -2,7 +2,7 @@ ghost use Rattle.std.specs.Prelude.{◌≡◌, ◌++◌, ◌∷◌, [], Some, On
 ghost use Rattle.std.specs.List.{list_all};
 ghost use Rattle.std.specs.Option.{option_map};
 ghost use Rattle.camelot_values.specs.Kinds.{constructor_of};
-ghost use Rattle.grail_code.specs.Code.{operator_of, operation_of, binding_of, function_of, program_of};
+ghost use Rattle.grail_code.specs.Code.{operator_of, op_of, let_of, func_of, code_of};
 ghost use Rattle.grail_code.specs.WellFormed.{operator_kind, operands_of, taken};
 ghost use Rattle.grail_check.specs.Finding.{Finds};
 ghost use Rattle.grail_check.specs.Walk.{is_local, place_fits, copy_fault, operator_fault, target_fault, taken_fault, make_fault, call_fault, operation_fault, let_fault, spend_all, after_let};
@@ -49,7 +49,7 @@ fn has_parts(locals: &[Local], args: &[u32], place: Place) -> bool
 
 // Whether the operands are there.
 fn has_operands(locals: &[Local], op: &Op) -> bool
-    ensures { result ≡ list_all (is_local locals.now) (operands_of (operation_of op.now)) }
+    ensures { result ≡ list_all (is_local locals.now) (operands_of (op_of op.now)) }
 {
     match op {
         Op::Lit(_) | Op::Flag(_) => true,
@@ -116,7 +116,7 @@ fn check_call(
     callee: &Func,
     args: &[u32],
 ) -> Result<(), CodeKind>
-    ensures found { Finds result (call_fault locals.now marks.old target (Some (function_of callee.now)) args.now) }
+    ensures found { Finds result (call_fault locals.now marks.old target (Some (func_of callee.now)) args.now) }
     ensures marks { OnOk result (marks.new ≡ spend_all locals.now marks.old args.now) }
 {
     check_arguments(locals, marks, args, &callee.params)?;
@@ -174,8 +174,8 @@ fn check_operation(
     target: u32,
     op: &Op,
 ) -> Result<(), CodeKind>
-    ensures found { Finds result (operation_fault (program_of code.now) locals.now marks.old target (operation_of op.now)) }
-    ensures marks { OnOk result (marks.new ≡ spend_all locals.now marks.old (operands_of (operation_of op.now))) }
+    ensures found { Finds result (operation_fault (code_of code.now) locals.now marks.old target (op_of op.now)) }
+    ensures marks { OnOk result (marks.new ≡ spend_all locals.now marks.old (operands_of (op_of op.now))) }
 {
     match op {
         Op::Lit(_) => check_target(locals, target, Some(Kind::Int)),
@@ -205,8 +205,8 @@ pub(crate) fn check_let(
     marks: &mut [Mark],
     binding: &Let,
 ) -> Result<(), CodeKind>
-    ensures found { Finds result (let_fault (program_of code.now) locals.now marks.old (binding_of binding.now)) }
-    ensures marks { OnOk result (marks.new ≡ after_let locals.now marks.old (binding_of binding.now)) }
+    ensures found { Finds result (let_fault (code_of code.now) locals.now marks.old (let_of binding.now)) }
+    ensures marks { OnOk result (marks.new ≡ after_let locals.now marks.old (let_of binding.now)) }
 {
     let there = is_local(locals, binding.target) && has_operands(locals, &binding.op);
     require(there, CodeKind::NoSuchEntry)?;

@@ -10,5 +10,3 @@ pub mod SpellingWrites
 -- Functions by name.
 pub mod NamedFuncs
 -- The meaning of code: its clock and fuel, and that well-formed code isn't stuck.
-pub mod Clock
-pub mod Sound

@@ -3,9 +3,9 @@ use Rattle.std.proofs.Common.{◌≡◌, ℕ, zero, suc, ◌<◌, List, [], ◌�
 use Rattle.camelot_values.specs.Names.{is_lower, IsName}
 use Rattle.camelot_values.specs.Kinds.{DataType}
 use Rattle.camelot_values.specs.declared.kinds.Kind.{Kind}
-use Rattle.grail_code.specs.declared.code.CaseCell.{CaseCell}
-use Rattle.grail_code.specs.declared.code.CaseCell.TheVariants as cell
-use Rattle.grail_code.specs.Code.{Prim, Binding, Arm, Exit, Ret, Tail, Goto, If, Case, BasicBlock, Function, Program}
+use Rattle.grail_blocks.specs.declared.blocks.CaseCell.{CaseCell}
+use Rattle.grail_blocks.specs.declared.blocks.CaseCell.TheVariants as cell
+use Rattle.grail_code.specs.Code.{Prim, Let, CaseArm, Term, Ret, Tail, Goto, If, Case, Block, Func, Code}
 use Rattle.grail_code.specs.Spelling as s
 use Rattle.grail_code.specs.Spelling.{number, counted, name, AreCounted, IsLocal, FitsKind, FitsCon, FitsType, FitsPlace, FitsOperation, FitsLet, FitsCell, FitsArm, FitsExit, FitsBlock, FitsFunction, FitsCode}
 use Rattle.grail_code.specs.Reader.{Read, pair_at, leb_at, counted_at}
@@ -68,38 +68,38 @@ arm_law = made (λ (p : List ℕ × (CaseCell × ℕ)). AreCounted IsLocal 0 4 p
     (pair (AreCounted IsLocal 0 4) (counted number) (counted_at local_at 0 4) (λ (p : CaseCell × ℕ). FitsCell p.0 × IsLocal p.1) (λ p. s.cell_bytes p.0 ++ number p.1) (pair_at cell_at local_at) (locals_law 4)
     (pair FitsCell s.cell_bytes cell_at IsLocal number local_at cell_law local_law))
 
-abbrev exit_tag : Exit → ℕ
+abbrev exit_tag : Term → ℕ
 exit_tag (Ret x) = 0
 exit_tag (Tail f args) = 1
 exit_tag (Goto b) = 2
 exit_tag (If x first second) = 3
 exit_tag (Case x arms) = 4
 
-abbrev exit_tail : Exit → List ℕ
+abbrev exit_tail : Term → List ℕ
 exit_tail (Ret x) = number x
 exit_tail (Tail f args) = number f ++ counted number args
 exit_tail (Goto b) = number b
 exit_tail (If x first second) = number x ++ number first ++ number second
 exit_tail (Case x arms) = number x ++ counted s.arm_bytes arms
 
-abbrev ExitIs : ℕ → Exit → Type 0
+abbrev ExitIs : ℕ → Term → Type 0
 ExitIs n e = FitsExit e × (exit_tag e ≡ n)
 
-exit_small : (e : Exit) → exit_tag e < 5
+exit_small : (e : Term) → exit_tag e < 5
 exit_small (Ret x) = lit< tt
 exit_small (Tail f args) = lit< tt
 exit_small (Goto b) = lit< tt
 exit_small (If x first second) = lit< tt
 exit_small (Case x arms) = lit< tt
 
-exit_tagged : (e : Exit) → s.exit_bytes e ≡ exit_tag e ∷ exit_tail e
+exit_tagged : (e : Term) → s.exit_bytes e ≡ exit_tag e ∷ exit_tail e
 exit_tagged (Ret x) = refl
 exit_tagged (Tail f args) = refl
 exit_tagged (Goto b) = refl
 exit_tagged (If x first second) = refl
 exit_tagged (Case x arms) = refl
 
-ret_from : (e : Exit) → ExitIs 0 e → Made IsLocal Ret e
+ret_from : (e : Term) → ExitIs 0 e → Made IsLocal Ret e
 ret_from (Ret x) h = record { value = x; fits = h.0; is = refl }
 ret_from e h = absurd (omega (arith, h.1))
 
@@ -107,7 +107,7 @@ ret_law : Lawful (ExitIs 0) exit_tail ret_at
 unfolding ret_at
 ret_law = made IsLocal number local_at (ExitIs 0) exit_tail Ret (λ x h. (h, refl)) ret_from (λ x h. refl) local_law
 
-tail_from : (e : Exit) → ExitIs 1 e → Made CallFits (λ p. Tail p.0 p.1) e
+tail_from : (e : Term) → ExitIs 1 e → Made CallFits (λ p. Tail p.0 p.1) e
 tail_from (Tail f args) h = record { value = (f, args); fits = h.0; is = refl }
 tail_from e h = absurd (omega (arith, h.1))
 
@@ -115,7 +115,7 @@ tail_call_law : Lawful (ExitIs 1) exit_tail tail_call_at
 unfolding tail_call_at
 tail_call_law = made CallFits (λ p. number p.0 ++ counted number p.1) (pair_at (leb_at 4 0 63) (counted_at local_at 0 16)) (ExitIs 1) exit_tail (λ p. Tail p.0 p.1) (λ p h. (h, refl)) tail_from (λ p h. refl) call_parts
 
-goto_from : (e : Exit) → ExitIs 2 e → Made IsLocal Goto e
+goto_from : (e : Term) → ExitIs 2 e → Made IsLocal Goto e
 goto_from (Goto x) h = record { value = x; fits = h.0; is = refl }
 goto_from e h = absurd (omega (arith, h.1))
 
@@ -126,7 +126,7 @@ goto_law = made IsLocal number local_at (ExitIs 2) exit_tail Goto (λ x h. (h, r
 abbrev IfFits : ℕ × (ℕ × ℕ) → Type 0
 IfFits p = IsLocal p.0 × (IsLocal p.1.0 × IsLocal p.1.1)
 
-if_from : (e : Exit) → ExitIs 3 e → Made IfFits (λ p. If p.0 p.1.0 p.1.1) e
+if_from : (e : Term) → ExitIs 3 e → Made IfFits (λ p. If p.0 p.1.0 p.1.1) e
 if_from (If x first second) h = record { value = (x, (first, second)); fits = (h.0.0, (h.0.1, h.0.2)); is = refl }
 if_from e h = absurd (omega (arith, h.1))
 
@@ -136,10 +136,10 @@ if_law = made IfFits (λ p. number p.0 ++ (number p.1.0 ++ number p.1.1)) (pair_
     (λ p h. ((h.0, h.1.0, h.1.1), refl)) if_from (λ p h. sym (append_assoc (number p.0) (number p.1.0) (number p.1.1)))
     (pair IsLocal number local_at (λ (p : ℕ × ℕ). IsLocal p.0 × IsLocal p.1) (λ p. number p.0 ++ number p.1) (pair_at local_at local_at) local_law two_locals)
 
-abbrev CaseFits : ℕ × List Arm → Type 0
+abbrev CaseFits : ℕ × List CaseArm → Type 0
 CaseFits p = IsLocal p.0 × AreCounted FitsArm 0 64 p.1
 
-case_from : (e : Exit) → ExitIs 4 e → Made CaseFits (λ p. Case p.0 p.1) e
+case_from : (e : Term) → ExitIs 4 e → Made CaseFits (λ p. Case p.0 p.1) e
 case_from (Case x arms) h = record { value = (x, arms); fits = h.0; is = refl }
 case_from e h = absurd (omega (arith, h.1))
 
@@ -163,17 +163,17 @@ exit_law = tagged FitsExit s.exit_bytes exit_tail exit_tag 5 exit_rest (lit< tt)
 
 -- ---- blocks, functions and code
 
-abbrev BlockParts : List ℕ × (List Binding × Exit) → Type 0
+abbrev BlockParts : List ℕ × (List Let × Term) → Type 0
 BlockParts p = AreCounted IsLocal 0 256 p.0 × (AreCounted FitsLet 0 256 p.1.0 × FitsExit p.1.1)
 
 block_law : Lawful FitsBlock s.block_bytes block_at
 unfolding block_at
 block_law = made BlockParts (λ p. counted number p.0 ++ (counted s.let_bytes p.1.0 ++ s.exit_bytes p.1.1)) (pair_at (counted_at local_at 0 256) (pair_at (counted_at let_at 0 256) exit_at)) FitsBlock s.block_bytes
-    (λ p. record { params = p.0; lets = p.1.0; exit = p.1.1 })
-    (λ p h. record { params = h.0; lets = h.1.0; exit = h.1.1 })
-    (λ b h. record { value = (b.params, (b.lets, b.exit)); fits = (h.params, (h.lets, h.exit)); is = refl })
+    (λ p. record { params = p.0; lets = p.1.0; term = p.1.1 })
+    (λ p h. record { params = h.0; lets = h.1.0; term = h.1.1 })
+    (λ b h. record { value = (b.params, (b.lets, b.term)); fits = (h.params, (h.lets, h.term)); is = refl })
     (λ p h. sym (append_assoc (counted number p.0) (counted s.let_bytes p.1.0) (s.exit_bytes p.1.1)))
-    (pair (AreCounted IsLocal 0 256) (counted number) (counted_at local_at 0 256) (λ (p : List Binding × Exit). AreCounted FitsLet 0 256 p.0 × FitsExit p.1) (λ p. counted s.let_bytes p.0 ++ s.exit_bytes p.1) (pair_at (counted_at let_at 0 256) exit_at) (locals_law 256)
+    (pair (AreCounted IsLocal 0 256) (counted number) (counted_at local_at 0 256) (λ (p : List Let × Term). AreCounted FitsLet 0 256 p.0 × FitsExit p.1) (λ p. counted s.let_bytes p.0 ++ s.exit_bytes p.1) (pair_at (counted_at let_at 0 256) exit_at) (locals_law 256)
     (pair (AreCounted FitsLet 0 256) (counted s.let_bytes) (counted_at let_at 0 256) FitsExit s.exit_bytes exit_at (counted_law FitsLet s.let_bytes let_at 0 256 (lit≤ tt) (lit≤ tt) let_law) exit_law))
 
 abbrev Header : Type 0
@@ -190,7 +190,7 @@ unfolding header_at
 header_law = pair (AreCounted FitsKind 1 16) (counted s.kind_bytes) (counted_at kind_at 1 16) (λ (p : Kind × List Kind). FitsKind p.0 × AreCounted FitsKind 0 240 p.1) (λ p. s.kind_bytes p.0 ++ counted s.kind_bytes p.1) (pair_at kind_at (counted_at kind_at 0 240)) (kinds_law 1 16 (lit≤ tt) (lit≤ tt))
     (pair FitsKind s.kind_bytes kind_at (AreCounted FitsKind 0 240) (counted s.kind_bytes) (counted_at kind_at 0 240) kind_law (kinds_law 0 240 (lit≤ tt) (lit≤ tt)))
 
-abbrev FuncParts : List ℕ × (Header × List BasicBlock) → Type 0
+abbrev FuncParts : List ℕ × (Header × List Block) → Type 0
 FuncParts p = IsName is_lower p.0 × (HeaderFits p.1.0 × AreCounted FitsBlock 1 256 p.1.1)
 
 five : (a b c d e : List ℕ) → a ++ ((b ++ (c ++ d)) ++ e) ≡ a ++ b ++ c ++ d ++ e
@@ -203,15 +203,15 @@ func_law = made FuncParts (λ p. name p.0 ++ (header_bytes p.1.0 ++ counted s.bl
     (λ p h. record { name = h.0; params = h.1.0.0; result = h.1.0.1.0; locals = h.1.0.1.1; blocks = h.1.1 })
     (λ f h. record { value = (f.name, ((f.params, (f.result, f.locals)), f.blocks)); fits = (h.name, ((h.params, (h.result, h.locals)), h.blocks)); is = refl })
     (λ p h. five (name p.0) (counted s.kind_bytes p.1.0.0) (s.kind_bytes p.1.0.1.0) (counted s.kind_bytes p.1.0.1.1) (counted s.block_bytes p.1.1))
-    (pair (IsName is_lower) name (name_at is_lower) (λ (p : Header × List BasicBlock). HeaderFits p.0 × AreCounted FitsBlock 1 256 p.1) (λ p. header_bytes p.0 ++ counted s.block_bytes p.1) (pair_at header_at (counted_at block_at 1 256)) lower_law
+    (pair (IsName is_lower) name (name_at is_lower) (λ (p : Header × List Block). HeaderFits p.0 × AreCounted FitsBlock 1 256 p.1) (λ p. header_bytes p.0 ++ counted s.block_bytes p.1) (pair_at header_at (counted_at block_at 1 256)) lower_law
     (pair HeaderFits header_bytes header_at (AreCounted FitsBlock 1 256) (counted s.block_bytes) (counted_at block_at 1 256) header_law (counted_law FitsBlock s.block_bytes block_at 1 256 (lit≤ tt) (lit≤ tt) block_law)))
 
-tables_bytes : Program → List ℕ
+tables_bytes : Code → List ℕ
 tables_bytes p = counted s.type_bytes p.types ++ counted s.function_bytes p.funcs
 
 tables_law : Lawful FitsCode tables_bytes tables_at
 unfolding tables_at tables_bytes
-tables_law = made (λ (p : List DataType × List Function). AreCounted FitsType 0 64 p.0 × AreCounted FitsFunction 0 64 p.1) (λ p. counted s.type_bytes p.0 ++ counted s.function_bytes p.1) (pair_at (counted_at type_at 0 64) (counted_at func_at 0 64)) FitsCode tables_bytes
+tables_law = made (λ (p : List DataType × List Func). AreCounted FitsType 0 64 p.0 × AreCounted FitsFunction 0 64 p.1) (λ p. counted s.type_bytes p.0 ++ counted s.function_bytes p.1) (pair_at (counted_at type_at 0 64) (counted_at func_at 0 64)) FitsCode tables_bytes
     (λ p. record { types = p.0; funcs = p.1 }) (λ p h. record { types = h.0; funcs = h.1 }) (λ c h. record { value = (c.types, c.funcs); fits = (h.types, h.funcs); is = refl }) (λ p h. refl)
     (pair (AreCounted FitsType 0 64) (counted s.type_bytes) (counted_at type_at 0 64) (AreCounted FitsFunction 0 64) (counted s.function_bytes) (counted_at func_at 0 64)
     (counted_law FitsType s.type_bytes type_at 0 64 (lit≤ tt) (lit≤ tt) type_law) (counted_law FitsFunction s.function_bytes func_at 0 64 (lit≤ tt) (lit≤ tt) func_law))

@@ -6,9 +6,9 @@ use Rattle.std.proofs.lemmas.Int.{of_z-to_z, to_z-of_z}
 use Rattle.std.proofs.Math.Facts.{sfits_to_z, Fits-of_z}
 use Rattle.camelot_values.specs.Operator as operator
 use Rattle.camelot_values.specs.Operator.{Operator}
-use Rattle.grail_code.specs.declared.code.Place.{Place}
-use Rattle.grail_code.specs.declared.code.Place.TheVariants as place
-use Rattle.grail_code.specs.Code.{Operation, Lit, Flag, Copy, Prim, Make, Call}
+use Rattle.grail_blocks.specs.declared.blocks.Place.{Place}
+use Rattle.grail_blocks.specs.declared.blocks.Place.TheVariants as place
+use Rattle.grail_code.specs.Code.{Op, Lit, Flag, Copy, Prim, Make, Call}
 use Rattle.grail_code.specs.Spelling as s
 use Rattle.grail_code.specs.Spelling.{number, counted, name, AreCounted, IsLocal, FitsKind, FitsCon, FitsType, FitsPlace, FitsOperation, FitsLet, FitsCell, FitsArm, FitsExit, FitsBlock, FitsFunction, FitsCode}
 use Rattle.grail_code.specs.Reader.{pair_at, tag_at, leb_at, counted_at}
@@ -106,7 +106,7 @@ unfolding place_at
 place_law = tagged FitsPlace s.place_bytes place_tail place_tag 3 place_rest (lit< tt) place_small place_tagged place_rest_law
 
 -- operations
-abbrev op_tag : Operation → ℕ
+abbrev op_tag : Op → ℕ
 op_tag (Lit z) = 0
 op_tag (Flag b) = 1
 op_tag (Copy x) = 2
@@ -114,7 +114,7 @@ op_tag (Prim op x y) = 3
 op_tag (Make c args p) = 4
 op_tag (Call f args) = 5
 
-abbrev op_tail : Operation → List ℕ
+abbrev op_tail : Op → List ℕ
 op_tail (Lit z) = number (cast_unsigned w32 z)
 op_tail (Flag b) = (if b then 1 else 0) ∷ []
 op_tail (Copy x) = number x
@@ -122,10 +122,10 @@ op_tail (Prim op x y) = s.operator_code op ∷ (number x ++ number y)
 op_tail (Make c args p) = number c ++ counted number args ++ s.place_bytes p
 op_tail (Call f args) = number f ++ counted number args
 
-abbrev OpFits : ℕ → Operation → Type 0
+abbrev OpFits : ℕ → Op → Type 0
 OpFits n op = FitsOperation op × (op_tag op ≡ n)
 
-op_small : (op : Operation) → op_tag op < 6
+op_small : (op : Op) → op_tag op < 6
 op_small (Lit z) = lit< tt
 op_small (Flag b) = lit< tt
 op_small (Copy x) = lit< tt
@@ -133,7 +133,7 @@ op_small (Prim op x y) = lit< tt
 op_small (Make c args p) = lit< tt
 op_small (Call f args) = lit< tt
 
-op_tagged : (op : Operation) → s.operation_bytes op ≡ op_tag op ∷ op_tail op
+op_tagged : (op : Op) → s.operation_bytes op ≡ op_tag op ∷ op_tail op
 op_tagged (Lit z) = refl
 op_tagged (Flag b) = refl
 op_tagged (Copy x) = refl
@@ -141,7 +141,7 @@ op_tagged (Prim op x y) = refl
 op_tagged (Make c args p) = refl
 op_tagged (Call f args) = refl
 
-lit_from : (op : Operation) → OpFits 0 op → Made (λ n. n ≤ 4294967295) (λ n. Lit (cast_signed w32 n)) op
+lit_from : (op : Op) → OpFits 0 op → Made (λ n. n ≤ 4294967295) (λ n. Lit (cast_signed w32 n)) op
 lit_from (Lit z) h = record { value = cast_unsigned w32 z; fits = (let k = Fits-of_z {w = w32} {z = z} h.0 in omega arith); is = ap Lit (to_z-of_z w32 z h.0) }
 lit_from op h = absurd (omega (arith, h.1))
 
@@ -149,7 +149,7 @@ lit_law : Lawful (OpFits 0) op_tail lit_at
 unfolding lit_at
 lit_law = made (λ n. n ≤ 4294967295) number (leb_at 4 0 4294967295) (OpFits 0) op_tail (λ n. Lit (cast_signed w32 n)) (λ n h. (sfits_to_z {w = w32} {n = n} (omega arith), refl)) lit_from (λ n h. ap number (sym (of_z-to_z w32 n (omega arith)))) (upto_law 4294967295)
 
-flag_from : (op : Operation) → OpFits 1 op → Made (λ n. n < 2) (λ n. Flag (n == 1)) op
+flag_from : (op : Op) → OpFits 1 op → Made (λ n. n < 2) (λ n. Flag (n == 1)) op
 flag_from (Flag true) h = record { value = 1; fits = lit< tt; is = refl }
 flag_from (Flag false) h = record { value = 0; fits = lit< tt; is = refl }
 flag_from op h = absurd (omega (arith, h.1))
@@ -163,7 +163,7 @@ flag_law : Lawful (OpFits 1) op_tail flag_at
 unfolding flag_at
 flag_law = made (λ n. n < 2) (λ n. n ∷ []) (tag_at 2) (OpFits 1) op_tail (λ n. Flag (n == 1)) (λ n h. (tt, refl)) flag_from flag_spelled (tag_law 2 (lit< tt))
 
-copy_from : (op : Operation) → OpFits 2 op → Made IsLocal Copy op
+copy_from : (op : Op) → OpFits 2 op → Made IsLocal Copy op
 copy_from (Copy x) h = record { value = x; fits = h.0; is = refl }
 copy_from op h = absurd (omega (arith, h.1))
 
@@ -174,7 +174,7 @@ copy_law = made IsLocal number local_at (OpFits 2) op_tail Copy (λ x h. (h, ref
 abbrev PrimFits : Operator × (ℕ × ℕ) → Type 0
 PrimFits p = Unit {0} × (IsLocal p.1.0 × IsLocal p.1.1)
 
-prim_from : (op : Operation) → OpFits 3 op → Made PrimFits (λ p. Prim p.0 p.1.0 p.1.1) op
+prim_from : (op : Op) → OpFits 3 op → Made PrimFits (λ p. Prim p.0 p.1.0 p.1.1) op
 prim_from (Prim o x y) h = record { value = (o, (x, y)); fits = (tt, h.0); is = refl }
 prim_from op h = absurd (omega (arith, h.1))
 
@@ -186,7 +186,7 @@ prim_law = made PrimFits (λ p. (s.operator_code p.0 ∷ []) ++ (number p.1.0 ++
 abbrev MakeFits : ℕ × (List ℕ × Place) → Type 0
 MakeFits p = (p.0 ≤ 4095) × (AreCounted IsLocal 0 4 p.1.0 × FitsPlace p.1.1)
 
-make_from : (op : Operation) → OpFits 4 op → Made MakeFits (λ p. Make p.0 p.1.0 p.1.1) op
+make_from : (op : Op) → OpFits 4 op → Made MakeFits (λ p. Make p.0 p.1.0 p.1.1) op
 make_from (Make c args p) h = record { value = (c, (args, p)); fits = (h.0.0, (h.0.1, h.0.2)); is = refl }
 make_from op h = absurd (omega (arith, h.1))
 
@@ -197,7 +197,7 @@ make_law = made MakeFits (λ p. number p.0 ++ (counted number p.1.0 ++ s.place_b
     (pair (λ n. n ≤ 4095) number (leb_at 4 0 4095) (λ (p : List ℕ × Place). AreCounted IsLocal 0 4 p.0 × FitsPlace p.1) (λ p. counted number p.0 ++ s.place_bytes p.1) (pair_at (counted_at local_at 0 4) place_at) (upto_law 4095)
     (pair (AreCounted IsLocal 0 4) (counted number) (counted_at local_at 0 4) FitsPlace s.place_bytes place_at (locals_law 4) place_law))
 
-call_from : (op : Operation) → OpFits 5 op → Made CallFits (λ p. Call p.0 p.1) op
+call_from : (op : Op) → OpFits 5 op → Made CallFits (λ p. Call p.0 p.1) op
 call_from (Call f args) h = record { value = (f, args); fits = h.0; is = refl }
 call_from op h = absurd (omega (arith, h.1))
 
@@ -221,6 +221,6 @@ op_law = tagged FitsOperation s.operation_bytes op_tail op_tag 6 op_rest (lit< t
 
 pub let_law : Lawful FitsLet s.let_bytes let_at
 unfolding let_at
-let_law = made (λ (p : ℕ × Operation). IsLocal p.0 × FitsOperation p.1) (λ p. number p.0 ++ s.operation_bytes p.1) (pair_at local_at op_at) FitsLet s.let_bytes (λ p. record { target = p.0; op = p.1 })
+let_law = made (λ (p : ℕ × Op). IsLocal p.0 × FitsOperation p.1) (λ p. number p.0 ++ s.operation_bytes p.1) (pair_at local_at op_at) FitsLet s.let_bytes (λ p. record { target = p.0; op = p.1 })
     (λ p h. record { target = h.0; op = h.1 }) (λ l h. record { value = (l.target, l.op); fits = (h.target, h.op); is = refl }) (λ p h. refl)
     (pair IsLocal number local_at FitsOperation s.operation_bytes op_at local_law op_law)

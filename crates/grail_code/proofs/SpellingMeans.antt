@@ -3,10 +3,10 @@ use Rattle.std.proofs.Common.{◌≡◌, ℕ, suc, ◌+◌, ◌-◌, ◌<◌, Li
 use Rattle.std.proofs.lemmas.List.{take_at, take_all}
 use Rattle.std.proofs.Math.Seq.{take-append-add}
 use Rattle.std.proofs.lemmas.Bool.{cases_lt}
-use Rattle.grail_code.specs.declared.code.Code.{Code}
+use Rattle.grail_code.specs.declared.code.Code.{Code as DeclaredCode}
 use Rattle.grail_code.specs.declared.fault.DecodeFault.{DecodeFault}
 use Rattle.grail_code.specs.declared.fault.DecodeFault.TheVariants as fault
-use Rattle.grail_code.specs.Code.{Program}
+use Rattle.grail_code.specs.Code.{Code}
 use Rattle.grail_code.specs.Reader.{Read, Done, More, Stop}
 use Rattle.grail_code.specs.CodeReader.{code_at, whole, Sees}
 use Rattle.grail_code.specs.Decoding.{IsSo, Says}
@@ -16,17 +16,17 @@ use Rattle.grail_code.proofs.SpellingCode.{code_law}
 
 -- ---- the laws of spellings
 
-pub one_way_only : (p q : Program) (xs ys : List ℕ) → FitsCode p → FitsCode q → spelling p ++ xs ≡ spelling q ++ ys → (p ≡ q) × (xs ≡ ys)
+pub one_way_only : (p q : Code) (xs ys : List ℕ) → FitsCode p → FitsCode q → spelling p ++ xs ≡ spelling q ++ ys → (p ≡ q) × (xs ≡ ys)
 one_way_only p q xs ys fp fq e = let one = one_way FitsCode spelling code_at code_law p q xs ys fp fq e in (one.value, one.rest)
 
-pub no_front : (p q : Program) (b : ℕ) (rest : List ℕ) → FitsCode p → FitsCode q → spelling p ++ (b ∷ rest) ≡ spelling q → ⊥
+pub no_front : (p q : Code) (b : ℕ) (rest : List ℕ) → FitsCode p → FitsCode q → spelling p ++ (b ∷ rest) ≡ spelling q → ⊥
 no_front p q b rest fp fq e =
     let one = one_way FitsCode spelling code_at code_law p q (b ∷ rest) [] fp fq (e ∙ sym (append-nil (spelling q))) in
     absurd (omega (arith, ap length one.rest))
 
 -- ---- what the bytes are
 
-front_is : (bytes : List ℕ) → code_at bytes ≡ More → (p : Program) → FitsCode p → (rest : List ℕ) → spelling p ≡ bytes ++ rest → IsFront bytes
+front_is : (bytes : List ℕ) → code_at bytes ≡ More → (p : Code) → FitsCode p → (rest : List ℕ) → spelling p ≡ bytes ++ rest → IsFront bytes
 front_is bytes e p fits [] is =
     let again : code_at (spelling p) ≡ Done p [] = ap code_at (sym (append-nil (spelling p))) ∙ code_law.again p [] fits in
     let clash : Done p [] ≡ More = sym again ∙ ap code_at (is ∙ append-nil bytes) ∙ e in
@@ -40,7 +40,7 @@ further good after bad n lt =
     ap (λ k. take k (good ++ (bad ∷ after))) e ∙ whole
 
 -- the good bytes are the longest part from the left that begins code
-longest_is : (bytes good after : List ℕ) (bad : ℕ) → bytes ≡ good ++ (bad ∷ after) → BeginsCode good → ((q : Program) (rest : List ℕ) → FitsCode q → spelling q ≡ good ++ (bad ∷ rest) → ⊥)
+longest_is : (bytes good after : List ℕ) (bad : ℕ) → bytes ≡ good ++ (bad ∷ after) → BeginsCode good → ((q : Code) (rest : List ℕ) → FitsCode q → spelling q ≡ good ++ (bad ∷ rest) → ⊥)
     → IsLongestBegin bytes (length bytes - suc (length after))
 longest_is bytes good after bad parts begins never =
     let long : length bytes ≡ length good + suc (length after) = ap length parts ∙ length-append good (bad ∷ after) in
@@ -66,7 +66,7 @@ stops_there bytes left h =
     subst (λ k. IsLongestBegin bytes (length bytes - k)) (sym h.left_is)
     (longest_is bytes h.good h.after h.bad h.parts (begins_code h.good h.begins) (λ q rest fits e. h.never q [] rest fits (append-nil (spelling q) ∙ e)))
 
-means_read : (bytes : List ℕ) (o : Read Program) → code_at bytes ≡ o → Tells FitsCode spelling bytes o → Means bytes (whole bytes o)
+means_read : (bytes : List ℕ) (o : Read Code) → code_at bytes ≡ o → Tells FitsCode spelling bytes o → Means bytes (whole bytes o)
 means_read bytes (Done p []) e h = record { fits = h.0; is = h.1 ∙ append-nil (spelling p) }
 means_read bytes (Done p (b ∷ rest)) e h =
     longest_is bytes (spelling p) rest b h.1 (record { program = p; fits = h.0; rest = []; is = sym (append-nil (spelling p)) }) (λ q x fits d. no_front p q b x h.0 fits (sym d))
@@ -79,10 +79,10 @@ means_whole bytes = means_read bytes (code_at bytes) refl (code_law.tells bytes)
 
 -- ---- only one thing
 
-spelled_once : (p q : Program) (bytes : List ℕ) → IsSpelling p bytes → IsSpelling q bytes → p ≡ q
+spelled_once : (p q : Code) (bytes : List ℕ) → IsSpelling p bytes → IsSpelling q bytes → p ≡ q
 spelled_once p q bytes hp hq = let one = one_way FitsCode spelling code_at code_law p q [] [] hp.fits hq.fits (append-nil (spelling p) ∙ sym hp.is ∙ hq.is ∙ sym (append-nil (spelling q))) in one.value
 
-no_spelled_front : (p : Program) (bytes : List ℕ) → IsSpelling p bytes → IsFront bytes → ⊥
+no_spelled_front : (p : Code) (bytes : List ℕ) → IsSpelling p bytes → IsFront bytes → ⊥
 no_spelled_front p bytes hp h = no_front p h.program h.next h.rest hp.fits h.fits (ap (λ w. w ++ (h.next ∷ h.rest)) (sym hp.is) ∙ sym h.is)
 
 no_whole_begin : (bytes : List ℕ) (at : ℕ) → IsLongestBegin bytes at → BeginsCode bytes → ⊥
@@ -92,7 +92,7 @@ no_whole_begin bytes at h k =
     let less = h.less in
     absurd (omega arith)
 
-spelled_begins : (p : Program) (bytes : List ℕ) → IsSpelling p bytes → BeginsCode bytes
+spelled_begins : (p : Code) (bytes : List ℕ) → IsSpelling p bytes → BeginsCode bytes
 spelled_begins p bytes h = record { program = p; fits = h.fits; rest = []; is = sym h.is ∙ sym (append-nil bytes) }
 
 front_begins : (bytes : List ℕ) → IsFront bytes → BeginsCode bytes
@@ -119,24 +119,24 @@ means_one bytes (Broken m) (Broken n) h k = ap Broken (longest_once bytes m n h 
 
 -- ---- what decoding answers
 
-is_so : (bytes : List ℕ) (r : Result Code DecodeFault) (o : Decoded) → Means bytes o → Sees r o → IsSo bytes r
+is_so : (bytes : List ℕ) (r : Result DeclaredCode DecodeFault) (o : Decoded) → Means bytes o → Sees r o → IsSo bytes r
 is_so bytes (Ok code) o h e = subst (Means bytes) e h
 is_so bytes (Err fault.Short) o h e = subst (Means bytes) e h
 is_so bytes (Err (fault.Bad at)) o h e = subst (Means bytes) e h
 is_so bytes (Err fault.Memory) o h e = tt
 
-says_same : (r : Result Code DecodeFault) (o : Decoded) → Sees r o → Says r o
+says_same : (r : Result DeclaredCode DecodeFault) (o : Decoded) → Sees r o → Says r o
 says_same (Ok code) o e = subst (Says (Ok code)) (sym e) refl
 says_same (Err fault.Short) o e = subst (Says (Err fault.Short)) (sym e) tt
 says_same (Err (fault.Bad at)) o e = subst (Says (Err (fault.Bad at))) (sym e) refl
 says_same (Err fault.Memory) o e = tt
 
 -- the answer is so
-pub found_so : (bytes : List ℕ) (r : Result Code DecodeFault) → Sees r (whole bytes (code_at bytes)) → IsSo bytes r
+pub found_so : (bytes : List ℕ) (r : Result DeclaredCode DecodeFault) → Sees r (whole bytes (code_at bytes)) → IsSo bytes r
 found_so bytes r e = is_so bytes r (whole bytes (code_at bytes)) (means_whole bytes) e
 
 -- what the bytes mean is answered
-pub means_said : (bytes : List ℕ) (r : Result Code DecodeFault) (o : Decoded) → Sees r (whole bytes (code_at bytes)) → Means bytes o → Says r o
+pub means_said : (bytes : List ℕ) (r : Result DeclaredCode DecodeFault) (o : Decoded) → Sees r (whole bytes (code_at bytes)) → Means bytes o → Says r o
 means_said bytes r o e h = subst (Says r) (means_one bytes (whole bytes (code_at bytes)) o (means_whole bytes) h) (says_same r (whole bytes (code_at bytes)) e)
 
 pub means_some : (bytes : List ℕ) → (o : Decoded) × Means bytes o

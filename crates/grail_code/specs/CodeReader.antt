@@ -7,16 +7,16 @@ use Rattle.camelot_values.specs.Operator as operator
 use Rattle.camelot_values.specs.Operator.{Operator}
 use Rattle.camelot_values.specs.declared.kinds.Kind.{Kind}
 use Rattle.camelot_values.specs.declared.kinds.Kind.TheVariants as kind
-use Rattle.grail_code.specs.declared.code.Code.{Code}
+use Rattle.grail_code.specs.declared.code.Code.{Code as DeclaredCode}
 use Rattle.grail_code.specs.declared.fault.DecodeFault.{DecodeFault}
 use Rattle.grail_code.specs.declared.fault.DecodeFault.TheVariants as fault
 use Rattle.grail_code.specs.declared.decoder.names.Letter.{Letter}
 use Rattle.grail_code.specs.declared.decoder.names.Letter.TheVariants as letter
-use Rattle.grail_code.specs.declared.code.Place.{Place}
-use Rattle.grail_code.specs.declared.code.Place.TheVariants as place
-use Rattle.grail_code.specs.declared.code.CaseCell.{CaseCell}
-use Rattle.grail_code.specs.declared.code.CaseCell.TheVariants as cell
-use Rattle.grail_code.specs.Code.{Operation, Lit, Flag, Copy, Prim, Make, Call, Binding, Arm, Exit, Ret, Tail, Goto, If, Case, BasicBlock, Function, Program, program_of}
+use Rattle.grail_blocks.specs.declared.blocks.Place.{Place}
+use Rattle.grail_blocks.specs.declared.blocks.Place.TheVariants as place
+use Rattle.grail_blocks.specs.declared.blocks.CaseCell.{CaseCell}
+use Rattle.grail_blocks.specs.declared.blocks.CaseCell.TheVariants as cell
+use Rattle.grail_code.specs.Code.{Op, Lit, Flag, Copy, Prim, Make, Call, Let, CaseArm, Term, Ret, Tail, Goto, If, Case, Block, Func, Code, code_of}
 use Rattle.grail_code.specs.Spelling.{Decoded, Spelled, Front, Broken}
 use Rattle.grail_code.specs.Reader.{Read, Done, More, Stop, then_read, map_read, pair_at, byte_at, tag_at, leb_at, times_at, counted_at}
 
@@ -91,25 +91,25 @@ place_rest (suc (suc tag)) bytes = map_read place.Reuse (local_at bytes)
 unfoldable pub place_at : List ℕ → Read Place
 place_at bytes = then_read (tag_at 3 bytes) place_rest
 
-unfoldable pub lit_at : List ℕ → Read Operation
+unfoldable pub lit_at : List ℕ → Read Op
 lit_at bytes = map_read (λ n. Lit (cast_signed w32 n)) (leb_at 4 0 4294967295 bytes)
 
-unfoldable pub flag_at : List ℕ → Read Operation
+unfoldable pub flag_at : List ℕ → Read Op
 flag_at bytes = map_read (λ b. Flag (b == 1)) (tag_at 2 bytes)
 
-unfoldable pub copy_at : List ℕ → Read Operation
+unfoldable pub copy_at : List ℕ → Read Op
 copy_at bytes = map_read Copy (local_at bytes)
 
-unfoldable pub prim_at : List ℕ → Read Operation
+unfoldable pub prim_at : List ℕ → Read Op
 prim_at bytes = map_read (λ p. Prim p.0 p.1.0 p.1.1) (pair_at operator_at (pair_at local_at local_at) bytes)
 
-unfoldable pub make_at : List ℕ → Read Operation
+unfoldable pub make_at : List ℕ → Read Op
 make_at bytes = map_read (λ p. Make p.0 p.1.0 p.1.1) (pair_at (leb_at 4 0 4095) (pair_at (counted_at local_at 0 4) place_at) bytes)
 
-unfoldable pub call_at : List ℕ → Read Operation
+unfoldable pub call_at : List ℕ → Read Op
 call_at bytes = map_read (λ p. Call p.0 p.1) (pair_at (leb_at 4 0 63) (counted_at local_at 0 16) bytes)
 
-unfoldable pub op_rest : ℕ → List ℕ → Read Operation
+unfoldable pub op_rest : ℕ → List ℕ → Read Op
 op_rest zero bytes = lit_at bytes
 op_rest (suc zero) bytes = flag_at bytes
 op_rest (suc (suc zero)) bytes = copy_at bytes
@@ -117,10 +117,10 @@ op_rest (suc (suc (suc zero))) bytes = prim_at bytes
 op_rest (suc (suc (suc (suc zero)))) bytes = make_at bytes
 op_rest (suc (suc (suc (suc (suc tag))))) bytes = call_at bytes
 
-unfoldable pub op_at : List ℕ → Read Operation
+unfoldable pub op_at : List ℕ → Read Op
 op_at bytes = then_read (tag_at 6 bytes) op_rest
 
-unfoldable pub let_at : List ℕ → Read Binding
+unfoldable pub let_at : List ℕ → Read Let
 let_at bytes = map_read (λ p. record { target = p.0; op = p.1 }) (pair_at local_at op_at bytes)
 
 -- ---- the ends of blocks
@@ -133,44 +133,44 @@ cell_rest (suc (suc tag)) bytes = map_read cell.Keep (local_at bytes)
 unfoldable pub cell_at : List ℕ → Read CaseCell
 cell_at bytes = then_read (tag_at 3 bytes) cell_rest
 
-unfoldable pub arm_at : List ℕ → Read Arm
+unfoldable pub arm_at : List ℕ → Read CaseArm
 arm_at bytes = map_read (λ p. record { fields = p.0; cell = p.1.0; target = p.1.1 }) (pair_at (counted_at local_at 0 4) (pair_at cell_at local_at) bytes)
 
-unfoldable pub ret_at : List ℕ → Read Exit
+unfoldable pub ret_at : List ℕ → Read Term
 ret_at bytes = map_read Ret (local_at bytes)
 
-unfoldable pub tail_call_at : List ℕ → Read Exit
+unfoldable pub tail_call_at : List ℕ → Read Term
 tail_call_at bytes = map_read (λ p. Tail p.0 p.1) (pair_at (leb_at 4 0 63) (counted_at local_at 0 16) bytes)
 
-unfoldable pub goto_at : List ℕ → Read Exit
+unfoldable pub goto_at : List ℕ → Read Term
 goto_at bytes = map_read Goto (local_at bytes)
 
-unfoldable pub if_at : List ℕ → Read Exit
+unfoldable pub if_at : List ℕ → Read Term
 if_at bytes = map_read (λ p. If p.0 p.1.0 p.1.1) (pair_at local_at (pair_at local_at local_at) bytes)
 
-unfoldable pub case_at : List ℕ → Read Exit
+unfoldable pub case_at : List ℕ → Read Term
 case_at bytes = map_read (λ p. Case p.0 p.1) (pair_at local_at (counted_at arm_at 0 64) bytes)
 
-unfoldable pub exit_rest : ℕ → List ℕ → Read Exit
+unfoldable pub exit_rest : ℕ → List ℕ → Read Term
 exit_rest zero bytes = ret_at bytes
 exit_rest (suc zero) bytes = tail_call_at bytes
 exit_rest (suc (suc zero)) bytes = goto_at bytes
 exit_rest (suc (suc (suc zero))) bytes = if_at bytes
 exit_rest (suc (suc (suc (suc tag)))) bytes = case_at bytes
 
-unfoldable pub exit_at : List ℕ → Read Exit
+unfoldable pub exit_at : List ℕ → Read Term
 exit_at bytes = then_read (tag_at 5 bytes) exit_rest
 
 -- ---- blocks, functions and code
 
-unfoldable pub block_at : List ℕ → Read BasicBlock
-block_at bytes = map_read (λ p. record { params = p.0; lets = p.1.0; exit = p.1.1 }) (pair_at (counted_at local_at 0 256) (pair_at (counted_at let_at 0 256) exit_at) bytes)
+unfoldable pub block_at : List ℕ → Read Block
+block_at bytes = map_read (λ p. record { params = p.0; lets = p.1.0; term = p.1.1 }) (pair_at (counted_at local_at 0 256) (pair_at (counted_at let_at 0 256) exit_at) bytes)
 
 -- the kinds of the parameters, of the result and of the further locals
 unfoldable pub header_at : List ℕ → Read (List Kind × (Kind × List Kind))
 header_at bytes = pair_at (counted_at kind_at 1 16) (pair_at kind_at (counted_at kind_at 0 240)) bytes
 
-unfoldable pub func_at : List ℕ → Read Function
+unfoldable pub func_at : List ℕ → Read Func
 func_at bytes = map_read (λ p. record { name = p.0; params = p.1.0.0; result = p.1.0.1.0; locals = p.1.0.1.1; blocks = p.1.1 })
     (pair_at (name_at is_lower) (pair_at header_at (counted_at block_at 1 256)) bytes)
 
@@ -178,24 +178,24 @@ func_at bytes = map_read (λ p. record { name = p.0; params = p.1.0.0; result = 
 unfoldable pub headed_at : {A : Type 0} → ℕ → (List ℕ → Read A) → List ℕ → Read A
 headed_at b read bytes = then_read (byte_at (λ c. c == b) bytes) (λ c rest. read rest)
 
-unfoldable pub tables_at : List ℕ → Read Program
+unfoldable pub tables_at : List ℕ → Read Code
 tables_at bytes = map_read (λ p. record { types = p.0; funcs = p.1 }) (pair_at (counted_at type_at 0 64) (counted_at func_at 0 64) bytes)
 
-unfoldable pub code_at : List ℕ → Read Program
+unfoldable pub code_at : List ℕ → Read Code
 code_at bytes = headed_at 71 (headed_at 82 (headed_at 76 (headed_at 49 tables_at))) bytes
 
 -- ---- decoding
 
 -- what was read, where nothing may follow
-abbrev pub whole : List ℕ → Read Program → Decoded
+abbrev pub whole : List ℕ → Read Code → Decoded
 whole bytes (Done p []) = Spelled p
 whole bytes (Done p (b ∷ rest)) = Broken (length bytes - length (b ∷ rest))
 whole bytes More = Front
 whole bytes (Stop left) = Broken (length bytes - left)
 
 -- the answer is what was read, unless memory ran out
-abbrev pub Sees : Result Code DecodeFault → Decoded → Type 0
-Sees (Ok code) o = o ≡ Spelled (program_of code)
+abbrev pub Sees : Result DeclaredCode DecodeFault → Decoded → Type 0
+Sees (Ok code) o = o ≡ Spelled (code_of code)
 Sees (Err fault.Short) o = o ≡ Front
 Sees (Err (fault.Bad at)) o = o ≡ Broken at
 Sees (Err fault.Memory) o = Unit {0}

@@ -6,6 +6,10 @@ pub mod CodeReader
 pub mod Decoding
 pub mod WellFormed
 pub mod Meaning
-pub mod Fuel
 pub mod Soundness
+pub mod Places
+pub mod PlaceLaws
+pub mod MeaningLaws
+pub mod SoundLaws
+
 pub mod ByName

@@ -9,11 +9,11 @@ use Rattle.camelot_values.specs.Operator as operator
 use Rattle.camelot_values.specs.Operator.{Operator}
 use Rattle.camelot_values.specs.declared.kinds.Kind.{Kind}
 use Rattle.camelot_values.specs.declared.kinds.Kind.TheVariants as kind
-use Rattle.grail_code.specs.declared.code.Place.{Place}
-use Rattle.grail_code.specs.declared.code.Place.TheVariants as place
-use Rattle.grail_code.specs.declared.code.CaseCell.{CaseCell}
-use Rattle.grail_code.specs.declared.code.CaseCell.TheVariants as cell
-use Rattle.grail_code.specs.Code.{Operation, Lit, Flag, Copy, Prim, Make, Call, Binding, Arm, Exit, Ret, Tail, Goto, If, Case, BasicBlock, Function, Program}
+use Rattle.grail_blocks.specs.declared.blocks.Place.{Place}
+use Rattle.grail_blocks.specs.declared.blocks.Place.TheVariants as place
+use Rattle.grail_blocks.specs.declared.blocks.CaseCell.{CaseCell}
+use Rattle.grail_blocks.specs.declared.blocks.CaseCell.TheVariants as cell
+use Rattle.grail_code.specs.Code.{Op, Lit, Flag, Copy, Prim, Make, Call, Let, CaseArm, Term, Ret, Tail, Goto, If, Case, Block, Func, Code}
 
 -- A whole number below 2 ^ 35 in LEB128, in as few bytes as it takes (DWARF Debugging Information Format, section 7.6):
 -- seven bits a byte, the low ones first, with the high bit set on all bytes but the last. The first argument is how many
@@ -65,7 +65,7 @@ place_bytes place.Inline = 0 ∷ []
 place_bytes place.New = 1 ∷ []
 place_bytes (place.Reuse x) = 2 ∷ number x
 
-abbrev pub operation_bytes : Operation → List ℕ
+abbrev pub operation_bytes : Op → List ℕ
 operation_bytes (Lit z) = 0 ∷ number (cast_unsigned w32 z)
 operation_bytes (Flag b) = 1 ∷ (if b then 1 else 0) ∷ []
 operation_bytes (Copy x) = 2 ∷ number x
@@ -73,7 +73,7 @@ operation_bytes (Prim op x y) = 3 ∷ operator_code op ∷ (number x ++ number y
 operation_bytes (Make c args p) = 4 ∷ (number c ++ counted number args ++ place_bytes p)
 operation_bytes (Call f args) = 5 ∷ (number f ++ counted number args)
 
-abbrev pub let_bytes : Binding → List ℕ
+abbrev pub let_bytes : Let → List ℕ
 let_bytes l = number l.target ++ operation_bytes l.op
 
 abbrev pub cell_bytes : CaseCell → List ℕ
@@ -81,27 +81,27 @@ cell_bytes cell.Inline = 0 ∷ []
 cell_bytes cell.Free = 1 ∷ []
 cell_bytes (cell.Keep x) = 2 ∷ number x
 
-abbrev pub arm_bytes : Arm → List ℕ
+abbrev pub arm_bytes : CaseArm → List ℕ
 arm_bytes a = counted number a.fields ++ cell_bytes a.cell ++ number a.target
 
-abbrev pub exit_bytes : Exit → List ℕ
+abbrev pub exit_bytes : Term → List ℕ
 exit_bytes (Ret x) = 0 ∷ number x
 exit_bytes (Tail f args) = 1 ∷ (number f ++ counted number args)
 exit_bytes (Goto b) = 2 ∷ number b
 exit_bytes (If x first second) = 3 ∷ (number x ++ number first ++ number second)
 exit_bytes (Case x arms) = 4 ∷ (number x ++ counted arm_bytes arms)
 
-abbrev pub block_bytes : BasicBlock → List ℕ
-block_bytes b = counted number b.params ++ counted let_bytes b.lets ++ exit_bytes b.exit
+abbrev pub block_bytes : Block → List ℕ
+block_bytes b = counted number b.params ++ counted let_bytes b.lets ++ exit_bytes b.term
 
-abbrev pub function_bytes : Function → List ℕ
+abbrev pub function_bytes : Func → List ℕ
 function_bytes f = name f.name ++ counted kind_bytes f.params ++ kind_bytes f.result ++ counted kind_bytes f.locals ++ counted block_bytes f.blocks
 
 -- the bytes `GRL1`
 abbrev pub format : List ℕ
 format = 71 ∷ 82 ∷ 76 ∷ 49 ∷ []
 
-abbrev pub spelling : Program → List ℕ
+abbrev pub spelling : Code → List ℕ
 spelling p = format ++ counted type_bytes p.types ++ counted function_bytes p.funcs
 
 -- ---- what has a spelling: each number and each count is within its own limit
@@ -134,7 +134,7 @@ abbrev pub FitsPlace : Place → Type 0
 FitsPlace (place.Reuse x) = IsLocal x
 FitsPlace p = Unit {0}
 
-abbrev pub FitsOperation : Operation → Type 0
+abbrev pub FitsOperation : Op → Type 0
 FitsOperation (Lit z) = FitsSigned w32 z
 FitsOperation (Flag b) = Unit {0}
 FitsOperation (Copy x) = IsLocal x
@@ -142,7 +142,7 @@ FitsOperation (Prim op x y) = IsLocal x × IsLocal y
 FitsOperation (Make c args p) = (c ≤ 4095) × AreCounted IsLocal 0 4 args × FitsPlace p
 FitsOperation (Call f args) = (f ≤ 63) × AreCounted IsLocal 0 16 args
 
-pub record FitsLet (l : Binding) : Type 0 where
+pub record FitsLet (l : Let) : Type 0 where
   pub target : IsLocal l.target
   pub op : FitsOperation l.op
 
@@ -150,24 +150,24 @@ abbrev pub FitsCell : CaseCell → Type 0
 FitsCell (cell.Keep x) = IsLocal x
 FitsCell c = Unit {0}
 
-pub record FitsArm (a : Arm) : Type 0 where
+pub record FitsArm (a : CaseArm) : Type 0 where
   pub fields : AreCounted IsLocal 0 4 a.fields
   pub cell : FitsCell a.cell
   pub target : IsBlockNumber a.target
 
-abbrev pub FitsExit : Exit → Type 0
+abbrev pub FitsExit : Term → Type 0
 FitsExit (Ret x) = IsLocal x
 FitsExit (Tail f args) = (f ≤ 63) × AreCounted IsLocal 0 16 args
 FitsExit (Goto b) = IsBlockNumber b
 FitsExit (If x first second) = IsLocal x × IsBlockNumber first × IsBlockNumber second
 FitsExit (Case x arms) = IsLocal x × AreCounted FitsArm 0 64 arms
 
-pub record FitsBlock (b : BasicBlock) : Type 0 where
+pub record FitsBlock (b : Block) : Type 0 where
   pub params : AreCounted IsLocal 0 256 b.params
   pub lets : AreCounted FitsLet 0 256 b.lets
-  pub exit : FitsExit b.exit
+  pub term : FitsExit b.term
 
-pub record FitsFunction (f : Function) : Type 0 where
+pub record FitsFunction (f : Func) : Type 0 where
   pub name : IsLowerName f.name
   pub params : AreCounted FitsKind 1 16 f.params
   pub result : FitsKind f.result
@@ -175,7 +175,7 @@ pub record FitsFunction (f : Function) : Type 0 where
   pub blocks : AreCounted FitsBlock 1 256 f.blocks
 
 -- the code that has a spelling
-pub record FitsCode (p : Program) : Type 0 where
+pub record FitsCode (p : Code) : Type 0 where
   pub types : AreCounted FitsType 0 64 p.types
   pub funcs : AreCounted FitsFunction 0 64 p.funcs
 
@@ -184,26 +184,26 @@ pub record FitsCode (p : Program) : Type 0 where
 -- what a text of bytes may be
 pub data Decoded : Type 0 where
   -- the spelling of this code
-  Spelled : Program → Decoded
+  Spelled : Code → Decoded
   -- the beginning of a spelling that goes on
   Front : Decoded
   -- neither; the longest part from the left that begins a spelling has so many bytes
   Broken : (at : ℕ) → Decoded
 
-pub record IsSpelling (program : Program) (bytes : List ℕ) : Type 0 where
+pub record IsSpelling (program : Code) (bytes : List ℕ) : Type 0 where
   pub fits : FitsCode program
   pub is : bytes ≡ spelling program
 
 -- some code's spelling begins with these bytes
 pub record BeginsCode (bytes : List ℕ) : Type 0 where
-  pub program : Program
+  pub program : Code
   pub fits : FitsCode program
   pub rest : List ℕ
   pub is : spelling program ≡ bytes ++ rest
 
 -- some code's spelling begins with these bytes and goes on
 pub record IsFront (bytes : List ℕ) : Type 0 where
-  pub program : Program
+  pub program : Code
   pub fits : FitsCode program
   pub next : ℕ
   pub rest : List ℕ

@@ -1,7 +1,7 @@
 ghost use Rattle.std.specs.Prelude.{◌≡◌, ℕ, nat_eq, IfSome, IfNone};
 ghost use Rattle.std.specs.List.{position};
 ghost use Rattle.std.specs.Cmp.Lexicographic.{pointwise};
-ghost use Rattle.grail_code.specs.Code.{program_of};
+ghost use Rattle.grail_code.specs.Code.{code_of};
 ghost use Rattle.grail_code.specs.ByName.{HasName, IsFirstNamed};
 
 use crate::code::Code;
@@ -17,8 +17,8 @@ impl Code {
     /// The number of the first function of this name, or None where no function has it.
     #[tactic(auto, using(crate::proofs::NamedFuncs::first_below))]
     pub fn func(&self, name: &[u8]) -> Option<u32>
-        ensures found { IfSome result (λ number. IsFirstNamed (program_of self.now) number name.now) }
-        ensures none { IfNone result ((number : ℕ) → HasName (program_of self.now) number name.now → ⊥) }
+        ensures found { IfSome result (λ number. IsFirstNamed (code_of self.now) number name.now) }
+        ensures none { IfNone result ((number : ℕ) → HasName (code_of self.now) number name.now → ⊥) }
     {
         match self.place_of(name) {
             Some(place) => Some(place as u32),

@@ -8,7 +8,7 @@ mod types;
 
 ghost use Rattle.std.specs.Prelude.{◌≡◌, ◌==◌, List};
 ghost use Rattle.camelot_values.specs.Kinds.{data_type_of, AreTypes};
-ghost use Rattle.grail_code.specs.Code.{program_of};
+ghost use Rattle.grail_code.specs.Code.{code_of};
 ghost use Rattle.grail_code.specs.Spelling.{Decoded, Means};
 ghost use Rattle.grail_code.specs.Reader.{Gives, byte_at, counted_at};
 ghost use Rattle.grail_code.specs.CodeReader.{type_at, tables_at, code_at, whole, Sees};
@@ -43,7 +43,7 @@ fn types_of(alloc: Global, bytes: &[u8]) -> Result<(Types, &[u8]), Halt>
 
 #[tactic(auto, unfolding(crate::specs::CodeReader::tables_at))]
 fn tables_of(alloc: Global, bytes: &[u8]) -> Result<(Code, &[u8]), Halt>
-    ensures { Gives (λ x. (program_of x.0, x.1.now)) result (tables_at bytes.now) }
+    ensures { Gives (λ x. (code_of x.0, x.1.now)) result (tables_at bytes.now) }
 {
     let (types, rest) = types_of(alloc, bytes)?;
     let (funcs, rest) = list(alloc, 0, 64, rest)?;
@@ -53,7 +53,7 @@ fn tables_of(alloc: Global, bytes: &[u8]) -> Result<(Code, &[u8]), Halt>
 // The code that stands first.
 #[tactic(auto, unfolding(crate::specs::CodeReader::code_at, crate::specs::CodeReader::headed_at))]
 fn code_of(alloc: Global, bytes: &[u8]) -> Result<(Code, &[u8]), Halt>
-    ensures { Gives (λ x. (program_of x.0, x.1.now)) result (code_at bytes.now) }
+    ensures { Gives (λ x. (code_of x.0, x.1.now)) result (code_at bytes.now) }
 {
     let rest = fixed(b'G', bytes)?;
     let rest = fixed(b'R', rest)?;

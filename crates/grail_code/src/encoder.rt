@@ -6,7 +6,7 @@ mod types;
 mod writer;
 
 ghost use Rattle.std.specs.Prelude.{◌≡◌, ◌++◌, IfOk, OnOk};
-ghost use Rattle.grail_code.specs.Code.{program_of};
+ghost use Rattle.grail_code.specs.Code.{code_of};
 ghost use Rattle.grail_code.specs.Spelling.{FitsCode, spelling, format};
 
 use crate::code::Code;
@@ -15,8 +15,8 @@ use writer::list;
 
 /// The spelling of the code, where each number and each count is within its own limit.
 pub fn encode(alloc: Global, code: &Code) -> Result<Vec<u8>, AllocError>
-    requires { FitsCode (program_of code.now) }
-    ensures { IfOk result (λ bytes. bytes.items ≡ spelling (program_of code.now)) }
+    requires { FitsCode (code_of code.now) }
+    ensures { IfOk result (λ bytes. bytes.items ≡ spelling (code_of code.now)) }
 {
     let mut out = Vec::new(alloc);
     out.extend_from_slice(b"GRL1")?;

@@ -1,17 +1,17 @@
 //! Laws of the spelling of code. Each function does nothing: its clauses are the laws.
 
 ghost use Rattle.std.specs.Prelude.{◌≡◌, ℕ, List, ◌∷◌, ◌++◌};
-ghost use Rattle.grail_code.specs.Code.{Program};
+ghost use Rattle.grail_code.specs.Code.{Code};
 ghost use Rattle.grail_code.specs.Spelling.{spelling, FitsCode, Decoded, Means};
 
 /// Each text is the spelling of one code at most, and no spelling is the beginning of another.
 #[tactic(auto, using(crate::proofs::SpellingMeans::one_way_only, crate::proofs::SpellingMeans::no_front))]
 pub fn one_spelling()
     // What begins with a spelling begins with one only, and goes on in one way.
-    ensures one_code { (p q : Program) (xs ys : List ℕ)
+    ensures one_code { (p q : Code) (xs ys : List ℕ)
         → FitsCode p → FitsCode q → spelling p ++ xs ≡ spelling q ++ ys → (p ≡ q) × (xs ≡ ys) }
     // No spelling goes on to another.
-    ensures no_prefix { (p q : Program) (next : ℕ) (rest : List ℕ)
+    ensures no_prefix { (p q : Code) (next : ℕ) (rest : List ℕ)
         → FitsCode p → FitsCode q → spelling p ++ (next ∷ rest) ≡ spelling q → ⊥ }
 {}
 

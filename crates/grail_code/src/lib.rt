@@ -12,10 +12,11 @@ mod fault;
 pub mod laws;
 pub mod meaning;
 
-pub use code::{Block, CaseArm, CaseCell, Code, Func, Let, Op, Place, PrimCode, Term};
+pub use code::{Block, Code, Func};
 pub use decoder::decode;
 pub use encoder::encode;
 pub use fault::DecodeFault;
+pub use grail_blocks::{CaseArm, CaseCell, Let, Op, Place, PrimCode, Term};
 
 #[cfg(test)]
 mod tests;

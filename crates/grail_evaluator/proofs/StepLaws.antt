@@ -7,7 +7,7 @@ use Rattle.camelot_values.specs.Operator.{Operator, on_ints}
 use Rattle.camelot_values.specs.Outcome.{Outcome, Stuck, known, given}
 use Rattle.camelot_values.specs.Runs.{on_diamond}
 use Rattle.grail_code.specs.Meaning.{Locals, operands, built}
-use Rattle.grail_code.specs.declared.code.Place.TheVariants as place
+use Rattle.grail_blocks.specs.declared.blocks.Place.TheVariants as place
 use Rattle.grail_evaluator.specs.Outcomes.{int_at}
 
 pub both : (op : Operator) (u v : Option Value) (a b : ℤ) (o : Outcome Value) → Some a ≡ int_at u → Some b ≡ int_at v → o ≡ known (Some (on_ints op a b)) → o ≡ known (operands op u v)

@@ -5,8 +5,8 @@ use Rattle.camelot_values.specs.Value.{Value}
 use Rattle.camelot_values.specs.Outcome as meaning
 use Rattle.camelot_values.specs.Runs.{Enter}
 use Rattle.camelot_values.specs.Kinds.{DataType}
-use Rattle.grail_code.specs.Code.{Exit}
-use Rattle.grail_code.specs.Meaning.{Locals, Later, exit_run}
+use Rattle.grail_code.specs.Code.{Term}
+use Rattle.grail_code.specs.Meaning.{Locals, Later, term_run}
 use Rattle.grail_evaluator.specs.Trees.{plain}
 use Rattle.grail_evaluator.specs.declared.evaluator.Outcome.{Outcome}
 use Rattle.grail_evaluator.specs.declared.evaluator.Outcome.TheVariants.{Done, Fuel, Deep, Stuck}
@@ -43,5 +43,5 @@ IsNoCon (Some (value.Con c vs)) = ⊥
 IsNoCon o = ⊤
 
 -- what follows the lets of a block: its end
-unfoldable pub onward : List DataType → Enter → Later → Exit → ℕ → (ℕ → Locals → meaning.Outcome Value)
-onward types enter later exit waits = λ left last. exit_run types enter later exit left waits last
+unfoldable pub onward : List DataType → Enter → Later → Term → ℕ → (ℕ → Locals → meaning.Outcome Value)
+onward types enter later term waits = λ left last. term_run types enter later term left waits last

@@ -1,7 +1,7 @@
 ghost use Rattle.std.specs.Prelude.{◌≡◌, suc, ◌+◌, ◌<◌, ◌≤◌, cond, true, ◌∷◌, IfOk, Some, length, map, slice_get};
 ghost use Rattle.std.specs.Option.{option_map};
-ghost use Rattle.grail_code.specs.Code.{program_of, function_of, block_of, binding_of, operation_of, exit_of, arm_of};
-ghost use Rattle.grail_code.specs.Meaning.{entering, op_run, lets_run, exit_run, block_run, blocks_run, body_run, jump_run, run_of, cell_run, case_run, values_of};
+ghost use Rattle.grail_code.specs.Code.{code_of, func_of, block_of, let_of, op_of, term_of, arm_of};
+ghost use Rattle.grail_code.specs.Meaning.{entering, op_run, lets_run, term_run, block_run, blocks_run, body_run, jump_run, run_of, cell_run, case_run, values_of};
 ghost use Rattle.camelot_values.specs.Outcome.{after, given};
 ghost use Rattle.camelot_values.specs.Runs.{is_too_deep};
 ghost use Rattle.grail_evaluator.specs.Trees.{plain, plain_all};
@@ -147,7 +147,7 @@ impl Evaluator<'_> {
         func: u32,
         args: Vec<Tree>,
     ) -> Result<Outcome, RunError>
-        ensures { Sees result (entering (program_of self.now.code.now) self.now.limit fuel waits tail func (plain_all args.items)) }
+        ensures { Sees result (entering (code_of self.now.code.now) self.now.limit fuel waits tail func (plain_all args.items)) }
     {
         law_of_clock();
         if fuel == 0 {
@@ -165,7 +165,7 @@ impl Evaluator<'_> {
     #[cycle(run)]
     #[tactic(auto, using(crate::proofs::CallLaws::body_is, crate::proofs::CallLaws::no_body))]
     fn body(&self, fuel: u64, waits: u64, func: u32, args: Vec<Tree>) -> Result<Outcome, RunError>
-        ensures { Sees result (body_run (program_of self.now.code.now).types (entering (program_of self.now.code.now) self.now.limit) (slice_get (map function_of self.now.code.now.funcs.items) func) fuel waits (plain_all args.items)) }
+        ensures { Sees result (body_run (code_of self.now.code.now).types (entering (code_of self.now.code.now) self.now.limit) (slice_get (map func_of self.now.code.now.funcs.items) func) fuel waits (plain_all args.items)) }
     {
         match self.code.funcs.get(func as usize) {
             Some(func) => self.function(fuel, waits, func, args),
@@ -183,7 +183,7 @@ impl Evaluator<'_> {
         func: &Func,
         args: Vec<Tree>,
     ) -> Result<Outcome, RunError>
-        ensures { Sees result (body_run (program_of self.now.code.now).types (entering (program_of self.now.code.now) self.now.limit) (Some (function_of func.now)) fuel waits (plain_all args.items)) }
+        ensures { Sees result (body_run (code_of self.now.code.now).types (entering (code_of self.now.code.now) self.now.limit) (Some (func_of func.now)) fuel waits (plain_all args.items)) }
     {
         if args.len() != func.params.len() {
             return Ok(Outcome::Stuck);
@@ -202,7 +202,7 @@ impl Evaluator<'_> {
         blocks: &[Block],
     ) -> Result<Outcome, RunError>
         requires { length blocks.now ≤ 256 }
-        ensures { Sees result (blocks_run (program_of self.now.code.now).types (entering (program_of self.now.code.now) self.now.limit) (map block_of blocks.now) fuel waits (env_of env.items)) }
+        ensures { Sees result (blocks_run (code_of self.now.code.now).types (entering (code_of self.now.code.now) self.now.limit) (map block_of blocks.now) fuel waits (env_of env.items)) }
     {
         match blocks {
             [] => Ok(Outcome::Stuck),
@@ -223,7 +223,7 @@ impl Evaluator<'_> {
         later: &[Block],
     ) -> Result<Outcome, RunError>
         requires { first + length later.now ≤ 256 }
-        ensures { Sees result (block_run (program_of self.now.code.now).types (entering (program_of self.now.code.now) self.now.limit) (jump_run (program_of self.now.code.now).types (entering (program_of self.now.code.now) self.now.limit) first (map block_of later.now)) (block_of block.now) fuel waits (env_of env.items)) }
+        ensures { Sees result (block_run (code_of self.now.code.now).types (entering (code_of self.now.code.now) self.now.limit) (jump_run (code_of self.now.code.now).types (entering (code_of self.now.code.now) self.now.limit) first (map block_of later.now)) (block_of block.now) fuel waits (env_of env.items)) }
     {
         self.lets(fuel, waits, env, &block.lets, &block.term, first, later)
     }
@@ -242,7 +242,7 @@ impl Evaluator<'_> {
     ) -> Result<Outcome, RunError>
         requires blocks { first + length later.now ≤ 256 }
         requires lets { length lets.now ≤ 256 }
-        ensures { Sees result (lets_run (entering (program_of self.now.code.now) self.now.limit) (map binding_of lets.now) fuel waits (env_of env.items) (onward (program_of self.now.code.now).types (entering (program_of self.now.code.now) self.now.limit) (jump_run (program_of self.now.code.now).types (entering (program_of self.now.code.now) self.now.limit) first (map block_of later.now)) (exit_of term.now) waits)) }
+        ensures { Sees result (lets_run (entering (code_of self.now.code.now) self.now.limit) (map let_of lets.now) fuel waits (env_of env.items) (onward (code_of self.now.code.now).types (entering (code_of self.now.code.now) self.now.limit) (jump_run (code_of self.now.code.now).types (entering (code_of self.now.code.now) self.now.limit) first (map block_of later.now)) (term_of term.now) waits)) }
     {
         match lets {
             [] => self.onward(fuel, waits, env, term, first, later),
@@ -268,7 +268,7 @@ impl Evaluator<'_> {
     ) -> Result<Outcome, RunError>
         requires blocks { first + length later.now ≤ 256 }
         requires lets { length more.now ≤ 255 }
-        ensures { Sees result (lets_run (entering (program_of self.now.code.now) self.now.limit) (binding_of binding.now ∷ map binding_of more.now) fuel waits (env_of env.items) (onward (program_of self.now.code.now).types (entering (program_of self.now.code.now) self.now.limit) (jump_run (program_of self.now.code.now).types (entering (program_of self.now.code.now) self.now.limit) first (map block_of later.now)) (exit_of term.now) waits)) }
+        ensures { Sees result (lets_run (entering (code_of self.now.code.now) self.now.limit) (let_of binding.now ∷ map let_of more.now) fuel waits (env_of env.items) (onward (code_of self.now.code.now).types (entering (code_of self.now.code.now) self.now.limit) (jump_run (code_of self.now.code.now).types (entering (code_of self.now.code.now) self.now.limit) first (map block_of later.now)) (term_of term.now) waits)) }
     {
         let outcome = self.operation(fuel, waits, &env, &binding.op)?;
         match outcome {
@@ -292,7 +292,7 @@ impl Evaluator<'_> {
     // What a let binds.
     #[cycle(run)]
     fn operation(&self, fuel: u64, waits: u64, env: &[Bound], op: &Op) -> Result<Outcome, RunError>
-        ensures { Sees result (op_run (entering (program_of self.now.code.now) self.now.limit) fuel waits (env_of env.now) (operation_of op.now)) }
+        ensures { Sees result (op_run (entering (code_of self.now.code.now) self.now.limit) fuel waits (env_of env.now) (op_of op.now)) }
     {
         match op {
             Op::Lit(number) => Ok(at_once(Tree::Int(*number))),
@@ -323,7 +323,7 @@ impl Evaluator<'_> {
         later: &[Block],
     ) -> Result<Outcome, RunError>
         requires { first + length later.now ≤ 256 }
-        ensures { Sees result (onward (program_of self.now.code.now).types (entering (program_of self.now.code.now) self.now.limit) (jump_run (program_of self.now.code.now).types (entering (program_of self.now.code.now) self.now.limit) first (map block_of later.now)) (exit_of term.now) waits fuel (env_of env.items)) }
+        ensures { Sees result (onward (code_of self.now.code.now).types (entering (code_of self.now.code.now) self.now.limit) (jump_run (code_of self.now.code.now).types (entering (code_of self.now.code.now) self.now.limit) first (map block_of later.now)) (term_of term.now) waits fuel (env_of env.items)) }
     {
         self.exit(fuel, waits, env, term, first, later)
     }
@@ -340,7 +340,7 @@ impl Evaluator<'_> {
         later: &[Block],
     ) -> Result<Outcome, RunError>
         requires { first + length later.now ≤ 256 }
-        ensures { Sees result (exit_run (program_of self.now.code.now).types (entering (program_of self.now.code.now) self.now.limit) (jump_run (program_of self.now.code.now).types (entering (program_of self.now.code.now) self.now.limit) first (map block_of later.now)) (exit_of term.now) fuel waits (env_of env.items)) }
+        ensures { Sees result (term_run (code_of self.now.code.now).types (entering (code_of self.now.code.now) self.now.limit) (jump_run (code_of self.now.code.now).types (entering (code_of self.now.code.now) self.now.limit) first (map block_of later.now)) (term_of term.now) fuel waits (env_of env.items)) }
     {
         match term {
             Term::Ret(local) => copied(self.alloc, &env, *local),
@@ -365,7 +365,7 @@ impl Evaluator<'_> {
         func: u32,
         args: &[u32],
     ) -> Result<Outcome, RunError>
-        ensures { Sees result (given (values_of (env_of env.now) args.now) (λ vs. entering (program_of self.now.code.now) self.now.limit fuel waits true func vs)) }
+        ensures { Sees result (given (values_of (env_of env.now) args.now) (λ vs. entering (code_of self.now.code.now) self.now.limit fuel waits true func vs)) }
     {
         match values(self.alloc, env, args)? {
             Some(args) => self.call(fuel, waits, true, func, args),
@@ -386,7 +386,7 @@ impl Evaluator<'_> {
         later: &[Block],
     ) -> Result<Outcome, RunError>
         requires { first + length later.now ≤ 256 }
-        ensures { Sees result (given (env_of env.items on) (λ v. case_run (program_of self.now.code.now).types (jump_run (program_of self.now.code.now).types (entering (program_of self.now.code.now) self.now.limit) first (map block_of later.now)) v (map arm_of arms.now) fuel waits (env_of env.items))) }
+        ensures { Sees result (given (env_of env.items on) (λ v. case_run (code_of self.now.code.now).types (jump_run (code_of self.now.code.now).types (entering (code_of self.now.code.now) self.now.limit) first (map block_of later.now)) v (map arm_of arms.now) fuel waits (env_of env.items))) }
     {
         let Some(matched) = matched_at(self.alloc, &env, on)? else {
             return Ok(Outcome::Stuck);
@@ -413,7 +413,7 @@ impl Evaluator<'_> {
         later: &[Block],
     ) -> Result<Outcome, RunError>
         requires { first + length later.now ≤ 256 }
-        ensures { Sees result (cell_run arm.now.cell (env_of env.items) (λ last. jump_run (program_of self.now.code.now).types (entering (program_of self.now.code.now) self.now.limit) first (map block_of later.now) arm.now.target fuel waits last)) }
+        ensures { Sees result (cell_run arm.now.cell (env_of env.items) (λ last. jump_run (code_of self.now.code.now).types (entering (code_of self.now.code.now) self.now.limit) first (map block_of later.now) arm.now.target fuel waits last)) }
     {
         match arm.cell {
             CaseCell::Inline => self.jump(fuel, waits, env, arm.target, first, later),
@@ -440,7 +440,7 @@ impl Evaluator<'_> {
         later: &[Block],
     ) -> Result<Outcome, RunError>
         requires { first + length later.now ≤ 256 }
-        ensures { Sees result (jump_run (program_of self.now.code.now).types (entering (program_of self.now.code.now) self.now.limit) first (map block_of later.now) target fuel waits (env_of env.items)) }
+        ensures { Sees result (jump_run (code_of self.now.code.now).types (entering (code_of self.now.code.now) self.now.limit) first (map block_of later.now) target fuel waits (env_of env.items)) }
     {
         match later {
             [] => Ok(Outcome::Stuck),
@@ -462,7 +462,7 @@ impl Evaluator<'_> {
         rest: &[Block],
     ) -> Result<Outcome, RunError>
         requires { first + length rest.now < 256 }
-        ensures { Sees result (jump_run (program_of self.now.code.now).types (entering (program_of self.now.code.now) self.now.limit) first (block_of block.now ∷ map block_of rest.now) target fuel waits (env_of env.items)) }
+        ensures { Sees result (jump_run (code_of self.now.code.now).types (entering (code_of self.now.code.now) self.now.limit) first (block_of block.now ∷ map block_of rest.now) target fuel waits (env_of env.items)) }
     {
         if target as u64 == first {
             let env = narrow(self.alloc, &env, &block.params)?;
@@ -487,7 +487,7 @@ pub fn run(
     fuel: u64,
     args: Vec<Tree>,
 ) -> Result<Outcome, RunError>
-    ensures { Sees result (run_of (program_of code.now) limit func fuel (plain_all args.items)) }
+    ensures { Sees result (run_of (code_of code.now) limit func fuel (plain_all args.items)) }
 {
     Evaluator { alloc, code, limit }.call(fuel, 0, true, func, args)
 }

@@ -1,6 +1,6 @@
 ghost use Rattle.std.specs.Prelude.{◌≡◌, map, ◌≤◌, vec_len, IfOk};
-ghost use Rattle.grail_code.specs.declared.code.CaseCell.{CaseCell};
-ghost use Rattle.grail_code.specs.Code.{Arm, BasicBlock, Function, arm_of, exit_of, block_of, function_of};
+ghost use Rattle.grail_blocks.specs.declared.blocks.CaseCell.{CaseCell};
+ghost use Rattle.grail_code.specs.Code.{CaseArm as PlainArm, Block as PlainBlock, Func as PlainFunc, arm_of, term_of, block_of, func_of};
 ghost use Rattle.grail_code.specs.Reader.{Gives};
 ghost use Rattle.grail_code.specs.CodeReader.{cell_at, arm_at, ret_at, tail_call_at, goto_at, if_at, case_at, exit_at, block_at, header_at, func_at};
 
@@ -8,7 +8,8 @@ use super::lets::local;
 use super::names::{Letter, name};
 use super::reader::{Decode, Halt, list, number};
 use super::types::kind;
-use crate::code::{Block, CaseArm, CaseCell, Func, Term};
+use crate::code::{Block, Func};
+use grail_blocks::{CaseArm, CaseCell, Term};
 use camelot_values::Kind;
 use std::alloc::Global;
 
@@ -29,7 +30,7 @@ fn cell(bytes: &[u8]) -> Result<(CaseCell, &[u8]), Halt>
 }
 
 impl Decode for CaseArm {
-    ghost Plain = { Arm };
+    ghost Plain = { PlainArm };
 
     ghost plain = { arm_of };
 
@@ -51,7 +52,7 @@ impl Decode for CaseArm {
 
 #[tactic(auto, unfolding(crate::specs::CodeReader::ret_at))]
 fn ret(bytes: &[u8]) -> Result<(Term, &[u8]), Halt>
-    ensures { Gives (λ x. (exit_of x.0, x.1.now)) result (ret_at bytes.now) }
+    ensures { Gives (λ x. (term_of x.0, x.1.now)) result (ret_at bytes.now) }
 {
     let (from, rest) = local(bytes)?;
     Ok((Term::Ret(from), rest))
@@ -59,7 +60,7 @@ fn ret(bytes: &[u8]) -> Result<(Term, &[u8]), Halt>
 
 #[tactic(auto, unfolding(crate::specs::CodeReader::tail_call_at))]
 fn tail_call(alloc: Global, bytes: &[u8]) -> Result<(Term, &[u8]), Halt>
-    ensures { Gives (λ x. (exit_of x.0, x.1.now)) result (tail_call_at bytes.now) }
+    ensures { Gives (λ x. (term_of x.0, x.1.now)) result (tail_call_at bytes.now) }
 {
     let (func, rest) = number(4, 0, 63, bytes)?;
     let (args, rest) = list(alloc, 0, 16, rest)?;
@@ -68,7 +69,7 @@ fn tail_call(alloc: Global, bytes: &[u8]) -> Result<(Term, &[u8]), Halt>
 
 #[tactic(auto, unfolding(crate::specs::CodeReader::goto_at))]
 fn goto(bytes: &[u8]) -> Result<(Term, &[u8]), Halt>
-    ensures { Gives (λ x. (exit_of x.0, x.1.now)) result (goto_at bytes.now) }
+    ensures { Gives (λ x. (term_of x.0, x.1.now)) result (goto_at bytes.now) }
 {
     let (target, rest) = local(bytes)?;
     Ok((Term::Goto(target), rest))
@@ -76,7 +77,7 @@ fn goto(bytes: &[u8]) -> Result<(Term, &[u8]), Halt>
 
 #[tactic(auto, unfolding(crate::specs::CodeReader::if_at))]
 fn branch(bytes: &[u8]) -> Result<(Term, &[u8]), Halt>
-    ensures { Gives (λ x. (exit_of x.0, x.1.now)) result (if_at bytes.now) }
+    ensures { Gives (λ x. (term_of x.0, x.1.now)) result (if_at bytes.now) }
 {
     let (cond, rest) = local(bytes)?;
     let (yes, rest) = local(rest)?;
@@ -86,7 +87,7 @@ fn branch(bytes: &[u8]) -> Result<(Term, &[u8]), Halt>
 
 #[tactic(auto, unfolding(crate::specs::CodeReader::case_at))]
 fn case(alloc: Global, bytes: &[u8]) -> Result<(Term, &[u8]), Halt>
-    ensures { Gives (λ x. (exit_of x.0, x.1.now)) result (case_at bytes.now) }
+    ensures { Gives (λ x. (term_of x.0, x.1.now)) result (case_at bytes.now) }
 {
     let (on, rest) = local(bytes)?;
     let (arms, rest) = list(alloc, 0, 64, rest)?;
@@ -95,7 +96,7 @@ fn case(alloc: Global, bytes: &[u8]) -> Result<(Term, &[u8]), Halt>
 
 #[tactic(auto, unfolding(crate::specs::CodeReader::exit_at, crate::specs::CodeReader::exit_rest, crate::specs::Reader::tag_at, crate::specs::Reader::byte_at))]
 fn term(alloc: Global, bytes: &[u8]) -> Result<(Term, &[u8]), Halt>
-    ensures { Gives (λ x. (exit_of x.0, x.1.now)) result (exit_at bytes.now) }
+    ensures { Gives (λ x. (term_of x.0, x.1.now)) result (exit_at bytes.now) }
 {
     match bytes {
         [] => Err(Halt::Short),
@@ -109,7 +110,7 @@ fn term(alloc: Global, bytes: &[u8]) -> Result<(Term, &[u8]), Halt>
 }
 
 impl Decode for Block {
-    ghost Plain = { BasicBlock };
+    ghost Plain = { PlainBlock };
 
     ghost plain = { block_of };
 
@@ -139,9 +140,9 @@ fn header(alloc: Global, bytes: &[u8]) -> Result<((Vec<Kind>, Kind, Vec<Kind>), 
 }
 
 impl Decode for Func {
-    ghost Plain = { Function };
+    ghost Plain = { PlainFunc };
 
-    ghost plain = { function_of };
+    ghost plain = { func_of };
 
     ghost read_at = { func_at };
 

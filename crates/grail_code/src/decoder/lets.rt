@@ -1,11 +1,11 @@
 ghost use Rattle.std.specs.Prelude.{◌≡◌, ℕ, IfOk};
-ghost use Rattle.grail_code.specs.declared.code.Place.{Place};
-ghost use Rattle.grail_code.specs.Code.{Binding, binding_of, operation_of, operator_of};
+ghost use Rattle.grail_blocks.specs.declared.blocks.Place.{Place};
+ghost use Rattle.grail_code.specs.Code.{Let as PlainLet, let_of, op_of, operator_of};
 ghost use Rattle.grail_code.specs.Reader.{Gives};
 ghost use Rattle.grail_code.specs.CodeReader.{local_at, operator_at, place_at, lit_at, flag_at, copy_at, prim_at, make_at, call_at, op_at, let_at};
 
 use super::reader::{Decode, Halt, list, number};
-use crate::code::{Let, Op, Place, PrimCode};
+use grail_blocks::{Let, Op, Place, PrimCode};
 use std::alloc::Global;
 
 /// A local, or a block.
@@ -66,7 +66,7 @@ fn place(bytes: &[u8]) -> Result<(Place, &[u8]), Halt>
 
 #[tactic(auto, unfolding(crate::specs::CodeReader::lit_at))]
 fn lit(bytes: &[u8]) -> Result<(Op, &[u8]), Halt>
-    ensures { Gives (λ x. (operation_of x.0, x.1.now)) result (lit_at bytes.now) }
+    ensures { Gives (λ x. (op_of x.0, x.1.now)) result (lit_at bytes.now) }
 {
     let (bits, rest) = number(4, 0, u32::MAX, bytes)?;
     Ok((Op::Lit(bits.cast_signed()), rest))
@@ -74,7 +74,7 @@ fn lit(bytes: &[u8]) -> Result<(Op, &[u8]), Halt>
 
 #[tactic(auto, unfolding(crate::specs::CodeReader::flag_at, crate::specs::Reader::tag_at, crate::specs::Reader::byte_at))]
 fn flag(bytes: &[u8]) -> Result<(Op, &[u8]), Halt>
-    ensures { Gives (λ x. (operation_of x.0, x.1.now)) result (flag_at bytes.now) }
+    ensures { Gives (λ x. (op_of x.0, x.1.now)) result (flag_at bytes.now) }
 {
     match bytes {
         [] => Err(Halt::Short),
@@ -86,7 +86,7 @@ fn flag(bytes: &[u8]) -> Result<(Op, &[u8]), Halt>
 
 #[tactic(auto, unfolding(crate::specs::CodeReader::copy_at))]
 fn copy(bytes: &[u8]) -> Result<(Op, &[u8]), Halt>
-    ensures { Gives (λ x. (operation_of x.0, x.1.now)) result (copy_at bytes.now) }
+    ensures { Gives (λ x. (op_of x.0, x.1.now)) result (copy_at bytes.now) }
 {
     let (from, rest) = local(bytes)?;
     Ok((Op::Copy(from), rest))
@@ -94,7 +94,7 @@ fn copy(bytes: &[u8]) -> Result<(Op, &[u8]), Halt>
 
 #[tactic(auto, unfolding(crate::specs::CodeReader::prim_at))]
 fn prim(bytes: &[u8]) -> Result<(Op, &[u8]), Halt>
-    ensures { Gives (λ x. (operation_of x.0, x.1.now)) result (prim_at bytes.now) }
+    ensures { Gives (λ x. (op_of x.0, x.1.now)) result (prim_at bytes.now) }
 {
     let (op, rest) = operator(bytes)?;
     let (left, rest) = local(rest)?;
@@ -104,7 +104,7 @@ fn prim(bytes: &[u8]) -> Result<(Op, &[u8]), Halt>
 
 #[tactic(auto, unfolding(crate::specs::CodeReader::make_at))]
 fn make(alloc: Global, bytes: &[u8]) -> Result<(Op, &[u8]), Halt>
-    ensures { Gives (λ x. (operation_of x.0, x.1.now)) result (make_at bytes.now) }
+    ensures { Gives (λ x. (op_of x.0, x.1.now)) result (make_at bytes.now) }
 {
     let (con, rest) = number(4, 0, 4095, bytes)?;
     let (args, rest) = list(alloc, 0, 4, rest)?;
@@ -114,7 +114,7 @@ fn make(alloc: Global, bytes: &[u8]) -> Result<(Op, &[u8]), Halt>
 
 #[tactic(auto, unfolding(crate::specs::CodeReader::call_at))]
 fn call(alloc: Global, bytes: &[u8]) -> Result<(Op, &[u8]), Halt>
-    ensures { Gives (λ x. (operation_of x.0, x.1.now)) result (call_at bytes.now) }
+    ensures { Gives (λ x. (op_of x.0, x.1.now)) result (call_at bytes.now) }
 {
     let (func, rest) = number(4, 0, 63, bytes)?;
     let (args, rest) = list(alloc, 0, 16, rest)?;
@@ -123,7 +123,7 @@ fn call(alloc: Global, bytes: &[u8]) -> Result<(Op, &[u8]), Halt>
 
 #[tactic(auto, unfolding(crate::specs::CodeReader::op_at, crate::specs::CodeReader::op_rest, crate::specs::Reader::tag_at, crate::specs::Reader::byte_at))]
 fn op(alloc: Global, bytes: &[u8]) -> Result<(Op, &[u8]), Halt>
-    ensures { Gives (λ x. (operation_of x.0, x.1.now)) result (op_at bytes.now) }
+    ensures { Gives (λ x. (op_of x.0, x.1.now)) result (op_at bytes.now) }
 {
     match bytes {
         [] => Err(Halt::Short),
@@ -138,9 +138,9 @@ fn op(alloc: Global, bytes: &[u8]) -> Result<(Op, &[u8]), Halt>
 }
 
 impl Decode for Let {
-    ghost Plain = { Binding };
+    ghost Plain = { PlainLet };
 
-    ghost plain = { binding_of };
+    ghost plain = { let_of };
 
     ghost read_at = { let_at };
 

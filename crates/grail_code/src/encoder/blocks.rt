@@ -1,11 +1,12 @@
 ghost use Rattle.std.specs.Prelude.{◌≡◌, ◌++◌, ◌∷◌, map, ◌≤◌, OnOk};
-ghost use Rattle.grail_code.specs.Code.{Arm, BasicBlock, Function, arm_of, exit_of, block_of, function_of};
+ghost use Rattle.grail_code.specs.Code.{CaseArm as PlainArm, Block as PlainBlock, Func as PlainFunc, arm_of, term_of, block_of, func_of};
 ghost use Rattle.grail_code.specs.Spelling.{number, counted, arm_bytes, cell_bytes, exit_bytes, block_bytes, function_bytes, AreCounted, FitsArm, FitsExit, FitsBlock, FitsFunction};
 
 use super::lets::{call, tagged};
 use super::types::name;
 use super::writer::{Encode, list, number};
-use crate::code::{Block, CaseArm, CaseCell, Func, Term};
+use crate::code::{Block, Func};
+use grail_blocks::{CaseArm, CaseCell, Term};
 use std::alloc::AllocError;
 
 fn cell(out: &mut Vec<u8>, cell: CaseCell) -> Result<(), AllocError>
@@ -23,7 +24,7 @@ fn cell(out: &mut Vec<u8>, cell: CaseCell) -> Result<(), AllocError>
 }
 
 impl Encode for CaseArm {
-    ghost Plain = { Arm };
+    ghost Plain = { PlainArm };
 
     ghost plain = { arm_of };
 
@@ -55,8 +56,8 @@ fn case(out: &mut Vec<u8>, on: u32, arms: &[CaseArm]) -> Result<(), AllocError>
 }
 
 fn term(out: &mut Vec<u8>, term: &Term) -> Result<(), AllocError>
-    requires { FitsExit (exit_of term.now) }
-    ensures { OnOk result (out.new.items ≡ out.old.items ++ exit_bytes (exit_of term.now)) }
+    requires { FitsExit (term_of term.now) }
+    ensures { OnOk result (out.new.items ≡ out.old.items ++ exit_bytes (term_of term.now)) }
 {
     match term {
         Term::Ret(from) => tagged(out, 0, *from),
@@ -68,7 +69,7 @@ fn term(out: &mut Vec<u8>, term: &Term) -> Result<(), AllocError>
 }
 
 impl Encode for Block {
-    ghost Plain = { BasicBlock };
+    ghost Plain = { PlainBlock };
 
     ghost plain = { block_of };
 
@@ -84,9 +85,9 @@ impl Encode for Block {
 }
 
 impl Encode for Func {
-    ghost Plain = { Function };
+    ghost Plain = { PlainFunc };
 
-    ghost plain = { function_of };
+    ghost plain = { func_of };
 
     ghost Fits = { FitsFunction };
 

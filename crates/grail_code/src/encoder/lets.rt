@@ -1,10 +1,10 @@
 ghost use Rattle.std.specs.Prelude.{◌≡◌, ◌++◌, ◌∷◌, [], ◌≤◌, ℕ, OnOk, if◌then◌else◌};
 ghost use Rattle.std.specs.Int.{w32, cast_unsigned};
-ghost use Rattle.grail_code.specs.Code.{Binding, binding_of, operation_of, operator_of};
+ghost use Rattle.grail_code.specs.Code.{Let as PlainLet, let_of, op_of, operator_of};
 ghost use Rattle.grail_code.specs.Spelling.{number, counted, operator_code, place_bytes, operation_bytes, let_bytes, IsLocal, FitsOperation, FitsLet, AreCounted};
 
 use super::writer::{Encode, list, number};
-use crate::code::{Let, Op, Place, PrimCode};
+use grail_blocks::{Let, Op, Place, PrimCode};
 use std::alloc::AllocError;
 
 /// A local: the only numbers that stand in lists.
@@ -95,8 +95,8 @@ fn flag(out: &mut Vec<u8>, value: bool) -> Result<(), AllocError>
 }
 
 fn op(out: &mut Vec<u8>, op: &Op) -> Result<(), AllocError>
-    requires { FitsOperation (operation_of op.now) }
-    ensures { OnOk result (out.new.items ≡ out.old.items ++ operation_bytes (operation_of op.now)) }
+    requires { FitsOperation (op_of op.now) }
+    ensures { OnOk result (out.new.items ≡ out.old.items ++ operation_bytes (op_of op.now)) }
 {
     match op {
         Op::Lit(value) => tagged(out, 0, value.cast_unsigned()),
@@ -109,9 +109,9 @@ fn op(out: &mut Vec<u8>, op: &Op) -> Result<(), AllocError>
 }
 
 impl Encode for Let {
-    ghost Plain = { Binding };
+    ghost Plain = { PlainLet };
 
-    ghost plain = { binding_of };
+    ghost plain = { let_of };
 
     ghost Fits = { FitsLet };
 

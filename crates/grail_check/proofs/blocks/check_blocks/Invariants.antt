@@ -1,10 +1,10 @@
 use Rattle.std.proofs.Common.{◌≡◌, drop, map}
-use Rattle.grail_code.specs.Code.{block_of, function_of, program_of}
+use Rattle.grail_code.specs.Code.{block_of, func_of, code_of}
 use Rattle.grail_check.specs.Walk.{blocks_fault}
 use Rattle.grail_check.proofs.blocks.check_blocks.Given as goal
 
 abbrev pub invariant-walk : goal.invariant-walk
 invariant-walk l = record {
   number : l.number ≡ l.block-index;
-  fault : blocks_fault (program_of l.code) (function_of l.func) l.locals l.func_number l.number (map block_of (drop l.block-index l.func.blocks.items)) ≡ blocks_fault (program_of l.code) (function_of l.func) l.locals l.func_number 0 (map block_of l.func.blocks.items);
+  fault : blocks_fault (code_of l.code) (func_of l.func) l.locals l.func_number l.number (map block_of (drop l.block-index l.func.blocks.items)) ≡ blocks_fault (code_of l.code) (func_of l.func) l.locals l.func_number 0 (map block_of l.func.blocks.items);
 }
