@@ -9,4 +9,7 @@ pub mod SpellingLoops
 pub mod SpellingWrites
 -- Functions by name.
 pub mod NamedFuncs
--- The meaning of code: its clock and fuel, and that well-formed code isn't stuck.
+-- What the types keep.
+pub mod Kept
+-- The meaning on small codes.
+pub mod Rows

@@ -7,7 +7,7 @@ use Rattle.grail_blocks.specs.declared.blocks.CaseCell.{CaseCell}
 use Rattle.grail_blocks.specs.declared.blocks.CaseCell.TheVariants as cell
 use Rattle.grail_code.specs.Code.{Prim, Let, CaseArm, Term, Ret, Tail, Goto, If, Case, Block, Func, Code}
 use Rattle.grail_code.specs.Spelling as s
-use Rattle.grail_code.specs.Spelling.{number, counted, name, AreCounted, IsLocal, FitsKind, FitsCon, FitsType, FitsPlace, FitsOperation, FitsLet, FitsCell, FitsArm, FitsExit, FitsBlock, FitsFunction, FitsCode}
+use Rattle.grail_code.specs.Spelling.{number, counted, name, AreCounted, IsLocal, FitsKind, FitsCon, FitsType, FitsPlace, FitsOp, FitsLet, FitsCell, FitsArm, FitsTerm, FitsBlock, FitsFunc, FitsCode}
 use Rattle.grail_code.specs.Reader.{Read, pair_at, leb_at, counted_at}
 use Rattle.grail_code.specs.CodeReader.{name_at, kind_at, type_at, local_at, let_at, cell_rest, cell_at, arm_at, ret_at, tail_call_at, goto_at, if_at, case_at, exit_rest, exit_at, block_at, header_at, func_at, headed_at, tables_at, code_at}
 use Rattle.grail_code.proofs.SpellingParts.{Lawful, Made, retold, made, pair, constant, headed, tagged, counted_law}
@@ -83,7 +83,7 @@ exit_tail (If x first second) = number x ++ number first ++ number second
 exit_tail (Case x arms) = number x ++ counted s.arm_bytes arms
 
 abbrev ExitIs : ℕ → Term → Type 0
-ExitIs n e = FitsExit e × (exit_tag e ≡ n)
+ExitIs n e = FitsTerm e × (exit_tag e ≡ n)
 
 exit_small : (e : Term) → exit_tag e < 5
 exit_small (Ret x) = lit< tt
@@ -92,7 +92,7 @@ exit_small (Goto b) = lit< tt
 exit_small (If x first second) = lit< tt
 exit_small (Case x arms) = lit< tt
 
-exit_tagged : (e : Term) → s.exit_bytes e ≡ exit_tag e ∷ exit_tail e
+exit_tagged : (e : Term) → s.term_bytes e ≡ exit_tag e ∷ exit_tail e
 exit_tagged (Ret x) = refl
 exit_tagged (Tail f args) = refl
 exit_tagged (Goto b) = refl
@@ -157,24 +157,24 @@ exit_rest_law (suc (suc (suc zero))) h = if_law
 exit_rest_law (suc (suc (suc (suc zero)))) h = case_law
 exit_rest_law (suc (suc (suc (suc (suc n))))) h = absurd (omega arith)
 
-exit_law : Lawful FitsExit s.exit_bytes exit_at
+exit_law : Lawful FitsTerm s.term_bytes exit_at
 unfolding exit_at
-exit_law = tagged FitsExit s.exit_bytes exit_tail exit_tag 5 exit_rest (lit< tt) exit_small exit_tagged exit_rest_law
+exit_law = tagged FitsTerm s.term_bytes exit_tail exit_tag 5 exit_rest (lit< tt) exit_small exit_tagged exit_rest_law
 
 -- ---- blocks, functions and code
 
 abbrev BlockParts : List ℕ × (List Let × Term) → Type 0
-BlockParts p = AreCounted IsLocal 0 256 p.0 × (AreCounted FitsLet 0 256 p.1.0 × FitsExit p.1.1)
+BlockParts p = AreCounted IsLocal 0 256 p.0 × (AreCounted FitsLet 0 256 p.1.0 × FitsTerm p.1.1)
 
 block_law : Lawful FitsBlock s.block_bytes block_at
 unfolding block_at
-block_law = made BlockParts (λ p. counted number p.0 ++ (counted s.let_bytes p.1.0 ++ s.exit_bytes p.1.1)) (pair_at (counted_at local_at 0 256) (pair_at (counted_at let_at 0 256) exit_at)) FitsBlock s.block_bytes
+block_law = made BlockParts (λ p. counted number p.0 ++ (counted s.let_bytes p.1.0 ++ s.term_bytes p.1.1)) (pair_at (counted_at local_at 0 256) (pair_at (counted_at let_at 0 256) exit_at)) FitsBlock s.block_bytes
     (λ p. record { params = p.0; lets = p.1.0; term = p.1.1 })
     (λ p h. record { params = h.0; lets = h.1.0; term = h.1.1 })
     (λ b h. record { value = (b.params, (b.lets, b.term)); fits = (h.params, (h.lets, h.term)); is = refl })
-    (λ p h. sym (append_assoc (counted number p.0) (counted s.let_bytes p.1.0) (s.exit_bytes p.1.1)))
-    (pair (AreCounted IsLocal 0 256) (counted number) (counted_at local_at 0 256) (λ (p : List Let × Term). AreCounted FitsLet 0 256 p.0 × FitsExit p.1) (λ p. counted s.let_bytes p.0 ++ s.exit_bytes p.1) (pair_at (counted_at let_at 0 256) exit_at) (locals_law 256)
-    (pair (AreCounted FitsLet 0 256) (counted s.let_bytes) (counted_at let_at 0 256) FitsExit s.exit_bytes exit_at (counted_law FitsLet s.let_bytes let_at 0 256 (lit≤ tt) (lit≤ tt) let_law) exit_law))
+    (λ p h. sym (append_assoc (counted number p.0) (counted s.let_bytes p.1.0) (s.term_bytes p.1.1)))
+    (pair (AreCounted IsLocal 0 256) (counted number) (counted_at local_at 0 256) (λ (p : List Let × Term). AreCounted FitsLet 0 256 p.0 × FitsTerm p.1) (λ p. counted s.let_bytes p.0 ++ s.term_bytes p.1) (pair_at (counted_at let_at 0 256) exit_at) (locals_law 256)
+    (pair (AreCounted FitsLet 0 256) (counted s.let_bytes) (counted_at let_at 0 256) FitsTerm s.term_bytes exit_at (counted_law FitsLet s.let_bytes let_at 0 256 (lit≤ tt) (lit≤ tt) let_law) exit_law))
 
 abbrev Header : Type 0
 Header = List Kind × (Kind × List Kind)
@@ -196,9 +196,9 @@ FuncParts p = IsName is_lower p.0 × (HeaderFits p.1.0 × AreCounted FitsBlock 1
 five : (a b c d e : List ℕ) → a ++ ((b ++ (c ++ d)) ++ e) ≡ a ++ b ++ c ++ d ++ e
 five a b c d e = simp append_assoc
 
-func_law : Lawful FitsFunction s.function_bytes func_at
+func_law : Lawful FitsFunc s.func_bytes func_at
 unfolding func_at
-func_law = made FuncParts (λ p. name p.0 ++ (header_bytes p.1.0 ++ counted s.block_bytes p.1.1)) (pair_at (name_at is_lower) (pair_at header_at (counted_at block_at 1 256))) FitsFunction s.function_bytes
+func_law = made FuncParts (λ p. name p.0 ++ (header_bytes p.1.0 ++ counted s.block_bytes p.1.1)) (pair_at (name_at is_lower) (pair_at header_at (counted_at block_at 1 256))) FitsFunc s.func_bytes
     (λ p. record { name = p.0; params = p.1.0.0; result = p.1.0.1.0; locals = p.1.0.1.1; blocks = p.1.1 })
     (λ p h. record { name = h.0; params = h.1.0.0; result = h.1.0.1.0; locals = h.1.0.1.1; blocks = h.1.1 })
     (λ f h. record { value = (f.name, ((f.params, (f.result, f.locals)), f.blocks)); fits = (h.name, ((h.params, (h.result, h.locals)), h.blocks)); is = refl })
@@ -207,14 +207,14 @@ func_law = made FuncParts (λ p. name p.0 ++ (header_bytes p.1.0 ++ counted s.bl
     (pair HeaderFits header_bytes header_at (AreCounted FitsBlock 1 256) (counted s.block_bytes) (counted_at block_at 1 256) header_law (counted_law FitsBlock s.block_bytes block_at 1 256 (lit≤ tt) (lit≤ tt) block_law)))
 
 tables_bytes : Code → List ℕ
-tables_bytes p = counted s.type_bytes p.types ++ counted s.function_bytes p.funcs
+tables_bytes p = counted s.type_bytes p.types ++ counted s.func_bytes p.funcs
 
 tables_law : Lawful FitsCode tables_bytes tables_at
 unfolding tables_at tables_bytes
-tables_law = made (λ (p : List DataType × List Func). AreCounted FitsType 0 64 p.0 × AreCounted FitsFunction 0 64 p.1) (λ p. counted s.type_bytes p.0 ++ counted s.function_bytes p.1) (pair_at (counted_at type_at 0 64) (counted_at func_at 0 64)) FitsCode tables_bytes
+tables_law = made (λ (p : List DataType × List Func). AreCounted FitsType 0 64 p.0 × AreCounted FitsFunc 0 64 p.1) (λ p. counted s.type_bytes p.0 ++ counted s.func_bytes p.1) (pair_at (counted_at type_at 0 64) (counted_at func_at 0 64)) FitsCode tables_bytes
     (λ p. record { types = p.0; funcs = p.1 }) (λ p h. record { types = h.0; funcs = h.1 }) (λ c h. record { value = (c.types, c.funcs); fits = (h.types, h.funcs); is = refl }) (λ p h. refl)
-    (pair (AreCounted FitsType 0 64) (counted s.type_bytes) (counted_at type_at 0 64) (AreCounted FitsFunction 0 64) (counted s.function_bytes) (counted_at func_at 0 64)
-    (counted_law FitsType s.type_bytes type_at 0 64 (lit≤ tt) (lit≤ tt) type_law) (counted_law FitsFunction s.function_bytes func_at 0 64 (lit≤ tt) (lit≤ tt) func_law))
+    (pair (AreCounted FitsType 0 64) (counted s.type_bytes) (counted_at type_at 0 64) (AreCounted FitsFunc 0 64) (counted s.func_bytes) (counted_at func_at 0 64)
+    (counted_law FitsType s.type_bytes type_at 0 64 (lit≤ tt) (lit≤ tt) type_law) (counted_law FitsFunc s.func_bytes func_at 0 64 (lit≤ tt) (lit≤ tt) func_law))
 
 headed_law : {A : Type 0} (F : A → Type 0) (spell : A → List ℕ) (r : List ℕ → Read A) (b : ℕ) → Lawful F spell r → Lawful F (λ x. b ∷ spell x) (headed_at b r)
 unfolding headed_at

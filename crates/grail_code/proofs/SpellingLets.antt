@@ -10,7 +10,7 @@ use Rattle.grail_blocks.specs.declared.blocks.Place.{Place}
 use Rattle.grail_blocks.specs.declared.blocks.Place.TheVariants as place
 use Rattle.grail_code.specs.Code.{Op, Lit, Flag, Copy, Prim, Make, Call}
 use Rattle.grail_code.specs.Spelling as s
-use Rattle.grail_code.specs.Spelling.{number, counted, name, AreCounted, IsLocal, FitsKind, FitsCon, FitsType, FitsPlace, FitsOperation, FitsLet, FitsCell, FitsArm, FitsExit, FitsBlock, FitsFunction, FitsCode}
+use Rattle.grail_code.specs.Spelling.{number, counted, name, AreCounted, IsLocal, FitsKind, FitsCon, FitsType, FitsPlace, FitsOp, FitsLet, FitsCell, FitsArm, FitsTerm, FitsBlock, FitsFunc, FitsCode}
 use Rattle.grail_code.specs.Reader.{pair_at, tag_at, leb_at, counted_at}
 use Rattle.grail_code.specs.CodeReader.{local_at, numbered_operator, operator_at, place_rest, place_at, lit_at, flag_at, copy_at, prim_at, make_at, call_at, op_rest, op_at, let_at}
 use Rattle.grail_code.proofs.SpellingParts.{Lawful, Made, made, pair, constant, tagged, tag_law, counted_law}
@@ -123,7 +123,7 @@ op_tail (Make c args p) = number c ++ counted number args ++ s.place_bytes p
 op_tail (Call f args) = number f ++ counted number args
 
 abbrev OpFits : ℕ → Op → Type 0
-OpFits n op = FitsOperation op × (op_tag op ≡ n)
+OpFits n op = FitsOp op × (op_tag op ≡ n)
 
 op_small : (op : Op) → op_tag op < 6
 op_small (Lit z) = lit< tt
@@ -133,7 +133,7 @@ op_small (Prim op x y) = lit< tt
 op_small (Make c args p) = lit< tt
 op_small (Call f args) = lit< tt
 
-op_tagged : (op : Op) → s.operation_bytes op ≡ op_tag op ∷ op_tail op
+op_tagged : (op : Op) → s.op_bytes op ≡ op_tag op ∷ op_tail op
 op_tagged (Lit z) = refl
 op_tagged (Flag b) = refl
 op_tagged (Copy x) = refl
@@ -215,12 +215,12 @@ op_rest_law (suc (suc (suc (suc zero)))) h = make_law
 op_rest_law (suc (suc (suc (suc (suc zero))))) h = call_law
 op_rest_law (suc (suc (suc (suc (suc (suc n)))))) h = absurd (omega arith)
 
-op_law : Lawful FitsOperation s.operation_bytes op_at
+op_law : Lawful FitsOp s.op_bytes op_at
 unfolding op_at
-op_law = tagged FitsOperation s.operation_bytes op_tail op_tag 6 op_rest (lit< tt) op_small op_tagged op_rest_law
+op_law = tagged FitsOp s.op_bytes op_tail op_tag 6 op_rest (lit< tt) op_small op_tagged op_rest_law
 
 pub let_law : Lawful FitsLet s.let_bytes let_at
 unfolding let_at
-let_law = made (λ (p : ℕ × Op). IsLocal p.0 × FitsOperation p.1) (λ p. number p.0 ++ s.operation_bytes p.1) (pair_at local_at op_at) FitsLet s.let_bytes (λ p. record { target = p.0; op = p.1 })
+let_law = made (λ (p : ℕ × Op). IsLocal p.0 × FitsOp p.1) (λ p. number p.0 ++ s.op_bytes p.1) (pair_at local_at op_at) FitsLet s.let_bytes (λ p. record { target = p.0; op = p.1 })
     (λ p h. record { target = h.0; op = h.1 }) (λ l h. record { value = (l.target, l.op); fits = (h.target, h.op); is = refl }) (λ p h. refl)
-    (pair IsLocal number local_at FitsOperation s.operation_bytes op_at local_law op_law)
+    (pair IsLocal number local_at FitsOp s.op_bytes op_at local_law op_law)

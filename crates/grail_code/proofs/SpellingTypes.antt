@@ -9,7 +9,7 @@ use Rattle.camelot_values.specs.declared.kinds.Kind.{Kind}
 use Rattle.camelot_values.specs.declared.kinds.Kind.TheVariants as kind
 use Rattle.grail_code.specs.Code.{Prim}
 use Rattle.grail_code.specs.Spelling as s
-use Rattle.grail_code.specs.Spelling.{number, counted, name, AreCounted, IsLocal, FitsKind, FitsCon, FitsType, FitsPlace, FitsOperation, FitsLet, FitsCell, FitsArm, FitsExit, FitsBlock, FitsFunction, FitsCode}
+use Rattle.grail_code.specs.Spelling.{number, counted, name, AreCounted, IsLocal, FitsKind, FitsCon, FitsType, FitsPlace, FitsOp, FitsLet, FitsCell, FitsArm, FitsTerm, FitsBlock, FitsFunc, FitsCode}
 use Rattle.grail_code.specs.Reader.{Read, Done, pair_at, byte_at, leb_at, times_at, counted_at}
 use Rattle.grail_code.specs.CodeReader.{tail_at, word_at, name_at, numbered_kind, kind_at, fields_at, layout_at, con_at, type_at}
 use Rattle.grail_code.proofs.SpellingParts.{Lawful, Tells, Made, retold, made, pair, bind, constant, byte_law, tagged, InRow, row_law, number_law, counted_law}

@@ -11,5 +11,6 @@ pub mod Places
 pub mod PlaceLaws
 pub mod MeaningLaws
 pub mod SoundLaws
-
+pub mod Limits
+pub mod RangeLaws
 pub mod ByName

@@ -65,16 +65,16 @@ place_bytes place.Inline = 0 ∷ []
 place_bytes place.New = 1 ∷ []
 place_bytes (place.Reuse x) = 2 ∷ number x
 
-abbrev pub operation_bytes : Op → List ℕ
-operation_bytes (Lit z) = 0 ∷ number (cast_unsigned w32 z)
-operation_bytes (Flag b) = 1 ∷ (if b then 1 else 0) ∷ []
-operation_bytes (Copy x) = 2 ∷ number x
-operation_bytes (Prim op x y) = 3 ∷ operator_code op ∷ (number x ++ number y)
-operation_bytes (Make c args p) = 4 ∷ (number c ++ counted number args ++ place_bytes p)
-operation_bytes (Call f args) = 5 ∷ (number f ++ counted number args)
+abbrev pub op_bytes : Op → List ℕ
+op_bytes (Lit z) = 0 ∷ number (cast_unsigned w32 z)
+op_bytes (Flag b) = 1 ∷ (if b then 1 else 0) ∷ []
+op_bytes (Copy x) = 2 ∷ number x
+op_bytes (Prim op x y) = 3 ∷ operator_code op ∷ (number x ++ number y)
+op_bytes (Make c args p) = 4 ∷ (number c ++ counted number args ++ place_bytes p)
+op_bytes (Call f args) = 5 ∷ (number f ++ counted number args)
 
 abbrev pub let_bytes : Let → List ℕ
-let_bytes l = number l.target ++ operation_bytes l.op
+let_bytes l = number l.target ++ op_bytes l.op
 
 abbrev pub cell_bytes : CaseCell → List ℕ
 cell_bytes cell.Inline = 0 ∷ []
@@ -84,25 +84,25 @@ cell_bytes (cell.Keep x) = 2 ∷ number x
 abbrev pub arm_bytes : CaseArm → List ℕ
 arm_bytes a = counted number a.fields ++ cell_bytes a.cell ++ number a.target
 
-abbrev pub exit_bytes : Term → List ℕ
-exit_bytes (Ret x) = 0 ∷ number x
-exit_bytes (Tail f args) = 1 ∷ (number f ++ counted number args)
-exit_bytes (Goto b) = 2 ∷ number b
-exit_bytes (If x first second) = 3 ∷ (number x ++ number first ++ number second)
-exit_bytes (Case x arms) = 4 ∷ (number x ++ counted arm_bytes arms)
+abbrev pub term_bytes : Term → List ℕ
+term_bytes (Ret x) = 0 ∷ number x
+term_bytes (Tail f args) = 1 ∷ (number f ++ counted number args)
+term_bytes (Goto b) = 2 ∷ number b
+term_bytes (If x first second) = 3 ∷ (number x ++ number first ++ number second)
+term_bytes (Case x arms) = 4 ∷ (number x ++ counted arm_bytes arms)
 
 abbrev pub block_bytes : Block → List ℕ
-block_bytes b = counted number b.params ++ counted let_bytes b.lets ++ exit_bytes b.term
+block_bytes b = counted number b.params ++ counted let_bytes b.lets ++ term_bytes b.term
 
-abbrev pub function_bytes : Func → List ℕ
-function_bytes f = name f.name ++ counted kind_bytes f.params ++ kind_bytes f.result ++ counted kind_bytes f.locals ++ counted block_bytes f.blocks
+abbrev pub func_bytes : Func → List ℕ
+func_bytes f = name f.name ++ counted kind_bytes f.params ++ kind_bytes f.result ++ counted kind_bytes f.locals ++ counted block_bytes f.blocks
 
 -- the bytes `GRL1`
 abbrev pub format : List ℕ
 format = 71 ∷ 82 ∷ 76 ∷ 49 ∷ []
 
 abbrev pub spelling : Code → List ℕ
-spelling p = format ++ counted type_bytes p.types ++ counted function_bytes p.funcs
+spelling p = format ++ counted type_bytes p.types ++ counted func_bytes p.funcs
 
 -- ---- what has a spelling: each number and each count is within its own limit
 
@@ -134,17 +134,17 @@ abbrev pub FitsPlace : Place → Type 0
 FitsPlace (place.Reuse x) = IsLocal x
 FitsPlace p = Unit {0}
 
-abbrev pub FitsOperation : Op → Type 0
-FitsOperation (Lit z) = FitsSigned w32 z
-FitsOperation (Flag b) = Unit {0}
-FitsOperation (Copy x) = IsLocal x
-FitsOperation (Prim op x y) = IsLocal x × IsLocal y
-FitsOperation (Make c args p) = (c ≤ 4095) × AreCounted IsLocal 0 4 args × FitsPlace p
-FitsOperation (Call f args) = (f ≤ 63) × AreCounted IsLocal 0 16 args
+abbrev pub FitsOp : Op → Type 0
+FitsOp (Lit z) = FitsSigned w32 z
+FitsOp (Flag b) = Unit {0}
+FitsOp (Copy x) = IsLocal x
+FitsOp (Prim op x y) = IsLocal x × IsLocal y
+FitsOp (Make c args p) = (c ≤ 4095) × AreCounted IsLocal 0 4 args × FitsPlace p
+FitsOp (Call f args) = (f ≤ 63) × AreCounted IsLocal 0 16 args
 
 pub record FitsLet (l : Let) : Type 0 where
   pub target : IsLocal l.target
-  pub op : FitsOperation l.op
+  pub op : FitsOp l.op
 
 abbrev pub FitsCell : CaseCell → Type 0
 FitsCell (cell.Keep x) = IsLocal x
@@ -155,19 +155,19 @@ pub record FitsArm (a : CaseArm) : Type 0 where
   pub cell : FitsCell a.cell
   pub target : IsBlockNumber a.target
 
-abbrev pub FitsExit : Term → Type 0
-FitsExit (Ret x) = IsLocal x
-FitsExit (Tail f args) = (f ≤ 63) × AreCounted IsLocal 0 16 args
-FitsExit (Goto b) = IsBlockNumber b
-FitsExit (If x first second) = IsLocal x × IsBlockNumber first × IsBlockNumber second
-FitsExit (Case x arms) = IsLocal x × AreCounted FitsArm 0 64 arms
+abbrev pub FitsTerm : Term → Type 0
+FitsTerm (Ret x) = IsLocal x
+FitsTerm (Tail f args) = (f ≤ 63) × AreCounted IsLocal 0 16 args
+FitsTerm (Goto b) = IsBlockNumber b
+FitsTerm (If x first second) = IsLocal x × IsBlockNumber first × IsBlockNumber second
+FitsTerm (Case x arms) = IsLocal x × AreCounted FitsArm 0 64 arms
 
 pub record FitsBlock (b : Block) : Type 0 where
   pub params : AreCounted IsLocal 0 256 b.params
   pub lets : AreCounted FitsLet 0 256 b.lets
-  pub term : FitsExit b.term
+  pub term : FitsTerm b.term
 
-pub record FitsFunction (f : Func) : Type 0 where
+pub record FitsFunc (f : Func) : Type 0 where
   pub name : IsLowerName f.name
   pub params : AreCounted FitsKind 1 16 f.params
   pub result : FitsKind f.result
@@ -177,7 +177,7 @@ pub record FitsFunction (f : Func) : Type 0 where
 -- the code that has a spelling
 pub record FitsCode (p : Code) : Type 0 where
   pub types : AreCounted FitsType 0 64 p.types
-  pub funcs : AreCounted FitsFunction 0 64 p.funcs
+  pub funcs : AreCounted FitsFunc 0 64 p.funcs
 
 -- ---- what bytes are
 

@@ -2,6 +2,8 @@
 
 ghost use Rattle.std.specs.Prelude.{◌≡◌, ℕ, List, ◌∷◌, ◌++◌};
 ghost use Rattle.grail_code.specs.Code.{Code};
+ghost use Rattle.grail_code.specs.Limits.{IsWithinLimits, HaveParams, IsNamed};
+ghost use Rattle.grail_code.specs.WellFormed.{IsWellFormed};
 ghost use Rattle.grail_code.specs.Spelling.{spelling, FitsCode, Decoded, Means};
 
 /// Each text is the spelling of one code at most, and no spelling is the beginning of another.
@@ -21,4 +23,10 @@ pub fn one_spelling()
 pub fn one_meaning()
     ensures some { (bytes : List ℕ) → (meaning : Decoded) × Means bytes meaning }
     ensures one { (bytes : List ℕ) (first second : Decoded) → Means bytes first → Means bytes second → first ≡ second }
+{}
+
+/// Well-formed code within the limits, whose functions have parameters and whose names have their forms, is within the ranges of the spelling, so that it has one.
+#[tactic(auto, using(crate::specs::RangeLaws::within_ranges))]
+pub fn law_of_ranges()
+    ensures { (p : Code) → IsWellFormed p → IsWithinLimits p → HaveParams p → IsNamed p → FitsCode p }
 {}

@@ -10,6 +10,7 @@ mod decoder;
 mod encoder;
 mod fault;
 pub mod laws;
+mod limits;
 pub mod meaning;
 
 pub use code::{Block, Code, Func};

@@ -1,6 +1,6 @@
 ghost use Rattle.std.specs.Prelude.{◌≡◌, ◌++◌, ◌∷◌, map, ◌≤◌, OnOk};
 ghost use Rattle.grail_code.specs.Code.{CaseArm as PlainArm, Block as PlainBlock, Func as PlainFunc, arm_of, term_of, block_of, func_of};
-ghost use Rattle.grail_code.specs.Spelling.{number, counted, arm_bytes, cell_bytes, exit_bytes, block_bytes, function_bytes, AreCounted, FitsArm, FitsExit, FitsBlock, FitsFunction};
+ghost use Rattle.grail_code.specs.Spelling.{number, counted, arm_bytes, cell_bytes, term_bytes, block_bytes, func_bytes, AreCounted, FitsArm, FitsTerm, FitsBlock, FitsFunc};
 
 use super::lets::{call, tagged};
 use super::types::name;
@@ -56,8 +56,8 @@ fn case(out: &mut Vec<u8>, on: u32, arms: &[CaseArm]) -> Result<(), AllocError>
 }
 
 fn term(out: &mut Vec<u8>, term: &Term) -> Result<(), AllocError>
-    requires { FitsExit (term_of term.now) }
-    ensures { OnOk result (out.new.items ≡ out.old.items ++ exit_bytes (term_of term.now)) }
+    requires { FitsTerm (term_of term.now) }
+    ensures { OnOk result (out.new.items ≡ out.old.items ++ term_bytes (term_of term.now)) }
 {
     match term {
         Term::Ret(from) => tagged(out, 0, *from),
@@ -89,9 +89,9 @@ impl Encode for Func {
 
     ghost plain = { func_of };
 
-    ghost Fits = { FitsFunction };
+    ghost Fits = { FitsFunc };
 
-    ghost spell = { function_bytes };
+    ghost spell = { func_bytes };
 
     fn encode(&self, out: &mut Vec<u8>) -> Result<(), AllocError> {
         name(out, &self.name)?;

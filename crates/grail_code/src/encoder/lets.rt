@@ -1,7 +1,7 @@
 ghost use Rattle.std.specs.Prelude.{◌≡◌, ◌++◌, ◌∷◌, [], ◌≤◌, ℕ, OnOk, if◌then◌else◌};
 ghost use Rattle.std.specs.Int.{w32, cast_unsigned};
 ghost use Rattle.grail_code.specs.Code.{Let as PlainLet, let_of, op_of, operator_of};
-ghost use Rattle.grail_code.specs.Spelling.{number, counted, operator_code, place_bytes, operation_bytes, let_bytes, IsLocal, FitsOperation, FitsLet, AreCounted};
+ghost use Rattle.grail_code.specs.Spelling.{number, counted, operator_code, place_bytes, op_bytes, let_bytes, IsLocal, FitsOp, FitsLet, AreCounted};
 
 use super::writer::{Encode, list, number};
 use grail_blocks::{Let, Op, Place, PrimCode};
@@ -95,8 +95,8 @@ fn flag(out: &mut Vec<u8>, value: bool) -> Result<(), AllocError>
 }
 
 fn op(out: &mut Vec<u8>, op: &Op) -> Result<(), AllocError>
-    requires { FitsOperation (op_of op.now) }
-    ensures { OnOk result (out.new.items ≡ out.old.items ++ operation_bytes (op_of op.now)) }
+    requires { FitsOp (op_of op.now) }
+    ensures { OnOk result (out.new.items ≡ out.old.items ++ op_bytes (op_of op.now)) }
 {
     match op {
         Op::Lit(value) => tagged(out, 0, value.cast_unsigned()),
