@@ -1,15 +1,16 @@
 -- The definitions on worked programs: `dup` of a list, `both` whose first argument takes a cell and whose second runs out
 -- of fuel, and `rev`, which builds in the cells that it takes apart.
 use Rattle.std.proofs.Common.{◌≡◌, ℕ, List, [], ◌∷◌, Some, None, false, true, pos, refl}
-use Rattle.std.specs.Prelude.{codes}
+use Rattle.std.specs.Prelude.{codes, negsuc}
+use Rattle.camelot_values.specs.Operator as operator
 use Rattle.camelot_values.specs.Value as value
 use Rattle.camelot_values.specs.Value.{Value, parts}
-use Rattle.camelot_values.specs.Outcome.{Done, Fuel}
+use Rattle.camelot_values.specs.Outcome.{Done, Fuel, Deep}
 use Rattle.camelot_tree.specs.declared.tree.Name.{Name}
 use Rattle.camelot_tree.specs.declared.tree.Atom.TheVariants as atom
 use Rattle.camelot_tree.specs.declared.tree.Param.{Param}
 use Rattle.camelot_tree.specs.declared.tree.ArmCell.TheVariants as cell
-use Rattle.camelot_tree.specs.Tree.{Term, Var, Let, Match, Build, Call, DataType, Function, Source, terms, arms}
+use Rattle.camelot_tree.specs.Tree.{Term, Num, Var, Prim, If, Let, Match, Build, Call, DataType, Function, Source, terms, arms}
 use Rattle.camelot_tree.specs.Meaning.{run_of}
 
 abbrev named : List ℕ → Name
@@ -114,3 +115,56 @@ pub both_of_seven : run_of (record {
 })
     65536 2 5 (value.Int (pos 7) ∷ []) ≡ Fuel 5 1
 both_of_seven = refl
+
+-- ---- tail position and depth
+
+abbrev num : ℕ → Term
+num n = Num (pos n) 1
+
+-- the call on x - 1
+abbrev next : List ℕ → Term
+next name = Call (named name) (terms (Prim operator.Sub (var (codes "x")) (num 1) 1 ∷ []))
+
+abbrev of_zero : Term → Term → Term
+of_zero e other = If (Prim operator.Eq (var (codes "x")) (num 0) 1) e other 1
+
+-- let loop x = if x = 0 then 0 else loop (x - 1): no call waits
+pub loop_in_no_depth : run_of (record { types = []; funs = of_x (codes "loop") (of_zero (num 0) (next (codes "loop"))) ∷ [] }) 0 0 10 (value.Int (pos 3) ∷ []) ≡ Done (value.Int (pos 0)) 4 0 0
+loop_in_no_depth = refl
+
+-- let down x = if x = 0 then 0 else 1 + down (x - 1): a call that waits
+abbrev down : Source
+down = record { types = []; funs = of_x (codes "down") (of_zero (num 0) (Prim operator.Add (num 1) (next (codes "down")) 1)) ∷ [] }
+
+pub down_in_two : run_of down 2 0 10 (value.Int (pos 2) ∷ []) ≡ Done (value.Int (pos 2)) 3 0 0
+down_in_two = refl
+
+pub down_too_deep : run_of down 2 0 10 (value.Int (pos 3) ∷ []) ≡ Deep 0
+down_too_deep = refl
+
+-- fuel is looked at before depth
+pub down_fuel_first : run_of down 2 0 3 (value.Int (pos 3) ∷ []) ≡ Fuel 3 0
+down_fuel_first = refl
+
+-- the value of a let isn't in tail position, and its body is
+pub let_waits : run_of (record { types = []; funs = of_x (codes "f") (of_zero (num 0) (Let (named (codes "y")) (next (codes "f")) (var (codes "y")))) ∷ [] }) 0 0 10 (value.Int (pos 1) ∷ []) ≡ Deep 0
+let_waits = refl
+
+-- ---- wrap-around, and diamonds as arguments
+
+pub sum_wraps : run_of (record { types = []; funs = of_x (codes "f") (Prim operator.Add (var (codes "x")) (num 1) 1) ∷ [] }) 0 0 1 (value.Int (pos 2147483647) ∷ []) ≡ Done (value.Int (negsuc 2147483647)) 1 0 0
+sum_wraps = refl
+
+-- let push (d : <>) x l = Cons(x, l)@d
+pub pushed : run_of (record {
+  types = ilist ∷ [];
+  funs =
+      record {
+        name = named (codes "push");
+        params = param (codes "d") ∷ param (codes "x") ∷ param (codes "l") ∷ [];
+        result = None;
+        body = Build (named (codes "Cons")) (terms (var (codes "x") ∷ var (codes "l") ∷ [])) (Some (named (codes "d")));
+      } ∷ [];
+})
+    0 0 1 (value.Dia ∷ value.Int (pos 1) ∷ list (7 ∷ []) ∷ []) ≡ Done (list (1 ∷ 7 ∷ [])) 1 0 0
+pushed = refl
