@@ -69,4 +69,4 @@ ways blocks (Case x arms) = map (λ a. map Bind (bound_by a) ++ jump_events bloc
 
 -- from a block's beginning, where its parameters are bound, to its end
 abbrev pub block_events : Block → List Event
-block_events b = map Bind b.params ++ (flat_map let_events b.lets ++ map Use (term_uses b.term))
+block_events b = map Bind b.params ++ flat_map let_events b.lets ++ map Use (term_uses b.term)

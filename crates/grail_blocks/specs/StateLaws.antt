@@ -227,9 +227,13 @@ pub ready_lets : (h : ℕ → Bool) (s : State) (ls : List Let) → LetsReady h 
 ready_lets h s [] r = tt
 ready_lets h s (l ∷ ls) r = ready_both h s (let_events l) (flat_map let_events ls) r.0 (ready_lets h (after_let h s l) ls r.1)
 
+events_grouped : (b : Block) → block_events b ≡ map Bind b.params ++ (flat_map let_events b.lets ++ map Use (term_uses b.term))
+events_grouped b = append_assoc (map Bind b.params) (flat_map let_events b.lets) (map Use (term_uses b.term))
+
 pub block_after : (h : ℕ → Bool) (b : Block) → after h nothing_bound (block_events b) ≡ behind_term h b
 block_after h b =
-    after_append h nothing_bound (map Bind b.params) (flat_map let_events b.lets ++ map Use (term_uses b.term))
+    ap (after h nothing_bound) (events_grouped b)
+    ∙ after_append h nothing_bound (map Bind b.params) (flat_map let_events b.lets ++ map Use (term_uses b.term))
     ∙ after_append h (at_start h b) (flat_map let_events b.lets) (map Use (term_uses b.term))
     ∙ ap (λ s. after h s (map Use (term_uses b.term))) (lets_after h (at_start h b) b.lets)
 
@@ -268,9 +272,9 @@ pub uses_affinely : (h : ℕ → Bool) (blocks : List Block) (b : Block) → Use
 uses_affinely h blocks b u = record { inside = ready_is_affine h (block_events b) whole; onward = each (ways blocks b.term) u.onward }
   where
     whole : AreReady h nothing_bound (block_events b)
-    whole = ready_both h nothing_bound (map Bind b.params) (flat_map let_events b.lets ++ map Use (term_uses b.term)) (ready_binds h nothing_bound b.params)
+    whole = subst (AreReady h nothing_bound) (sym (events_grouped b)) (ready_both h nothing_bound (map Bind b.params) (flat_map let_events b.lets ++ map Use (term_uses b.term)) (ready_binds h nothing_bound b.params)
         (ready_both h (at_start h b) (flat_map let_events b.lets) (map Use (term_uses b.term)) (ready_lets h (at_start h b) b.lets u.lets)
-        (subst (λ s. AreReady h s (map Use (term_uses b.term))) (sym (lets_after h (at_start h b) b.lets)) u.term))
+        (subst (λ s. AreReady h s (map Use (term_uses b.term))) (sym (lets_after h (at_start h b) b.lets)) u.term)))
 
     each : (ws : List (List Event)) → AllByRecursion (AreReady h (behind_term h b)) ws → AllByRecursion (λ way. IsAffine h (block_events b ++ way)) ws
     each [] k = tt
@@ -284,7 +288,7 @@ affinely_used h blocks b u = record {
 }
   where
     behind : AreReady h (at_start h b) (flat_map let_events b.lets ++ map Use (term_uses b.term))
-    behind = ready_second h nothing_bound (map Bind b.params) (flat_map let_events b.lets ++ map Use (term_uses b.term)) (affine_is_ready h (block_events b) u.inside)
+    behind = ready_second h nothing_bound (map Bind b.params) (flat_map let_events b.lets ++ map Use (term_uses b.term)) (subst (AreReady h nothing_bound) (events_grouped b) (affine_is_ready h (block_events b) u.inside))
 
     each : (ws : List (List Event)) → AllByRecursion (λ way. IsAffine h (block_events b ++ way)) ws → AllByRecursion (AreReady h (behind_term h b)) ws
     each [] k = tt

@@ -7,11 +7,13 @@ use Rattle.camelot_values.specs.Kinds.{DataType}
 use Rattle.camelot_values.specs.declared.kinds.Kind.{Kind}
 use Rattle.camelot_values.specs.declared.kinds.Kind.TheVariants as kind
 use Rattle.grail_code.specs.Code.{Let, CaseArm, Term, Ret, Tail, Goto, If, Case, Block, Func, Code}
-use Rattle.grail_code.specs.WellFormed.{kind_of, HaveKinds, is_heap_local, Ascend, LetFits, Gives, bound_by, ArmsFit, data_type, TermFits, Event, Bind, operands_of, let_events, term_uses, params_of, jump_events, ways, block_events, IsUsedWell, BlockFits, BlocksFit}
+use Rattle.grail_code.specs.WellFormed.{kind_of, HaveKinds, is_heap_local, Ascend, LetFits, Gives, bound_by, ArmsFit, data_type, TermFits, Event, Bind, operands_of, let_events, term_uses, params_at, jump_events, ways, block_events, BlockFits, BlocksFit}
+use Rattle.grail_blocks.specs.States.{IsAffine}
+use Rattle.grail_blocks.specs.StateLaws.{uses_affinely, affinely_used}
 use Rattle.grail_check.specs.declared.fault.CodeKind.TheVariants as fault
 use Rattle.grail_check.specs.declared.locals.Local.{Local}
 use Rattle.grail_check.specs.declared.locals.Mark.{Mark}
-use Rattle.grail_check.specs.Walk.{unless, at_place, locals_of, is_local, is_heap_at, unbound, let_fault, after_let, after_lets, exit_fault, ascends_from, entry_fits, block_header_fault, lets_fault, at_start, block_fault, blocks_fault}
+use Rattle.grail_check.specs.Walk.{unless, at_place, locals_of, is_local, is_heap_at, unbound, let_fault, after_let, after_lets, term_fault, ascends_from, entry_fits, block_header_fault, lets_fault, at_start, block_fault, blocks_fault}
 use Rattle.grail_check.proofs.Checks.{or_first, or_second, or_none, none_fails, all_pass, unless_true, true_unless, nothing_there, nowhere, both, join, all_both}
 use Rattle.grail_check.proofs.Distinct.{ascends_is, is_ascending_all, first_numbers, are_first_numbers}
 use Rattle.grail_check.proofs.Playing.{after, Plays, plays_front, plays_back, plays_both, after_both, length_after, used_well, plays_well, IsWithin, AreWithin}
@@ -112,24 +114,24 @@ end_length locals b = ap length (sym (after_front locals b)) ∙ length_after lo
 
 all_ways : (types : List DataType) (f : Func) (b : Block) (ws : List (List Event)) → Plays (locals_of types f) (unbound (locals_of types f)) (block_events b)
     → AllByRecursion (λ w. Plays (locals_of types f) (after (locals_of types f) (at_end (locals_of types f) b) (uses (term_uses b.term))) w) ws
-    → AllByRecursion (λ w. IsUsedWell (is_heap_local types f) (block_events b ++ w)) ws
+    → AllByRecursion (λ w. IsAffine (is_heap_local types f) (block_events b ++ w)) ws
 all_ways types f b [] h k = tt
 all_ways types f b (w ∷ ws) h k =
     let locals = locals_of types f in (
-      subst (λ t. IsUsedWell t (block_events b ++ w)) (heap_path types f)
+      subst (λ t. IsAffine t (block_events b ++ w)) (heap_path types f)
           (used_well locals (block_events b ++ w) (plays_both locals (unbound locals) (block_events b) w h (subst (λ m. Plays locals m w) (sym (after_block locals b)) k.0))),
       all_ways types f b ws h k.1,
     )
 
-pub block_passes : (p : Code) (f : Func) (func number : ℕ) (b : Block) → ((n : ℕ) → Ascend (params_of f n)) → block_fault p f (locals_of p.types f) func number b ≡ None → BlockFits p f number b
+pub block_passes : (p : Code) (f : Func) (func number : ℕ) (b : Block) → ((n : ℕ) → Ascend (params_at f.blocks n)) → block_fault p f (locals_of p.types f) func number b ≡ None → BlockFits p f number b
 block_passes p f func number b asc h =
     let locals = locals_of p.types f in
     let end = at_end locals b in
     let a = none_fails (at_place func number 0 (block_header_fault f locals number b.params) ∷ lets_fault p locals func number 1 (at_start locals b) b.lets
-    ∷ at_place func number (suc (length b.lets)) (exit_fault p f locals number end b.term) ∷ []) h in
+    ∷ at_place func number (suc (length b.lets)) (term_fault p f locals number end b.term) ∷ []) h in
     let header = header_passes p.types f number b.params (nothing_there func number 0 (block_header_fault f locals number b.params) a.0) in
     let lets = lets_pass p f func number 1 (at_start locals b) b.lets a.1.0 in
-    let term = exit_passes p f number end b.term asc (end_length locals b) (nothing_there func number (suc (length b.lets)) (exit_fault p f locals number end b.term) a.1.1.0) in
+    let term = exit_passes p f number end b.term asc (end_length locals b) (nothing_there func number (suc (length b.lets)) (term_fault p f locals number end b.term) a.1.1.0) in
     let front = front_plays locals b lets.1 in
     let inside = end_events locals b (uses (term_uses b.term)) front term.1 in
     record {
@@ -138,10 +140,10 @@ block_passes p f func number b asc h =
       entry = header.2;
       lets = lets.0;
       term = term.0;
-      uses = record {
-        inside = subst (λ t. IsUsedWell t (block_events b)) (heap_path p.types f) (used_well locals (block_events b) inside);
-        onward = all_ways p.types f b (ways f b.term) inside term.2;
-      };
+      uses = affinely_used (is_heap_local p.types f) f.blocks b (record {
+        inside = subst (λ t. IsAffine t (block_events b)) (heap_path p.types f) (used_well locals (block_events b) inside);
+        onward = all_ways p.types f b (ways f.blocks b.term) inside term.2;
+      });
     }
 
 -- ---- which locals are used
@@ -179,44 +181,45 @@ exit_below p f number (Case x arms) h =
     let (k, r) = data_there p.types (kind_of f x) t e in
     one_below p f x k r
 
-arm_ways_within : (f : Func) (n : ℕ) (arms : List CaseArm) → ((b : ℕ) → AreBelow n (params_of f b)) → AllByRecursion (AreWithin n) (map (arm_way f) arms)
+arm_ways_within : (f : Func) (n : ℕ) (arms : List CaseArm) → ((b : ℕ) → AreBelow n (params_at f.blocks b)) → AllByRecursion (AreWithin n) (map (arm_way f) arms)
 arm_ways_within f n [] h = tt
-arm_ways_within f n (a ∷ arms) h = (all_both (IsWithin n) (map Bind (bound_by a)) (jump_events f a.target) (binds_within n (bound_by a)) (uses_within n (params_of f a.target) (h a.target)), arm_ways_within f n arms h)
+arm_ways_within f n (a ∷ arms) h = (all_both (IsWithin n) (map Bind (bound_by a)) (jump_events f.blocks a.target) (binds_within n (bound_by a)) (uses_within n (params_at f.blocks a.target) (h a.target)), arm_ways_within f n arms h)
 
-ways_within : (f : Func) (n : ℕ) (e : Term) → ((b : ℕ) → AreBelow n (params_of f b)) → AllByRecursion (AreWithin n) (ways f e)
+ways_within : (f : Func) (n : ℕ) (e : Term) → ((b : ℕ) → AreBelow n (params_at f.blocks b)) → AllByRecursion (AreWithin n) (ways f.blocks e)
 ways_within f n (Ret x) h = tt
 ways_within f n (Tail func args) h = tt
-ways_within f n (Goto b) h = (uses_within n (params_of f b) (h b), tt)
-ways_within f n (If x first second) h = (uses_within n (params_of f first) (h first), (uses_within n (params_of f second) (h second), tt))
+ways_within f n (Goto b) h = (uses_within n (params_at f.blocks b) (h b), tt)
+ways_within f n (If x first second) h = (uses_within n (params_at f.blocks first) (h first), (uses_within n (params_at f.blocks second) (h second), tt))
 ways_within f n (Case x arms) h = arm_ways_within f n arms h
 
 ways_all : (types : List DataType) (f : Func) (b : Block) (ws : List (List Event)) → AreWithin (length (locals_of types f)) (block_events b) → AllByRecursion (AreWithin (length (locals_of types f))) ws
-    → AllByRecursion (λ w. IsUsedWell (is_heap_local types f) (block_events b ++ w)) ws
+    → AllByRecursion (λ w. IsAffine (is_heap_local types f) (block_events b ++ w)) ws
     → AllByRecursion (λ w. Plays (locals_of types f) (after (locals_of types f) (at_end (locals_of types f) b) (uses (term_uses b.term))) w) ws
 ways_all types f b [] i k h = tt
 ways_all types f b (w ∷ ws) i k h =
     let locals = locals_of types f in
-    let plays = plays_well locals (block_events b ++ w) (all_both (IsWithin (length locals)) (block_events b) w i k.0) (subst (λ t. IsUsedWell t (block_events b ++ w)) (sym (heap_path types f)) h.0) in
+    let plays = plays_well locals (block_events b ++ w) (all_both (IsWithin (length locals)) (block_events b) w i k.0) (subst (λ t. IsAffine t (block_events b ++ w)) (sym (heap_path types f)) h.0) in
     (subst (λ m. Plays locals m w) (after_block locals b) (plays_back locals (unbound locals) (block_events b) w plays), ways_all types f b ws i k.1 h.1)
 
-pub pass_block : (p : Code) (f : Func) (func number : ℕ) (b : Block) → ((n : ℕ) → AreBelow (length (locals_of p.types f)) (params_of f n)) → BlockFits p f number b → block_fault p f (locals_of p.types f) func number b ≡ None
+pub pass_block : (p : Code) (f : Func) (func number : ℕ) (b : Block) → ((n : ℕ) → AreBelow (length (locals_of p.types f)) (params_at f.blocks n)) → BlockFits p f number b → block_fault p f (locals_of p.types f) func number b ≡ None
 pass_block p f func number b params fits =
     let locals = locals_of p.types f in
     let n = length locals in
     let end = at_end locals b in
     let last = uses (term_uses b.term) in
+    let affine = uses_affinely (is_heap_local p.types f) f.blocks b fits.uses in
     let i : AreWithin n (block_events b) = all_both (IsWithin n) (front_events b) last
     (all_both (IsWithin n) (map Bind b.params) (flat_map let_events b.lets) (binds_within n b.params) (lets_within p f b.lets fits.lets)) (uses_within n (term_uses b.term) (exit_below p f number b.term fits.term)) in
-    let plays = plays_well locals (block_events b) i (subst (λ t. IsUsedWell t (block_events b)) (sym (heap_path p.types f)) fits.uses.inside) in
+    let plays = plays_well locals (block_events b) i (subst (λ t. IsAffine t (block_events b)) (sym (heap_path p.types f)) affine.inside) in
     let front = plays_front locals (unbound locals) (front_events b) last plays in
     all_pass (at_place func number 0 (block_header_fault f locals number b.params) ∷ lets_fault p locals func number 1 (at_start locals b) b.lets
-    ∷ at_place func number (suc (length b.lets)) (exit_fault p f locals number end b.term) ∷ []) (
+    ∷ at_place func number (suc (length b.lets)) (term_fault p f locals number end b.term) ∷ []) (
       nowhere func number 0 (block_header_fault f locals number b.params) (pass_header p.types f number b.params (subst (λ m. AreBelow m b.params) (sym (count_is p.types f)) fits.params) fits.ascending fits.entry),
       (
         pass_lets p f func number 1 (at_start locals b) b.lets fits.lets (plays_lets locals b front),
         (
-          nowhere func number (suc (length b.lets)) (exit_fault p f locals number end b.term)
-              (pass_exit p f number end b.term (fits.term, events_end locals b last plays, ways_all p.types f b (ways f b.term) i (ways_within f n b.term params) fits.uses.onward)),
+          nowhere func number (suc (length b.lets)) (term_fault p f locals number end b.term)
+              (pass_exit p f number end b.term (fits.term, events_end locals b last plays, ways_all p.types f b (ways f.blocks b.term) i (ways_within f n b.term params) affine.onward)),
           tt,
         ),
       ),
@@ -224,10 +227,10 @@ pass_block p f func number b params fits =
 
 -- ---- the blocks of a function
 
-params_at : (Q : List ℕ → Type 0) (bs : List Block) (n : ℕ) → Q [] → AllByRecursion (λ b. Q b.params) bs → Q (option_map_or (λ block. block.params) (slice_get bs n) [])
-params_at Q [] n e h = e
-params_at Q (b ∷ bs) zero e h = h.0
-params_at Q (b ∷ bs) (suc n) e h = params_at Q bs n e h.1
+params_got : (Q : List ℕ → Type 0) (bs : List Block) (n : ℕ) → Q [] → AllByRecursion (λ b. Q b.params) bs → Q (option_map_or (λ block. block.params) (slice_get bs n) [])
+params_got Q [] n e h = e
+params_got Q (b ∷ bs) zero e h = h.0
+params_got Q (b ∷ bs) (suc n) e h = params_got Q bs n e h.1
 
 blocks_ascend : (p : Code) (f : Func) (func number : ℕ) (bs : List Block) → blocks_fault p f (locals_of p.types f) func number bs ≡ None → AllByRecursion (λ b. Ascend b.params) bs
 blocks_ascend p f func number [] h = tt
@@ -238,7 +241,7 @@ blocks_ascend p f func number (b ∷ bs) h =
       blocks_ascend p f func (suc number) bs (or_second (block_fault p f locals func number b) _ h),
     )
 
-each_passes : (p : Code) (f : Func) (func number : ℕ) (bs : List Block) → ((n : ℕ) → Ascend (params_of f n)) → blocks_fault p f (locals_of p.types f) func number bs ≡ None → BlocksFit p f number bs
+each_passes : (p : Code) (f : Func) (func number : ℕ) (bs : List Block) → ((n : ℕ) → Ascend (params_at f.blocks n)) → blocks_fault p f (locals_of p.types f) func number bs ≡ None → BlocksFit p f number bs
 each_passes p f func number [] asc h = tt
 each_passes p f func number (b ∷ bs) asc h = (
   block_passes p f func number b asc (or_first _ (blocks_fault p f (locals_of p.types f) func (suc number) bs) h),
@@ -246,15 +249,15 @@ each_passes p f func number (b ∷ bs) asc h = (
 )
 
 pub blocks_pass : (p : Code) (f : Func) (func : ℕ) → blocks_fault p f (locals_of p.types f) func 0 f.blocks ≡ None → BlocksFit p f 0 f.blocks
-blocks_pass p f func h = each_passes p f func 0 f.blocks (λ n. params_at Ascend f.blocks n tt (blocks_ascend p f func 0 f.blocks h)) h
+blocks_pass p f func h = each_passes p f func 0 f.blocks (λ n. params_got Ascend f.blocks n tt (blocks_ascend p f func 0 f.blocks h)) h
 
 params_below : (p : Code) (f : Func) (number : ℕ) (bs : List Block) → BlocksFit p f number bs → AllByRecursion (λ b. AreBelow (length (locals_of p.types f)) b.params) bs
 params_below p f number [] h = tt
 params_below p f number (b ∷ bs) h = (subst (λ m. AreBelow m b.params) (sym (count_is p.types f)) h.0.params, params_below p f (suc number) bs h.1)
 
-pass_each : (p : Code) (f : Func) (func number : ℕ) (bs : List Block) → ((n : ℕ) → AreBelow (length (locals_of p.types f)) (params_of f n)) → BlocksFit p f number bs → blocks_fault p f (locals_of p.types f) func number bs ≡ None
+pass_each : (p : Code) (f : Func) (func number : ℕ) (bs : List Block) → ((n : ℕ) → AreBelow (length (locals_of p.types f)) (params_at f.blocks n)) → BlocksFit p f number bs → blocks_fault p f (locals_of p.types f) func number bs ≡ None
 pass_each p f func number [] w h = refl
 pass_each p f func number (b ∷ bs) w h = or_none (block_fault p f (locals_of p.types f) func number b) _ (pass_block p f func number b w h.0) (pass_each p f func (suc number) bs w h.1)
 
 pub pass_blocks : (p : Code) (f : Func) (func : ℕ) → BlocksFit p f 0 f.blocks → blocks_fault p f (locals_of p.types f) func 0 f.blocks ≡ None
-pass_blocks p f func h = pass_each p f func 0 f.blocks (λ n. params_at (AreBelow (length (locals_of p.types f))) f.blocks n tt (params_below p f 0 f.blocks h)) h
+pass_blocks p f func h = pass_each p f func 0 f.blocks (λ n. params_got (AreBelow (length (locals_of p.types f))) f.blocks n tt (params_below p f 0 f.blocks h)) h

@@ -9,12 +9,12 @@ use Rattle.camelot_values.specs.declared.kinds.Kind.TheVariants as kind
 use Rattle.grail_blocks.specs.declared.blocks.CaseCell.{CaseCell}
 use Rattle.grail_blocks.specs.declared.blocks.CaseCell.TheVariants as cell
 use Rattle.grail_code.specs.Code.{CaseArm, Term, Ret, Tail, Goto, If, Case, Func, Code}
-use Rattle.grail_code.specs.WellFormed.{kind_of, HaveKinds, Ascend, CellFits, kept_diamond, bound_by, ArmsFit, data_type, TermFits, Event, Use, Bind, term_uses, params_of, jump_events, ways}
+use Rattle.grail_code.specs.WellFormed.{kind_of, HaveKinds, Ascend, CellFits, kept_diamond, bound_by, ArmsFit, data_type, TermFits, Event, Use, Bind, term_uses, params_at, jump_events, ways}
 use Rattle.grail_check.specs.declared.fault.CodeKind.TheVariants as fault
 use Rattle.grail_check.specs.declared.locals.Local.{Local}
 use Rattle.grail_check.specs.declared.locals.Mark.{Mark}
 use Rattle.grail_check.specs.declared.locals.Mark.TheVariants as mark
-use Rattle.grail_check.specs.Walk.{unless, locals_of, is_local, kind_at, same_kind, has_kind, have_kinds, bind, bind_all, spend, mark_fault, operand_fault, arguments_fault, is_block, is_among, use_fault, uses_fault, jump_fault, callee_fault, arm_is_there, fields_count, arms_count, cell_fits, cells_fit, kept_fits, arms_have_kinds, are_distinct, arms_jump_fault, arms_fault, exit_fault}
+use Rattle.grail_check.specs.Walk.{unless, locals_of, is_local, kind_at, same_kind, has_kind, have_kinds, bind, bind_all, spend, mark_fault, operand_fault, arguments_fault, is_block, is_among, use_fault, uses_fault, jump_fault, callee_fault, arm_is_there, fields_count, arms_count, cell_fits, cells_fit, kept_fits, arms_have_kinds, are_distinct, arms_jump_fault, arms_fault, term_fault}
 use Rattle.grail_check.proofs.Checks.{or_first, or_second, or_none, none_fails, all_pass, unless_true, true_unless, both, join, all_true, true_all, all_then, all_both, below, is_below, same, is_same}
 use Rattle.grail_check.proofs.Distinct.{distinct_is, is_distinct, ascend_parts}
 use Rattle.grail_check.proofs.Playing.{after, IsReady, Plays, plays_back, plays_both, set_same, ready_after_bind, ready_before_bind, spend_keeps, spend_one, length_step}
@@ -120,16 +120,16 @@ play_ready locals marks (x ∷ xs) h = (h.0, all_then (λ y. IsReady (spend loca
 
 -- the events of a jump, after what an arm binds
 abbrev pub way : Func → List ℕ → ℕ → List Event
-way f bound b = map Bind bound ++ jump_events f b
+way f bound b = map Bind bound ++ jump_events f.blocks b
 
-jump_passes : (f : Func) (locals : List Local) (marks : List Mark) (bound : List ℕ) (b : ℕ) → Ascend (params_of f b) → AreBelow (length marks) bound
+jump_passes : (f : Func) (locals : List Local) (marks : List Mark) (bound : List ℕ) (b : ℕ) → Ascend (params_at f.blocks b) → AreBelow (length marks) bound
     → jump_fault f marks bound b ≡ None → Plays locals marks (way f bound b)
-jump_passes f locals marks bound b a w h = plays_both locals marks (map Bind bound) (jump_events f b) (binds_play locals marks bound)
-    (subst (λ m. Plays locals m (jump_events f b)) (sym (after_binds locals marks bound)) (ready_play locals (bind_all marks bound) (params_of f b) a (uses_pass marks bound (params_of f b) w h)))
+jump_passes f locals marks bound b a w h = plays_both locals marks (map Bind bound) (jump_events f.blocks b) (binds_play locals marks bound)
+    (subst (λ m. Plays locals m (jump_events f.blocks b)) (sym (after_binds locals marks bound)) (ready_play locals (bind_all marks bound) (params_at f.blocks b) a (uses_pass marks bound (params_at f.blocks b) w h)))
 
 pass_jump : (f : Func) (locals : List Local) (marks : List Mark) (bound : List ℕ) (b : ℕ) → Plays locals marks (way f bound b) → jump_fault f marks bound b ≡ None
-pass_jump f locals marks bound b h = pass_uses marks bound (params_of f b)
-    (play_ready locals (bind_all marks bound) (params_of f b) (subst (λ m. Plays locals m (jump_events f b)) (after_binds locals marks bound) (plays_back locals marks (map Bind bound) (jump_events f b) h)))
+pass_jump f locals marks bound b h = pass_uses marks bound (params_at f.blocks b)
+    (play_ready locals (bind_all marks bound) (params_at f.blocks b) (subst (λ m. Plays locals m (jump_events f.blocks b)) (after_binds locals marks bound) (plays_back locals marks (map Bind bound) (jump_events f.blocks b) h)))
 
 -- ---- arms
 
@@ -187,7 +187,7 @@ bound_below f locals a h =
 abbrev pub arm_way : Func → CaseArm → List Event
 arm_way f a = way f (bound_by a) a.target
 
-arms_jump : (f : Func) (locals : List Local) (marks : List Mark) (arms : List CaseArm) → ((b : ℕ) → Ascend (params_of f b)) → length marks ≡ length locals
+arms_jump : (f : Func) (locals : List Local) (marks : List Mark) (arms : List CaseArm) → ((b : ℕ) → Ascend (params_at f.blocks b)) → length marks ≡ length locals
     → AllByRecursion (λ a. arm_is_there f locals a ≡ true) arms → arms_jump_fault f marks arms ≡ None → AllByRecursion (λ w. Plays locals marks w) (map (arm_way f) arms)
 arms_jump f locals marks [] asc e t h = tt
 arms_jump f locals marks (a ∷ arms) asc e t h = (
@@ -262,7 +262,7 @@ are_arms types f number (a ∷ arms) (c ∷ cs) h =
 abbrev WaysPlay : List Local → List Mark → List (List Event) → Type 0
 WaysPlay locals marks ws = AllByRecursion (λ w. Plays locals marks w) ws
 
-arms_pass : (p : Code) (f : Func) (number : ℕ) (marks : List Mark) (x : ℕ) (o : Option DataType) (arms : List CaseArm) → ((b : ℕ) → Ascend (params_of f b)) → length marks ≡ length (locals_of p.types f)
+arms_pass : (p : Code) (f : Func) (number : ℕ) (marks : List Mark) (x : ℕ) (o : Option DataType) (arms : List CaseArm) → ((b : ℕ) → Ascend (params_at f.blocks b)) → length marks ≡ length (locals_of p.types f)
     → list_all (arm_is_there f (locals_of p.types f)) arms ≡ true → list_all (λ a. nat_lt number a.target) arms ≡ true → arms_fault f (locals_of p.types f) marks x o arms ≡ None
     → IsSomeAnd o (λ t. ArmsFit f number t.cons arms) × IsReady marks x × WaysPlay (locals_of p.types f) (spend (locals_of p.types f) marks x) (map (arm_way f) arms)
 arms_pass p f number marks x None arms asc e named forward h = cc
@@ -329,18 +329,18 @@ pass_callee p f marks (Some callee) args h w =
     )
 
 -- a jump that binds nothing
-plain_jump : (f : Func) (locals : List Local) (marks : List Mark) (b : ℕ) → Ascend (params_of f b) → jump_fault f marks [] b ≡ None → Plays locals marks (jump_events f b)
+plain_jump : (f : Func) (locals : List Local) (marks : List Mark) (b : ℕ) → Ascend (params_at f.blocks b) → jump_fault f marks [] b ≡ None → Plays locals marks (jump_events f.blocks b)
 plain_jump f locals marks b a h = jump_passes f locals marks [] b a tt h
 
-jump_plain : (f : Func) (locals : List Local) (marks : List Mark) (b : ℕ) → Plays locals marks (jump_events f b) → jump_fault f marks [] b ≡ None
+jump_plain : (f : Func) (locals : List Local) (marks : List Mark) (b : ℕ) → Plays locals marks (jump_events f.blocks b) → jump_fault f marks [] b ≡ None
 jump_plain f locals marks b h = pass_jump f locals marks [] b h
 
 abbrev pub ExitPlays : Code → Func → ℕ → List Mark → Term → Type 0
 ExitPlays p f number marks e = TermFits p f number e × Plays (locals_of p.types f) marks (uses (term_uses e))
-    × WaysPlay (locals_of p.types f) (after (locals_of p.types f) marks (uses (term_uses e))) (ways f e)
+    × WaysPlay (locals_of p.types f) (after (locals_of p.types f) marks (uses (term_uses e))) (ways f.blocks e)
 
-pub exit_passes : (p : Code) (f : Func) (number : ℕ) (marks : List Mark) (e : Term) → ((b : ℕ) → Ascend (params_of f b)) → length marks ≡ length (locals_of p.types f)
-    → exit_fault p f (locals_of p.types f) number marks e ≡ None → ExitPlays p f number marks e
+pub exit_passes : (p : Code) (f : Func) (number : ℕ) (marks : List Mark) (e : Term) → ((b : ℕ) → Ascend (params_at f.blocks b)) → length marks ≡ length (locals_of p.types f)
+    → term_fault p f (locals_of p.types f) number marks e ≡ None → ExitPlays p f number marks e
 exit_passes p f number marks (Ret x) asc q h =
     let locals = locals_of p.types f in
     let a = none_fails (unless (is_local locals x) fault.NoSuchEntry ∷ operand_fault locals marks x f.result ∷ []) h in
@@ -379,7 +379,7 @@ pub data_there : (types : List DataType) (o : Option Kind) (t : DataType) → da
 data_there types None t h = cc
 data_there types (Some k) t h = (k, refl)
 
-pub pass_exit : (p : Code) (f : Func) (number : ℕ) (marks : List Mark) (e : Term) → ExitPlays p f number marks e → exit_fault p f (locals_of p.types f) number marks e ≡ None
+pub pass_exit : (p : Code) (f : Func) (number : ℕ) (marks : List Mark) (e : Term) → ExitPlays p f number marks e → term_fault p f (locals_of p.types f) number marks e ≡ None
 pass_exit p f number marks (Ret x) (fits, plays, onward) =
     let locals = locals_of p.types f in
     let k = kind_at_is p.types f x f.result fits in

@@ -5,6 +5,8 @@ use Rattle.std.specs.List.{list_all}
 use Rattle.std.specs.Option.{option_map, option_map_or}
 use Rattle.std.proofs.lemmas.List.{length-map}
 use Rattle.std.proofs.lemmas.Option.{slice_get-map, slice_get_within}
+use Rattle.camelot_values.specs.Value.{is_int32}
+use Rattle.camelot_values.specs.IntLaws.{passing_int, int_passes}
 use Rattle.camelot_values.specs.Kinds.{Constructor, DataType, constructor, type_of}
 use Rattle.camelot_values.specs.Heap.{is_heap}
 use Rattle.camelot_values.specs.declared.kinds.Kind.{Kind}
@@ -17,7 +19,7 @@ use Rattle.grail_check.specs.declared.fault.CodeKind.TheVariants as fault
 use Rattle.grail_check.specs.declared.locals.Local.{Local}
 use Rattle.grail_check.specs.declared.locals.Mark.{Mark}
 use Rattle.grail_check.specs.declared.locals.Mark.TheVariants as mark
-use Rattle.grail_check.specs.Walk.{unless, local_of, locals_of, is_local, kind_at, is_heap_at, same_kind, same_kinds, has_kind, bind, spend, spend_all, mark_fault, operand_fault, operands_fault, arguments_fault, taken_fault, place_fits, target_fault, make_fault, call_fault, operation_fault, let_fault, after_let}
+use Rattle.grail_check.specs.Walk.{unless, local_of, locals_of, is_local, kind_at, is_heap_at, same_kind, same_kinds, has_kind, bind, spend, spend_all, mark_fault, operand_fault, operands_fault, arguments_fault, taken_fault, place_fits, target_fault, make_fault, call_fault, op_fault, let_fault, after_let}
 use Rattle.grail_check.proofs.Checks.{or_first, or_second, or_none, none_fails, all_pass, unless_true, true_unless, both, join, is_below, same, is_same}
 use Rattle.grail_check.proofs.Playing.{after, IsReady, Plays, plays_front, plays_back, plays_both, after_both}
 
@@ -281,8 +283,10 @@ abbrev Binds_kind : Code → Func → ℕ → Op → Type 0
 Binds_kind p f x op = (k : Kind) × (kind_at (locals_of p.types f) x ≡ Some k) × Gives p f op k
 
 operation_passes : (p : Code) (f : Func) (marks : List Mark) (x : ℕ) (op : Op)
-    → operation_fault p (locals_of p.types f) marks x op ≡ None → Binds_kind p f x op × Plays (locals_of p.types f) marks (uses (operands_of op))
-operation_passes p f marks x (Lit z) h = let (k, e, q) = target_passes (locals_of p.types f) x (Some kind.Int) h in let r : k ≡ kind.Int = cc in ((k, e, r), tt)
+    → op_fault p (locals_of p.types f) marks x op ≡ None → Binds_kind p f x op × Plays (locals_of p.types f) marks (uses (operands_of op))
+operation_passes p f marks x (Lit z) h =
+    let a = none_fails (unless (is_int32 z) fault.Kind ∷ target_fault (locals_of p.types f) x (Some kind.Int) ∷ []) h in
+    let (k, e, q) = target_passes (locals_of p.types f) x (Some kind.Int) a.1.0 in let r : k ≡ kind.Int = cc in ((k, e, (r, passing_int z (unless_true (is_int32 z) fault.Kind a.0))), tt)
 operation_passes p f marks x (Flag b) h = let (k, e, q) = target_passes (locals_of p.types f) x (Some kind.Flag) h in let r : k ≡ kind.Flag = cc in ((k, e, r), tt)
 operation_passes p f marks x (Copy y) h =
     let locals = locals_of p.types f in
@@ -308,8 +312,10 @@ operation_passes p f marks x (Call func args) h =
     ((k, e, fits), plays)
 
 pass_operation : (p : Code) (f : Func) (marks : List Mark) (x : ℕ) (op : Op)
-    → Binds_kind p f x op → Plays (locals_of p.types f) marks (uses (operands_of op)) → operation_fault p (locals_of p.types f) marks x op ≡ None
-pass_operation p f marks x (Lit z) (k, e, g) h = pass_target (locals_of p.types f) x (Some kind.Int) k e (ap Some (sym g))
+    → Binds_kind p f x op → Plays (locals_of p.types f) marks (uses (operands_of op)) → op_fault p (locals_of p.types f) marks x op ≡ None
+pass_operation p f marks x (Lit z) (k, e, g) h =
+    all_pass (unless (is_int32 z) fault.Kind ∷ target_fault (locals_of p.types f) x (Some kind.Int) ∷ [])
+    (true_unless (is_int32 z) fault.Kind (int_passes z g.1), (pass_target (locals_of p.types f) x (Some kind.Int) k e (ap Some (sym g.0)), tt))
 pass_operation p f marks x (Flag b) (k, e, g) h = pass_target (locals_of p.types f) x (Some kind.Flag) k e (ap Some (sym g))
 pass_operation p f marks x (Copy y) (k, e, g) h =
     let locals = locals_of p.types f in
@@ -358,7 +364,7 @@ pub let_passes : (p : Code) (f : Func) (marks : List Mark) (l : Let) → let_fau
 let_passes p f marks l h =
     let locals = locals_of p.types f in
     let a = or_second (unless (is_local locals l.target && list_all (is_local locals) (operands_of l.op)) fault.NoSuchEntry) _ h in
-    let ((k, e, g), plays) = operation_passes p f marks l.target l.op (or_first (operation_fault p locals marks l.target l.op) None a) in
+    let ((k, e, g), plays) = operation_passes p f marks l.target l.op (or_first (op_fault p locals marks l.target l.op) None a) in
     (and_some (kind_of f l.target) (Gives p f l.op) k (kind_of_is p.types f l.target k e) g, plays_both locals marks (uses (operands_of l.op)) (Bind l.target ∷ []) plays (tt, tt))
 
 pub pass_let : (p : Code) (f : Func) (marks : List Mark) (l : Let) → LetFits p f l → Plays (locals_of p.types f) marks (let_events l) → let_fault p (locals_of p.types f) marks l ≡ None
@@ -366,7 +372,7 @@ pass_let p f marks l fits plays =
     let locals = locals_of p.types f in
     let (k, e, g) = some_and (kind_of f l.target) (Gives p f l.op) fits in
     let q = kind_at_is p.types f l.target k e in
-    all_pass (unless (is_local locals l.target && list_all (is_local locals) (operands_of l.op)) fault.NoSuchEntry ∷ operation_fault p locals marks l.target l.op ∷ []) (
+    all_pass (unless (is_local locals l.target && list_all (is_local locals) (operands_of l.op)) fault.NoSuchEntry ∷ op_fault p locals marks l.target l.op ∷ []) (
       true_unless (is_local locals l.target && list_all (is_local locals) (operands_of l.op)) fault.NoSuchEntry
           (join (is_local locals l.target) (list_all (is_local locals) (operands_of l.op)) (is_below l.target (length locals) (kind_there locals l.target k q)) (operands_there p f l.op k g)),
       (pass_operation p f marks l.target l.op (k, q, g) (plays_front locals marks (uses (operands_of l.op)) (Bind l.target ∷ []) plays), tt),

@@ -4,20 +4,21 @@ use Rattle.std.specs.Prelude.{◌&&◌, ◌==◌, not, slice_get, slice_set, fla
 use Rattle.std.specs.List.{list_all, AllByRecursion}
 use Rattle.std.specs.Option.{option_or, option_map}
 use Rattle.std.proofs.lemmas.List.{length-replicate}
+use Rattle.camelot_values.specs.Value.{is_int32}
 use Rattle.camelot_values.specs.Kinds.{Constructor, DataType, constructor, type_of}
 use Rattle.camelot_values.specs.declared.kinds.Kind.{Kind}
 use Rattle.camelot_values.specs.declared.kinds.Kind.TheVariants as kind
 use Rattle.grail_blocks.specs.declared.blocks.Place.{Place}
 use Rattle.grail_blocks.specs.declared.blocks.Place.TheVariants as place
 use Rattle.grail_code.specs.Code.{Op, Lit, Flag, Copy, Prim, Make, Call, Let, CaseArm, Term, Ret, Tail, Goto, If, Case, Block, Func, Code}
-use Rattle.grail_code.specs.WellFormed.{Event, Use, Bind, Binds, is_heap_local, operator_kind, taken, operands_of, let_events, term_uses, params_of, jump_events, ways, bound_by, data_type}
+use Rattle.grail_code.specs.WellFormed.{Event, Use, Bind, Binds, is_heap_local, operator_kind, taken, operands_of, let_events, term_uses, params_at, jump_events, ways, bound_by, data_type}
 use Rattle.grail_check.specs.declared.fault.CodeKind.{CodeKind}
 use Rattle.grail_check.specs.declared.fault.CodeKind.TheVariants as fault
 use Rattle.grail_check.specs.declared.fault.CodeFault.{CodeFault}
 use Rattle.grail_check.specs.declared.locals.Local.{Local}
 use Rattle.grail_check.specs.declared.locals.Mark.{Mark}
 use Rattle.grail_check.specs.declared.locals.Mark.TheVariants as mark
-use Rattle.grail_check.specs.Walk.{unless, at_place, locals_of, is_local, kind_at, is_heap_at, unbound, bind, bind_all, spend, spend_all, mark_fault, operand_fault, operands_fault, arguments_fault, taken_fault, target_fault, make_fault, call_fault, operation_fault, let_fault, after_let, after_lets, is_block, is_among, use_fault, uses_fault, jump_fault, callee_fault, arm_is_there, arms_jump_fault, arms_fault, exit_fault, block_header_fault, lets_fault, at_start, block_fault, blocks_fault, header_fault, function_fault, functions_fault, constructor_fault, constructors_fault, type_fault, types_fault, table_fault, first_fault, stands, has_kind, same_kinds, place_fits, same_kind, arms_count, cells_fit, arms_have_kinds, are_distinct, ascends_from, entry_fits, is_known}
+use Rattle.grail_check.specs.Walk.{unless, at_place, locals_of, is_local, kind_at, is_heap_at, unbound, bind, bind_all, spend, spend_all, mark_fault, operand_fault, operands_fault, arguments_fault, taken_fault, target_fault, make_fault, call_fault, op_fault, let_fault, after_let, after_lets, is_block, is_among, use_fault, uses_fault, jump_fault, callee_fault, arm_is_there, arms_jump_fault, arms_fault, term_fault, block_header_fault, lets_fault, at_start, block_fault, blocks_fault, header_fault, function_fault, functions_fault, constructor_fault, constructors_fault, type_fault, types_fault, table_fault, first_fault, stands, has_kind, same_kinds, place_fits, same_kind, arms_count, cells_fit, arms_have_kinds, are_distinct, ascends_from, entry_fits, is_known}
 use Rattle.grail_check.specs.Misuse.{events_of, Comes, ToLet, ToEnd, Onward, UsesUnbound, UsesAgain, Happens}
 use Rattle.grail_check.proofs.Checks.{or_first, or_second, unless_true, nothing_there, both, all_both, all_then, all_true, below, is_same}
 use Rattle.grail_check.proofs.MarkLaws.{spend_both}
@@ -143,8 +144,8 @@ call_hit locals marks x (Some callee) args k u h =
       | inr (a, b) ↦ no_target locals x (Some callee.result) k u b
     ]
 
-operation_hit : (p : Code) (locals : List Local) (marks : List Mark) (x : ℕ) (op : Op) (k : CodeKind) → is_use k ≡ true → operation_fault p locals marks x op ≡ Some k → Hit locals marks (operands_of op) k
-operation_hit p locals marks x (Lit z) k u h = no_test (same_kinds (kind_at locals x) (Some kind.Int)) fault.Kind k refl u h
+operation_hit : (p : Code) (locals : List Local) (marks : List Mark) (x : ℕ) (op : Op) (k : CodeKind) → is_use k ≡ true → op_fault p locals marks x op ≡ Some k → Hit locals marks (operands_of op) k
+operation_hit p locals marks x (Lit z) k u h = no_target locals x (Some kind.Int) k u (behind_test (is_int32 z) fault.Kind k (option_or (target_fault locals x (Some kind.Int)) None) refl u h).1
 operation_hit p locals marks x (Flag b) k u h = no_test (same_kinds (kind_at locals x) (Some kind.Flag)) fault.Kind k refl u h
 operation_hit p locals marks x (Copy y) k u h =
     elim (either (mark_fault (slice_get marks y)) (option_or (target_fault locals x (kind_at locals y)) None) k h) as (λ z. Hit locals marks (y ∷ []) k) [
@@ -165,8 +166,8 @@ operation_hit p locals marks x (Call func args) k u h = call_hit locals marks x 
 
 let_hit : (p : Code) (locals : List Local) (marks : List Mark) (l : Let) (k : CodeKind) → is_use k ≡ true → let_fault p locals marks l ≡ Some k → Hit locals marks (operands_of l.op) k
 let_hit p locals marks l k u h =
-    let c = behind_test (is_local locals l.target && list_all (is_local locals) (operands_of l.op)) fault.NoSuchEntry k (option_or (operation_fault p locals marks l.target l.op) None) refl u h in
-    operation_hit p locals marks l.target l.op k u (alone (operation_fault p locals marks l.target l.op) k c.1)
+    let c = behind_test (is_local locals l.target && list_all (is_local locals) (operands_of l.op)) fault.NoSuchEntry k (option_or (op_fault p locals marks l.target l.op) None) refl u h in
+    operation_hit p locals marks l.target l.op k u (alone (op_fault p locals marks l.target l.op) k c.1)
 
 -- ---- the same among events
 
@@ -284,10 +285,10 @@ binds_within_are n (x ∷ xs) h = (h.0, binds_within_are n xs h.1)
 jump_strikes : (f : Func) (locals : List Local) (marks : List Mark) (bound : List ℕ) (b : ℕ) (k : CodeKind) → length marks ≡ length locals → AreBelow (length locals) bound
     → jump_fault f marks bound b ≡ Some k → Strikes locals marks (way f bound b) k
 jump_strikes f locals marks bound b k e w h =
-    strikes_back locals marks (map Bind bound) (jump_events f b) k (binds_within_are (length locals) bound w)
-    (subst (λ m. Strikes locals m (jump_events f b) k) (sym (after_binds locals marks bound))
-    (hit_strikes locals (bind_all marks bound) (params_of f b) k
-    (first_hit locals (bind_all marks bound) (params_of f b) k (first_use marks bound (params_of f b) k (subst (λ n. AreBelow n bound) (sym e) w) h))))
+    strikes_back locals marks (map Bind bound) (jump_events f.blocks b) k (binds_within_are (length locals) bound w)
+    (subst (λ m. Strikes locals m (jump_events f.blocks b) k) (sym (after_binds locals marks bound))
+    (hit_strikes locals (bind_all marks bound) (params_at f.blocks b) k
+    (first_hit locals (bind_all marks bound) (params_at f.blocks b) k (first_use marks bound (params_at f.blocks b) k (subst (λ n. AreBelow n bound) (sym e) w) h))))
 
 -- ---- the end of a block
 
@@ -308,7 +309,7 @@ arms_hit f locals marks (a ∷ arms) k e t h =
 
 -- what the end itself uses, or what a way on does
 abbrev EndHit : Func → List Local → List Mark → Term → CodeKind → Type 0
-EndHit f locals marks e k = Hit locals marks (term_uses e) k ⊎ Ahead locals (after locals marks (uses (term_uses e))) (ways f e) k
+EndHit f locals marks e k = Hit locals marks (term_uses e) k ⊎ Ahead locals (after locals marks (uses (term_uses e))) (ways f.blocks e) k
 
 callee_hit : (f : Func) (locals : List Local) (marks : List Mark) (o : Option Func) (args : List ℕ) (k : CodeKind) → is_use k ≡ true → callee_fault f locals marks o args ≡ Some k → Hit locals marks args k
 callee_hit f locals marks None args k u h = no_other fault.NoSuchEntry k refl u h
@@ -336,11 +337,11 @@ case_hit f locals marks x (Some d) arms k e u t h =
           inr (arms_hit f locals (spend locals marks x) arms k (length_step locals marks (Use x) ∙ e) t (alone jumps k g.1)))
     ]
 
-jump_ahead : (f : Func) (locals : List Local) (marks : List Mark) (b : ℕ) (k : CodeKind) → length marks ≡ length locals → jump_fault f marks [] b ≡ Some k → Strikes locals marks (jump_events f b) k
+jump_ahead : (f : Func) (locals : List Local) (marks : List Mark) (b : ℕ) (k : CodeKind) → length marks ≡ length locals → jump_fault f marks [] b ≡ Some k → Strikes locals marks (jump_events f.blocks b) k
 jump_ahead f locals marks b k e h = jump_strikes f locals marks [] b k e tt h
 
 exit_hit : (p : Code) (f : Func) (locals : List Local) (number : ℕ) (marks : List Mark) (e : Term) (k : CodeKind) → length marks ≡ length locals → is_use k ≡ true
-    → exit_fault p f locals number marks e ≡ Some k → EndHit f locals marks e k
+    → term_fault p f locals number marks e ≡ Some k → EndHit f locals marks e k
 exit_hit p f locals number marks (Ret x) k q u h =
     let a = behind_test (is_local locals x) fault.NoSuchEntry k (option_or (operand_fault locals marks x f.result) None) refl u h in
     inl (hit_first locals marks x [] k (operand_hit locals marks x f.result k u (alone (operand_fault locals marks x f.result) k a.1)))
@@ -352,7 +353,7 @@ exit_hit p f locals number marks (Goto b) k q u h =
     let jump = jump_fault f marks [] b in
     let a = behind_test (is_block f b) fault.NoSuchEntry k (option_or (unless (nat_lt number b) fault.Backward) (option_or jump None)) refl u h in
     let c = behind_test (nat_lt number b) fault.Backward k (option_or jump None) refl u a.1 in
-    inr (record { index = 0; way_on = jump_events f b; is = refl; strikes = jump_ahead f locals marks b k q (alone jump k c.1) })
+    inr (record { index = 0; way_on = jump_events f.blocks b; is = refl; strikes = jump_ahead f locals marks b k q (alone jump k c.1) })
 exit_hit p f locals number marks (If x first second) k q u h =
     let spent = spend locals marks x in
     let e = length_step locals marks (Use x) ∙ q in
@@ -364,8 +365,8 @@ exit_hit p f locals number marks (If x first second) k q u h =
     elim (either (operand_fault locals marks x kind.Flag) jumps k c.1) as (λ z. EndHit f locals marks (If x first second) k) [
       | inl r ↦ inl (hit_first locals marks x [] k (operand_hit locals marks x kind.Flag k u r))
       | inr (r, s) ↦ elim (either (jump_fault f spent [] first) no_jump k s) as (λ z. EndHit f locals marks (If x first second) k) [
-        | inl t ↦ inr (record { index = 0; way_on = jump_events f first; is = refl; strikes = jump_ahead f locals spent first k e t })
-        | inr (t, v) ↦ inr (record { index = 1; way_on = jump_events f second; is = refl; strikes = jump_ahead f locals spent second k e (alone (jump_fault f spent [] second) k v) })
+        | inl t ↦ inr (record { index = 0; way_on = jump_events f.blocks first; is = refl; strikes = jump_ahead f locals spent first k e t })
+        | inr (t, v) ↦ inr (record { index = 1; way_on = jump_events f.blocks second; is = refl; strikes = jump_ahead f locals spent second k e (alone (jump_fault f spent [] second) k v) })
       ]
     ]
 exit_hit p f locals number marks (Case x arms) k q u h =
@@ -491,7 +492,7 @@ block_hit p f func number b e u h =
     let end = after_lets locals (at_start locals b) b.lets in
     let header = at_place func number 0 (block_header_fault f locals number b.params) in
     let lets = lets_fault p locals func number 1 (at_start locals b) b.lets in
-    let term = exit_fault p f locals number end b.term in
+    let term = term_fault p f locals number end b.term in
     let last = option_or (at_place func number (suc (length b.lets)) term) None in
     elim (either header (option_or lets last) e h) as (λ z. Struck f locals b func number e) [
       | inl a ↦ (

@@ -3,7 +3,8 @@ use Rattle.std.proofs.Common.{◌≡◌, ℕ, zero, suc, ◌<◌, Bool, true, fa
 use Rattle.std.specs.Prelude.{slice_get, slice_set, replicate, if◌then◌else◌}
 use Rattle.std.specs.List.{AllByRecursion}
 use Rattle.std.proofs.lemmas.List.{length-set, length-replicate}
-use Rattle.grail_code.specs.WellFormed.{Event, Use, Bind, Binds, IsUsedWell}
+use Rattle.grail_code.specs.WellFormed.{Event, Use, Bind, Binds}
+use Rattle.grail_blocks.specs.States.{IsAffine}
 use Rattle.grail_check.specs.declared.locals.Local.{Local}
 use Rattle.grail_check.specs.declared.locals.Mark.{Mark}
 use Rattle.grail_check.specs.declared.locals.Mark.TheVariants as mark
@@ -137,7 +138,7 @@ bound_inside x before marks n (inr b) = b
 spent_now : (locals : List Local) (marks : List Mark) (x : ℕ) → is_heap_at locals x ≡ true → IsReady (spend locals marks x) x → ⊥
 spent_now locals marks x e h = never_ready marks x (subst (λ b. IsReady (if b then slice_set marks x mark.Spent else marks) x) e h)
 
-pub used_well : (locals : List Local) (events : List Event) → Plays locals (unbound locals) events → IsUsedWell (is_heap_at locals) events
+pub used_well : (locals : List Local) (events : List Event) → Plays locals (unbound locals) events → IsAffine (is_heap_at locals) events
 used_well locals events h = record {
   bound = λ x before rest q. bound_inside x before (unbound locals) (none_ready (length locals) x)
       (was_bound locals x (unbound locals) before rest (subst (Plays locals (unbound locals)) q h));
@@ -227,7 +228,7 @@ goes_on locals marks (Bind x ∷ es) inside fine once = (
   goes_on locals (bind marks x) es (subst (λ n. AreWithin n es) (sym (length_step locals marks (Bind x))) inside.1) (fine_bind marks x es fine inside.1) (once_behind locals (Bind x) es once),
 )
 
-pub plays_well : (locals : List Local) (events : List Event) → AreWithin (length locals) events → IsUsedWell (is_heap_at locals) events → Plays locals (unbound locals) events
+pub plays_well : (locals : List Local) (events : List Event) → AreWithin (length locals) events → IsAffine (is_heap_at locals) events → Plays locals (unbound locals) events
 plays_well locals events inside well =
     goes_on locals (unbound locals) events (subst (λ n. AreWithin n events) (sym (length-replicate (length locals) mark.Unbound)) inside)
     (λ x before rest q. inr (well.bound x before rest q)) (λ x before between rest heap q. well.once x before between rest heap q)

@@ -11,7 +11,7 @@ use Rattle.grail_check.specs.declared.fault.CodeKind.TheVariants as fault
 use Rattle.grail_check.specs.declared.fault.CodeFault.{CodeFault}
 use Rattle.grail_check.specs.Walk.{unless, at_place, stands, is_known, locals_of, blocks_fault, header_fault, function_fault, functions_fault, constructor_fault, constructors_fault, type_fault, types_fault, table_fault, first_fault}
 use Rattle.grail_check.proofs.Checks.{or_first, or_second, or_none, none_fails, all_pass, unless_true, true_unless, nothing_there, nowhere, both, join, all_true, true_all, all_then, all_both, all_front, all_back, below, is_below}
-use Rattle.camelot_values.proofs.NameLists.{AreNew, new_distinct, distinct_new}
+use Rattle.camelot_values.specs.NameLaws.{AreNew, new_distinct, distinct_new}
 use Rattle.grail_check.proofs.BlockLaws.{blocks_pass, pass_blocks}
 
 -- ---- kinds whose types are there

@@ -13,7 +13,7 @@ events_of b lets = map Bind b.params ++ flat_map let_events lets
 pub data Comes (f : Func) (b : Block) (before here : List Event) : ℕ → Type 0 where
   ToLet : (earlier rest : List Let) (l : Let) → b.lets ≡ earlier ++ l ∷ rest → before ≡ events_of b earlier → here ≡ map Use (operands_of l.op) → Comes f b before here (suc (length earlier))
   ToEnd : before ≡ events_of b b.lets → here ≡ map Use (term_uses b.term) → Comes f b before here (suc (length b.lets))
-  Onward : (i : ℕ) (way : List Event) → slice_get (ways f b.term) i ≡ Some way → before ≡ events_of b b.lets → here ≡ map Use (term_uses b.term) ++ way → Comes f b before here (suc (length b.lets))
+  Onward : (i : ℕ) (way : List Event) → slice_get (ways f.blocks b.term) i ≡ Some way → before ≡ events_of b b.lets → here ≡ map Use (term_uses b.term) ++ way → Comes f b before here (suc (length b.lets))
 
 -- a local is used here that isn't bound before
 pub record UsesUnbound (before here : List Event) : Type 0 where

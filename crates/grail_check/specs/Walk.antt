@@ -11,8 +11,10 @@ use Rattle.std.specs.Prelude.{ℕ, zero, suc, nat_lt, nat_le, ◌==◌, ◌&&◌
 use Rattle.std.specs.List.{list_all, list_any}
 use Rattle.std.specs.Option.{option_map, option_map_or, option_or}
 use Rattle.std.specs.Str.{bytes_eq}
+use Rattle.camelot_values.specs.Value.{is_int32}
 use Rattle.camelot_values.specs.Kinds.{Constructor, DataType, constructor, type_of}
 use Rattle.camelot_values.specs.Heap.{is_heap}
+pub use Rattle.camelot_values.specs.Lists.{is_among}
 pub use Rattle.camelot_values.specs.Names.{stands}
 pub use Rattle.camelot_values.specs.Kinds.{same_kind}
 use Rattle.camelot_values.specs.Operator.{Operator}
@@ -23,7 +25,7 @@ use Rattle.grail_blocks.specs.declared.blocks.Place.TheVariants as place
 use Rattle.grail_blocks.specs.declared.blocks.CaseCell.{CaseCell}
 use Rattle.grail_blocks.specs.declared.blocks.CaseCell.TheVariants as cell
 use Rattle.grail_code.specs.Code.{Op, Lit, Flag, Copy, Prim, Make, Call, Let, CaseArm, Term, Ret, Tail, Goto, If, Case, Block, Func, Code}
-use Rattle.grail_code.specs.WellFormed.{local_kinds, operator_kind, operands_of, kept_diamond, bound_by, params_of, data_type}
+use Rattle.grail_code.specs.WellFormed.{local_kinds, operator_kind, operands_of, kept_diamond, bound_by, params_at, data_type}
 use Rattle.grail_check.specs.declared.fault.CodeKind.{CodeKind}
 use Rattle.grail_check.specs.declared.fault.CodeKind.TheVariants as fault
 use Rattle.grail_check.specs.declared.fault.CodeFault.{CodeFault}
@@ -169,18 +171,18 @@ operator_fault locals marks x op left right = first_of (
     ∷ operand_fault locals (spend locals marks left) right kind.Int
     ∷ target_fault locals x (Some (operator_kind op)) ∷ [])
 
-abbrev pub operation_fault : Code → List Local → List Mark → ℕ → Op → Option CodeKind
-operation_fault p locals marks x (Lit z) = target_fault locals x (Some kind.Int)
-operation_fault p locals marks x (Flag b) = target_fault locals x (Some kind.Flag)
-operation_fault p locals marks x (Copy y) = copy_fault locals marks x y
-operation_fault p locals marks x (Prim op left right) = operator_fault locals marks x op left right
-operation_fault p locals marks x (Make con args at) = make_fault locals marks x (constructor p.types con) (option_map kind.Of (type_of p.types con)) args at
-operation_fault p locals marks x (Call func args) = call_fault locals marks x (slice_get p.funcs func) args
+abbrev pub op_fault : Code → List Local → List Mark → ℕ → Op → Option CodeKind
+op_fault p locals marks x (Lit z) = first_of (unless (is_int32 z) fault.Kind ∷ target_fault locals x (Some kind.Int) ∷ [])
+op_fault p locals marks x (Flag b) = target_fault locals x (Some kind.Flag)
+op_fault p locals marks x (Copy y) = copy_fault locals marks x y
+op_fault p locals marks x (Prim op left right) = operator_fault locals marks x op left right
+op_fault p locals marks x (Make con args at) = make_fault locals marks x (constructor p.types con) (option_map kind.Of (type_of p.types con)) args at
+op_fault p locals marks x (Call func args) = call_fault locals marks x (slice_get p.funcs func) args
 
 abbrev pub let_fault : Code → List Local → List Mark → Let → Option CodeKind
 let_fault p locals marks l = first_of (
     unless (is_local locals l.target && list_all (is_local locals) (operands_of l.op)) fault.NoSuchEntry
-    ∷ operation_fault p locals marks l.target l.op ∷ [])
+    ∷ op_fault p locals marks l.target l.op ∷ [])
 
 -- a let uses its operands, and then binds its local
 abbrev pub after_let : List Local → List Mark → Let → List Mark
@@ -196,10 +198,6 @@ after_lets locals marks (l ∷ ls) = after_lets locals (after_let locals marks l
 abbrev pub is_block : Func → ℕ → Bool
 is_block f b = nat_lt b (length f.blocks)
 
--- the number is among these
-abbrev pub is_among : List ℕ → ℕ → Bool
-is_among xs x = list_any (λ y. y == x) xs
-
 -- what an arm binds counts as bound and unused
 abbrev pub use_fault : List Mark → List ℕ → ℕ → Option CodeKind
 use_fault marks bound x = if is_among bound x then None else mark_fault (slice_get marks x)
@@ -210,7 +208,7 @@ uses_fault marks bound (x ∷ xs) = option_or (use_fault marks bound x) (uses_fa
 
 -- a jump uses the parameters of its target, and marks nothing
 abbrev pub jump_fault : Func → List Mark → List ℕ → ℕ → Option CodeKind
-jump_fault f marks bound b = uses_fault marks bound (params_of f b)
+jump_fault f marks bound b = uses_fault marks bound (params_at f.blocks b)
 
 -- another function's result is this one's
 abbrev pub callee_fault : Func → List Local → List Mark → Option Func → List ℕ → Option CodeKind
@@ -303,12 +301,12 @@ if_fault f locals number marks x first second = first_of (
     ∷ jump_fault f (spend locals marks x) [] first
     ∷ jump_fault f (spend locals marks x) [] second ∷ [])
 
-abbrev pub exit_fault : Code → Func → List Local → ℕ → List Mark → Term → Option CodeKind
-exit_fault p f locals number marks (Ret x) = ret_fault f locals marks x
-exit_fault p f locals number marks (Tail func args) = tail_fault f locals marks (slice_get p.funcs func) args
-exit_fault p f locals number marks (Goto b) = goto_fault f number marks b
-exit_fault p f locals number marks (If x first second) = if_fault f locals number marks x first second
-exit_fault p f locals number marks (Case x arms) = case_fault f locals number marks x (data_type p.types (kind_at locals x)) arms
+abbrev pub term_fault : Code → Func → List Local → ℕ → List Mark → Term → Option CodeKind
+term_fault p f locals number marks (Ret x) = ret_fault f locals marks x
+term_fault p f locals number marks (Tail func args) = tail_fault f locals marks (slice_get p.funcs func) args
+term_fault p f locals number marks (Goto b) = goto_fault f number marks b
+term_fault p f locals number marks (If x first second) = if_fault f locals number marks x first second
+term_fault p f locals number marks (Case x arms) = case_fault f locals number marks x (data_type p.types (kind_at locals x)) arms
 
 -- ---- blocks
 
@@ -347,7 +345,7 @@ abbrev pub block_fault : Code → Func → List Local → ℕ → ℕ → Block 
 block_fault p f locals func number b = first_of (
     at_place func number 0 (block_header_fault f locals number b.params)
     ∷ lets_fault p locals func number 1 (at_start locals b) b.lets
-    ∷ at_place func number (suc (length b.lets)) (exit_fault p f locals number (after_lets locals (at_start locals b) b.lets) b.term) ∷ [])
+    ∷ at_place func number (suc (length b.lets)) (term_fault p f locals number (after_lets locals (at_start locals b) b.lets) b.term) ∷ [])
 
 -- the blocks from this number on
 abbrev pub blocks_fault : Code → Func → List Local → ℕ → ℕ → List Block → Option CodeFault

@@ -1,11 +1,12 @@
-ghost use Rattle.std.specs.Prelude.{◌≡◌, ◌++◌, ◌∷◌, [], Some, OnOk};
+ghost use Rattle.std.specs.Prelude.{◌≡◌, ◌++◌, ◌∷◌, [], Some, OnOk, IsTrue};
 ghost use Rattle.std.specs.List.{list_all};
 ghost use Rattle.std.specs.Option.{option_map};
+ghost use Rattle.camelot_values.specs.Value.{is_int32};
 ghost use Rattle.camelot_values.specs.Kinds.{constructor_of};
 ghost use Rattle.grail_code.specs.Code.{operator_of, op_of, let_of, func_of, code_of};
 ghost use Rattle.grail_code.specs.WellFormed.{operator_kind, operands_of, taken};
 ghost use Rattle.grail_check.specs.Finding.{Finds};
-ghost use Rattle.grail_check.specs.Walk.{is_local, place_fits, copy_fault, operator_fault, target_fault, taken_fault, make_fault, call_fault, operation_fault, let_fault, spend_all, after_let};
+ghost use Rattle.grail_check.specs.Walk.{is_local, place_fits, copy_fault, operator_fault, target_fault, taken_fault, make_fault, call_fault, op_fault, let_fault, spend_all, after_let};
 
 use super::fault::CodeKind;
 use super::locals::{
@@ -166,6 +167,14 @@ fn kind_of_type(number: Option<u32>) -> Option<Kind>
     }
 }
 
+// An int of the code has 32 bits, so that no check is left to do.
+#[tactic(auto, using(camelot_values::specs::IntLaws::int_passes))]
+fn fits_32_bits(value: i32)
+    ensures { IsTrue (is_int32 value) }
+{
+    let _ = value;
+}
+
 // What a let binds.
 fn check_operation(
     code: &Code,
@@ -174,11 +183,14 @@ fn check_operation(
     target: u32,
     op: &Op,
 ) -> Result<(), CodeKind>
-    ensures found { Finds result (operation_fault (code_of code.now) locals.now marks.old target (op_of op.now)) }
+    ensures found { Finds result (op_fault (code_of code.now) locals.now marks.old target (op_of op.now)) }
     ensures marks { OnOk result (marks.new ≡ spend_all locals.now marks.old (operands_of (op_of op.now))) }
 {
     match op {
-        Op::Lit(_) => check_target(locals, target, Some(Kind::Int)),
+        Op::Lit(value) => {
+            fits_32_bits(*value);
+            check_target(locals, target, Some(Kind::Int))
+        }
         Op::Flag(_) => check_target(locals, target, Some(Kind::Flag)),
         Op::Copy(source) => check_copy(locals, marks, target, *source),
         Op::Prim { op, left, right } => {
