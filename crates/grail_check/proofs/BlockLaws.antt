@@ -13,7 +13,7 @@ use Rattle.grail_blocks.specs.StateLaws.{uses_affinely, affinely_used}
 use Rattle.grail_check.specs.declared.fault.CodeKind.TheVariants as fault
 use Rattle.grail_check.specs.declared.locals.Local.{Local}
 use Rattle.grail_check.specs.declared.locals.Mark.{Mark}
-use Rattle.grail_check.specs.Walk.{unless, at_place, locals_of, is_local, is_heap_at, unbound, let_fault, after_let, after_lets, term_fault, ascends_from, entry_fits, block_header_fault, lets_fault, at_start, block_fault, blocks_fault}
+use Rattle.grail_check.specs.Faulting.{unless, at_place, locals_of, is_local, is_heap_at, unbound, let_fault, after_let, after_lets, term_fault, ascends_from, entry_fits, block_header_fault, lets_fault, at_start, block_fault, blocks_fault}
 use Rattle.grail_check.proofs.Checks.{or_first, or_second, or_none, none_fails, all_pass, unless_true, true_unless, nothing_there, nowhere, both, join, all_both}
 use Rattle.grail_check.proofs.Distinct.{ascends_is, is_ascending_all, first_numbers, are_first_numbers}
 use Rattle.grail_check.proofs.Playing.{after, Plays, plays_front, plays_back, plays_both, after_both, length_after, used_well, plays_well, IsWithin, AreWithin}
@@ -23,11 +23,11 @@ use Rattle.std.proofs.lemmas.List.{length-replicate}
 
 -- ---- the header
 
-entry_is : (f : Func) (number : ℕ) (params : List ℕ) → entry_fits f number params ≡ true → number ≡ 0 → params ≡ range_with_len 0 (length f.params)
+pub entry_is : (f : Func) (number : ℕ) (params : List ℕ) → entry_fits f number params ≡ true → number ≡ 0 → params ≡ range_with_len 0 (length f.params)
 entry_is f zero params h e = first_numbers (length f.params) params h
 entry_is f (suc number) params h e = absurd (omega arith)
 
-is_entry : (f : Func) (number : ℕ) (params : List ℕ) → (number ≡ 0 → params ≡ range_with_len 0 (length f.params)) → entry_fits f number params ≡ true
+pub is_entry : (f : Func) (number : ℕ) (params : List ℕ) → (number ≡ 0 → params ≡ range_with_len 0 (length f.params)) → entry_fits f number params ≡ true
 is_entry f zero params h = are_first_numbers (length f.params) params (h refl)
 is_entry f (suc number) params h = refl
 

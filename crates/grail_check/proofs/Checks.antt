@@ -6,7 +6,7 @@ use Rattle.std.specs.Option.{option_or}
 use Rattle.std.proofs.lemmas.Bool.{eqb-true, ltb-true, lt-ltb}
 use Rattle.std.proofs.lemmas.Bool.Decides.{nat_tests}
 use Rattle.grail_check.specs.declared.fault.CodeKind.{CodeKind}
-use Rattle.grail_check.specs.Walk.{unless, first_of, at_place}
+use Rattle.grail_check.specs.Faulting.{unless, first_of, at_place}
 
 -- ---- checks in a row
 

@@ -9,7 +9,7 @@ use Rattle.std.proofs.lemmas.Bool.Decides.{nat_tests}
 use Rattle.camelot_values.specs.Names.{AreDistinct}
 use Rattle.camelot_values.specs.NameLaws.{some_place, place_is_some, not_true, never_true}
 use Rattle.grail_code.specs.WellFormed.{Ascend}
-use Rattle.grail_check.specs.Walk.{is_among, are_distinct, stands, ascends_from, counts_from}
+use Rattle.grail_check.specs.Faulting.{is_among, are_distinct, stands, ascends_from, counts_from}
 use Rattle.grail_check.proofs.Checks.{both, join, same, is_same, all_then}
 
 -- ---- numbers

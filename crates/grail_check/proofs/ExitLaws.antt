@@ -14,7 +14,7 @@ use Rattle.grail_check.specs.declared.fault.CodeKind.TheVariants as fault
 use Rattle.grail_check.specs.declared.locals.Local.{Local}
 use Rattle.grail_check.specs.declared.locals.Mark.{Mark}
 use Rattle.grail_check.specs.declared.locals.Mark.TheVariants as mark
-use Rattle.grail_check.specs.Walk.{unless, locals_of, is_local, kind_at, same_kind, has_kind, have_kinds, bind, bind_all, spend, mark_fault, operand_fault, arguments_fault, is_block, is_among, use_fault, uses_fault, jump_fault, callee_fault, arm_is_there, fields_count, arms_count, cell_fits, cells_fit, kept_fits, arms_have_kinds, are_distinct, arms_jump_fault, arms_fault, term_fault}
+use Rattle.grail_check.specs.Faulting.{unless, locals_of, is_local, kind_at, same_kind, has_kind, have_kinds, bind, bind_all, spend, mark_fault, operand_fault, arguments_fault, is_block, is_among, use_fault, uses_fault, jump_fault, callee_fault, arm_is_there, fields_count, arms_count, cell_fits, cells_fit, kept_fits, arms_have_kinds, are_distinct, arms_jump_fault, arms_fault, term_fault}
 use Rattle.grail_check.proofs.Checks.{or_first, or_second, or_none, none_fails, all_pass, unless_true, true_unless, both, join, all_true, true_all, all_then, all_both, below, is_below, same, is_same}
 use Rattle.grail_check.proofs.Distinct.{distinct_is, is_distinct, ascend_parts}
 use Rattle.grail_check.proofs.Playing.{after, IsReady, Plays, plays_back, plays_both, set_same, ready_after_bind, ready_before_bind, spend_keeps, spend_one, length_step}
@@ -133,7 +133,7 @@ pass_jump f locals marks bound b h = pass_uses marks bound (params_at f.blocks b
 
 -- ---- arms
 
-the_kinds : (locals : List Local) (xs : List ℕ) (ks : List Kind) → length xs ≡ length ks → have_kinds locals xs ks ≡ true → map (kind_at locals) xs ≡ map Some ks
+pub the_kinds : (locals : List Local) (xs : List ℕ) (ks : List Kind) → length xs ≡ length ks → have_kinds locals xs ks ≡ true → map (kind_at locals) xs ≡ map Some ks
 the_kinds locals [] [] e h = refl
 the_kinds locals [] (k ∷ ks) e h = absurd (omega arith)
 the_kinds locals (x ∷ xs) [] e h = absurd (omega arith)
@@ -143,7 +143,7 @@ the_kinds locals (x ∷ xs) (k ∷ ks) e h =
     let b : map (kind_at locals) xs ≡ map Some ks = the_kinds locals xs ks (omega arith) parts.1 in
     cc
 
-kinds_had : (locals : List Local) (xs : List ℕ) (ks : List Kind) → map (kind_at locals) xs ≡ map Some ks → (length xs ≡ length ks) × (have_kinds locals xs ks ≡ true)
+pub kinds_had : (locals : List Local) (xs : List ℕ) (ks : List Kind) → map (kind_at locals) xs ≡ map Some ks → (length xs ≡ length ks) × (have_kinds locals xs ks ≡ true)
 kinds_had locals [] [] h = (refl, refl)
 kinds_had locals [] (k ∷ ks) h = cc
 kinds_had locals (x ∷ xs) [] h = cc

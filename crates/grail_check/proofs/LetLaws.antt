@@ -19,7 +19,7 @@ use Rattle.grail_check.specs.declared.fault.CodeKind.TheVariants as fault
 use Rattle.grail_check.specs.declared.locals.Local.{Local}
 use Rattle.grail_check.specs.declared.locals.Mark.{Mark}
 use Rattle.grail_check.specs.declared.locals.Mark.TheVariants as mark
-use Rattle.grail_check.specs.Walk.{unless, local_of, locals_of, is_local, kind_at, is_heap_at, same_kind, same_kinds, has_kind, bind, spend, spend_all, mark_fault, operand_fault, operands_fault, arguments_fault, taken_fault, place_fits, target_fault, make_fault, call_fault, op_fault, let_fault, after_let}
+use Rattle.grail_check.specs.Faulting.{unless, local_of, locals_of, is_local, kind_at, is_heap_at, same_kind, same_kinds, has_kind, bind, spend, spend_all, mark_fault, operand_fault, operands_fault, arguments_fault, taken_fault, place_fits, target_fault, make_fault, call_fault, op_fault, let_fault, after_let}
 use Rattle.grail_check.proofs.Checks.{or_first, or_second, or_none, none_fails, all_pass, unless_true, true_unless, both, join, is_below, same, is_same}
 use Rattle.grail_check.proofs.Playing.{after, IsReady, Plays, plays_front, plays_back, plays_both, after_both}
 
@@ -79,7 +79,7 @@ some_same None q h = cc
 some_same (Some j) None h = cc
 some_same (Some j) (Some k) h = (k, ap Some (kinds_same j k h), refl)
 
-same_some : (o q : Option Kind) (k : Kind) → o ≡ Some k → q ≡ Some k → same_kinds o q ≡ true
+pub same_some : (o q : Option Kind) (k : Kind) → o ≡ Some k → q ≡ Some k → same_kinds o q ≡ true
 same_some o q k a b = subst (λ r. same_kinds r q ≡ true) (sym a) (subst (λ r. same_kinds (Some k) r ≡ true) (sym b) (kind_itself k))
 
 pub has_the_kind : (locals : List Local) (x : ℕ) (k : Kind) → has_kind locals x k ≡ true → kind_at locals x ≡ Some k

@@ -8,3 +8,6 @@ pub mod Misusing
 pub mod NameLaws
 pub mod Playing
 pub mod ProgramLaws
+pub mod Tracking
+pub mod Agreeing
+pub mod WalkLaws

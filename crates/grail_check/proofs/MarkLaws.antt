@@ -1,6 +1,6 @@
 -- Locals used and bound one after the other.
 use Rattle.std.proofs.Common.{◌≡◌, ℕ, ◌≤◌, Bool, true, List, [], ◌∷◌, ◌++◌, length, drop, refl, sym, ap, ◌∙◌, drop_of_length-le}
-use Rattle.grail_check.specs.Walk.{spend, spend_all, have_kinds}
+use Rattle.grail_check.specs.Faulting.{spend, spend_all, have_kinds}
 use Rattle.camelot_values.specs.declared.kinds.Kind.{Kind}
 use Rattle.grail_check.specs.declared.locals.Local.{Local}
 use Rattle.grail_check.specs.declared.locals.Mark.{Mark}

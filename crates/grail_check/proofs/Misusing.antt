@@ -18,7 +18,7 @@ use Rattle.grail_check.specs.declared.fault.CodeFault.{CodeFault}
 use Rattle.grail_check.specs.declared.locals.Local.{Local}
 use Rattle.grail_check.specs.declared.locals.Mark.{Mark}
 use Rattle.grail_check.specs.declared.locals.Mark.TheVariants as mark
-use Rattle.grail_check.specs.Walk.{unless, at_place, locals_of, is_local, kind_at, is_heap_at, unbound, bind, bind_all, spend, spend_all, mark_fault, operand_fault, operands_fault, arguments_fault, taken_fault, target_fault, make_fault, call_fault, op_fault, let_fault, after_let, after_lets, is_block, is_among, use_fault, uses_fault, jump_fault, callee_fault, arm_is_there, arms_jump_fault, arms_fault, term_fault, block_header_fault, lets_fault, at_start, block_fault, blocks_fault, header_fault, function_fault, functions_fault, constructor_fault, constructors_fault, type_fault, types_fault, table_fault, first_fault, stands, has_kind, same_kinds, place_fits, same_kind, arms_count, cells_fit, arms_have_kinds, are_distinct, ascends_from, entry_fits, is_known}
+use Rattle.grail_check.specs.Faulting.{unless, at_place, locals_of, is_local, kind_at, is_heap_at, unbound, bind, bind_all, spend, spend_all, mark_fault, operand_fault, operands_fault, arguments_fault, taken_fault, target_fault, make_fault, call_fault, op_fault, let_fault, after_let, after_lets, is_block, is_among, use_fault, uses_fault, jump_fault, callee_fault, arm_is_there, arms_jump_fault, arms_fault, term_fault, block_header_fault, lets_fault, at_start, block_fault, blocks_fault, header_fault, function_fault, functions_fault, constructor_fault, constructors_fault, type_fault, types_fault, table_fault, first_fault, stands, has_kind, same_kinds, place_fits, same_kind, arms_count, cells_fit, arms_have_kinds, are_distinct, ascends_from, entry_fits, is_known}
 use Rattle.grail_check.specs.Misuse.{events_of, Comes, ToLet, ToEnd, Onward, UsesUnbound, UsesAgain, Happens}
 use Rattle.grail_check.proofs.Checks.{or_first, or_second, unless_true, nothing_there, both, all_both, all_then, all_true, below, is_same}
 use Rattle.grail_check.proofs.MarkLaws.{spend_both}

@@ -3,7 +3,7 @@ use Rattle.std.proofs.Common.{◌≡◌, ℕ, Bool, true, false, List, [], ◌�
 use Rattle.std.specs.Prelude.{not, ◌||◌, if◌then◌else◌, IsTrue}
 use Rattle.std.specs.List.{list_any}
 use Rattle.std.specs.Str.{bytes_eq}
-use Rattle.grail_check.specs.Walk.{stands}
+use Rattle.grail_check.specs.Faulting.{stands}
 
 -- a test of what references point to
 stands_among : (words : List (Bor (List ℕ))) (name : List ℕ) → list_any (λ y. bytes_eq name y.now) words ≡ stands (map (λ word. word.now) words) name

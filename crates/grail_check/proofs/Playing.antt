@@ -8,7 +8,7 @@ use Rattle.grail_blocks.specs.States.{IsAffine}
 use Rattle.grail_check.specs.declared.locals.Local.{Local}
 use Rattle.grail_check.specs.declared.locals.Mark.{Mark}
 use Rattle.grail_check.specs.declared.locals.Mark.TheVariants as mark
-use Rattle.grail_check.specs.Walk.{is_heap_at, unbound, bind, spend}
+use Rattle.grail_check.specs.Faulting.{is_heap_at, unbound, bind, spend}
 
 -- ---- the walk
 

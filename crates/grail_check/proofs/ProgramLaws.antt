@@ -9,29 +9,29 @@ use Rattle.grail_code.specs.Code.{Func, Code}
 use Rattle.grail_code.specs.WellFormed.{IsKnownKind, FuncFits, IsWellFormed}
 use Rattle.grail_check.specs.declared.fault.CodeKind.TheVariants as fault
 use Rattle.grail_check.specs.declared.fault.CodeFault.{CodeFault}
-use Rattle.grail_check.specs.Walk.{unless, at_place, stands, is_known, locals_of, blocks_fault, header_fault, function_fault, functions_fault, constructor_fault, constructors_fault, type_fault, types_fault, table_fault, first_fault}
+use Rattle.grail_check.specs.Faulting.{unless, at_place, stands, is_known, locals_of, blocks_fault, header_fault, function_fault, functions_fault, constructor_fault, constructors_fault, type_fault, types_fault, table_fault, first_fault}
 use Rattle.grail_check.proofs.Checks.{or_first, or_second, or_none, none_fails, all_pass, unless_true, true_unless, nothing_there, nowhere, both, join, all_true, true_all, all_then, all_both, all_front, all_back, below, is_below}
 use Rattle.camelot_values.specs.NameLaws.{AreNew, new_distinct, distinct_new}
 use Rattle.grail_check.proofs.BlockLaws.{blocks_pass, pass_blocks}
 
 -- ---- kinds whose types are there
 
-known_is : (types : List DataType) (k : Kind) → is_known types k ≡ true → IsKnownKind types k
+pub known_is : (types : List DataType) (k : Kind) → is_known types k ≡ true → IsKnownKind types k
 known_is types kind.Int h = tt
 known_is types kind.Flag h = tt
 known_is types kind.Dia h = tt
 known_is types (kind.Of t) h = below t (length types) h
 
-is_known_kind : (types : List DataType) (k : Kind) → IsKnownKind types k → is_known types k ≡ true
+pub is_known_kind : (types : List DataType) (k : Kind) → IsKnownKind types k → is_known types k ≡ true
 is_known_kind types kind.Int h = refl
 is_known_kind types kind.Flag h = refl
 is_known_kind types kind.Dia h = refl
 is_known_kind types (kind.Of t) h = is_below t (length types) h
 
-all_known : (types : List DataType) (ks : List Kind) → list_all (is_known types) ks ≡ true → AllByRecursion (IsKnownKind types) ks
+pub all_known : (types : List DataType) (ks : List Kind) → list_all (is_known types) ks ≡ true → AllByRecursion (IsKnownKind types) ks
 all_known types ks h = all_then (λ k. is_known types k ≡ true) (IsKnownKind types) ks (known_is types) (all_true (is_known types) ks h)
 
-known_all : (types : List DataType) (ks : List Kind) → AllByRecursion (IsKnownKind types) ks → list_all (is_known types) ks ≡ true
+pub known_all : (types : List DataType) (ks : List Kind) → AllByRecursion (IsKnownKind types) ks → list_all (is_known types) ks ≡ true
 known_all types ks h = true_all (is_known types) ks (all_then (IsKnownKind types) (λ k. is_known types k ≡ true) ks (is_known_kind types) h)
 
 -- ---- functions

@@ -1,3 +1,4 @@
+-- Private: words for functions of this crate.
 -- How an answer of the code tells the first fault.
 use Rattle.std.specs.Prelude.{◌≡◌, Option, Some, None, Result, Ok, Err, ⊤}
 use Rattle.grail_check.specs.declared.fault.Stop.{Stop}

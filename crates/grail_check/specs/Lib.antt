@@ -1,4 +1,5 @@
 -- The check of code as a walk, and what its faults of use mean.
 pub mod Finding
 pub mod Misuse
+pub mod Faulting
 pub mod Walk

@@ -1,3 +1,4 @@
+-- Cited by contracts.
 -- What the two faults of use say of the code: on some way through a block, a local is used that isn't bound before, or a
 -- local of a heap kind is used again before it is bound anew. This speaks of the events on the way alone, and of no state.
 use Rattle.std.specs.Prelude.{◌≡◌, ℕ, suc, Bool, List, ◌∷◌, ◌++◌, length, map, flat_map, slice_get, Some, IsTrue}

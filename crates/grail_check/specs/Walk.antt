@@ -1,22 +1,18 @@
--- The check of code as a walk: the first check that fails, in the order of the code. Types come first, then function by
--- function its header, and then its blocks, each with its header, its lets and its end. On the way through a block every
--- local is unbound, ready or spent. That is the bookkeeping by which a checker keeps to the affine rule of LFPL
--- (Hofmann 2000). All blocks are walked, also those that no jump leads to.
+-- Cited by contracts.
+-- The check of code as a walk: lists of checks in their order, each with the kind of its fault, over the words of well-formed code and
+-- the states of locals. The fault is the first check that fails. Types come first, then function by function its header, and then its
+-- blocks, each with its header, its lets and its end; all blocks are walked, also those that no jump leads to.
 --
--- At a let and at the end of a block the checks come in this order: what is named is there; jumps go forward; numbers of
--- arguments, arms and fields are right (a case on what is no data type is of the wrong kind here); each operand in turn is bound, unspent and of its kind; constructors are built or
--- matched inline where they are inline; what is bound has its kind; an arm binds distinct locals; and each jump in turn
--- finds the parameters of its target bound and unspent. What speaks of arms goes over all of them before the next check.
-use Rattle.std.specs.Prelude.{ℕ, zero, suc, nat_lt, nat_le, ◌==◌, ◌&&◌, not, Bool, true, false, if◌then◌else◌, List, [], ◌∷◌, ◌++◌, length, map, replicate, slice_get, slice_set, Option, Some, None}
-use Rattle.std.specs.List.{list_all, list_any}
-use Rattle.std.specs.Option.{option_map, option_map_or, option_or}
-use Rattle.std.specs.Str.{bytes_eq}
-use Rattle.camelot_values.specs.Value.{is_int32}
+-- At a let and at the end of a block the checks come in this order: what is named is there; jumps go forward; numbers of arguments, arms
+-- and fields are right (a case on what is no data type is of the wrong kind here); each operand in turn is bound, unspent and of its
+-- kind; constructors are built or matched inline where they are inline; what is bound has its kind; an arm binds distinct locals; and
+-- each jump in turn finds the parameters of its target bound and unspent. What speaks of arms goes over all of them before the next check.
+use Rattle.std.specs.Prelude.{◌≡◌, ℕ, suc, ◌<◌, Bool, false, List, [], ◌∷◌, ◌++◌, length, map, slice_get, Option, Some, None, IsTrue, ◌⊎◌}
+use Rattle.std.specs.List.{AllByRecursion, range_with_len}
+use Rattle.std.specs.Option.{option_map}
+use Rattle.camelot_values.specs.Value.{IsInt32}
 use Rattle.camelot_values.specs.Kinds.{Constructor, DataType, constructor, type_of}
-use Rattle.camelot_values.specs.Heap.{is_heap}
-pub use Rattle.camelot_values.specs.Lists.{is_among}
-pub use Rattle.camelot_values.specs.Names.{stands}
-pub use Rattle.camelot_values.specs.Kinds.{same_kind}
+use Rattle.camelot_values.specs.Names.{stands}
 use Rattle.camelot_values.specs.Operator.{Operator}
 use Rattle.camelot_values.specs.declared.kinds.Kind.{Kind}
 use Rattle.camelot_values.specs.declared.kinds.Kind.TheVariants as kind
@@ -24,383 +20,228 @@ use Rattle.grail_blocks.specs.declared.blocks.Place.{Place}
 use Rattle.grail_blocks.specs.declared.blocks.Place.TheVariants as place
 use Rattle.grail_blocks.specs.declared.blocks.CaseCell.{CaseCell}
 use Rattle.grail_blocks.specs.declared.blocks.CaseCell.TheVariants as cell
+use Rattle.grail_blocks.specs.States.{State, Unbound, Spent, use_of, after, at_start, after_let}
 use Rattle.grail_code.specs.Code.{Op, Lit, Flag, Copy, Prim, Make, Call, Let, CaseArm, Term, Ret, Tail, Goto, If, Case, Block, Func, Code}
-use Rattle.grail_code.specs.WellFormed.{local_kinds, operator_kind, operands_of, kept_diamond, bound_by, params_at, data_type}
+use Rattle.grail_code.specs.WellFormed.{IsKnownKind, local_kinds, kind_of, HaveKinds, is_heap_local, operator_kind, data_type, Ascend, AreDistinct, Use, Bind, operands_of, kept_diamond, bound_by, params_at}
 use Rattle.grail_check.specs.declared.fault.CodeKind.{CodeKind}
 use Rattle.grail_check.specs.declared.fault.CodeKind.TheVariants as fault
 use Rattle.grail_check.specs.declared.fault.CodeFault.{CodeFault}
-use Rattle.grail_check.specs.declared.locals.Local.{Local}
-use Rattle.grail_check.specs.declared.locals.Mark.{Mark}
-use Rattle.grail_check.specs.declared.locals.Mark.TheVariants as mark
 
 -- ---- checks in a row
 
--- this fault, where the test fails
-abbrev pub unless : Bool → CodeKind → Option CodeKind
-unless true k = None
-unless false k = Some k
+pub data Checks : Type 1 where
+  NoMore : Checks
+  -- this holds, or else this is the fault
+  Must : (holds : Type 0) (fault : CodeKind) → Checks → Checks
 
--- the first fault of these checks
-abbrev pub first_of : {A : Type 0} → List (Option A) → Option A
-first_of [] = None
-first_of (check ∷ checks) = option_or check (first_of checks)
+abbrev pub Pass : Checks → Type 0
+Pass NoMore = Unit {0}
+Pass (Must holds fault rest) = holds × Pass rest
 
--- a fault with its place
-abbrev pub at_place : ℕ → ℕ → ℕ → Option CodeKind → Option CodeFault
-at_place func block place found = option_map (λ k. record { func = func; block = block; place = place; kind = k }) found
+-- the first check that fails has this kind
+abbrev pub Fails : Checks → CodeKind → Type 0
+Fails NoMore k = ⊥
+Fails (Must holds fault rest) k = ((holds → ⊥) × (fault ≡ k)) ⊎ (holds × Fails rest k)
 
--- ---- names
+-- checks of what is there, or else this fault
+abbrev pub of_entry : {A : Type 0} → Option A → CodeKind → (A → Checks) → Checks
+of_entry None k next = Must ⊥ k NoMore
+of_entry (Some a) k next = next a
 
--- ---- locals and their kinds
+-- ---- locals and operands
 
--- a local's kind, and whether that is a heap kind
-abbrev pub local_of : List DataType → Kind → Local
-local_of types k = record { kind = k; heap = is_heap types k }
+abbrev pub IsThere : Func → ℕ → Type 0
+IsThere f x = x < length (local_kinds f)
 
-abbrev pub locals_of : List DataType → Func → List Local
-locals_of types f = map (local_of types) (local_kinds f)
+abbrev pub AreThere : Func → List ℕ → Type 0
+AreThere f xs = AllByRecursion (IsThere f) xs
 
-abbrev pub is_local : List Local → ℕ → Bool
-is_local locals x = nat_lt x (length locals)
+-- a use finds its local bound and unspent
+abbrev pub use_checks : State → ℕ → Checks → Checks
+use_checks s x rest = Must (s x ≡ Unbound → ⊥) fault.Unbound (Must (s x ≡ Spent → ⊥) fault.Spent rest)
 
-abbrev pub kind_at : List Local → ℕ → Option Kind
-kind_at locals x = option_map (λ l. l.kind) (slice_get locals x)
+abbrev pub operand_checks : Func → State → ℕ → Kind → Checks → Checks
+operand_checks f s x q rest = use_checks s x (Must (kind_of f x ≡ Some q) fault.Kind rest)
 
-abbrev pub is_heap_at : List Local → ℕ → Bool
-is_heap_at locals x = option_map_or (λ l. l.heap) (slice_get locals x) false
-
--- two kinds that are there and are the same
-abbrev pub same_kinds : Option Kind → Option Kind → Bool
-same_kinds (Some k) (Some l) = same_kind k l
-same_kinds k l = false
-
-abbrev pub has_kind : List Local → ℕ → Kind → Bool
-has_kind locals x k = same_kinds (kind_at locals x) (Some k)
-
--- each of these locals has its kind
-abbrev pub have_kinds : List Local → List ℕ → List Kind → Bool
-have_kinds locals (x ∷ xs) (k ∷ ks) = has_kind locals x k && have_kinds locals xs ks
-have_kinds locals xs ks = true
-
--- a kind whose type is there
-abbrev pub is_known : List DataType → Kind → Bool
-is_known types (kind.Of t) = nat_lt t (length types)
-is_known types k = true
-
--- ---- the state of locals
-
--- no local is bound
-abbrev pub unbound : List Local → List Mark
-unbound locals = replicate (length locals) mark.Unbound
-
--- the local has a new value, which wasn't used
-abbrev pub bind : List Mark → ℕ → List Mark
-bind marks x = slice_set marks x mark.Ready
-
-abbrev pub bind_all : List Mark → List ℕ → List Mark
-bind_all marks [] = marks
-bind_all marks (x ∷ xs) = bind_all (bind marks x) xs
-
--- an operand of a heap kind is then used
-abbrev pub spend : List Local → List Mark → ℕ → List Mark
-spend locals marks x = if is_heap_at locals x then slice_set marks x mark.Spent else marks
-
-abbrev pub spend_all : List Local → List Mark → List ℕ → List Mark
-spend_all locals marks [] = marks
-spend_all locals marks (x ∷ xs) = spend_all locals (spend locals marks x) xs
-
--- a local that is used isn't bound, or is of a heap kind and was used
-abbrev pub mark_fault : Option Mark → Option CodeKind
-mark_fault (Some mark.Ready) = None
-mark_fault (Some mark.Spent) = Some fault.Spent
-mark_fault m = Some fault.Unbound
-
--- ---- operands
-
-abbrev pub operand_fault : List Local → List Mark → ℕ → Kind → Option CodeKind
-operand_fault locals marks x k = first_of (mark_fault (slice_get marks x) ∷ unless (has_kind locals x k) fault.Kind ∷ [])
-
--- one after the other
-abbrev pub operands_fault : List Local → List Mark → List ℕ → List Kind → Option CodeKind
-operands_fault locals marks (x ∷ xs) (k ∷ ks) = option_or (operand_fault locals marks x k) (operands_fault locals (spend locals marks x) xs ks)
-operands_fault locals marks xs ks = None
+-- one after the other: an operand of a heap kind is then spent
+abbrev pub operands_checks : Func → (ℕ → Bool) → State → List ℕ → List Kind → Checks → Checks
+operands_checks f is_heap s (x ∷ xs) (q ∷ qs) rest = operand_checks f s x q (operands_checks f is_heap (use_of is_heap s x) xs qs rest)
+operands_checks f is_heap s xs qs rest = rest
 
 -- as many operands as are needed, and then each of them
-abbrev pub arguments_fault : List Local → List Mark → List ℕ → List Kind → Option CodeKind
-arguments_fault locals marks xs ks = first_of (unless (length xs == length ks) fault.Arms ∷ operands_fault locals marks xs ks ∷ [])
+abbrev pub arguments_checks : Func → (ℕ → Bool) → State → List ℕ → List Kind → Checks → Checks
+arguments_checks f is_heap s xs qs rest = Must (length xs ≡ length qs) fault.Arms (operands_checks f is_heap s xs qs rest)
 
 -- ---- lets
 
 -- the diamond that a build takes
-abbrev pub taken_fault : List Local → List Mark → Place → Option CodeKind
-taken_fault locals marks (place.Reuse d) = operand_fault locals marks d kind.Dia
-taken_fault locals marks p = None
+abbrev pub taken_checks : Func → State → Place → Checks → Checks
+taken_checks f s (place.Reuse d) rest = operand_checks f s d kind.Dia rest
+taken_checks f s place.Inline rest = rest
+taken_checks f s place.New rest = rest
 
 -- built as Inline exactly where the constructor is inline
-abbrev pub place_fits : Bool → Place → Bool
-place_fits inline place.Inline = inline
-place_fits inline p = not inline
+abbrev pub IsPlaceOf : Bool → Place → Type 0
+IsPlaceOf inline place.Inline = IsTrue inline
+IsPlaceOf inline place.New = inline ≡ false
+IsPlaceOf inline (place.Reuse d) = inline ≡ false
 
 -- the local that is bound has the kind of what comes out
-abbrev pub target_fault : List Local → ℕ → Option Kind → Option CodeKind
-target_fault locals x k = unless (same_kinds (kind_at locals x) k) fault.Kind
+abbrev pub target_check : Func → ℕ → Option Kind → Checks
+target_check f x o = Must ((q : Kind) × (kind_of f x ≡ Some q) × (o ≡ Some q)) fault.Kind NoMore
 
--- a build of this constructor, which belongs to the type of this kind
-abbrev pub make_fault : List Local → List Mark → ℕ → Option Constructor → Option Kind → List ℕ → Place → Option CodeKind
-make_fault locals marks x None owner args at = Some fault.NoSuchEntry
-make_fault locals marks x (Some c) owner args at = first_of (
-    arguments_fault locals marks args c.fields
-    ∷ taken_fault locals (spend_all locals marks args) at
-    ∷ unless (place_fits c.inline at) fault.Place
-    ∷ target_fault locals x owner ∷ [])
+abbrev pub op_checks : Code → Func → (ℕ → Bool) → State → ℕ → Op → Checks
+op_checks p f is_heap s x (Lit z) = Must (IsInt32 z) fault.Kind (target_check f x (Some kind.Int))
+op_checks p f is_heap s x (Flag b) = target_check f x (Some kind.Flag)
+op_checks p f is_heap s x (Copy y) = use_checks s y (target_check f x (kind_of f y))
+op_checks p f is_heap s x (Prim op left right) = operand_checks f s left kind.Int (operand_checks f (use_of is_heap s left) right kind.Int (target_check f x (Some (operator_kind op))))
+op_checks p f is_heap s x (Make con args at) = of_entry (constructor p.types con) fault.NoSuchEntry
+    (λ c. arguments_checks f is_heap s args c.fields (taken_checks f (after is_heap s (map Use args)) at (Must (IsPlaceOf c.inline at) fault.Place (target_check f x (option_map kind.Of (type_of p.types con))))))
+op_checks p f is_heap s x (Call func args) = of_entry (slice_get p.funcs func) fault.NoSuchEntry
+    (λ callee. arguments_checks f is_heap s args callee.params (target_check f x (Some callee.result)))
 
-abbrev pub call_fault : List Local → List Mark → ℕ → Option Func → List ℕ → Option CodeKind
-call_fault locals marks x None args = Some fault.NoSuchEntry
-call_fault locals marks x (Some callee) args = first_of (
-    arguments_fault locals marks args callee.params
-    ∷ target_fault locals x (Some callee.result) ∷ [])
-
-abbrev pub copy_fault : List Local → List Mark → ℕ → ℕ → Option CodeKind
-copy_fault locals marks x y = first_of (
-    mark_fault (slice_get marks y)
-    ∷ target_fault locals x (kind_at locals y) ∷ [])
-
-abbrev pub operator_fault : List Local → List Mark → ℕ → Operator → (left right : ℕ) → Option CodeKind
-operator_fault locals marks x op left right = first_of (
-    operand_fault locals marks left kind.Int
-    ∷ operand_fault locals (spend locals marks left) right kind.Int
-    ∷ target_fault locals x (Some (operator_kind op)) ∷ [])
-
-abbrev pub op_fault : Code → List Local → List Mark → ℕ → Op → Option CodeKind
-op_fault p locals marks x (Lit z) = first_of (unless (is_int32 z) fault.Kind ∷ target_fault locals x (Some kind.Int) ∷ [])
-op_fault p locals marks x (Flag b) = target_fault locals x (Some kind.Flag)
-op_fault p locals marks x (Copy y) = copy_fault locals marks x y
-op_fault p locals marks x (Prim op left right) = operator_fault locals marks x op left right
-op_fault p locals marks x (Make con args at) = make_fault locals marks x (constructor p.types con) (option_map kind.Of (type_of p.types con)) args at
-op_fault p locals marks x (Call func args) = call_fault locals marks x (slice_get p.funcs func) args
-
-abbrev pub let_fault : Code → List Local → List Mark → Let → Option CodeKind
-let_fault p locals marks l = first_of (
-    unless (is_local locals l.target && list_all (is_local locals) (operands_of l.op)) fault.NoSuchEntry
-    ∷ op_fault p locals marks l.target l.op ∷ [])
-
--- a let uses its operands, and then binds its local
-abbrev pub after_let : List Local → List Mark → Let → List Mark
-after_let locals marks l = bind (spend_all locals marks (operands_of l.op)) l.target
-
-abbrev pub after_lets : List Local → List Mark → List Let → List Mark
-after_lets locals marks [] = marks
-after_lets locals marks (l ∷ ls) = after_lets locals (after_let locals marks l) ls
+abbrev pub let_checks : Code → Func → (ℕ → Bool) → State → Let → Checks
+let_checks p f is_heap s l = Must (AreThere f (l.target ∷ operands_of l.op)) fault.NoSuchEntry (op_checks p f is_heap s l.target l.op)
 
 -- ---- the end of a block
 
--- the target of a jump is there
-abbrev pub is_block : Func → ℕ → Bool
-is_block f b = nat_lt b (length f.blocks)
+abbrev pub IsBlock : Func → ℕ → Type 0
+IsBlock f b = b < length f.blocks
 
--- what an arm binds counts as bound and unused
-abbrev pub use_fault : List Mark → List ℕ → ℕ → Option CodeKind
-use_fault marks bound x = if is_among bound x then None else mark_fault (slice_get marks x)
-
-abbrev pub uses_fault : List Mark → List ℕ → List ℕ → Option CodeKind
-uses_fault marks bound [] = None
-uses_fault marks bound (x ∷ xs) = option_or (use_fault marks bound x) (uses_fault marks bound xs)
-
--- a jump uses the parameters of its target, and marks nothing
-abbrev pub jump_fault : Func → List Mark → List ℕ → ℕ → Option CodeKind
-jump_fault f marks bound b = uses_fault marks bound (params_at f.blocks b)
-
--- another function's result is this one's
-abbrev pub callee_fault : Func → List Local → List Mark → Option Func → List ℕ → Option CodeKind
-callee_fault f locals marks None args = Some fault.NoSuchEntry
-callee_fault f locals marks (Some callee) args = first_of (
-    arguments_fault locals marks args callee.params
-    ∷ unless (same_kind callee.result f.result) fault.Kind ∷ [])
-
-abbrev pub tail_fault : Func → List Local → List Mark → Option Func → List ℕ → Option CodeKind
-tail_fault f locals marks callee args = first_of (
-    unless (list_all (is_local locals) args) fault.NoSuchEntry
-    ∷ callee_fault f locals marks callee args ∷ [])
+-- a jump uses the parameters of its target, and spends none of them
+abbrev pub jump_checks : State → List ℕ → Checks → Checks
+jump_checks s [] rest = rest
+jump_checks s (x ∷ xs) rest = use_checks s x (jump_checks s xs rest)
 
 -- what an arm names is there
-abbrev pub arm_is_there : Func → List Local → CaseArm → Bool
-arm_is_there f locals a = list_all (is_local locals) a.fields && list_all (is_local locals) (kept_diamond a.cell) && is_block f a.target
+abbrev pub ArmIsThere : Func → CaseArm → Type 0
+ArmIsThere f a = AreThere f a.fields × AreThere f (kept_diamond a.cell) × IsBlock f a.target
 
--- a local for each field
-abbrev pub fields_count : List CaseArm → List Constructor → Bool
-fields_count (a ∷ arms) (c ∷ cs) = (length a.fields == length c.fields) && fields_count arms cs
-fields_count arms cs = true
+-- an arm for each constructor, and a local for each field
+abbrev pub FieldsCount : List CaseArm → List Constructor → Type 0
+FieldsCount (a ∷ arms) (c ∷ cs) = (length a.fields ≡ length c.fields) × FieldsCount arms cs
+FieldsCount arms cs = Unit {0}
 
--- an arm for each constructor
-abbrev pub arms_count : List CaseArm → List Constructor → Bool
-arms_count arms cs = (length arms == length cs) && fields_count arms cs
+abbrev pub ArmsCount : List CaseArm → List Constructor → Type 0
+ArmsCount arms cs = (length arms ≡ length cs) × FieldsCount arms cs
 
 -- matched as Inline exactly where the constructor is inline
-abbrev pub cell_fits : Bool → CaseCell → Bool
-cell_fits inline cell.Inline = inline
-cell_fits inline c = not inline
+abbrev pub IsCellOf : Bool → CaseCell → Type 0
+IsCellOf inline cell.Inline = IsTrue inline
+IsCellOf inline cell.Free = inline ≡ false
+IsCellOf inline (cell.Keep d) = inline ≡ false
 
-abbrev pub cells_fit : List CaseArm → List Constructor → Bool
-cells_fit (a ∷ arms) (c ∷ cs) = cell_fits c.inline a.cell && cells_fit arms cs
-cells_fit arms cs = true
+abbrev pub AreCellsOf : List CaseArm → List Constructor → Type 0
+AreCellsOf (a ∷ arms) (c ∷ cs) = IsCellOf c.inline a.cell × AreCellsOf arms cs
+AreCellsOf arms cs = Unit {0}
 
--- a kept cell becomes a diamond
-abbrev pub kept_fits : List Local → CaseCell → Bool
-kept_fits locals (cell.Keep d) = has_kind locals d kind.Dia
-kept_fits locals c = true
+-- what arms bind has the kinds of the fields, and a kept cell's local that of a diamond
+abbrev pub KeepsDiamond : Func → CaseCell → Type 0
+KeepsDiamond f (cell.Keep d) = kind_of f d ≡ Some kind.Dia
+KeepsDiamond f cell.Inline = Unit {0}
+KeepsDiamond f cell.Free = Unit {0}
 
--- what arms bind has the kinds of the fields, and of a diamond
-abbrev pub arms_have_kinds : List Local → List CaseArm → List Constructor → Bool
-arms_have_kinds locals (a ∷ arms) (c ∷ cs) = have_kinds locals a.fields c.fields && kept_fits locals a.cell && arms_have_kinds locals arms cs
-arms_have_kinds locals arms cs = true
+abbrev pub ArmsBindKinds : Func → List CaseArm → List Constructor → Type 0
+ArmsBindKinds f (a ∷ arms) (c ∷ cs) = (HaveKinds f a.fields c.fields × KeepsDiamond f a.cell) × ArmsBindKinds f arms cs
+ArmsBindKinds f arms cs = Unit {0}
 
--- none of these numbers comes twice
-abbrev pub are_distinct : List ℕ → Bool
-are_distinct [] = true
-are_distinct (x ∷ xs) = not (is_among xs x) && are_distinct xs
-
--- the jump of each arm
-abbrev pub arms_jump_fault : Func → List Mark → List CaseArm → Option CodeKind
-arms_jump_fault f marks [] = None
-arms_jump_fault f marks (a ∷ arms) = option_or (jump_fault f marks (bound_by a) a.target) (arms_jump_fault f marks arms)
+-- the jump of each arm, behind what the arm binds
+abbrev pub arms_jump_checks : Func → (ℕ → Bool) → State → List CaseArm → Checks
+arms_jump_checks f is_heap s [] = NoMore
+arms_jump_checks f is_heap s (a ∷ arms) = jump_checks (after is_heap s (map Bind (bound_by a))) (params_at f.blocks a.target) (arms_jump_checks f is_heap s arms)
 
 -- the arms of a case on a local of this type
-abbrev pub arms_fault : Func → List Local → List Mark → ℕ → Option DataType → List CaseArm → Option CodeKind
-arms_fault f locals marks x None arms = Some fault.Kind
-arms_fault f locals marks x (Some t) arms = first_of (
-    unless (arms_count arms t.cons) fault.Arms
-    ∷ mark_fault (slice_get marks x)
-    ∷ unless (cells_fit arms t.cons) fault.Place
-    ∷ unless (arms_have_kinds locals arms t.cons) fault.Kind
-    ∷ unless (list_all (λ a. are_distinct (bound_by a)) arms) fault.Header
-    ∷ arms_jump_fault f (spend locals marks x) arms ∷ [])
+abbrev pub arms_checks : Func → (ℕ → Bool) → State → ℕ → List CaseArm → DataType → Checks
+arms_checks f is_heap s x arms t =
+    Must (ArmsCount arms t.cons) fault.Arms
+    (use_checks s x
+    (Must (AreCellsOf arms t.cons) fault.Place
+    (Must (ArmsBindKinds f arms t.cons) fault.Kind
+    (Must (AllByRecursion (λ a. AreDistinct (bound_by a)) arms) fault.Header
+    (arms_jump_checks f is_heap (use_of is_heap s x) arms)))))
 
-abbrev pub case_fault : Func → List Local → ℕ → List Mark → ℕ → Option DataType → List CaseArm → Option CodeKind
-case_fault f locals number marks x t arms = first_of (
-    unless (is_local locals x && list_all (arm_is_there f locals) arms) fault.NoSuchEntry
-    ∷ unless (list_all (λ a. nat_lt number a.target) arms) fault.Backward
-    ∷ arms_fault f locals marks x t arms ∷ [])
+abbrev pub term_checks : Code → Func → (ℕ → Bool) → ℕ → State → Term → Checks
+term_checks p f is_heap number s (Ret x) = Must (IsThere f x) fault.NoSuchEntry (operand_checks f s x f.result NoMore)
+term_checks p f is_heap number s (Tail func args) = Must (AreThere f args) fault.NoSuchEntry (of_entry (slice_get p.funcs func) fault.NoSuchEntry
+    (λ callee. arguments_checks f is_heap s args callee.params (Must (callee.result ≡ f.result) fault.Kind NoMore)))
+term_checks p f is_heap number s (Goto b) = Must (IsBlock f b) fault.NoSuchEntry (Must (number < b) fault.Backward (jump_checks s (params_at f.blocks b) NoMore))
+term_checks p f is_heap number s (If x first second) =
+    Must (IsThere f x × IsBlock f first × IsBlock f second) fault.NoSuchEntry
+    (Must ((number < first) × (number < second)) fault.Backward
+    (operand_checks f s x kind.Flag
+    (jump_checks (use_of is_heap s x) (params_at f.blocks first) (jump_checks (use_of is_heap s x) (params_at f.blocks second) NoMore))))
+term_checks p f is_heap number s (Case x arms) =
+    Must (IsThere f x × AllByRecursion (ArmIsThere f) arms) fault.NoSuchEntry
+    (Must (AllByRecursion (λ a. number < a.target) arms) fault.Backward
+    (of_entry (data_type p.types (kind_of f x)) fault.Kind (arms_checks f is_heap s x arms)))
 
-abbrev pub ret_fault : Func → List Local → List Mark → ℕ → Option CodeKind
-ret_fault f locals marks x = first_of (
-    unless (is_local locals x) fault.NoSuchEntry
-    ∷ operand_fault locals marks x f.result ∷ [])
-
-abbrev pub goto_fault : Func → ℕ → List Mark → ℕ → Option CodeKind
-goto_fault f number marks b = first_of (
-    unless (is_block f b) fault.NoSuchEntry
-    ∷ unless (nat_lt number b) fault.Backward
-    ∷ jump_fault f marks [] b ∷ [])
-
--- the jump where the value is true, and then the one where it is false
-abbrev pub if_fault : Func → List Local → ℕ → List Mark → ℕ → ℕ → ℕ → Option CodeKind
-if_fault f locals number marks x first second = first_of (
-    unless (is_local locals x && is_block f first && is_block f second) fault.NoSuchEntry
-    ∷ unless (nat_lt number first && nat_lt number second) fault.Backward
-    ∷ operand_fault locals marks x kind.Flag
-    ∷ jump_fault f (spend locals marks x) [] first
-    ∷ jump_fault f (spend locals marks x) [] second ∷ [])
-
-abbrev pub term_fault : Code → Func → List Local → ℕ → List Mark → Term → Option CodeKind
-term_fault p f locals number marks (Ret x) = ret_fault f locals marks x
-term_fault p f locals number marks (Tail func args) = tail_fault f locals marks (slice_get p.funcs func) args
-term_fault p f locals number marks (Goto b) = goto_fault f number marks b
-term_fault p f locals number marks (If x first second) = if_fault f locals number marks x first second
-term_fault p f locals number marks (Case x arms) = case_fault f locals number marks x (data_type p.types (kind_at locals x)) arms
-
--- ---- blocks
-
--- each is at least `least`, and more than the one before it
-abbrev pub ascends_from : ℕ → List ℕ → Bool
-ascends_from least [] = true
-ascends_from least (x ∷ xs) = nat_le least x && ascends_from (suc x) xs
-
--- the numbers from the first on that are below the second, in order
-abbrev pub counts_from : ℕ → ℕ → List ℕ → Bool
-counts_from from to [] = from == to
-counts_from from to (x ∷ xs) = (x == from) && counts_from (suc from) to xs
+-- ---- headers, types
 
 -- the first block has the function's parameters
-abbrev pub entry_fits : Func → ℕ → List ℕ → Bool
-entry_fits f zero params = counts_from 0 (length f.params) params
-entry_fits f (suc number) params = true
+abbrev pub header_checks : Func → ℕ → List ℕ → Checks
+header_checks f number params =
+    Must (AreThere f params) fault.NoSuchEntry
+    (Must (Ascend params × (number ≡ 0 → params ≡ range_with_len 0 (length f.params))) fault.Header NoMore)
 
-abbrev pub block_header_fault : Func → List Local → ℕ → List ℕ → Option CodeKind
-block_header_fault f locals number params = first_of (
-    unless (list_all (is_local locals) params) fault.NoSuchEntry
-    ∷ unless (ascends_from 0 params && entry_fits f number params) fault.Header ∷ [])
+-- a function's name is new, after those of these names
+abbrev pub func_checks : List DataType → List (List ℕ) → Func → Checks
+func_checks types earlier f =
+    Must (stands earlier f.name ≡ false) fault.Name
+    (Must (AllByRecursion (IsKnownKind types) f.params × IsKnownKind types f.result × AllByRecursion (IsKnownKind types) f.locals) fault.NoSuchEntry NoMore)
 
--- the lets from this place on
-abbrev pub lets_fault : Code → List Local → ℕ → ℕ → ℕ → List Mark → List Let → Option CodeFault
-lets_fault p locals func number place marks [] = None
-lets_fault p locals func number place marks (l ∷ ls) = option_or
-    (at_place func number place (let_fault p locals marks l))
-    (lets_fault p locals func number (suc place) (after_let locals marks l) ls)
-
--- at a block's beginning its parameters are bound
-abbrev pub at_start : List Local → Block → List Mark
-at_start locals b = bind_all (unbound locals) b.params
-
-abbrev pub block_fault : Code → Func → List Local → ℕ → ℕ → Block → Option CodeFault
-block_fault p f locals func number b = first_of (
-    at_place func number 0 (block_header_fault f locals number b.params)
-    ∷ lets_fault p locals func number 1 (at_start locals b) b.lets
-    ∷ at_place func number (suc (length b.lets)) (term_fault p f locals number (after_lets locals (at_start locals b) b.lets) b.term) ∷ [])
-
--- the blocks from this number on
-abbrev pub blocks_fault : Code → Func → List Local → ℕ → ℕ → List Block → Option CodeFault
-blocks_fault p f locals func number [] = None
-blocks_fault p f locals func number (b ∷ bs) = option_or (block_fault p f locals func number b) (blocks_fault p f locals func (suc number) bs)
-
--- ---- functions, types and programs
-
--- a function's name must be new
-abbrev pub header_fault : List DataType → Bool → Func → Option CodeKind
-header_fault types new f = first_of (
-    unless new fault.Name
-    ∷ unless (list_all (is_known types) f.params && is_known types f.result && list_all (is_known types) f.locals) fault.NoSuchEntry ∷ [])
-
-abbrev pub function_fault : Code → ℕ → Bool → Func → Option CodeFault
-function_fault p func new f = first_of (
-    at_place func 0 0 (header_fault p.types new f)
-    ∷ blocks_fault p f (locals_of p.types f) func 0 f.blocks ∷ [])
-
--- the functions from this number on, after those of these names
-abbrev pub functions_fault : Code → ℕ → List (List ℕ) → List Func → Option CodeFault
-functions_fault p func earlier [] = None
-functions_fault p func earlier (f ∷ fs) = option_or
-    (function_fault p func (not (stands earlier f.name)) f)
-    (functions_fault p (suc func) (earlier ++ f.name ∷ []) fs)
-
-abbrev pub constructor_fault : List DataType → Bool → Constructor → Option CodeKind
-constructor_fault types new c = first_of (
-    unless new fault.Name
-    ∷ unless (list_all (is_known types) c.fields) fault.NoSuchEntry ∷ [])
-
--- the constructors of a type, after those of these names
-abbrev pub constructors_fault : List DataType → List (List ℕ) → List Constructor → Option CodeKind
-constructors_fault types earlier [] = None
-constructors_fault types earlier (c ∷ cs) = option_or
-    (constructor_fault types (not (stands earlier c.name)) c)
-    (constructors_fault types (earlier ++ c.name ∷ []) cs)
-
--- a type's name must be new, and then those of its constructors
-abbrev pub type_fault : List DataType → Bool → List (List ℕ) → DataType → Option CodeKind
-type_fault types new cons t = first_of (
-    unless new fault.Name
-    ∷ constructors_fault types cons t.cons ∷ [])
+-- the constructors of a type, and then the rest
+abbrev pub cons_checks : List DataType → List (List ℕ) → List Constructor → Checks → Checks
+cons_checks types earlier [] rest = rest
+cons_checks types earlier (c ∷ cs) rest =
+    Must (stands earlier c.name ≡ false) fault.Name
+    (Must (AllByRecursion (IsKnownKind types) c.fields) fault.NoSuchEntry (cons_checks types (earlier ++ c.name ∷ []) cs rest))
 
 -- the types, after types and constructors of these names
-abbrev pub types_fault : List DataType → List (List ℕ) → List (List ℕ) → List DataType → Option CodeKind
-types_fault types earlier cons [] = None
-types_fault types earlier cons (t ∷ ts) = option_or
-    (type_fault types (not (stands earlier t.name)) cons t)
-    (types_fault types (earlier ++ t.name ∷ []) (cons ++ map (λ c. c.name) t.cons) ts)
+abbrev pub types_checks : List DataType → List (List ℕ) → List (List ℕ) → List DataType → Checks
+types_checks types earlier cons [] = NoMore
+types_checks types earlier cons (t ∷ ts) =
+    Must (stands earlier t.name ≡ false) fault.Name
+    (cons_checks types cons t.cons (types_checks types (earlier ++ t.name ∷ []) (cons ++ map (λ c. c.name) t.cons) ts))
 
--- a fault of the types has the number of functions in place of a function
-abbrev pub table_fault : Code → Option CodeFault
-table_fault p = at_place (length p.funcs) 0 0 (types_fault p.types [] [] p.types)
+-- ---- the walk
 
--- the types, and then the functions
-abbrev pub first_fault : Code → Option CodeFault
-first_fault p = option_or (table_fault p) (functions_fault p 0 [] p.funcs)
+pub data Walk : Type 1 where
+  Finished : Walk
+  -- the checks at a place, which is a function, a block, and 0 for its header, the number of a let counted from 1, or the next number for
+  -- the end; and then the rest
+  At : (func block place : ℕ) → Checks → Walk → Walk
+
+abbrev pub AllPass : Walk → Type 0
+AllPass Finished = Unit {0}
+AllPass (At func block place checks rest) = Pass checks × AllPass rest
+
+-- the first check that fails is of this kind, at this place
+abbrev pub FirstFault : Walk → CodeFault → Type 0
+FirstFault Finished e = ⊥
+FirstFault (At func block place checks rest) e = (Fails checks e.kind × (e ≡ record { func = func; block = block; place = place; kind = e.kind })) ⊎ (Pass checks × FirstFault rest e)
+
+-- the lets from this place on, and then what comes in the state behind them
+abbrev pub lets_walk : Code → Func → (ℕ → Bool) → (func number place : ℕ) → State → List Let → (State → Walk) → Walk
+lets_walk p f is_heap func number place s [] next = next s
+lets_walk p f is_heap func number place s (l ∷ ls) next = At func number place (let_checks p f is_heap s l) (lets_walk p f is_heap func number (suc place) (after_let is_heap s l) ls next)
+
+abbrev pub block_walk : Code → Func → (ℕ → Bool) → (func number : ℕ) → Block → Walk → Walk
+block_walk p f is_heap func number b rest =
+    At func number 0 (header_checks f number b.params)
+    (lets_walk p f is_heap func number 1 (at_start is_heap b) b.lets (λ s. At func number (suc (length b.lets)) (term_checks p f is_heap number s b.term) rest))
+
+-- the blocks from this number on
+abbrev pub blocks_walk : Code → Func → (ℕ → Bool) → (func number : ℕ) → List Block → Walk → Walk
+blocks_walk p f is_heap func number [] rest = rest
+blocks_walk p f is_heap func number (b ∷ bs) rest = block_walk p f is_heap func number b (blocks_walk p f is_heap func (suc number) bs rest)
+
+-- the functions from this number on, after those of these names
+abbrev pub funcs_walk : Code → ℕ → List (List ℕ) → List Func → Walk
+funcs_walk p func earlier [] = Finished
+funcs_walk p func earlier (f ∷ fs) =
+    At func 0 0 (func_checks p.types earlier f)
+    (blocks_walk p f (is_heap_local p.types f) func 0 f.blocks (funcs_walk p (suc func) (earlier ++ f.name ∷ []) fs))
+
+-- the types, which have the number of functions in place of a function, and then the functions
+unfoldable pub walk : Code → Walk
+walk p = At (length p.funcs) 0 0 (types_checks p.types [] [] p.types) (funcs_walk p 0 [] p.funcs)

@@ -3,7 +3,7 @@ ghost use Rattle.std.specs.List.{list_all};
 ghost use Rattle.camelot_values.specs.Kinds.{constructor_of};
 ghost use Rattle.grail_code.specs.Code.{arm_of, func_of};
 ghost use Rattle.grail_code.specs.WellFormed.{kept_diamond, bound_by};
-ghost use Rattle.grail_check.specs.Walk.{is_local, is_among, have_kinds, is_block, arm_is_there, fields_count, arms_count, cell_fits, cells_fit, kept_fits, arms_have_kinds, are_distinct};
+ghost use Rattle.grail_check.specs.Faulting.{is_local, is_among, have_kinds, is_block, arm_is_there, fields_count, arms_count, cell_fits, cells_fit, kept_fits, arms_have_kinds, are_distinct};
 
 use super::lets::are_locals;
 use super::locals::{Local, has_kind, is_local};

@@ -1,7 +1,7 @@
 ghost use Rattle.std.specs.Prelude.{◌≡◌, ◌≤◌, length, map, OnOk};
 ghost use Rattle.grail_code.specs.Code.{let_of, block_of, func_of, code_of};
 ghost use Rattle.grail_check.specs.Finding.{Finds};
-ghost use Rattle.grail_check.specs.Walk.{ascends_from, counts_from, entry_fits, block_header_fault, lets_fault, after_lets, block_fault, blocks_fault};
+ghost use Rattle.grail_check.specs.Faulting.{ascends_from, counts_from, entry_fits, block_header_fault, lets_fault, after_lets, block_fault, blocks_fault};
 
 use super::exits::check_exit;
 use super::fault::{CodeFault, CodeKind};

@@ -2,7 +2,8 @@ ghost use Rattle.std.specs.Prelude.{◌≡◌, ◌↔◌, Some, None, IsTrue, is
 ghost use Rattle.grail_code.specs.Code.{code_of};
 ghost use Rattle.grail_code.specs.WellFormed.{IsWellFormed};
 ghost use Rattle.grail_check.specs.Finding.{Answers};
-ghost use Rattle.grail_check.specs.Walk.{table_fault, first_fault};
+ghost use Rattle.grail_check.specs.Faulting.{table_fault, first_fault};
+ghost use Rattle.grail_check.specs.Walk.{AllPass, FirstFault, walk};
 
 use super::fault::{CodeFault, Stop};
 use super::functions::check_functions;
@@ -27,19 +28,21 @@ fn check_table(alloc: Global, code: &Code) -> Result<(), Stop<CodeFault>>
 }
 
 // The whole walk.
-fn walk(alloc: Global, code: &Code) -> Result<(), Stop<CodeFault>>
+fn walk_through(alloc: Global, code: &Code) -> Result<(), Stop<CodeFault>>
     ensures { Answers result (first_fault (code_of code.now)) }
 {
     check_table(alloc, code)?;
     check_functions(alloc, code)
 }
 
-/// Whether the code is well formed, and if not, the first check of the walk that fails; `AllocError` where memory runs out.
+/// Whether the code is well formed, and if not, the first check of the walk that fails (`specs/Walk.antt`); `AllocError` where memory
+/// runs out.
+#[tactic(auto, using(crate::proofs::WalkLaws::passes, crate::proofs::WalkLaws::finds))]
 pub fn check_code(alloc: Global, code: &Code) -> Result<Result<(), CodeFault>, AllocError>
-    ensures first_fault { IfOk result (λ answer. MatchResult answer (λ _. first_fault (code_of code.now) ≡ None) (λ fault. first_fault (code_of code.now) ≡ Some fault)) }
+    ensures first_fault { IfOk result (λ answer. MatchResult answer (λ _. AllPass (walk (code_of code.now))) (λ fault. FirstFault (walk (code_of code.now)) fault)) }
     ensures well_formed { IfOk result (λ answer. IsTrue (is_ok answer) ↔ IsWellFormed (code_of code.now)) }
 {
-    match walk(alloc, code) {
+    match walk_through(alloc, code) {
         Ok(()) => Ok(Ok(())),
         Err(Stop::Fault(fault)) => Ok(Err(fault)),
         Err(Stop::Memory) => Err(AllocError),

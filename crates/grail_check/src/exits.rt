@@ -4,7 +4,7 @@ ghost use Rattle.camelot_values.specs.Kinds.{data_type_of};
 ghost use Rattle.grail_code.specs.Code.{arm_of, term_of, func_of, code_of};
 ghost use Rattle.grail_code.specs.WellFormed.{kept_diamond, data_type};
 ghost use Rattle.grail_check.specs.Finding.{Finds};
-ghost use Rattle.grail_check.specs.Walk.{uses_fault, jump_fault, arms_jump_fault, tail_fault, arms_fault, case_fault, ret_fault, goto_fault, if_fault, term_fault};
+ghost use Rattle.grail_check.specs.Faulting.{uses_fault, jump_fault, arms_jump_fault, tail_fault, arms_fault, case_fault, ret_fault, goto_fault, if_fault, term_fault};
 
 use super::arms::{
     arms_are_there, arms_bind_once, arms_count, arms_go_on, arms_have_kinds, cells_fit, is_block,

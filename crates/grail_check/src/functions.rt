@@ -2,7 +2,7 @@ ghost use Rattle.std.specs.Prelude.{◌≡◌, ◌++◌, [], OnOk, IfOk, map};
 ghost use Rattle.std.specs.List.{list_all};
 ghost use Rattle.grail_code.specs.Code.{func_of, code_of};
 ghost use Rattle.grail_check.specs.Finding.{Finds, Answers};
-ghost use Rattle.grail_check.specs.Walk.{is_known, local_of, locals_of, header_fault, function_fault, functions_fault};
+ghost use Rattle.grail_check.specs.Faulting.{is_known, local_of, locals_of, header_fault, function_fault, functions_fault};
 
 use super::blocks::check_blocks;
 use super::fault::{CodeFault, CodeKind, Stop};

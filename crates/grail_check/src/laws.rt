@@ -1,19 +1,29 @@
-//! What the answers of the check say of the code, in terms of binding and use along the ways through a block.
-ghost use Rattle.std.specs.Prelude.{◌≡◌, ℕ, Some};
+//! Laws of the walk of checks, as the contracts of functions that do nothing.
+ghost use Rattle.std.specs.Prelude.{◌≡◌, ◌↔◌, ◌⊎◌, ℕ, Some};
 ghost use Rattle.grail_code.specs.Code.{Code};
-ghost use Rattle.grail_code.specs.WellFormed.{is_heap_local};
+ghost use Rattle.grail_code.specs.WellFormed.{IsWellFormed, is_heap_local};
 ghost use Rattle.grail_check.specs.declared.fault.CodeFault.{CodeFault};
-ghost use Rattle.grail_check.specs.Walk.{first_fault};
+ghost use Rattle.grail_check.specs.Walk.{AllPass, FirstFault, walk};
 ghost use Rattle.grail_check.specs.Misuse.{Happens, UsesUnbound, UsesAgain};
 
 use super::fault::CodeKind;
 
+/// Code is well formed exactly where all checks of the walk pass, and else it has a first fault, and one at most. Well-formed code is told
+/// without an order of checks; the walk is what finds the fault.
+#[tactic(auto, using(crate::proofs::WalkLaws::one_or_fault, crate::proofs::WalkLaws::never_both, crate::proofs::Agreeing::one_fault))]
+pub fn law_of_walk()
+    ensures passes { (p : Code) → IsWellFormed p ↔ AllPass (walk p) }
+    ensures some { (p : Code) → IsWellFormed p ⊎ ((fault : CodeFault) × FirstFault (walk p) fault) }
+    ensures apart { (p : Code) (fault : CodeFault) → IsWellFormed p → FirstFault (walk p) fault → ⊥ }
+    ensures one { (p : Code) (first second : CodeFault) → FirstFault (walk p) first → FirstFault (walk p) second → first ≡ second }
+{}
+
 /// The law of the two faults of use. Where the first fault is Unbound, the code there uses, on some way through the block,
 /// a local that isn't bound before; where it is Spent, a local of a heap kind that was used before and not bound since.
-#[tactic(auto, using(crate::proofs::Misusing::unbound_misuse, crate::proofs::Misusing::spent_misuse))]
+#[tactic(auto, using(crate::proofs::WalkLaws::unbound, crate::proofs::WalkLaws::spent))]
 pub fn law_of_misuse()
-    ensures unbound { (p : Code) (fault : CodeFault) → fault.kind ≡ CodeKind.Unbound → first_fault p ≡ Some fault →
+    ensures unbound { (p : Code) (fault : CodeFault) → fault.kind ≡ CodeKind.Unbound → FirstFault (walk p) fault →
         Happens p fault.func fault.block fault.place (λ f before here. UsesUnbound before here) }
-    ensures spent { (p : Code) (fault : CodeFault) → fault.kind ≡ CodeKind.Spent → first_fault p ≡ Some fault →
+    ensures spent { (p : Code) (fault : CodeFault) → fault.kind ≡ CodeKind.Spent → FirstFault (walk p) fault →
         Happens p fault.func fault.block fault.place (λ f before here. UsesAgain (is_heap_local p.types f) before here) }
 {}

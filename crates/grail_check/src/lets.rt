@@ -6,7 +6,7 @@ ghost use Rattle.camelot_values.specs.Kinds.{constructor_of};
 ghost use Rattle.grail_code.specs.Code.{operator_of, op_of, let_of, func_of, code_of};
 ghost use Rattle.grail_code.specs.WellFormed.{operator_kind, operands_of, taken};
 ghost use Rattle.grail_check.specs.Finding.{Finds};
-ghost use Rattle.grail_check.specs.Walk.{is_local, place_fits, copy_fault, operator_fault, target_fault, taken_fault, make_fault, call_fault, op_fault, let_fault, spend_all, after_let};
+ghost use Rattle.grail_check.specs.Faulting.{is_local, place_fits, copy_fault, operator_fault, target_fault, taken_fault, make_fault, call_fault, op_fault, let_fault, spend_all, after_let};
 
 use super::fault::CodeKind;
 use super::locals::{

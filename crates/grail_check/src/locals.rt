@@ -1,6 +1,6 @@
 ghost use Rattle.std.specs.Prelude.{◌≡◌, slice_get, slice_set, Some, OnOk};
 ghost use Rattle.grail_check.specs.Finding.{Finds};
-ghost use Rattle.grail_check.specs.Walk.{unless, is_local, kind_at, is_heap_at, same_kind, same_kinds, has_kind, bind, bind_all, spend, spend_all, mark_fault, operand_fault, operands_fault, arguments_fault};
+ghost use Rattle.grail_check.specs.Faulting.{unless, is_local, kind_at, is_heap_at, same_kind, same_kinds, has_kind, bind, bind_all, spend, spend_all, mark_fault, operand_fault, operands_fault, arguments_fault};
 
 use super::fault::CodeKind;
 use camelot_values::Kind;

@@ -1,5 +1,5 @@
 ghost use Rattle.std.specs.Prelude.{◌≡◌, ◌++◌, ◌∷◌, [], map, not, IsTrue, IfOk};
-ghost use Rattle.grail_check.specs.Walk.{stands};
+ghost use Rattle.grail_check.specs.Faulting.{stands};
 
 use indexmap::IndexSet;
 use std::alloc::{AllocError, Global};

@@ -1,7 +1,7 @@
 ghost use Rattle.std.specs.Prelude.{◌≡◌, ◌++◌, [], OnOk, map};
 ghost use Rattle.camelot_values.specs.Kinds.{constructor_of, data_type_of};
 ghost use Rattle.grail_check.specs.Finding.{Finds, Answers};
-ghost use Rattle.grail_check.specs.Walk.{stands, constructor_fault, constructors_fault, type_fault, types_fault};
+ghost use Rattle.grail_check.specs.Faulting.{stands, constructor_fault, constructors_fault, type_fault, types_fault};
 
 use super::fault::{CodeKind, Stop};
 use super::functions::are_known;

@@ -1,7 +1,7 @@
 use Rattle.std.proofs.Common.{◌≡◌, drop, map}
 use Rattle.std.specs.List.{list_all}
 use Rattle.grail_code.specs.Code.{arm_of, func_of}
-use Rattle.grail_check.specs.Walk.{arm_is_there}
+use Rattle.grail_check.specs.Faulting.{arm_is_there}
 use Rattle.grail_check.proofs.arms.arms_are_there.Given as goal
 
 abbrev pub invariant-arms : goal.invariant-arms

@@ -2,7 +2,7 @@ use Rattle.std.proofs.Common.{◌≡◌, drop, map}
 use Rattle.std.specs.List.{list_all}
 use Rattle.grail_code.specs.Code.{arm_of}
 use Rattle.grail_code.specs.WellFormed.{bound_by}
-use Rattle.grail_check.specs.Walk.{are_distinct}
+use Rattle.grail_check.specs.Faulting.{are_distinct}
 use Rattle.grail_check.proofs.arms.arms_bind_once.Given as goal
 
 abbrev pub invariant-arms : goal.invariant-arms

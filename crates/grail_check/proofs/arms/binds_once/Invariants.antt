@@ -1,6 +1,6 @@
 use Rattle.std.proofs.Common.{◌≡◌, ◌++◌, drop}
 use Rattle.grail_code.specs.WellFormed.{kept_diamond}
-use Rattle.grail_check.specs.Walk.{are_distinct}
+use Rattle.grail_check.specs.Faulting.{are_distinct}
 use Rattle.grail_check.proofs.arms.binds_once.Given as goal
 
 abbrev pub invariant-fields : goal.invariant-fields

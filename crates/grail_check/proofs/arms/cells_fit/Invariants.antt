@@ -1,7 +1,7 @@
 use Rattle.std.proofs.Common.{◌≡◌, drop, map}
 use Rattle.camelot_values.specs.Kinds.{constructor_of}
 use Rattle.grail_code.specs.Code.{arm_of}
-use Rattle.grail_check.specs.Walk.{cells_fit}
+use Rattle.grail_check.specs.Faulting.{cells_fit}
 use Rattle.grail_check.proofs.arms.cells_fit.Given as goal
 
 abbrev pub invariant-arms : goal.invariant-arms

@@ -1,5 +1,5 @@
 use Rattle.std.proofs.Common.{◌≡◌, drop}
-use Rattle.grail_check.specs.Walk.{have_kinds}
+use Rattle.grail_check.specs.Faulting.{have_kinds}
 use Rattle.grail_check.proofs.arms.have_kinds.Given as goal
 
 abbrev pub invariant-fields : goal.invariant-fields

@@ -1,5 +1,5 @@
 use Rattle.std.proofs.Common.{◌≡◌, drop}
-use Rattle.grail_check.specs.Walk.{ascends_from}
+use Rattle.grail_check.specs.Faulting.{ascends_from}
 use Rattle.grail_check.proofs.blocks.ascends.Given as goal
 
 abbrev pub invariant-numbers : goal.invariant-numbers

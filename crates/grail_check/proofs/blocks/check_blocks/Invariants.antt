@@ -1,6 +1,6 @@
 use Rattle.std.proofs.Common.{◌≡◌, drop, map}
 use Rattle.grail_code.specs.Code.{block_of, func_of, code_of}
-use Rattle.grail_check.specs.Walk.{blocks_fault}
+use Rattle.grail_check.specs.Faulting.{blocks_fault}
 use Rattle.grail_check.proofs.blocks.check_blocks.Given as goal
 
 abbrev pub invariant-walk : goal.invariant-walk

@@ -1,6 +1,6 @@
 use Rattle.std.proofs.Common.{◌≡◌, ◌+◌, drop, map}
 use Rattle.grail_code.specs.Code.{let_of, code_of}
-use Rattle.grail_check.specs.Walk.{lets_fault, after_lets}
+use Rattle.grail_check.specs.Faulting.{lets_fault, after_lets}
 use Rattle.grail_check.proofs.blocks.check_lets.Given as goal
 
 abbrev pub invariant-lets : goal.invariant-lets

@@ -1,5 +1,5 @@
 use Rattle.std.proofs.Common.{◌≡◌, drop}
-use Rattle.grail_check.specs.Walk.{counts_from}
+use Rattle.grail_check.specs.Faulting.{counts_from}
 use Rattle.grail_check.proofs.blocks.counts.Given as goal
 
 abbrev pub invariant-numbers : goal.invariant-numbers

@@ -1,6 +1,6 @@
 use Rattle.std.proofs.Common.{◌≡◌, drop, map}
 use Rattle.grail_code.specs.Code.{arm_of, func_of}
-use Rattle.grail_check.specs.Walk.{arms_jump_fault}
+use Rattle.grail_check.specs.Faulting.{arms_jump_fault}
 use Rattle.grail_check.proofs.exits.check_arm_jumps.Given as goal
 
 abbrev pub invariant-arms : goal.invariant-arms

@@ -1,6 +1,6 @@
 use Rattle.std.proofs.Common.{◌≡◌, ◌++◌, drop}
 use Rattle.grail_code.specs.WellFormed.{kept_diamond}
-use Rattle.grail_check.specs.Walk.{uses_fault}
+use Rattle.grail_check.specs.Faulting.{uses_fault}
 use Rattle.grail_check.proofs.exits.check_uses.Given as goal
 
 abbrev pub invariant-locals : goal.invariant-locals

@@ -1,5 +1,5 @@
 use Rattle.std.proofs.Common.{◌≡◌, ◌++◌, drop, map}
-use Rattle.grail_check.specs.Walk.{local_of}
+use Rattle.grail_check.specs.Faulting.{local_of}
 use Rattle.grail_check.proofs.functions.add_locals.Given as goal
 
 abbrev pub invariant-kinds : goal.invariant-kinds

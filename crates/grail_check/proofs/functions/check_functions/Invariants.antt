@@ -1,6 +1,6 @@
 use Rattle.std.proofs.Common.{◌≡◌, [], drop, map}
 use Rattle.grail_code.specs.Code.{func_of, code_of}
-use Rattle.grail_check.specs.Walk.{functions_fault}
+use Rattle.grail_check.specs.Faulting.{functions_fault}
 use Rattle.grail_check.proofs.functions.check_functions.Given as goal
 
 abbrev pub invariant-walk : goal.invariant-walk

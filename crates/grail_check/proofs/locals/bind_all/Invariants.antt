@@ -1,5 +1,5 @@
 use Rattle.std.proofs.Common.{◌≡◌, drop}
-use Rattle.grail_check.specs.Walk.{bind_all}
+use Rattle.grail_check.specs.Faulting.{bind_all}
 use Rattle.grail_check.proofs.locals.bind_all.Given as goal
 
 abbrev pub invariant-locals : goal.invariant-locals

@@ -1,5 +1,5 @@
 use Rattle.std.proofs.Common.{◌≡◌, drop}
-use Rattle.grail_check.specs.Walk.{spend_all, operands_fault}
+use Rattle.grail_check.specs.Faulting.{spend_all, operands_fault}
 use Rattle.grail_check.proofs.locals.check_arguments.Given as goal
 
 abbrev pub invariant-operands : goal.invariant-operands

@@ -1,6 +1,6 @@
 use Rattle.std.proofs.Common.{◌≡◌, ◌++◌, drop, map}
 use Rattle.camelot_values.specs.Kinds.{constructor_of}
-use Rattle.grail_check.specs.Walk.{constructors_fault}
+use Rattle.grail_check.specs.Faulting.{constructors_fault}
 use Rattle.grail_check.proofs.types.check_cons.Given as goal
 
 abbrev pub invariant-cons : goal.invariant-cons

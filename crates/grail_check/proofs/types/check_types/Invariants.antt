@@ -1,6 +1,6 @@
 use Rattle.std.proofs.Common.{◌≡◌, [], drop, map}
 use Rattle.camelot_values.specs.Kinds.{data_type_of}
-use Rattle.grail_check.specs.Walk.{types_fault}
+use Rattle.grail_check.specs.Faulting.{types_fault}
 use Rattle.grail_check.proofs.types.check_types.Given as goal
 
 abbrev pub invariant-walk : goal.invariant-walk
