@@ -16,6 +16,3 @@ pub use code::{Block, CaseArm, CaseCell, Code, Func, Let, Op, Place, PrimCode, T
 pub use decoder::decode;
 pub use encoder::encode;
 pub use fault::DecodeFault;
-
-#[cfg(test)]
-mod tests;

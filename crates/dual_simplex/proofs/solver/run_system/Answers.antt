@@ -1,12 +1,13 @@
 use Rattle.std.proofs.Common.{◌≡◌}
 use Rattle.dual_simplex.specs.Systems.{plain_system}
-use Rattle.dual_simplex.specs.Run.{plain_answer, run_from, pivots_from}
+use Rattle.dual_simplex.specs.Run.{plain_answer}
+use Rattle.dual_simplex.specs.Scans.{run_from, pivots_from}
 use Rattle.dual_simplex.specs.Lines.{plain_tableau}
 use Rattle.dual_simplex.specs.Promises.{SaysPivots}
 use Rattle.dual_simplex.proofs.First.{few_columns}
 use Rattle.dual_simplex.proofs.Runs.{if_both, run_same, pivots_same}
 use Rattle.dual_simplex.proofs.Counts.{answer_pivots}
-use Rattle.dual_simplex.proofs.solver.solve_counted.Goals as goal
+use Rattle.dual_simplex.proofs.solver.run_system.Goals as goal
 
 pub run-requires-clause-few : goal.run-requires-clause-few
 run-requires-clause-few c = few_columns (plain_system c.args.system.now) c.in_ok-tableau.tableau c.requires c.in_ok-tableau.ensures.value
