@@ -2,10 +2,6 @@
 //! word, as `all`, the texts are large and the tables have seconds.
 #![tactic(auto)]
 
-#[cfg(test)]
-mod checks;
-#[cfg(test)]
-mod tests;
 mod texts;
 
 use camelot_syntax::{Expr, Program, parse};

@@ -33,7 +33,7 @@ answers_of status.TooLong input l l' t t' n n' r k e h = absurd r
 
 -- a count that has room doesn't rise and stay
 pub no_rise : (f f' : ℕ) → Rose f f' → f < last_count → f' ≡ f → ⊥
-no_rise f f' r room same = let last = r.stands_at_last (omega (arith, same)) in omega (arith, last, room, same)
+no_rise f f' r room same = omega (arith, r, room, same)
 
 too_many : (input bytes : List ℕ) (l l' : Option (List ℕ)) (limit : ℕ) → length bytes ≡ limit + 1 → Consumes l l' bytes → l ≡ Some input → length input ≤ limit → ⊥
 too_many input bytes None l' limit size c h within = absurd cc

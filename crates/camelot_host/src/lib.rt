@@ -12,8 +12,6 @@ mod runner;
 mod script;
 mod serve;
 mod status;
-#[cfg(test)]
-mod tests;
 
 pub use command::host;
 pub use status::Status;

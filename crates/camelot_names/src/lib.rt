@@ -3,8 +3,6 @@
 
 mod scopes;
 mod tables;
-#[cfg(test)]
-mod tests;
 
 pub use scopes::Scope;
 pub use tables::Names;

@@ -9,11 +9,11 @@ use native.Mathlib.Nat.{mul-div_cancel', dvd-mul_right, dvd-mul_left_of_dvd}
 use Prim.Native.Nat.{◌∣◌}
 use Rattle.dual_simplex.specs.declared.answer.Fraction.{Fraction}
 use Rattle.dual_simplex.specs.Equation.{Equation}
-use Rattle.dual_simplex.specs.Tableau.{Tableau, leaving}
+use Rattle.dual_simplex.specs.Tableau.{Tableau, no_line}
+use Rattle.dual_simplex.specs.Scans.{leaving}
 use Rattle.dual_simplex.specs.Systems.{Inequality, Inequalities, IsProper, slack_line, slack_lines, first_tableau}
 use Rattle.dual_simplex.specs.Feasible.{sum_at, total, IsFeasible, IsLeast, cost_at}
 use Rattle.dual_simplex.specs.Answer.{value_of, values_of, unit_of, in_unit}
-use Rattle.dual_simplex.specs.Run.{no_line}
 use Rattle.dual_simplex.proofs.Units.{whole_at, unit_whole, unit_positive}
 use Rattle.dual_simplex.proofs.Ring.{sums, distrib, times_comm, times_assoc, swap_times, times_zero, zero_times, one_times, times_neg, not_negative_times, times_at_most, cancel, cancel_at_most}
 use Rattle.dual_simplex.proofs.Meaning.{dot, Holds}

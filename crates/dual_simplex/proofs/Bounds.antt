@@ -3,10 +3,10 @@ use Rattle.std.proofs.Common.{◌≡◌, ℕ, ◌+◌, ◌-◌, ◌<◌, ◌≤�
 use Rattle.std.specs.Prelude.{◌≤ℤ◌}
 use Rattle.std.proofs.lemmas.Int.{ints}
 use Rattle.dual_simplex.specs.declared.tableau.Candidate.{Candidate}
-use Rattle.dual_simplex.specs.Tableau.{Tableau, leaving, entering}
+use Rattle.dual_simplex.specs.Tableau.{Tableau, no_line, line_at}
+use Rattle.dual_simplex.specs.Scans.{leaving, entering}
 use Rattle.dual_simplex.specs.Systems.{Inequalities, IsProper}
 use Rattle.dual_simplex.specs.Feasible.{total, IsFeasible}
-use Rattle.dual_simplex.specs.Run.{no_line, line_at}
 use Rattle.dual_simplex.proofs.Ring.{sums, not_negative_times, not_positive_times, negative_times}
 use Rattle.dual_simplex.proofs.Meaning.{dot}
 use Rattle.dual_simplex.proofs.Pivots.{wide_at, hold_at}

@@ -5,9 +5,9 @@ use Rattle.std.proofs.lemmas.Int.{ints}
 use Rattle.dual_simplex.specs.declared.tableau.Candidate.{Candidate}
 use Rattle.dual_simplex.specs.declared.tableau.Choice.{Choice}
 use Rattle.dual_simplex.specs.Equation.{Equation, factor_at}
-use Rattle.dual_simplex.specs.Tableau.{Tableau, leaving, entering, earlier, leaving_from, beats, better, entering_from}
-use Rattle.dual_simplex.specs.Run.{no_line, line_at}
-use Rattle.dual_simplex.specs.Choices.{IsLeaving, LeavesRightly, IsEntering, EntersRightly}
+use Rattle.dual_simplex.specs.Tableau.{Tableau, no_line, line_at}
+use Rattle.dual_simplex.specs.Choices.{IsLeaving, NoLeaving, IsEntering, NoEntering}
+use Rattle.dual_simplex.specs.Scans.{leaving, entering, earlier, leaving_from, beats, better, entering_from, LeavesRightly, EntersRightly}
 use Rattle.dual_simplex.proofs.Ring.{sums}
 use Rattle.dual_simplex.proofs.Ratio.{AtMost, at_most_trans, ConstantsNotNegative, NotPositive, none_leaves, none_enters}
 
@@ -116,7 +116,7 @@ not_negative_at (x ∷ es) h (suc i) p = not_negative_at es h.1 i (omega arith)
 pub leaves_rightly : (t : Tableau) → LeavesRightly t
 leaves_rightly t = by (leaving t) refl
   where
-    by : (o : Option Candidate) → leaving t ≡ o → MatchOption o ((i : ℕ) → i < length t.lines → pos 0 ≤ℤ (line_at t i).constant) (IsLeaving t)
+    by : (o : Option Candidate) → leaving t ≡ o → MatchOption o (NoLeaving t) (λ c. IsLeaving t c.place)
     by None e = not_negative_at t.lines (none_leaves 0 t.lines e)
     by (Some c) e =
         let zero_plus : (j : ℕ) → 0 + j ≡ j = λ j. omega arith in
@@ -271,7 +271,7 @@ not_positive_at (f ∷ fs) h (suc j) = not_positive_at fs h.1 j
 pub enters_rightly : (t : Tableau) (line : Equation) → EntersRightly t line
 enters_rightly t line p q = by (entering t line) refl
   where
-    by : (o : Option Choice) → entering t line ≡ o → MatchOption o ((j : ℕ) → j < length t.columns → factor_at j line ≤ℤ pos 0) (IsEntering t line)
+    by : (o : Option Choice) → entering t line ≡ o → MatchOption o (NoEntering t line) (λ c. IsEntering t line c.place)
     by None e = λ j k. not_positive_at line.factors (none_enters 0 t.columns t.cost.factors line.factors p q e) j
     by (Some c) e =
         let zero_plus : (j : ℕ) → 0 + j ≡ j = λ j. omega arith in

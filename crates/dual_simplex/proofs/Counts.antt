@@ -4,10 +4,11 @@ use Rattle.std.specs.Prelude.{Option}
 use Rattle.dual_simplex.specs.declared.tableau.Candidate.{Candidate}
 use Rattle.dual_simplex.specs.declared.tableau.Choice.{Choice}
 use Rattle.dual_simplex.specs.Equation.{Equation}
-use Rattle.dual_simplex.specs.Tableau.{Tableau, all_fit, leaving, entering, pivoted}
+use Rattle.dual_simplex.specs.Tableau.{Tableau, all_fit, pivoted, line_at}
+use Rattle.dual_simplex.specs.Run.{Outcome, Least, Nothing, Wide, Spent, ended}
+use Rattle.dual_simplex.specs.Scans.{leaving, entering, after_entering, after_leaving, turn, run_from, outcome_of, count_entering, count_leaving, pivots_from, pivots_of}
 use Rattle.dual_simplex.specs.Systems.{Inequalities, first_tableau}
 use Rattle.dual_simplex.specs.Answer.{values_of, prices_of, unit_of, unit_fits, in_unit}
-use Rattle.dual_simplex.specs.Run.{Outcome, Least, Nothing, Wide, Spent, line_at, ended, after_entering, after_leaving, turn, run_from, outcome_of, count_entering, count_leaving, pivots_from, pivots_of}
 use Rattle.dual_simplex.specs.Promises.{SaysPivots}
 
 -- the same with any number of pivots allowed

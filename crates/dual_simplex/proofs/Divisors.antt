@@ -6,7 +6,8 @@ use native.Mathlib.Nat.{dvd-mod_iff, dvd-sub, dvd-mul_right_of_dvd, one-mul, one
 use Prim.Native.Nat.{◌∣◌}
 use Rattle.dual_simplex.specs.Equation.{mixed, mixed_all}
 use Rattle.std.proofs.Common.{Bool, true, false, cond, ◌&&◌, nat_eq, ◌⊎◌, inl, inr}
-use Rattle.dual_simplex.specs.Division.{divides_all, greatest_up_to, common_divisor, DividesAll, IsGreatestCommon, SharesWith}
+use Rattle.dual_simplex.specs.Division.{divides_all, greatest_up_to, common_divisor, DividesAll}
+use Rattle.dual_simplex.specs.Multiples.{IsGreatestCommon, SharesWith}
 
 pub greatest_from_zero : (a b : ℕ) → b ≡ 0 → IsGreatestCommon a b a
 greatest_from_zero a b e = record {

@@ -6,7 +6,7 @@ use Rattle.std.proofs.lemmas.List.{length-map, length-set, length-replicate, get
 use native.Mathlib.Nat.{mul-div_cancel'}
 use Prim.Native.Nat.{◌∣◌}
 use Rattle.dual_simplex.specs.declared.answer.Fraction.{Fraction}
-use Rattle.dual_simplex.specs.declared.system.Term.{Term}
+use Rattle.dual_simplex.specs.declared.system.Summand.{Summand}
 use Rattle.dual_simplex.specs.Tableau.{Tableau}
 use Rattle.dual_simplex.specs.Systems.{Inequality, Inequalities, IsProper}
 use Rattle.dual_simplex.specs.Feasible.{sum_at, total, factor_of, priced, worth, IsDualFeasible}
@@ -235,14 +235,14 @@ unit_term : (b : Bool) (f : ℤ) → f *ℤ pos (cond b 1 0) ≡ cond b f (pos 0
 unit_term true f = omega (arith, ints)
 unit_term false f = times_zero f
 
-unit_sum : (n j : ℕ) (ts : List Term) → j < n → sum_at (unit_point n j) ts ≡ factor_of j ts
+unit_sum : (n j : ℕ) (ts : List Summand) → j < n → sum_at (unit_point n j) ts ≡ factor_of j ts
 unit_sum n j [] p = refl
 unit_sum n j (t ∷ ts) p =
     let ih = unit_sum n j ts p in
     let a = ap (λ x. t.factor *ℤ pos x) (unit_get n j t.unknown p) ∙ unit_term (nat_eq t.unknown j) t.factor in
     omega (arith, sums)
 
-zero_sum : (n : ℕ) (ts : List Term) → sum_at (zero_point n) ts ≡ pos 0
+zero_sum : (n : ℕ) (ts : List Summand) → sum_at (zero_point n) ts ≡ pos 0
 zero_sum n [] = refl
 zero_sum n (t ∷ ts) =
     let ih = zero_sum n ts in

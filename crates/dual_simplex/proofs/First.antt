@@ -6,7 +6,7 @@ use Rattle.std.proofs.lemmas.List.FromFn.{length-range_with_len}
 use Rattle.std.specs.Prelude.{All, ◌≤ℤ◌}
 use Rattle.std.specs.List.{list_all}
 use Rattle.std.proofs.lemmas.Int.{ints}
-use Rattle.dual_simplex.specs.declared.system.Term.{Term}
+use Rattle.dual_simplex.specs.declared.system.Summand.{Summand}
 use Rattle.dual_simplex.specs.declared.system.Row.{Row}
 use Rattle.dual_simplex.specs.declared.line.Line.{Line}
 use Rattle.dual_simplex.specs.declared.tableau.Tableau.{Tableau}
@@ -15,7 +15,7 @@ use Rattle.dual_simplex.specs.Lines.{plain_line, plain_tableau, IsSoundLine}
 use Rattle.dual_simplex.specs.Systems.{Inequality, Inequalities, IsAscending, IsProper, IsProperRow, plain_row, spread, slack_line, slack_lines, first_tableau}
 use Rattle.dual_simplex.proofs.Loops.{drop_next}
 
-pub ascending_at : (n low : ℕ) (ts : List Term) (i : ℕ) (d : Term) → IsAscending n low ts → i < length ts
+pub ascending_at : (n low : ℕ) (ts : List Summand) (i : ℕ) (d : Summand) → IsAscending n low ts → i < length ts
     → ((get_or ts i d).unknown < n) × (unsigned_abs (get_or ts i d).factor ≤ 2 ^ 31)
 ascending_at n low [] i d h p = absurd (omega arith)
 ascending_at n low (t ∷ ts) zero d h p = (h.1, h.2)
@@ -31,7 +31,7 @@ zeros_small (suc n) = zeros_small n
 pub small_set : (xs : List ℤ) (i : ℕ) (x : ℤ) → is_small x ≡ true → list_all is_small xs ≡ true → list_all is_small (set xs i x) ≡ true
 small_set xs i x p h = and_set (list_all is_small) is_small refl (λ y ys. refl) xs i x p h
 
-pub spread_turn : (factors all : List ℤ) (ts : List Term) (i : ℕ) (d : Term) → i < length ts → spread factors (drop i ts) ≡ all
+pub spread_turn : (factors all : List ℤ) (ts : List Summand) (i : ℕ) (d : Summand) → i < length ts → spread factors (drop i ts) ≡ all
     → spread (set factors (get_or ts i d).unknown (get_or ts i d).factor) (drop (i + 1) ts) ≡ all
 spread_turn factors all ts i d p before = sym (ap (spread factors) (drop_next ts i d p)) ∙ before
 
@@ -81,7 +81,7 @@ few_columns system t h e =
     omega (arith, h.few)
 
 -- one more term put at its place
-pub term_turn : (n low : ℕ) (factors all : List ℤ) (ts : List Term) (i : ℕ) (t : Term) (x : ℤ) → i < length ts → t ≡ get_or ts i t → x ≡ t.factor
+pub term_turn : (n low : ℕ) (factors all : List ℤ) (ts : List Summand) (i : ℕ) (t : Summand) (x : ℤ) → i < length ts → t ≡ get_or ts i t → x ≡ t.factor
     → IsAscending n low ts → list_all is_small factors ≡ true → spread factors (drop i ts) ≡ all
     → (list_all is_small (set factors t.unknown x) ≡ true) × (spread (set factors t.unknown x) (drop (i + 1) ts) ≡ all)
 term_turn n low factors all ts i t x p is e h small before =

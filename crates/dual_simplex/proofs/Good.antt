@@ -7,11 +7,11 @@ use Rattle.std.proofs.lemmas.List.{length-map, length-set, length-replicate}
 use Rattle.std.proofs.lemmas.List.FromFn.{length-range_with_len}
 use Rattle.dual_simplex.specs.declared.tableau.Choice.{Choice}
 use Rattle.dual_simplex.specs.declared.tableau.Candidate.{Candidate}
-use Rattle.dual_simplex.specs.declared.system.Term.{Term}
+use Rattle.dual_simplex.specs.declared.system.Summand.{Summand}
 use Rattle.dual_simplex.specs.Equation.{factor_at, solved_for}
-use Rattle.dual_simplex.specs.Tableau.{Tableau, leaving, entering, pivoted}
+use Rattle.dual_simplex.specs.Tableau.{Tableau, pivoted, no_line, line_at}
+use Rattle.dual_simplex.specs.Scans.{leaving, entering}
 use Rattle.dual_simplex.specs.Systems.{Inequality, Inequalities, IsProper, spread, slack_lines, first_tableau}
-use Rattle.dual_simplex.specs.Run.{no_line, line_at}
 use Rattle.dual_simplex.proofs.Names.{one_if, one_if-same, one_if-other, uses, variables, places, only_line, places-pivoted, put_in-variable}
 use Rattle.dual_simplex.proofs.Pivots.{AllWide, Means, wide_at, pivot_means, pivot_meant}
 use Rattle.dual_simplex.proofs.Ratio.{NotNegative, NoneBelow, AllPositive, cost_not_negative, put_in_positive, put_in_width, positive_at, all_positive, all_wide, Found, entering_found, Gone, leaving_found}
@@ -30,7 +30,7 @@ pub record Good (system : Inequalities) (t : Tableau) : Type 0 where
   pub meant : (val : ℕ → ℤ) (unit : ℤ) → Means t val unit → Means (first_tableau system) val unit
 
 -- ---- the first tableau
-spread_width : (fs : List ℤ) (ts : List Term) → length (spread fs ts) ≡ length fs
+spread_width : (fs : List ℤ) (ts : List Summand) → length (spread fs ts) ≡ length fs
 spread_width fs [] = refl
 spread_width fs (t ∷ ts) = spread_width (set fs t.unknown t.factor) ts ∙ length-set fs t.unknown t.factor
 
@@ -113,7 +113,7 @@ good_first system h =
     }
 
 -- ---- a pivot
-not_negative_at : (xs : List ℤ) (i : ℕ) → NotNegative xs → pos 0 ≤ℤ get_or xs i (pos 0)
+pub not_negative_at : (xs : List ℤ) (i : ℕ) → NotNegative xs → pos 0 ≤ℤ get_or xs i (pos 0)
 not_negative_at [] i h = omega (arith, ints)
 not_negative_at (x ∷ xs) zero h = h.0
 not_negative_at (x ∷ xs) (suc i) h = not_negative_at xs i h.1

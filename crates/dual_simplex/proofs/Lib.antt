@@ -21,3 +21,4 @@ pub mod Weak
 pub mod Chosen
 pub mod LowestTerms
 pub mod Counts
+pub mod Relation

@@ -8,9 +8,8 @@ use native.Mathlib.Nat.{eq-one_of_dvd-one, mul-dvd-mul_left, mul-div_cancel', po
 use Prim.Native.Nat.{◌∣◌}
 use Rattle.dual_simplex.specs.Division.{divides_all, greatest_up_to, DividesAll}
 use Rattle.dual_simplex.specs.Equation.{Equation, factor_at, solved_for, without, combined, lowest, put_in}
-use Rattle.dual_simplex.specs.Tableau.{Tableau, renewed}
+use Rattle.dual_simplex.specs.Tableau.{Tableau, renewed, no_line}
 use Rattle.dual_simplex.specs.Systems.{Inequality, Inequalities, slack_line, slack_lines, first_tableau}
-use Rattle.dual_simplex.specs.Run.{no_line}
 use Rattle.dual_simplex.specs.Reduced.{IsReduced, AllReduced, StaysReduced}
 use Rattle.dual_simplex.proofs.Divisors.{to_test}
 use Rattle.dual_simplex.proofs.Sound.{greatest_divides, product_positive, divided_positive}

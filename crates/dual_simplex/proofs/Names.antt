@@ -1,8 +1,7 @@
 -- Each variable has one place: a line or a column.
 use Rattle.std.proofs.Common.{◌≡◌, ℕ, suc, zero, ◌+◌, ◌*◌, ◌<◌, ◌≤◌, List, [], ◌∷◌, map, length, set, get_or, Bool, true, false, cond, nat_eq, arith, ap, ◌∙◌, refl, subst, unsigned_abs, ◌⊎◌, inl, inr}
 use Rattle.dual_simplex.specs.Equation.{Equation, factor_at, solved_for, put_in, lowest, combined, without}
-use Rattle.dual_simplex.specs.Tableau.{Tableau, renewed, pivoted}
-use Rattle.dual_simplex.specs.Run.{no_line}
+use Rattle.dual_simplex.specs.Tableau.{Tableau, renewed, pivoted, no_line}
 use Rattle.std.proofs.lemmas.List.{get_or-map, length-map}
 
 -- 1 where two numbers are the same

@@ -3,8 +3,7 @@ use Rattle.std.proofs.Common.{◌≡◌, ℕ, suc, zero, ◌<◌, ℤ, pos, List
 use Rattle.std.specs.Prelude.{neg_ℤ, ◌<ℤ◌}
 use Rattle.std.proofs.lemmas.List.{length-map, length-set, get_or-map}
 use Rattle.dual_simplex.specs.Equation.{Equation, factor_at, solved_for, put_in}
-use Rattle.dual_simplex.specs.Tableau.{Tableau, renewed, pivoted}
-use Rattle.dual_simplex.specs.Run.{no_line}
+use Rattle.dual_simplex.specs.Tableau.{Tableau, renewed, pivoted, no_line}
 use Rattle.dual_simplex.proofs.Meaning.{Holds, solved_holds, solved_held, put_in_holds, put_in_held}
 use Rattle.dual_simplex.proofs.Names.{Only, put_in-variable}
 

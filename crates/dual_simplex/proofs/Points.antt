@@ -3,7 +3,7 @@ use Rattle.std.proofs.Common.{◌≡◌, ℕ, suc, zero, ◌+◌, ◌-◌, ◌<�
 use Rattle.std.specs.Prelude.{neg_ℤ, All}
 use Rattle.std.specs.List.{range_with_len}
 use Rattle.std.proofs.lemmas.List.{length-map, length-set, length-replicate, set-get_or, get_or-map}
-use Rattle.dual_simplex.specs.declared.system.Term.{Term}
+use Rattle.dual_simplex.specs.declared.system.Summand.{Summand}
 use Rattle.dual_simplex.specs.Systems.{Inequality, Inequalities, IsAscending, IsProper, IsProperRow, spread, slack_line, slack_lines, first_tableau}
 use Rattle.dual_simplex.specs.Feasible.{sum_at, total}
 use Rattle.dual_simplex.proofs.Ring.{sums, times_neg, one_times, zero_times}
@@ -76,9 +76,9 @@ get_set_other (f ∷ fs) zero (suc j) v p = refl
 get_set_other (f ∷ fs) (suc i) zero v p = absurd (omega arith)
 get_set_other (f ∷ fs) (suc i) (suc j) v p = get_set_other fs i j v (omega arith)
 
-pub spread_dot : (n low : ℕ) (fs xs : List ℤ) (ts : List Term) (at : ℕ → ℤ) → IsAscending n low ts → length fs ≡ n → length xs ≡ n
-    → ((j : ℕ) → low ≤ j → get_or fs j (pos 0) ≡ pos 0) → (sum : List Term → ℤ) → sum [] ≡ pos 0
-    → ((t : Term) (us : List Term) → t.unknown < n → sum (t ∷ us) ≡ (t.factor *ℤ get_or xs t.unknown (pos 0)) +ℤ sum us)
+pub spread_dot : (n low : ℕ) (fs xs : List ℤ) (ts : List Summand) (at : ℕ → ℤ) → IsAscending n low ts → length fs ≡ n → length xs ≡ n
+    → ((j : ℕ) → low ≤ j → get_or fs j (pos 0) ≡ pos 0) → (sum : List Summand → ℤ) → sum [] ≡ pos 0
+    → ((t : Summand) (us : List Summand) → t.unknown < n → sum (t ∷ us) ≡ (t.factor *ℤ get_or xs t.unknown (pos 0)) +ℤ sum us)
     → dot (spread fs ts) xs ≡ dot fs xs +ℤ sum ts
 spread_dot n low fs xs [] at h p q z sum s0 s1 = omega (arith, sums)
 spread_dot n low fs xs (t ∷ ts) at h p q z sum s0 s1 =

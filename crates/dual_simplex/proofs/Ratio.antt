@@ -7,8 +7,8 @@ use Rattle.dual_simplex.specs.declared.tableau.Choice.{Choice}
 use Rattle.dual_simplex.specs.declared.tableau.Candidate.{Candidate}
 use Rattle.dual_simplex.specs.Equation.{Equation, factor_at, solved_for, mixed_all, without, combined, lowest, put_in}
 use Rattle.dual_simplex.specs.Division.{common_divisor}
-use Rattle.dual_simplex.specs.Tableau.{beats, better, entering_from, earlier, leaving_from, renewed}
-use Rattle.dual_simplex.specs.Run.{no_line}
+use Rattle.dual_simplex.specs.Tableau.{renewed, no_line}
+use Rattle.dual_simplex.specs.Scans.{beats, better, entering_from, earlier, leaving_from}
 use Rattle.dual_simplex.proofs.Ring.{sums, times_comm, times_neg, times_zero, swap_times, not_negative_times, not_positive_times, times_at_most, cancel_at_most}
 use Rattle.dual_simplex.proofs.Sound.{greatest_divides, product_positive, divided_positive, length-mixed_all}
 use Rattle.dual_simplex.proofs.Pivots.{AllWide}

@@ -3,8 +3,9 @@ use Rattle.std.proofs.Common.{◌≡◌, ℕ, suc, zero, ◌+◌, arith, ap, ◌
 use Rattle.std.specs.Prelude.{Result, IfOk, OnOk, OnErr, is_err, Ok, Err}
 use Rattle.dual_simplex.specs.declared.tableau.Candidate.{Candidate}
 use Rattle.dual_simplex.specs.declared.tableau.Choice.{Choice}
-use Rattle.dual_simplex.specs.Tableau.{Tableau, all_fit, leaving, entering, pivoted}
-use Rattle.dual_simplex.specs.Run.{Outcome, Nothing, Wide, Spent, line_at, ended, after_entering, after_leaving, turn, run_from, outcome_of, count_entering, count_leaving, pivots_from, pivots_of}
+use Rattle.dual_simplex.specs.Tableau.{Tableau, all_fit, pivoted, line_at}
+use Rattle.dual_simplex.specs.Run.{Outcome, Nothing, Wide, Spent, ended}
+use Rattle.dual_simplex.specs.Scans.{leaving, entering, after_entering, after_leaving, turn, run_from, outcome_of, count_entering, count_leaving, pivots_from, pivots_of}
 use Rattle.dual_simplex.specs.Systems.{Inequalities, first_tableau}
 
 -- how a run goes on after its next pivot

@@ -8,7 +8,7 @@ use Rattle.std.proofs.lemmas.List.Elements.{All-push}
 use Rattle.dual_simplex.specs.declared.tableau.Choice.{Choice}
 use Rattle.dual_simplex.specs.declared.answer.Fraction.{Fraction}
 use Rattle.dual_simplex.specs.declared.line.Line.{Line}
-use Rattle.dual_simplex.specs.Tableau.{beats, better, entering_from}
+use Rattle.dual_simplex.specs.Scans.{beats, better, entering_from}
 use Rattle.dual_simplex.specs.Lines.{plain_line, IsSoundLine}
 use Rattle.dual_simplex.specs.Answer.{price_of, value_of}
 use Rattle.dual_simplex.proofs.Loops.{drop_next}

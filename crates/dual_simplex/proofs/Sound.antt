@@ -13,8 +13,7 @@ use Rattle.std.proofs.lemmas.List.{get_or-map}
 use Rattle.std.specs.Prelude.{All}
 use Rattle.dual_simplex.specs.declared.line.Line.{Line}
 use Rattle.dual_simplex.specs.declared.tableau.Tableau.{Tableau}
-use Rattle.dual_simplex.specs.Tableau.{all_fit}
-use Rattle.dual_simplex.specs.Run.{no_line}
+use Rattle.dual_simplex.specs.Tableau.{all_fit, no_line}
 use Rattle.dual_simplex.specs.Lines.{plain_line, plain_tableau, IsSoundLine, IsSoundTableau}
 use Rattle.dual_simplex.proofs.Divisors.{one_divides_all, from_test}
 

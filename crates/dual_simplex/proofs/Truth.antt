@@ -3,11 +3,12 @@ use Rattle.std.proofs.Common.{◌≡◌, ℕ, suc, zero, pos, ◌*ℤ◌, Bool, 
 use Rattle.std.specs.Prelude.{Option}
 use Rattle.dual_simplex.specs.declared.tableau.Candidate.{Candidate}
 use Rattle.dual_simplex.specs.declared.tableau.Choice.{Choice}
-use Rattle.dual_simplex.specs.Tableau.{Tableau, all_fit, leaving, entering, pivoted}
+use Rattle.dual_simplex.specs.Tableau.{Tableau, all_fit, pivoted, line_at}
+use Rattle.dual_simplex.specs.Run.{Outcome, Least, Wide, Spent}
+use Rattle.dual_simplex.specs.Scans.{leaving, entering, after_entering, after_leaving, turn, run_from, outcome_of}
 use Rattle.dual_simplex.specs.Systems.{Inequalities, IsProper, first_tableau}
 use Rattle.dual_simplex.specs.Feasible.{cost_at, worth}
 use Rattle.dual_simplex.specs.Answer.{values_of, prices_of, unit_of, unit_fits, in_unit}
-use Rattle.dual_simplex.specs.Run.{Outcome, Least, Wide, Spent, line_at, after_entering, after_leaving, turn, run_from, outcome_of}
 use Rattle.dual_simplex.specs.Promises.{SaysLeast, SaysPrices, SaysNothing}
 use Rattle.dual_simplex.proofs.Ring.{times_comm, times_assoc, swap_times, cancel}
 use Rattle.dual_simplex.proofs.Ratio.{NotNegative}

@@ -8,8 +8,8 @@ use Rattle.std.specs.Prelude.{All, ⊤}
 use Rattle.std.proofs.Math.Seq.{take-suc}
 use Rattle.std.proofs.lemmas.List.{take_all}
 use Rattle.dual_simplex.specs.declared.answer.Fraction.{Fraction}
-use Rattle.dual_simplex.specs.Answer.{makes_whole, least_from, product_of, unit_of, IsMultiple, NoMultiple}
-use Rattle.dual_simplex.specs.Division.{IsGreatestCommon}
+use Rattle.dual_simplex.specs.Answer.{makes_whole, least_from, product_of, unit_of}
+use Rattle.dual_simplex.specs.Multiples.{IsMultiple, NoMultiple, IsGreatestCommon}
 
 -- a unit makes a fraction whole exactly where the denominator in lowest terms divides it
 pub whole_to_denominator : (above below g v : ℕ) → 0 < g → IsGreatestCommon above below g → below ∣ (v * above) → (below / g) ∣ v

@@ -2,7 +2,7 @@
 use Rattle.std.proofs.Common.{◌≡◌, ℕ, suc, zero, ◌+◌, ◌<◌, ◌≤◌, ℤ, pos, ◌+ℤ◌, ◌*ℤ◌, List, [], ◌∷◌, length, get_or, cond, nat_eq, arith, ap, sym, ◌∙◌, refl, ◌⊎◌, inl, inr}
 use Rattle.std.specs.Prelude.{◌≤ℤ◌, All}
 use Rattle.std.proofs.lemmas.Int.{ints}
-use Rattle.dual_simplex.specs.declared.system.Term.{Term}
+use Rattle.dual_simplex.specs.declared.system.Summand.{Summand}
 use Rattle.dual_simplex.specs.Systems.{Inequality, Inequalities}
 use Rattle.dual_simplex.specs.Feasible.{sum_at, total, factor_of, priced, worth, IsMet, IsWeaklyDual}
 use Rattle.dual_simplex.proofs.Ring.{sums, distrib_right, times_comm, times_assoc, swap_times, times_zero, zero_times, times_at_most}
@@ -45,7 +45,7 @@ past (x ∷ xs) zero p = absurd (omega arith)
 past (x ∷ xs) (suc i) p = past xs i (omega arith)
 
 -- one term, by its unknown
-term_by : (point : List ℕ) (t : Term) → (t.unknown < length point) ⊎ (length point ≤ t.unknown)
+term_by : (point : List ℕ) (t : Summand) → (t.unknown < length point) ⊎ (length point ≤ t.unknown)
     → hit (at_point point) t.unknown (t.factor *ℤ at_point point t.unknown) 0 (length point) ≡ t.factor *ℤ at_point point t.unknown
 term_by point t (inl p) = hit_in (at_point point) t.unknown (t.factor *ℤ at_point point t.unknown) 0 (length point) (omega arith) (omega arith)
 term_by point t (inr p) =
@@ -53,7 +53,7 @@ term_by point t (inr p) =
     ∙ sym (ap (λ n. t.factor *ℤ pos n) (past point t.unknown p) ∙ times_zero t.factor)
 
 -- a row's sum, unknown by unknown
-row_over : (point : List ℕ) (ts : List Term) → sum_at point ts ≡ over (at_point point) (λ j. factor_of j ts) 0 (length point)
+row_over : (point : List ℕ) (ts : List Summand) → sum_at point ts ≡ over (at_point point) (λ j. factor_of j ts) 0 (length point)
 row_over point [] = sym (over_nothing (at_point point) 0 (length point))
 row_over point (t ∷ ts) =
     let val = at_point point in

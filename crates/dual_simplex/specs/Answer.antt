@@ -1,7 +1,6 @@
--- The answer at the end of a run: values and prices as whole numbers over one unit each.
-use Rattle.std.specs.Prelude.{ℕ, zero, suc, ◌*◌, ◌/◌, ◌%◌, ◌^◌, ◌<◌, ℤ, List, [], ◌∷◌, map, length, Bool, true, ◌&&◌, nat_le, nat_eq, ◌==◌, if◌then◌else◌, unsigned_abs}
+-- Cited by contracts. The answer at the end of a run: values and prices as whole numbers over one unit each.
+use Rattle.std.specs.Prelude.{ℕ, zero, suc, ◌*◌, ◌/◌, ◌%◌, ◌^◌, ℤ, List, [], ◌∷◌, map, length, Bool, true, ◌&&◌, nat_le, nat_eq, ◌==◌, if◌then◌else◌, unsigned_abs}
 use Rattle.std.specs.List.{list_all, range_with_len}
-use Prim.Native.Nat.{◌∣◌}
 use Rattle.dual_simplex.specs.Equation.{Equation}
 use Rattle.dual_simplex.specs.Tableau.{Tableau}
 use Rattle.dual_simplex.specs.declared.answer.Fraction.{Fraction}
@@ -57,13 +56,3 @@ numbers_fit unit fs = list_all (λ f. nat_le (in_unit unit f) (2 ^ 62)) fs
 -- the unit is too
 abbrev pub unit_fits : ℕ → List Fraction → Bool
 unit_fits unit fs = nat_le unit (2 ^ 62) && numbers_fit unit fs
-
--- `next` divides exactly the multiples of `unit` that make a fraction whole
-pub record IsMultiple (unit : ℕ) (f : Fraction) (next : ℕ) : Type 0 where
-  pub positive : 0 < next
-  pub divides : (v : ℕ) → next ∣ v → (unit ∣ v) × (f.below ∣ (v * f.above))
-  pub least : (v : ℕ) → unit ∣ v → f.below ∣ (v * f.above) → next ∣ v
-
--- each multiple of `unit` that makes a fraction whole is above 2 to the 62
-pub record NoMultiple (unit : ℕ) (f : Fraction) : Type 0 where
-  pub large : (v : ℕ) → 0 < v → unit ∣ v → f.below ∣ (v * f.above) → 2 ^ 62 < v

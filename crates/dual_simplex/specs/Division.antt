@@ -1,5 +1,5 @@
--- Greatest common divisors, after Euclid, Elements VII, 2.
-use Rattle.std.specs.Prelude.{ℕ, zero, suc, ℤ, List, [], ◌∷◌, Bool, true, ◌&&◌, nat_eq, ◌%◌, if◌then◌else◌, unsigned_abs, ⊤, ◌*◌}
+-- Cited by contracts. Greatest common divisors, after Euclid, Elements VII, 2.
+use Rattle.std.specs.Prelude.{ℕ, zero, suc, ℤ, List, [], ◌∷◌, Bool, true, ◌&&◌, nat_eq, ◌%◌, if◌then◌else◌, unsigned_abs, ⊤}
 use Prim.Native.Nat.{◌∣◌}
 
 -- `h` divides each number of a list
@@ -20,15 +20,3 @@ common_divisor first rest = greatest_up_to (unsigned_abs first) (first ∷ rest)
 abbrev pub DividesAll : ℕ → List ℤ → Type 0
 DividesAll h [] = ⊤
 DividesAll h (x ∷ xs) = (h ∣ unsigned_abs x) × DividesAll h xs
-
--- `g` divides `a` and `b`, and whatever divides a multiple of both, by the same number, divides that multiple of `g`.
--- So each common divisor of `a` and `b` divides `g`.
-pub record IsGreatestCommon (a b g : ℕ) : Type 0 where
-  pub left : g ∣ a
-  pub right : g ∣ b
-  pub greatest : (h v : ℕ) → h ∣ (v * a) → h ∣ (v * b) → h ∣ (v * g)
-
--- `g` is the greatest common divisor of `start` and of all numbers of a list
-pub record SharesWith (start : ℕ) (xs : List ℤ) (g : ℕ) : Type 0 where
-  pub divides : (h : ℕ) → h ∣ g → (h ∣ start) × DividesAll h xs
-  pub greatest : (h : ℕ) → h ∣ start → DividesAll h xs → h ∣ g

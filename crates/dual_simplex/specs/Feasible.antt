@@ -1,10 +1,10 @@
--- What solving a system of inequalities means. A rational point is given by natural numbers over one positive unit.
+-- Cited by contracts. What solving a system of inequalities means. A rational point is given by natural numbers over one positive unit.
 use Rattle.std.specs.Prelude.{◌≡◌, ℕ, ◌<◌, ℤ, pos, ◌+ℤ◌, ◌*ℤ◌, ◌≤ℤ◌, List, [], ◌∷◌, length, All, slice_index, slice_index_or, ◌==◌, if◌then◌else◌}
-use Rattle.dual_simplex.specs.declared.system.Term.{Term}
+use Rattle.dual_simplex.specs.declared.system.Summand.{Summand}
 use Rattle.dual_simplex.specs.Systems.{Inequality, Inequalities}
 
 -- the sum of a row's terms at a point
-abbrev pub sum_at : List ℕ → List Term → ℤ
+abbrev pub sum_at : List ℕ → List Summand → ℤ
 sum_at point [] = pos 0
 sum_at point (t ∷ ts) = (t.factor *ℤ pos (slice_index point t.unknown)) +ℤ sum_at point ts
 
@@ -34,7 +34,7 @@ pub record IsLeast (system : Inequalities) (unit : ℕ) (point : List ℕ) : Typ
       → (cost_at system point *ℤ pos other_unit) ≤ℤ (cost_at system other *ℤ pos unit)
 
 -- the factors of an unknown in a row, added up
-abbrev pub factor_of : ℕ → List Term → ℤ
+abbrev pub factor_of : ℕ → List Summand → ℤ
 factor_of unknown [] = pos 0
 factor_of unknown (t ∷ ts) = (if t.unknown == unknown then t.factor else pos 0) +ℤ factor_of unknown ts
 

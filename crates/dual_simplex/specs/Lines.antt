@@ -1,4 +1,4 @@
--- What the code's lines and tableau stand for, and what holds of them.
+-- Private: words for functions of this crate. What the code's lines and tableau stand for, and what holds of them.
 use Rattle.std.specs.Prelude.{◌≡◌, ℕ, pos, ◌<ℤ◌, map, length, true, All}
 use Rattle.dual_simplex.specs.Equation.{Equation, fits}
 use Rattle.dual_simplex.specs.Tableau.{Tableau as PlainTableau}

@@ -1,4 +1,4 @@
--- What the outcome of a run says of its system.
+-- Cited by contracts. What the outcome of a run says of its system.
 use Rattle.std.specs.Prelude.{◌≡◌, ℕ, pos, ◌*ℤ◌, List, ⊤, ◌≤◌}
 use Rattle.dual_simplex.specs.Systems.{Inequalities}
 use Rattle.dual_simplex.specs.Feasible.{IsFeasible, IsLeast, IsDualFeasible, cost_at, worth}

@@ -1,9 +1,8 @@
--- Equations in lowest terms.
+-- Cited by contracts. Equations in lowest terms.
 use Rattle.std.specs.Prelude.{◌≡◌, ℕ, pos, ◌<ℤ◌, ◌<◌, ◌∷◌, length}
 use Rattle.dual_simplex.specs.Division.{DividesAll}
 use Rattle.dual_simplex.specs.Equation.{Equation, factor_at}
-use Rattle.dual_simplex.specs.Tableau.{Tableau, pivoted}
-use Rattle.dual_simplex.specs.Run.{line_at}
+use Rattle.dual_simplex.specs.Tableau.{Tableau, pivoted, line_at}
 
 -- the divisor is positive, and no number but 1 divides all numbers of the equation
 pub record IsReduced (e : Equation) : Type 0 where

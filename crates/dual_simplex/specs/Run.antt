@@ -1,11 +1,9 @@
--- The run of a system: the dual simplex method (Lemke 1954) by least indices (Bland 1977), for at most 4,096 pivots.
-use Rattle.std.specs.Prelude.{ℕ, zero, suc, ◌&&◌, List, map, slice_index_or, if◌then◌else◌, Option, Some, None, pos, []}
-use Rattle.dual_simplex.specs.Equation.{Equation}
-use Rattle.dual_simplex.specs.Tableau.{Tableau, all_fit, leaving, entering, pivoted}
+-- Cited by contracts. The run of a system: the dual simplex method (Lemke 1954) by least indices (Bland 1977), for at most 4,096 pivots.
+use Rattle.std.specs.Prelude.{◌≡◌, ℕ, zero, suc, List, ◌&&◌, true, false, map, if◌then◌else◌}
+use Rattle.dual_simplex.specs.Tableau.{Tableau, all_fit, line_at, pivoted}
+use Rattle.dual_simplex.specs.Choices.{IsLeaving, NoLeaving, IsEntering, NoEntering}
 use Rattle.dual_simplex.specs.Answer.{values_of, prices_of, unit_of, unit_fits, in_unit}
 use Rattle.dual_simplex.specs.Systems.{Inequalities, first_tableau}
-use Rattle.dual_simplex.specs.declared.tableau.Candidate.{Candidate}
-use Rattle.dual_simplex.specs.declared.tableau.Choice.{Choice}
 use Rattle.dual_simplex.specs.declared.system.Solved.{Solved}
 use Rattle.dual_simplex.specs.declared.system.Solved.TheVariants as code
 
@@ -17,14 +15,6 @@ pub data Outcome : Type 0 where
   Wide : ℕ → Outcome
   Spent : Outcome
 
--- no line at a place that isn't there
-abbrev pub no_line : Equation
-no_line = record { variable = 0; divisor = pos 1; constant = pos 0; factors = [] }
-
--- the line at a place
-abbrev pub line_at : Tableau → ℕ → Equation
-line_at t place = slice_index_or t.lines place no_line
-
 -- a run ends after `pivot` pivots with a solution, unless a number of the answer is above 2 to the 62
 abbrev pub ended : ℕ → Tableau → Outcome
 ended pivot t =
@@ -32,47 +22,49 @@ ended pivot t =
     then Least (unit_of (values_of t)) (map (in_unit (unit_of (values_of t))) (values_of t)) (unit_of (prices_of t)) (map (in_unit (unit_of (prices_of t))) (prices_of t))
     else Wide pivot
 
--- a line leaves: no column may enter, and there is no solution, or one does, and `next` goes on with the pivoted tableau
-abbrev pub after_entering : Tableau → Equation → (Tableau → Outcome) → Option Choice → Outcome
-after_entering t line next None = Nothing line.variable
-after_entering t line next (Some choice) = next (pivoted t line choice.place)
-
--- no line leaves, and the run ends, or one does
-abbrev pub after_leaving : ℕ → Tableau → (Tableau → Outcome) → Option Candidate → Outcome
-after_leaving pivot t next None = ended pivot t
-after_leaving pivot t next (Some line) = after_entering t (line_at t line.place) next (entering t (line_at t line.place))
-
--- what is tried after `pivot` pivots, in order
-abbrev pub turn : ℕ → Tableau → (Tableau → Outcome) → Outcome
-turn pivot t next = if all_fit t then after_leaving pivot t next (leaving t) else Wide pivot
+-- What a turn makes of a tableau after `pivot` pivots, in this order: how many pivots the whole run makes, and its outcome.
+-- `next` says so of the pivoted tableau.
+pub data Turn (pivot : ℕ) (t : Tableau) (next : Tableau → ℕ → Outcome → Type 0) (pivots : ℕ) (o : Outcome) : Type 0 where
+  too_wide : all_fit t ≡ false → pivots ≡ pivot → o ≡ Wide pivot → Turn pivot t next pivots o
+  ends : all_fit t ≡ true → NoLeaving t → pivots ≡ pivot → o ≡ ended pivot t → Turn pivot t next pivots o
+  unmet : (i : ℕ) → all_fit t ≡ true → IsLeaving t i → NoEntering t (line_at t i) → pivots ≡ pivot → o ≡ Nothing (line_at t i).variable → Turn pivot t next pivots o
+  goes : (i j : ℕ) → all_fit t ≡ true → IsLeaving t i → IsEntering t (line_at t i) j → next (pivoted t (line_at t i) j) pivots o → Turn pivot t next pivots o
 
 -- the run from a tableau after `pivot` pivots, with `left` pivots to go
-unfoldable pub run_from : ℕ → ℕ → Tableau → Outcome
-run_from zero pivot t = turn pivot t (λ _. Spent)
-run_from (suc left) pivot t = turn pivot t (run_from left (suc pivot))
+unfoldable pub IsRunFrom : ℕ → ℕ → Tableau → ℕ → Outcome → Type 0
+IsRunFrom zero pivot t pivots o = Turn pivot t (λ _ made e. (made ≡ pivot) × (e ≡ Spent)) pivots o
+IsRunFrom (suc left) pivot t pivots o = Turn pivot t (IsRunFrom left (suc pivot)) pivots o
 
--- the outcome of the run of a system: a function, so there is exactly one
-abbrev pub outcome_of : Inequalities → Outcome
-outcome_of system = run_from 4096 0 (first_tableau system)
+-- the run of a system makes so many pivots, and ends so
+abbrev pub IsRun : Inequalities → ℕ → Outcome → Type 0
+IsRun system pivots o = IsRunFrom 4096 0 (first_tableau system) pivots o
 
--- How many pivots a run makes: none where it ends before its next one, by the same tests in the same order, and
--- else that one and those from the pivoted tableau.
-abbrev pub count_entering : Tableau → Equation → (Tableau → ℕ) → Option Choice → ℕ
-count_entering t line count None = 0
-count_entering t line count (Some choice) = suc (count (pivoted t line choice.place))
+-- the run of a system ends so
+pub record IsOutcome (system : Inequalities) (o : Outcome) : Type 0 where
+  pub pivots : ℕ
+  pub run : IsRun system pivots o
 
-abbrev pub count_leaving : Tableau → (Tableau → ℕ) → Option Candidate → ℕ
-count_leaving t count None = 0
-count_leaving t count (Some line) = count_entering t (line_at t line.place) count (entering t (line_at t line.place))
+-- a system has just one run
+pub record HasOneRun (system : Inequalities) : Type 0 where
+  pub pivots : ℕ
+  pub outcome : Outcome
+  pub run : IsRun system pivots outcome
+  pub only : (n : ℕ) (o : Outcome) → IsRun system n o → (n ≡ pivots) × (o ≡ outcome)
 
--- the same from a tableau, with `left` pivots to go
-unfoldable pub pivots_from : ℕ → Tableau → ℕ
-pivots_from zero t = 0
-pivots_from (suc left) t = if all_fit t then count_leaving t (pivots_from left) (leaving t) else 0
+-- a pivot of the method leads from a tableau, of which `Before` holds, to another
+pub record IsPivot (Before : Tableau → Type 0) (t : Tableau) : Type 0 where
+  pub before : Tableau
+  pub holds : Before before
+  pub line : ℕ
+  pub column : ℕ
+  pub leaving : IsLeaving before line
+  pub entering : IsEntering before (line_at before line) column
+  pub pivots : t ≡ pivoted before (line_at before line) column
 
--- the pivots of the run of a system
-abbrev pub pivots_of : Inequalities → ℕ
-pivots_of system = pivots_from 4096 (first_tableau system)
+-- a tableau of the run of a system, after so many pivots
+abbrev pub IsTableauOf : Inequalities → ℕ → Tableau → Type 0
+IsTableauOf system zero t = t ≡ first_tableau system
+IsTableauOf system (suc n) t = IsPivot (IsTableauOf system n) t
 
 -- what the code's answer stands for
 abbrev pub plain_answer : Solved → Outcome

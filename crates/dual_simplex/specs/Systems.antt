@@ -1,15 +1,15 @@
--- Systems of linear inequalities as plain data, and their first tableau.
+-- Cited by contracts. Systems of linear inequalities as plain data, and their first tableau.
 use Rattle.std.specs.Prelude.{◌≡◌, ℕ, suc, ◌+◌, ◌<◌, ◌≤◌, ◌^◌, ℤ, pos, neg_ℤ, ◌≤ℤ◌, List, [], ◌∷◌, map, length, replicate, slice_set, All, unsigned_abs, ⊤}
 use Rattle.std.specs.List.{range_with_len}
 use Rattle.dual_simplex.specs.Equation.{Equation}
 use Rattle.dual_simplex.specs.Tableau.{Tableau}
-use Rattle.dual_simplex.specs.declared.system.Term.{Term}
+use Rattle.dual_simplex.specs.declared.system.Summand.{Summand}
 use Rattle.dual_simplex.specs.declared.system.Row.{Row}
 use Rattle.dual_simplex.specs.declared.system.System.{System}
 
 -- the sum of the terms, each a factor times an unknown, is at least `least`
 pub record Inequality : Type 0 where
-  pub terms : List Term
+  pub terms : List Summand
   pub least : ℤ
 
 -- unknowns that are at least 0, a cost for each, and rows that a solution meets
@@ -26,7 +26,7 @@ abbrev pub plain_system : System → Inequalities
 plain_system system = record { unknowns = system.unknowns; costs = system.costs.items; rows = map plain_row system.rows.items }
 
 -- the unknowns of the terms ascend, from `low` on, and are below `unknowns`, and no factor is above 2 to the 31 in size
-abbrev pub IsAscending : ℕ → ℕ → List Term → Type 0
+abbrev pub IsAscending : ℕ → ℕ → List Summand → Type 0
 IsAscending unknowns low [] = ⊤
 IsAscending unknowns low (t ∷ ts) = (low ≤ t.unknown) × (t.unknown < unknowns) × (unsigned_abs t.factor ≤ 2 ^ 31) × IsAscending unknowns (suc t.unknown) ts
 
@@ -43,7 +43,7 @@ pub record IsProper (system : Inequalities) : Type 0 where
   pub few : system.unknowns + length system.rows < 2 ^ 32
 
 -- each term's factor put at its unknown's place
-abbrev pub spread : List ℤ → List Term → List ℤ
+abbrev pub spread : List ℤ → List Summand → List ℤ
 spread factors [] = factors
 spread factors (t ∷ ts) = spread (slice_set factors t.unknown t.factor) ts
 

@@ -3,7 +3,8 @@
 ghost use Rattle.std.specs.Prelude.{◌≡◌, ℕ, ◌<◌, ◌≤◌, ◌^◌, ◌+◌, ◌*◌, ◌/◌, true, false, pos, length, map, IfOk, IfSome, MatchOption, unsigned_abs, slice_index_or, All, vec_len};
 ghost use Rattle.std.specs.List.{range_with_len};
 ghost use Rattle.dual_simplex.specs.Lines.{plain_line, plain_tableau, IsSoundLine, IsSoundTableau};
-ghost use Rattle.dual_simplex.specs.Answer.{value_of, price_of, values_of, prices_of, unit_of, unit_fits, numbers_fit, in_unit, IsMultiple, NoMultiple};
+ghost use Rattle.dual_simplex.specs.Answer.{value_of, price_of, values_of, prices_of, unit_of, unit_fits, numbers_fit, in_unit};
+ghost use Rattle.dual_simplex.specs.Multiples.{IsMultiple, NoMultiple};
 ghost use Rattle.dual_simplex.specs.Run.{ended, plain_answer};
 
 use crate::arithmetic::{LIMIT, greatest_common};

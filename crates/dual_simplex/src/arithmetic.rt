@@ -3,7 +3,7 @@
 ghost use Rattle.std.specs.Prelude.{◌≡◌, ◌<◌, ◌≤◌, ◌^◌, true, false, IsTrue, pos, unsigned_abs, int_div, length, map, MatchResult, OnOk, ◌<ℤ◌, ◌*ℤ◌};
 ghost use Rattle.std.specs.List.{list_all};
 ghost use Rattle.dual_simplex.specs.Equation.{is_small, mixed, mixed_all};
-ghost use Rattle.dual_simplex.specs.Division.{IsGreatestCommon, SharesWith};
+ghost use Rattle.dual_simplex.specs.Multiples.{IsGreatestCommon, SharesWith};
 
 /// The largest number that a tableau or an answer may hold, in size.
 pub const LIMIT: u128 = 1 << 62;

@@ -10,5 +10,5 @@ mod solver;
 mod system;
 mod tableau;
 
-pub use solver::{lowest_terms, pivot_choices, solve, solve_counted, weak_duality};
-pub use system::{Row, Run, Solved, System, Term};
+pub use solver::{lowest_terms, one_run, solve, solve_counted, tableaus_of_runs, weak_duality};
+pub use system::{Row, Run, Solved, Summand, System};

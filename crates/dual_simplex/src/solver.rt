@@ -5,11 +5,12 @@ ghost use Rattle.std.specs.List.{range_with_len};
 ghost use Rattle.dual_simplex.specs.Lines.{plain_line, plain_tableau, IsSoundLine, IsSoundTableau};
 ghost use Rattle.dual_simplex.specs.Feasible.{IsWeaklyDual};
 ghost use Rattle.dual_simplex.specs.Systems.{Inequalities, plain_row, plain_system, IsProper, IsProperRow, slack_line, slack_lines, first_tableau};
-ghost use Rattle.dual_simplex.specs.Choices.{LeavesRightly, EntersRightly};
-ghost use Rattle.dual_simplex.specs.Equation.{Equation};
+ghost use Rattle.dual_simplex.specs.Choices.{PicksLine, PicksColumn};
 ghost use Rattle.dual_simplex.specs.Reduced.{AllReduced, StaysReduced};
-ghost use Rattle.dual_simplex.specs.Tableau.{Tableau as PlainTableau};
-ghost use Rattle.dual_simplex.specs.Run.{plain_answer, run_from, outcome_of, pivots_from, pivots_of};
+ghost use Rattle.dual_simplex.specs.Shape.{IsWellShaped};
+ghost use Rattle.dual_simplex.specs.Tableau.{Tableau as PlainTableau, line_at};
+ghost use Rattle.dual_simplex.specs.Run.{plain_answer, IsRun, IsOutcome, HasOneRun, IsTableauOf};
+ghost use Rattle.dual_simplex.specs.Scans.{run_from, outcome_of, pivots_from, pivots_of};
 ghost use Rattle.dual_simplex.specs.Promises.{SaysLeast, SaysPrices, SaysNothing, SaysPivots};
 
 use crate::answer::answer;
@@ -130,21 +131,31 @@ pub fn weak_duality()
     ensures { (system : Inequalities) → IsWeaklyDual system }
 {}
 
-/// What the method picks, as a law of every tableau: the leaving line and the entering column, with their ties.
-#[tactic(auto, using(crate::proofs::Chosen::leaves_rightly, crate::proofs::Chosen::enters_rightly))]
-pub fn pivot_choices()
-    ensures leaves { (tableau : PlainTableau) → LeavesRightly tableau }
-    ensures enters { (tableau : PlainTableau) (line : Equation) → EntersRightly tableau line }
-{}
-
 /// Every line of every tableau is in lowest terms with a positive divisor: at the start, and after each pivot.
 pub fn lowest_terms()
     ensures first { (system : Inequalities) → AllReduced (first_tableau system) }
     ensures pivots { (tableau : PlainTableau) → StaysReduced tableau }
 {}
 
-/// Solves a system as [`solve`] does, and counts the pivots.
-pub fn solve_counted(alloc: Global, system: &System) -> Result<Run, AllocError>
+/// Every system that is proper has just one run.
+#[tactic(auto, using(crate::proofs::Relation::one_run))]
+pub fn one_run()
+    ensures { (system : Inequalities) → IsProper system → HasOneRun system }
+{}
+
+/// Every tableau of a run is well shaped, its equations are in lowest terms with positive divisors, and at most one variable can
+/// leave the basis, and for it at most one enter.
+#[tactic(auto, using(crate::proofs::Relation::tableau_shaped, crate::proofs::Relation::tableau_reduced, crate::proofs::Relation::tableau_line, crate::proofs::Relation::tableau_column))]
+pub fn tableaus_of_runs()
+    ensures shape { (system : Inequalities) (pivots : ℕ) (t : PlainTableau) → IsProper system → IsTableauOf system pivots t → IsWellShaped system t }
+    ensures lowest { (system : Inequalities) (pivots : ℕ) (t : PlainTableau) → IsProper system → IsTableauOf system pivots t → AllReduced t }
+    ensures leaves { (system : Inequalities) (pivots : ℕ) (t : PlainTableau) → IsProper system → IsTableauOf system pivots t → PicksLine t }
+    ensures enters { (system : Inequalities) (pivots : ℕ) (t : PlainTableau) (i : ℕ) → IsProper system → IsTableauOf system pivots t → i < length t.lines
+        → PicksColumn t (line_at t i) }
+{}
+
+/// The run of a system, by the scans.
+fn run_system(alloc: Global, system: &System) -> Result<Run, AllocError>
     requires { IsProper (plain_system system.now) }
     ensures exact { IfOk result (λ r. plain_answer r.solved ≡ outcome_of (plain_system system.now)) }
     ensures pivots { IfOk result (λ r. r.pivots ≡ pivots_of (plain_system system.now)) }
@@ -154,16 +165,24 @@ pub fn solve_counted(alloc: Global, system: &System) -> Result<Run, AllocError>
     run(alloc, tableau)
 }
 
+/// Solves a system as [`solve`] does, and counts the pivots.
+#[tactic(auto, using(crate::proofs::Relation::is_run))]
+pub fn solve_counted(alloc: Global, system: &System) -> Result<Run, AllocError>
+    requires { IsProper (plain_system system.now) }
+    ensures exact { IfOk result (λ r. IsRun (plain_system system.now) r.pivots (plain_answer r.solved)) }
+    ensures agrees { IfOk result (λ r. SaysPivots r.pivots (plain_answer r.solved)) }
+{
+    Ok(run_system(alloc, system)?)
+}
+
 /// Solves a system: the dual simplex method (Lemke 1954) by least indices (Bland 1977), for at most 4,096 pivots.
+#[tactic(auto, using(crate::proofs::Relation::is_outcome))]
 pub fn solve(alloc: Global, system: &System) -> Result<Solved, AllocError>
     requires { IsProper (plain_system system.now) }
-    ensures exact { IfOk result (λ s. plain_answer s ≡ outcome_of (plain_system system.now)) }
+    ensures exact { IfOk result (λ s. IsOutcome (plain_system system.now) (plain_answer s)) }
     ensures least { IfOk result (λ s. SaysLeast (plain_system system.now) (plain_answer s)) }
     ensures prices { IfOk result (λ s. SaysPrices (plain_system system.now) (plain_answer s)) }
     ensures nothing { IfOk result (λ s. SaysNothing (plain_system system.now) (plain_answer s)) }
 {
-    Ok(solve_counted(alloc, system)?.solved)
+    Ok(run_system(alloc, system)?.solved)
 }
-
-#[cfg(test)]
-mod tests;

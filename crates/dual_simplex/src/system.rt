@@ -8,7 +8,7 @@ const MOST: u64 = 1 << 31;
 
 /// A factor times an unknown.
 #[derive(Clone, Copy, Debug, PartialEq, Eq)]
-pub struct Term {
+pub struct Summand {
     /// The number of the unknown, from 0.
     pub unknown: u32,
     /// At most 2^31 in size.
@@ -19,7 +19,7 @@ pub struct Term {
 #[derive(Debug, Drop)]
 pub struct Row {
     /// Terms with ascending unknowns.
-    pub terms: Vec<Term>,
+    pub terms: Vec<Summand>,
     /// At most 2^31 in size.
     pub least: i64,
 }

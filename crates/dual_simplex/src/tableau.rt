@@ -4,8 +4,8 @@ ghost use Rattle.std.specs.Prelude.{◌≡◌, ℕ, ◌<◌, ◌≤◌, ◌^◌,
 ghost use Rattle.std.specs.List.{list_all};
 ghost use Rattle.dual_simplex.specs.Equation.{fits, factor_at};
 ghost use Rattle.dual_simplex.specs.Lines.{plain_line, plain_tableau, IsSoundLine, IsSoundTableau};
-ghost use Rattle.dual_simplex.specs.Tableau.{all_fit, earlier, leaving, beats, better, entering, entering_from, renewed, pivoted};
-ghost use Rattle.dual_simplex.specs.Run.{line_at};
+ghost use Rattle.dual_simplex.specs.Tableau.{all_fit, renewed, pivoted, line_at};
+ghost use Rattle.dual_simplex.specs.Scans.{earlier, leaving, beats, better, entering, entering_from};
 
 use crate::arithmetic::TooWide;
 use crate::line::{Line, put_in, renew, solve_for};

@@ -11,8 +11,6 @@ pub mod laws;
 mod lets;
 mod locals;
 mod names;
-#[cfg(test)]
-mod tests;
 mod types;
 
 pub use check::check_code;

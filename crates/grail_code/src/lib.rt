@@ -18,6 +18,3 @@ pub use decoder::decode;
 pub use encoder::encode;
 pub use fault::DecodeFault;
 pub use grail_blocks::{CaseArm, CaseCell, Let, Op, Place, PrimCode, Term};
-
-#[cfg(test)]
-mod tests;

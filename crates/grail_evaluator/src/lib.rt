@@ -6,8 +6,6 @@
 mod evaluator;
 mod locals;
 mod steps;
-#[cfg(test)]
-mod tests;
 mod tree;
 
 pub use evaluator::{Outcome, RunError, run};

@@ -1,5 +1,5 @@
 -- Counts of bytes and of faults. A count has 64 bits and stands still at its last value.
-use Rattle.std.specs.Prelude.{ℕ, ◌+◌, ◌-◌, ◌^◌, ◌≤◌, min, max}
+use Rattle.std.specs.Prelude.{◌≡◌, ℕ, ◌+◌, ◌-◌, ◌^◌, ◌≤◌, min, max}
 
 -- the last value of a count
 abbrev pub last_count : ℕ
@@ -9,7 +9,6 @@ last_count = 2 ^ 64 - 1
 abbrev pub risen : ℕ → ℕ → ℕ
 risen old n = max old (min (old + n) last_count)
 
--- the count rose, or stands at its last value
-pub record Rose (old new : ℕ) : Type 0 where
-  pub never_falls : old ≤ new
-  pub stands_at_last : new ≤ old → last_count ≤ new
+-- the count rose by one, or stands at its last value
+abbrev pub Rose : ℕ → ℕ → Type 0
+Rose old new = new ≡ risen old 1

@@ -10,8 +10,6 @@ mod sink;
 mod source;
 mod standard;
 mod sure;
-#[cfg(test)]
-mod tests;
 
 pub use memory::{MemorySink, MemorySource};
 pub use sink::{Sink, write_all};

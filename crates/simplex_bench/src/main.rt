@@ -4,7 +4,7 @@
 
 ghost use Rattle.std.specs.Prelude.{◌<◌};
 
-use dual_simplex::{Row, Solved, System, Term, solve_counted};
+use dual_simplex::{Row, Solved, Summand, System, solve_counted};
 use std::alloc::{AllocError, Global};
 use std::time::Instant;
 use std::{env, io};
@@ -28,8 +28,8 @@ impl Numbers {
     }
 }
 
-fn term(unknown: u32, factor: i64) -> Term {
-    Term { unknown, factor }
+fn term(unknown: u32, factor: i64) -> Summand {
+    Summand { unknown, factor }
 }
 
 /// A chain: each unknown is at least the one before it plus 1.

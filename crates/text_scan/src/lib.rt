@@ -12,8 +12,6 @@ pub mod laws;
 mod lexeme;
 mod number;
 mod scanner;
-#[cfg(test)]
-mod tests;
 mod tokens;
 
 pub use fault::ScanFault;

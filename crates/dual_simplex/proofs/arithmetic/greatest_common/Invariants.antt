@@ -1,5 +1,5 @@
 use Rattle.std.proofs.Common.{ℕ}
-use Rattle.dual_simplex.specs.Division.{IsGreatestCommon}
+use Rattle.dual_simplex.specs.Multiples.{IsGreatestCommon}
 use Rattle.dual_simplex.proofs.arithmetic.greatest_common.Given as goal
 
 abbrev pub invariant-loop-y : goal.invariant-loop-y

@@ -1,6 +1,6 @@
 use Rattle.std.proofs.Common.{to_z-of_z, w64, FitsSigned, pos, get_or, ◌≡◌, unsigned_abs, rules, subst, arith, ap, ◌∙◌, length, ◌<◌}
 use Rattle.dual_simplex.specs.Equation.{mixed}
-use Rattle.dual_simplex.specs.Division.{IsGreatestCommon}
+use Rattle.dual_simplex.specs.Multiples.{IsGreatestCommon}
 use Rattle.dual_simplex.proofs.Divisors.{shares_turn, shares_done, shares_at_one, common_positive}
 use mir.Syntax.{w128}
 use Rattle.dual_simplex.proofs.arithmetic.shared_by.Goals as goal

@@ -1,6 +1,6 @@
 use Rattle.std.proofs.Common.{ℕ, ◌<◌, drop}
 use Rattle.dual_simplex.specs.Equation.{mixed_all}
-use Rattle.dual_simplex.specs.Division.{SharesWith}
+use Rattle.dual_simplex.specs.Multiples.{SharesWith}
 use Rattle.dual_simplex.proofs.arithmetic.shared_by.Given as goal
 
 abbrev pub invariant-loop-place : goal.invariant-loop-place

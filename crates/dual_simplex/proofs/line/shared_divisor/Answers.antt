@@ -2,7 +2,7 @@ use Rattle.std.proofs.Common.{to_z-of_z, w64, FitsSigned, ℤ, ◌*ℤ◌, ◌�
 use Rattle.std.specs.Prelude.{pos, ◌<ℤ◌}
 use Rattle.std.proofs.lemmas.Int.{ints}
 use Rattle.dual_simplex.specs.Equation.{mixed, mixed_all}
-use Rattle.dual_simplex.specs.Division.{IsGreatestCommon}
+use Rattle.dual_simplex.specs.Multiples.{IsGreatestCommon}
 use Rattle.dual_simplex.proofs.Divisors.{shared_is, common_bound, shares_bound, common_positive}
 use Rattle.dual_simplex.proofs.Sound.{product_positive}
 use mir.Syntax.{w128}

@@ -2,8 +2,9 @@ use Rattle.std.proofs.Common.{◌≡◌, ◌-◌, ◌+◌, suc, arith, ap, sym, 
 use Rattle.std.specs.Prelude.{is_err}
 use Rattle.std.proofs.lemmas.List.{get_or-map, length-map, length-set}
 use Rattle.dual_simplex.specs.Lines.{plain_line, plain_tableau}
-use Rattle.dual_simplex.specs.Tableau.{pivoted}
-use Rattle.dual_simplex.specs.Run.{run_from, pivots_from, line_at, no_line, Nothing, Wide}
+use Rattle.dual_simplex.specs.Tableau.{pivoted, line_at, no_line}
+use Rattle.dual_simplex.specs.Run.{Nothing, Wide}
+use Rattle.dual_simplex.specs.Scans.{run_from, pivots_from}
 use Rattle.dual_simplex.proofs.Sound.{tableau_fits}
 use Rattle.dual_simplex.proofs.Runs.{run_ends, run_nothing, run_spent, run_goes, run_wide, pivots_wide, pivots_ends, pivots_nothing, pivots_spent, pivots_goes, count_ends, count_goes, at_err, at_ok}
 use Rattle.dual_simplex.proofs.solver.run.Goals as goal

@@ -1,5 +1,5 @@
 use Rattle.std.proofs.Common.{◌≡◌, ◌-◌, ◌+◌, ◌<◌, ◌≤◌, ◌^◌, length}
-use Rattle.dual_simplex.specs.Run.{run_from, pivots_from}
+use Rattle.dual_simplex.specs.Scans.{run_from, pivots_from}
 use Rattle.dual_simplex.specs.Lines.{plain_tableau, IsSoundTableau}
 use Rattle.dual_simplex.proofs.solver.run.Given as goal
 

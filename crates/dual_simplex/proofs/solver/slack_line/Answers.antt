@@ -3,7 +3,7 @@ use Rattle.std.proofs.lemmas.List.{length-replicate, length-set}
 use Rattle.std.specs.List.{list_all}
 use Rattle.dual_simplex.specs.Equation.{is_small}
 use Rattle.dual_simplex.specs.Systems.{spread}
-use Rattle.dual_simplex.specs.declared.system.Term.{Term}
+use Rattle.dual_simplex.specs.declared.system.Summand.{Summand}
 use Rattle.dual_simplex.proofs.Loops.{get_any}
 use Rattle.dual_simplex.proofs.First.{zeros_small, ascending_at, term_turn}
 use Rattle.dual_simplex.proofs.solver.slack_line.Goals as goal
@@ -19,14 +19,14 @@ loop-term-init c =
 
 pub index_mut-requires : goal.index_mut-requires
 index_mut-requires c =
-    let d : Term = record { unknown = 0; factor = pos 0 } in
+    let d : Summand = record { unknown = 0; factor = pos 0 } in
     let h = rw (← c.deref-term-items.ensures.value) at c.requires.ascending in
     let k = ascending_at c.args.unknowns 0 c.deref-term-items.result.now c.loop-term.term-index d h c.loop-term-test.true in
     omega (arith, k.0, c.loop-term.invariant.width)
 
 pub loop-term-preserved : goal.loop-term-preserved
 loop-term-preserved c =
-    let d : Term = record { unknown = 0; factor = pos 0 } in
+    let d : Summand = record { unknown = 0; factor = pos 0 } in
     let ts = c.deref-term-items.result.now in
     let i = c.loop-term.term-index in
     let t = get_or ts i d in

@@ -5,15 +5,15 @@ use Rattle.dual_simplex.proofs.solver.solve.Goals as goal
 
 pub returns-clause-least : goal.returns-clause-least
 returns-clause-least c =
-    let run = c.in_ok-solve_counted in
+    let run = c.in_ok-run_system in
     answer_least (plain_system c.args.system.now) (plain_answer run.field-0.solved) c.requires run.ensures.exact
 
 pub returns-clause-prices : goal.returns-clause-prices
 returns-clause-prices c =
-    let run = c.in_ok-solve_counted in
+    let run = c.in_ok-run_system in
     answer_prices (plain_system c.args.system.now) (plain_answer run.field-0.solved) c.requires run.ensures.exact
 
 pub returns-clause-nothing : goal.returns-clause-nothing
 returns-clause-nothing c =
-    let run = c.in_ok-solve_counted in
+    let run = c.in_ok-run_system in
     answer_nothing (plain_system c.args.system.now) (plain_answer run.field-0.solved) c.requires run.ensures.exact

@@ -1,6 +1,6 @@
 use Rattle.std.proofs.Common.{◌≡◌, drop, None}
 use Rattle.std.specs.Prelude.{IfSome, ◌<◌, ◌<ℤ◌, pos, slice_index_or}
-use Rattle.dual_simplex.specs.Tableau.{entering_from}
+use Rattle.dual_simplex.specs.Scans.{entering_from}
 use Rattle.dual_simplex.proofs.tableau.best_column.Given as goal
 
 abbrev pub invariant-loop-place : goal.invariant-loop-place

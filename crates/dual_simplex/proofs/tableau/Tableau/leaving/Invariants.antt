@@ -1,6 +1,6 @@
 use Rattle.std.proofs.Common.{◌≡◌, map, drop, None}
 use Rattle.std.specs.Prelude.{IfSome, ◌<◌}
-use Rattle.dual_simplex.specs.Tableau.{leaving_from}
+use Rattle.dual_simplex.specs.Scans.{leaving_from}
 use Rattle.dual_simplex.specs.Lines.{plain_line}
 use Rattle.dual_simplex.proofs.tableau.Tableau.leaving.Given as goal
 

@@ -1,0 +1,2 @@
+-- What the program tells the system that ran it.
+pub mod Exits

@@ -1,0 +1,9 @@
+//! Tests of what no clause and no text can tell: devices that fail in mid-stream, under the host and under its adapters.
+#![tactic(auto)]
+
+#[cfg(test)]
+mod adapters;
+#[cfg(test)]
+mod devices;
+#[cfg(test)]
+mod faults;
