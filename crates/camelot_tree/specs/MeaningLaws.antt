@@ -1,10 +1,10 @@
 -- What bodies mean respects every relation between runs that basic steps have and sequence keeps: so the laws of clock and fuel hold of
 -- programs.
-use Rattle.std.proofs.Common.{◌≡◌, ℕ, ◌-◌, Bool, true, false, List, [], ◌∷◌, Option, Some, None, refl}
+use Rattle.std.proofs.Common.{ℕ, ◌-◌, Bool, true, false, List, [], ◌∷◌, Option, Some, None}
 use Rattle.std.specs.Prelude.{slice_get, if◌then◌else◌}
 use Rattle.camelot_values.specs.Value as value
 use Rattle.camelot_values.specs.Value.{Value, Values, parts}
-use Rattle.camelot_values.specs.Outcome.{Outcome, Done, Stuck, first_then, at_once, known, given}
+use Rattle.camelot_values.specs.Outcome.{Outcome, Done, first_then, at_once, given}
 use Rattle.camelot_values.specs.Runs.{Enter, chosen, on_diamond}
 use Rattle.camelot_values.specs.Operator.{operate}
 use Rattle.camelot_values.specs.RunLaws.{Relation, Closed, Related, Respect, given_related, known_related, diamond_related, chosen_related, operate_related}

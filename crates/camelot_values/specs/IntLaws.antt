@@ -1,6 +1,6 @@
 -- Laws of ints of 32 bits.
-use Rattle.std.proofs.Common.{◌≡◌, ℕ, ◌<◌, true, refl, arith}
-use Rattle.std.specs.Prelude.{ℤ, pos, negsuc, nat_lt, IsTrue, List}
+use Rattle.std.proofs.Common.{◌≡◌, ℕ, ◌<◌, refl, arith}
+use Rattle.std.specs.Prelude.{ℤ, pos, negsuc, IsTrue, List}
 use Rattle.std.specs.Int.{w32}
 use Rattle.std.specs.Int.RustNames.{FitsSigned}
 use Rattle.std.proofs.lemmas.Bool.Decides.{nat_tests}
@@ -12,7 +12,6 @@ use Rattle.camelot_values.specs.Operator as operator
 use Rattle.camelot_values.specs.Operator.{Operator, on_ints, operate}
 use Rattle.camelot_values.specs.Kinds.{DataType, type_of}
 use Rattle.camelot_values.specs.Typing.{Fits, operator_kind, IsSafe}
-use Rattle.camelot_values.specs.declared.kinds.Kind.{Kind}
 use Rattle.camelot_values.specs.declared.kinds.Kind.TheVariants as kind
 use Rattle.std.specs.Option.{option_map}
 use Rattle.std.specs.Prelude.{Option, Some, None}

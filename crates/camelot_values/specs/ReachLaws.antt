@@ -9,7 +9,7 @@ use Rattle.camelot_values.specs.declared.kinds.Kind.{Kind}
 use Rattle.camelot_values.specs.declared.kinds.Kind.TheVariants.{Int, Flag, Dia, Of}
 use Rattle.camelot_values.specs.Kinds.{DataType, constructors, type_from, type_of}
 use Rattle.camelot_values.specs.Lists.{Ascend, is_among}
-use Rattle.camelot_values.specs.Heap.{is_of, fields_of, fields_at, HoldsType, holds_type, LeadsTo, IsLedTo, ReachesFrom, Reaches, is_heap_type, leads_by, is_reached_in, is_reached, reached}
+use Rattle.camelot_values.specs.Heap.{is_of, fields_of, holds_type, LeadsTo, IsLedTo, ReachesFrom, Reaches, is_heap_type, leads_by, is_reached_in, is_reached, reached}
 
 -- ---- tests
 

@@ -2,7 +2,7 @@
 -- target's parameters changes nothing where each block's uses are ready.
 use Rattle.std.proofs.Common.{◌≡◌, ℕ, zero, suc, ◌+◌, Bool, true, false, List, [], ◌∷◌, ◌++◌, map, Option, Some, None, refl, sym, ap, ◌∙◌, subst, arith, inl, inr}
 use Rattle.std.specs.Prelude.{◌==◌, ◌||◌, if◌then◌else◌, slice_get, ◌⊎◌}
-use Rattle.std.specs.List.{AllByRecursion, list_any}
+use Rattle.std.specs.List.{AllByRecursion}
 use Rattle.std.specs.Option.{option_map_or}
 use Rattle.std.proofs.lemmas.Bool.Decides.{nat_tests}
 use Rattle.camelot_values.specs.Value as value
@@ -18,8 +18,8 @@ use Rattle.grail_blocks.specs.declared.blocks.CaseCell.{CaseCell}
 use Rattle.grail_blocks.specs.declared.blocks.CaseCell.TheVariants as cell
 use Rattle.grail_blocks.specs.Blocks.{Op, Lit, Flag, Copy, Prim, Make, Call, Let, CaseArm, Term, Ret, Tail, Goto, If, Case, Block}
 use Rattle.grail_blocks.specs.Running.{Locals, Later, put, narrowed, in_front, values_of, operands, built, op_run, lets_run, put_all, cell_run, arm_run, arm_at, case_run, term_run, narrow, whole, block_run, jump_run, blocks_run}
-use Rattle.grail_blocks.specs.Events.{Event, Use, Bind, taken, operands_of, let_events, term_uses, kept_diamond, bound_by, params_at, jump_events, ways}
-use Rattle.grail_blocks.specs.States.{State, Ready, Unbound, nothing_bound, bind, use_of, after, AreReady, at_start, after_let, after_lets, at_term, behind_term, LetsReady, UsesReady}
+use Rattle.grail_blocks.specs.Events.{Event, Use, Bind, taken, operands_of, term_uses, kept_diamond, bound_by, params_at, jump_events, ways}
+use Rattle.grail_blocks.specs.States.{State, Ready, Unbound, nothing_bound, bind, use_of, after, AreReady, at_start, after_let, after_lets, at_term, LetsReady, UsesReady}
 use Rattle.grail_blocks.specs.StateLaws.{after_append, ready_first, ready_second, used_ready, uses_ready, bind_ready}
 
 -- the two agree on what is ready

@@ -1,20 +1,20 @@
 -- Laws of blocks: what they mean respects every relation between runs that basic steps have and sequence keeps, and a jump to a later
 -- block is that block.
-use Rattle.std.proofs.Common.{◌≡◌, ℕ, zero, suc, ◌+◌, ◌-◌, ◌<◌, ◌≤◌, Bool, true, false, List, [], ◌∷◌, length, drop, Option, Some, None, refl, sym, ap, ◌∙◌, subst, arith, inl, inr}
-use Rattle.std.specs.Prelude.{◌==◌, if◌then◌else◌, slice_get, ◌⊎◌}
+use Rattle.std.proofs.Common.{◌≡◌, ℕ, zero, suc, ◌+◌, ◌-◌, ◌<◌, ◌≤◌, Bool, true, false, List, [], ◌∷◌, drop, Option, Some, None, refl, sym, ap, ◌∙◌, arith}
+use Rattle.std.specs.Prelude.{◌==◌, if◌then◌else◌, slice_get}
 use Rattle.std.proofs.lemmas.Bool.Decides.{nat_tests}
 use Rattle.camelot_values.specs.Value as value
 use Rattle.camelot_values.specs.Value.{Value, Values, parts}
 use Rattle.camelot_values.specs.Kinds.{DataType, place_of}
 use Rattle.camelot_values.specs.Operator.{Operator}
-use Rattle.camelot_values.specs.Outcome.{Outcome, Done, Stuck, given}
-use Rattle.camelot_values.specs.Runs.{Enter, chosen, on_diamond}
+use Rattle.camelot_values.specs.Outcome.{Outcome, Stuck, given}
+use Rattle.camelot_values.specs.Runs.{Enter, chosen}
 use Rattle.camelot_values.specs.RunLaws.{Relation, Closed, Related, given_related, known_related, diamond_related, chosen_related, operate_related}
 use Rattle.grail_blocks.specs.declared.blocks.Place.{Place}
 use Rattle.grail_blocks.specs.declared.blocks.Place.TheVariants as place
 use Rattle.grail_blocks.specs.declared.blocks.CaseCell.{CaseCell}
 use Rattle.grail_blocks.specs.declared.blocks.CaseCell.TheVariants as cell
-use Rattle.grail_blocks.specs.Blocks.{Op, Lit, Flag, Copy, Prim, Make, Call, Let, CaseArm, Term, Ret, Tail, Goto, If, Case, Block}
+use Rattle.grail_blocks.specs.Blocks.{Op, Lit, Flag, Copy, Prim, Make, Call, Let, CaseArm, Term, Ret, Tail, Goto, If, Case}
 use Rattle.grail_blocks.specs.Running.{Locals, Later, put, values_of, operands, built, op_run, lets_run, put_all, cell_run, arm_run, arm_at, case_run, term_run, Body, block_run, jump_run, blocks_run, jumps_from, from_block, jump_to}
 
 -- two meanings of later blocks are related

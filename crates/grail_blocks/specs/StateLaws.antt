@@ -1,9 +1,9 @@
 -- Laws of the states of locals: what they say in words, and what depends on ready locals alone.
-use Rattle.std.proofs.Common.{◌≡◌, ℕ, zero, suc, ◌+◌, Bool, true, false, List, [], ◌∷◌, ◌++◌, length, map, refl, sym, ap, ◌∙◌, subst, arith, append_assoc, append-nil, length-append, inl, inr}
+use Rattle.std.proofs.Common.{◌≡◌, ℕ, zero, suc, Bool, true, false, List, [], ◌∷◌, ◌++◌, length, map, refl, sym, ap, ◌∙◌, subst, arith, append_assoc, length-append, inl, inr}
 use Rattle.std.specs.Prelude.{◌==◌, ◌&&◌, if◌then◌else◌, flat_map, take, slice_get, Some, None, ◌⊎◌}
 use Rattle.std.specs.List.{AllByRecursion}
 use Rattle.std.proofs.lemmas.Bool.Decides.{nat_tests}
-use Rattle.grail_blocks.specs.Blocks.{Let, Term, Block}
+use Rattle.grail_blocks.specs.Blocks.{Let, Block}
 use Rattle.grail_blocks.specs.Events.{Event, Use, Bind, Binds, let_events, term_uses, ways, block_events}
 use Rattle.grail_blocks.specs.States.{Status, Unbound, Ready, Spent, State, nothing_bound, bind, use_of, after, AreReady, at_start, after_let, after_lets, at_term, behind_term, state_at, LetsReady, UsesReady, IsAffine, UsesAffinely}
 

@@ -2,9 +2,9 @@
 -- The state of locals at each place of a block: a local isn't bound, is ready, or is spent, by the events before the place. A use spends a
 -- local of a heap kind; a binding makes a local ready, whatever it was before. That is the bookkeeping of the affine rule of LFPL
 -- (Hofmann 2000): well-formed code, its check, and what is known of a running machine all speak of these states.
-use Rattle.std.specs.Prelude.{◌≡◌, ℕ, Bool, true, ◌&&◌, ◌==◌, if◌then◌else◌, List, [], ◌∷◌, ◌++◌, map, take, flat_map, IsTrue}
+use Rattle.std.specs.Prelude.{◌≡◌, ℕ, Bool, ◌&&◌, ◌==◌, if◌then◌else◌, List, [], ◌∷◌, ◌++◌, map, take, IsTrue}
 use Rattle.std.specs.List.{AllByRecursion}
-use Rattle.grail_blocks.specs.Blocks.{Let, Term, Block}
+use Rattle.grail_blocks.specs.Blocks.{Let, Block}
 use Rattle.grail_blocks.specs.Events.{Event, Use, Bind, Binds, let_events, term_uses, ways, block_events}
 
 pub data Status : Type 0 where

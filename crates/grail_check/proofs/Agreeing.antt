@@ -1,5 +1,5 @@
 -- The faults that the code finds are those of the walk of checks, place by place.
-use Rattle.std.proofs.Common.{◌≡◌, ℕ, zero, suc, ◌<◌, Bool, true, false, List, [], ◌∷◌, ◌++◌, length, map, Option, Some, None, refl, sym, ap, ◌∙◌, subst, arith, inl, inr, ◌⊎◌}
+use Rattle.std.proofs.Common.{◌≡◌, ℕ, suc, ◌<◌, Bool, true, false, List, [], ◌∷◌, ◌++◌, length, map, Option, Some, None, refl, sym, ap, ◌∙◌, subst, arith, inl, inr}
 use Rattle.std.specs.Prelude.{◌&&◌, ◌==◌, slice_get, not, ⊤, nat_lt}
 use Rattle.std.specs.List.{AllByRecursion, list_all}
 use Rattle.std.specs.Option.{option_or, option_map}
@@ -16,21 +16,20 @@ use Rattle.grail_blocks.specs.declared.blocks.CaseCell.TheVariants as cell
 use Rattle.grail_blocks.specs.States.{State, use_of, after as state_after, at_start as state_at_start, after_let as state_after_let, nothing_bound}
 use Rattle.grail_blocks.specs.StateLaws.{after_append}
 use Rattle.grail_code.specs.Code.{Op, Lit, Flag, Copy, Prim, Make, Call, Let, CaseArm, Term, Ret, Tail, Goto, If, Case, Block, Func, Code}
-use Rattle.grail_code.specs.WellFormed.{IsKnownKind, local_kinds, kind_of, HaveKinds, is_heap_local, operator_kind, data_type, Ascend, AreDistinct, Use, Bind, operands_of, taken, let_events, kept_diamond, bound_by, params_at}
+use Rattle.grail_code.specs.WellFormed.{IsKnownKind, kind_of, is_heap_local, operator_kind, data_type, Ascend, AreDistinct, Use, Bind, operands_of, kept_diamond, bound_by, params_at}
 use Rattle.grail_check.specs.declared.fault.CodeKind.{CodeKind}
 use Rattle.grail_check.specs.declared.fault.CodeKind.TheVariants as fault
 use Rattle.grail_check.specs.declared.fault.CodeFault.{CodeFault}
-use Rattle.grail_check.specs.declared.locals.Local.{Local}
 use Rattle.grail_check.specs.declared.locals.Mark.{Mark}
-use Rattle.grail_check.specs.Faulting.{unless, first_of, at_place, locals_of, is_local, kind_at, same_kind, same_kinds, has_kind, have_kinds, is_known, unbound, bind, bind_all, spend, spend_all, mark_fault, operand_fault, operands_fault, arguments_fault, taken_fault, place_fits, target_fault, make_fault, call_fault, copy_fault, op_fault, let_fault, after_let, after_lets, is_block, use_fault, uses_fault, jump_fault, callee_fault, tail_fault, arm_is_there, fields_count, arms_count, cell_fits, cells_fit, kept_fits, arms_have_kinds, are_distinct, arms_jump_fault, arms_fault, case_fault, ret_fault, goto_fault, if_fault, term_fault, ascends_from, entry_fits, block_header_fault, lets_fault, at_start, block_fault, blocks_fault, header_fault, function_fault, functions_fault, constructor_fault, constructors_fault, type_fault, types_fault, table_fault, first_fault}
+use Rattle.grail_check.specs.Faulting.{unless, at_place, locals_of, is_local, kind_at, same_kind, same_kinds, has_kind, have_kinds, is_known, unbound, spend, spend_all, mark_fault, operand_fault, operands_fault, arguments_fault, taken_fault, place_fits, target_fault, make_fault, call_fault, op_fault, let_fault, after_let, after_lets, is_block, use_fault, uses_fault, jump_fault, callee_fault, arm_is_there, fields_count, arms_count, cell_fits, cells_fit, kept_fits, arms_have_kinds, are_distinct, arms_jump_fault, arms_fault, term_fault, ascends_from, entry_fits, block_header_fault, lets_fault, at_start, block_fault, blocks_fault, header_fault, functions_fault, constructor_fault, constructors_fault, type_fault, types_fault, first_fault}
 use Rattle.grail_check.specs.Walk.{Checks, NoMore, Must, Pass, Fails, of_entry, IsThere, AreThere, use_checks, operand_checks, operands_checks, arguments_checks, taken_checks, IsPlaceOf, target_check, op_checks, let_checks, IsBlock, jump_checks, ArmIsThere, FieldsCount, ArmsCount, IsCellOf, AreCellsOf, KeepsDiamond, ArmsBindKinds, arms_jump_checks, arms_checks, term_checks, header_checks, func_checks, cons_checks, types_checks, Walk, Finished, At, AllPass, FirstFault, lets_walk, block_walk, blocks_walk, funcs_walk, walk}
-use Rattle.grail_check.proofs.Checks.{both, join, all_true, true_all, all_then, all_both, all_front, all_back, below, is_below, same, is_same}
+use Rattle.grail_check.proofs.Checks.{both, join, all_true, true_all, all_then, below, is_below, same, is_same}
 use Rattle.grail_check.proofs.Distinct.{distinct_is, is_distinct, ascends_is, is_ascending_all}
 use Rattle.grail_check.proofs.LetLaws.{kind_is, count_is, kinds_same, same_kinds_true, some_same, same_some, has_the_kind, the_kind_it_has, kind_of_is, kind_at_is, have_the_kinds, the_kinds_had, not_true, true_not}
 use Rattle.grail_check.proofs.ExitLaws.{the_kinds, kinds_had}
 use Rattle.grail_check.proofs.BlockLaws.{entry_is, is_entry}
 use Rattle.grail_check.proofs.ProgramLaws.{known_is, is_known_kind, all_known, known_all}
-use Rattle.grail_check.proofs.Tracking.{Tracks, track_bind, track_spend, track_uses, track_binds, track_nothing, Agrees, Front, front_must, must_pass, front_mark, front_then, front_last, front_alone, front_weak, agrees_last, front_use}
+use Rattle.grail_check.proofs.Tracking.{Tracks, track_bind, track_spend, track_uses, track_binds, track_nothing, Agrees, Front, front_must, front_mark, front_then, front_last, front_alone, front_weak, agrees_last, front_use}
 
 -- ---- locals that are there
 
@@ -440,7 +439,7 @@ block_agrees p f func number b r rest a =
     let lets = lets_fault p locals func number 1 (at_start locals b) b.lets in
     let end = at_place func number (suc (length b.lets)) (term_fault p f locals number (after_lets locals (at_start locals b) b.lets) b.term) in
     let grouped : option_or (option_or header (option_or lets (option_or end None))) r ≡ option_or header (option_or lets (option_or end r)) =
-        walk_grouped header (option_or lets (option_or end None)) r ∙ ap (option_or header) (walk_grouped lets (option_or end None) r ∙ ap (λ o. option_or lets (option_or o r)) (walk_nothing end)) in
+    walk_grouped header (option_or lets (option_or end None)) r ∙ ap (option_or header) (walk_grouped lets (option_or end None) r ∙ ap (λ o. option_or lets (option_or o r)) (walk_nothing end)) in
     subst (λ o. WalkAgrees o (block_walk p f (is_heap_local p.types f) func number b rest)) (sym grouped)
     (at_agrees func number 0 (block_header_fault f locals number b.params) (header_checks f number b.params) (option_or lets (option_or end r)) _ (header_agrees p.types f number b.params)
     (λ pass. lets_agree p f func number 1 (at_start locals b) (state_at_start (is_heap_local p.types f) b) b.lets _ (option_or end r)

@@ -1,15 +1,13 @@
 -- Lists in which nothing stands twice, and lists of numbers that ascend.
-use Rattle.std.proofs.Common.{◌≡◌, ℕ, zero, suc, ◌+◌, ◌<◌, ◌≤◌, Bool, true, false, List, [], ◌∷◌, ◌++◌, refl, sym, ap, ◌∙◌, subst, arith, append_assoc}
-use Rattle.std.specs.Prelude.{◌||◌, ◌==◌, not, nat_le, nat_eq}
-use Rattle.std.specs.List.{list_any, AllByRecursion, range_with_len}
-use Rattle.std.specs.Str.{bytes_eq}
-use Rattle.std.specs.Cmp.Lexicographic.{same_text}
+use Rattle.std.proofs.Common.{◌≡◌, ℕ, zero, suc, ◌+◌, ◌<◌, ◌≤◌, true, List, [], ◌∷◌, ◌++◌, refl, sym, ap, ◌∙◌, subst, arith}
+use Rattle.std.specs.Prelude.{◌==◌, not, nat_le}
+use Rattle.std.specs.List.{AllByRecursion, range_with_len}
 use Rattle.std.proofs.lemmas.Bool.{leb-true}
 use Rattle.std.proofs.lemmas.Bool.Decides.{nat_tests}
 use Rattle.camelot_values.specs.Names.{AreDistinct}
 use Rattle.camelot_values.specs.NameLaws.{some_place, place_is_some, not_true, never_true}
 use Rattle.grail_code.specs.WellFormed.{Ascend}
-use Rattle.grail_check.specs.Faulting.{is_among, are_distinct, stands, ascends_from, counts_from}
+use Rattle.grail_check.specs.Faulting.{is_among, are_distinct, ascends_from, counts_from}
 use Rattle.grail_check.proofs.Checks.{both, join, same, is_same, all_then}
 
 -- ---- numbers

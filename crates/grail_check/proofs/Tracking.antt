@@ -1,5 +1,5 @@
 -- Marks in a list track the states of locals, and a row of faults agrees with a row of checks.
-use Rattle.std.proofs.Common.{◌≡◌, ℕ, zero, suc, ◌<◌, Bool, true, false, List, [], ◌∷◌, ◌++◌, length, map, Option, Some, None, refl, sym, ap, ◌∙◌, subst, arith, inl, inr, ◌⊎◌}
+use Rattle.std.proofs.Common.{◌≡◌, ℕ, zero, suc, ◌<◌, Bool, true, false, List, [], ◌∷◌, length, map, Option, Some, None, refl, sym, ap, ◌∙◌, subst, arith, inl, inr}
 use Rattle.std.specs.Prelude.{◌==◌, ◌&&◌, ◌||◌, slice_get, slice_set, replicate, if◌then◌else◌, ⊤}
 use Rattle.std.specs.List.{AllByRecursion}
 use Rattle.std.specs.Option.{option_or, option_map_or}
@@ -14,13 +14,12 @@ use Rattle.grail_code.specs.Code.{Func}
 use Rattle.grail_code.specs.WellFormed.{is_heap_local, local_kinds, kind_of, Use, Bind}
 use Rattle.grail_check.specs.declared.fault.CodeKind.{CodeKind}
 use Rattle.grail_check.specs.declared.fault.CodeKind.TheVariants as fault
-use Rattle.grail_check.specs.declared.locals.Local.{Local}
 use Rattle.grail_check.specs.declared.locals.Mark.{Mark}
 use Rattle.grail_check.specs.declared.locals.Mark.TheVariants as mark
-use Rattle.grail_check.specs.Faulting.{unless, locals_of, is_heap_at, unbound, bind, bind_all, spend, spend_all, mark_fault, use_fault}
+use Rattle.grail_check.specs.Faulting.{unless, locals_of, unbound, bind, bind_all, spend, spend_all, mark_fault, use_fault}
 use Rattle.grail_check.specs.Walk.{Checks, NoMore, Must, Pass, Fails, use_checks}
 use Rattle.grail_check.proofs.Playing.{set_same}
-use Rattle.grail_check.proofs.LetLaws.{heap_is, count_is, kind_is, kind_there}
+use Rattle.grail_check.proofs.LetLaws.{heap_is, count_is}
 
 -- ---- marks and states
 

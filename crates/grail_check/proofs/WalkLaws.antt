@@ -1,6 +1,6 @@
 -- What the walk says of a code: it is well formed exactly where all checks pass, and else it has one first fault.
-use Rattle.std.proofs.Common.{◌≡◌, Option, Some, None, refl, sym, ap, ◌∙◌, subst, inl, inr, ◌⊎◌}
-use Rattle.std.specs.Prelude.{◌↔◌, ℕ, List, Bool}
+use Rattle.std.proofs.Common.{◌≡◌, Option, Some, None, refl, ap, subst, inl, inr, ◌⊎◌}
+use Rattle.std.specs.Prelude.{◌↔◌}
 use Rattle.grail_code.specs.Code.{Code}
 use Rattle.grail_code.specs.WellFormed.{IsWellFormed, is_heap_local}
 use Rattle.grail_check.specs.declared.fault.CodeFault.{CodeFault}

@@ -9,9 +9,8 @@
 -- matched inline where they are inline; what is bound has its kind; an arm binds distinct locals; and each jump in turn
 -- finds the parameters of its target bound and unspent. What speaks of arms goes over all of them before the next check.
 use Rattle.std.specs.Prelude.{ℕ, zero, suc, nat_lt, nat_le, ◌==◌, ◌&&◌, not, Bool, true, false, if◌then◌else◌, List, [], ◌∷◌, ◌++◌, length, map, replicate, slice_get, slice_set, Option, Some, None}
-use Rattle.std.specs.List.{list_all, list_any}
+use Rattle.std.specs.List.{list_all}
 use Rattle.std.specs.Option.{option_map, option_map_or, option_or}
-use Rattle.std.specs.Str.{bytes_eq}
 use Rattle.camelot_values.specs.Value.{is_int32}
 use Rattle.camelot_values.specs.Kinds.{Constructor, DataType, constructor, type_of}
 use Rattle.camelot_values.specs.Heap.{is_heap}

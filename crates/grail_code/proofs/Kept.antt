@@ -1,5 +1,5 @@
 -- The limits of code, from what its types keep.
-use Rattle.std.proofs.Common.{◌≡◌, ℕ, ◌≤◌, List, [], ◌∷◌, length, map, sym, ap, ◌∙◌, arith}
+use Rattle.std.proofs.Common.{◌≤◌, List, [], ◌∷◌, length, map, arith}
 use Rattle.std.specs.List.{AllByRecursion}
 use Rattle.std.proofs.lemmas.List.{length-map}
 use Rattle.camelot_values.specs.Kinds.{AreTypes}

@@ -1,6 +1,6 @@
 -- The meaning of code on small codes: what no law guards. Tail position, the depth of calls that wait, order of evaluation, wrap-around,
 -- diamonds as arguments, the peak of cells.
-use Rattle.std.proofs.Common.{◌≡◌, ℕ, List, [], ◌∷◌, Some, None, false, true, refl}
+use Rattle.std.proofs.Common.{◌≡◌, ℕ, List, [], ◌∷◌, false, true, refl}
 use Rattle.std.specs.Prelude.{codes, pos, negsuc}
 use Rattle.camelot_values.specs.Value as value
 use Rattle.camelot_values.specs.Value.{Value, parts}
@@ -12,7 +12,7 @@ use Rattle.camelot_values.specs.declared.kinds.Kind.{Kind}
 use Rattle.camelot_values.specs.declared.kinds.Kind.TheVariants as kind
 use Rattle.grail_blocks.specs.declared.blocks.Place.TheVariants as place
 use Rattle.grail_blocks.specs.declared.blocks.CaseCell.TheVariants as cell
-use Rattle.grail_code.specs.Code.{Lit, Flag, Copy, Prim, Make, Call, Let, Term, Ret, Tail, Goto, If, Case, Block, Func, Code, Op}
+use Rattle.grail_code.specs.Code.{Lit, Prim, Make, Call, Let, Term, Ret, Tail, Goto, If, Case, Block, Func, Code, Op}
 use Rattle.grail_code.specs.Meaning.{run_of}
 
 abbrev bound : ℕ → Op → Let

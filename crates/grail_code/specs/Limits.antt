@@ -1,6 +1,6 @@
 -- Cited by contracts.
 -- The limits of code, which its types keep, and the forms of its names.
-use Rattle.std.specs.Prelude.{ℕ, ◌≤◌, length}
+use Rattle.std.specs.Prelude.{◌≤◌, length}
 use Rattle.std.specs.List.{AllByRecursion}
 use Rattle.camelot_values.specs.Kinds.{DataType, AreTypes}
 use Rattle.camelot_values.specs.Names.{IsLowerName, IsUpperName}

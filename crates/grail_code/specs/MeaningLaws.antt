@@ -1,6 +1,6 @@
 -- What bodies mean respects every relation between runs that basic steps have and sequence keeps: so the laws of clock and fuel hold of
 -- code.
-use Rattle.std.proofs.Common.{◌≡◌, ℕ, Bool, true, false, List, Option, Some, None}
+use Rattle.std.proofs.Common.{ℕ, Bool, true, false, List, Option, Some, None}
 use Rattle.std.specs.Prelude.{◌==◌, length, map, slice_get, if◌then◌else◌}
 use Rattle.camelot_values.specs.Value.{Value}
 use Rattle.camelot_values.specs.Kinds.{DataType}
@@ -9,7 +9,7 @@ use Rattle.camelot_values.specs.Runs.{Enter}
 use Rattle.camelot_values.specs.RunLaws.{Relation, Closed, Related, Respect}
 use Rattle.grail_blocks.specs.RunningLaws.{blocks_related}
 use Rattle.grail_code.specs.Code.{Func, Code}
-use Rattle.grail_code.specs.Meaning.{arguments, narrow, blocks_run, body_run, bodies}
+use Rattle.grail_code.specs.Meaning.{arguments, narrow, body_run, bodies}
 
 pick_related : (R : Relation) (j k : ℕ) (t : Bool) (a b a' b' : Outcome Value) → R Value j k a a' → R Value j k b b' → R Value j k (if t then a else b) (if t then a' else b')
 pick_related R j k true a b a' b' h g = h

@@ -1,8 +1,8 @@
 -- Laws of places: that every ready local has a value of its kind is kept by a let, by the end of a block, and from a block on; and the
 -- induction over one run of a function with what is ready at each place.
-use Rattle.std.proofs.Common.{◌≡◌, ℕ, zero, suc, ◌+◌, ◌-◌, ◌<◌, ◌≤◌, Bool, true, false, List, [], ◌∷◌, ◌++◌, length, drop, map, Option, Some, None, refl, sym, ap, ◌∙◌, subst, arith, inl, inr}
+use Rattle.std.proofs.Common.{◌≡◌, ℕ, zero, suc, ◌+◌, ◌<◌, ◌≤◌, Bool, true, false, List, [], ◌∷◌, ◌++◌, length, map, Option, Some, None, refl, sym, ap, ◌∙◌, subst, arith, inl, inr}
 use Rattle.std.specs.Prelude.{◌==◌, ◌||◌, if◌then◌else◌, slice_get, IsSomeAnd, ◌⊎◌}
-use Rattle.std.specs.List.{AllByRecursion, list_any}
+use Rattle.std.specs.List.{AllByRecursion}
 use Rattle.std.specs.Option.{option_map, option_map_or}
 use Rattle.std.proofs.lemmas.Bool.Decides.{nat_tests}
 use Rattle.std.proofs.lemmas.Option.{slice_get-map}
@@ -13,22 +13,22 @@ use Rattle.camelot_values.specs.KindLaws.{located}
 use Rattle.camelot_values.specs.Lists.{is_among}
 use Rattle.camelot_values.specs.Typing.{Fits, FitAll, ArgumentsFit, IsSafe, operator_kind}
 use Rattle.camelot_values.specs.IntLaws.{operate_sound}
-use Rattle.camelot_values.specs.Outcome.{Outcome, Done, Fuel, Deep, Stuck, after, first_then, known, given, at_once}
-use Rattle.camelot_values.specs.Runs.{Enter, chosen, on_diamond, cell_freed}
+use Rattle.camelot_values.specs.Outcome.{Outcome, Done, known, given}
+use Rattle.camelot_values.specs.Runs.{Enter, chosen, on_diamond}
 use Rattle.camelot_values.specs.declared.kinds.Kind.{Kind}
 use Rattle.camelot_values.specs.declared.kinds.Kind.TheVariants as kind
 use Rattle.grail_blocks.specs.declared.blocks.Place.{Place}
 use Rattle.grail_blocks.specs.declared.blocks.Place.TheVariants as place
 use Rattle.grail_blocks.specs.declared.blocks.CaseCell.{CaseCell}
 use Rattle.grail_blocks.specs.declared.blocks.CaseCell.TheVariants as cell
-use Rattle.grail_blocks.specs.States.{State, Ready, Unbound, nothing_bound, bind, use_of, after as state_after, AreReady, at_start, after_let, after_lets, state_at, at_term, behind_term, UsesReady}
+use Rattle.grail_blocks.specs.States.{State, Ready, Unbound, nothing_bound, bind, use_of, after as state_after, AreReady, after_let, state_at, at_term}
 use Rattle.grail_blocks.specs.StateLaws.{after_append, ready_first, ready_second, used_ready, uses_ready, bind_ready, state_next, state_last, ready_at}
 use Rattle.grail_blocks.specs.NarrowLaws.{bound_among}
 use Rattle.grail_blocks.specs.RunningLaws.{later_is_block}
 use Rattle.grail_code.specs.Code.{Op, Lit, Flag, Copy, Prim, Make, Call, Let, CaseArm, Term, Ret, Tail, Goto, If, Case, Block, Func, Code}
-use Rattle.grail_code.specs.WellFormed.{kind_of, is_heap_local, HaveKinds, PlaceFits, Gives, LetFits, kept_diamond, bound_by, CellFits, JumpFits, ArmFits, ArmsFit, data_type, TermFits, Event, Use, Bind, taken, operands_of, let_events, term_uses, params_at, jump_events, ways, BlockFits, BlocksFit, FuncFits}
-use Rattle.grail_code.specs.Meaning.{Locals, Later, put, narrowed, in_front, values_of, operands, built, op_run, lets_run, put_all, cell_run, arm_run, arm_at, case_run, term_run, Body, narrow, block_run, jump_run, jumps_from, from_block, jump_to}
-use Rattle.grail_code.specs.Places.{Holds, LocalsFit, FitAt, FitsTarget, CallsSafe, JumpsTo, with_cell, cell_effect, TakesArm, Claim, IsKept}
+use Rattle.grail_code.specs.WellFormed.{kind_of, is_heap_local, HaveKinds, PlaceFits, Gives, LetFits, kept_diamond, bound_by, CellFits, JumpFits, ArmFits, ArmsFit, data_type, TermFits, Use, Bind, taken, operands_of, term_uses, params_at, jump_events, ways, BlockFits, BlocksFit, FuncFits}
+use Rattle.grail_code.specs.Meaning.{Locals, Later, put, narrowed, in_front, values_of, operands, built, op_run, lets_run, put_all, cell_run, arm_run, arm_at, case_run, term_run, narrow, block_run, jumps_from, from_block}
+use Rattle.grail_code.specs.Places.{Holds, LocalsFit, FitAt, FitsTarget, CallsSafe, JumpsTo, with_cell, cell_effect, Claim, IsKept}
 
 map_append : {A B : Type 0} (f : A → B) (xs ys : List A) → map f (xs ++ ys) ≡ map f xs ++ map f ys
 map_append f [] ys = refl
@@ -247,8 +247,8 @@ arm_claim p f enter claim kept number b env e later holds x arms i con c vs k w 
     let r = bound_all p.types f h s env m.fields c.fields vs fit a.fits.fields parts_fit in
     let t = block_there f m.target a.fits.jump.1 in
     let bound_state : LocalsFit p.types f (state_after h s (map Bind (bound_by m))) (with_cell m.cell r.bound) =
-        subst (λ u. LocalsFit p.types f u (with_cell m.cell r.bound)) (sym (ap (state_after h s) (map_append Bind m.fields (kept_diamond m.cell)) ∙ after_append h s (map Bind m.fields) (map Bind (kept_diamond m.cell))))
-        (cell_fit p.types f h (state_after h s (map Bind m.fields)) r.bound m.cell c.inline r.fits a.fits.cell) in
+    subst (λ u. LocalsFit p.types f u (with_cell m.cell r.bound)) (sym (ap (state_after h s) (map_append Bind m.fields (kept_diamond m.cell)) ∙ after_append h s (map Bind m.fields) (map Bind (kept_diamond m.cell))))
+    (cell_fit p.types f h (state_after h s (map Bind m.fields)) r.bound m.cell c.inline r.fits a.fits.cell) in
     let hand = jump_keeps p f h (state_after h s (map Bind (bound_by m))) (with_cell m.cell r.bound) m.target t.0 bound_state t.1 (ready_second h s (map Bind (bound_by m)) (jump_events f.blocks m.target) a.ready) in
     subst (λ o. claim number (length b.lets) env (given o (λ bound. cell_run m.cell bound (λ last. later m.target k w last)))) (sym r.is)
     (subst (claim number (length b.lets) env) (sym (cell_is_effect m.cell r.bound (λ last. later m.target k w last)))

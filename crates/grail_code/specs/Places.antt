@@ -1,7 +1,7 @@
 -- Cited by contracts.
 -- What is known of the locals at a place of a block, while a function of well-formed code runs: each ready local has a value of its
 -- kind. And the ways in which the end of a block goes on.
-use Rattle.std.specs.Prelude.{◌≡◌, ℕ, ◌+◌, ◌<◌, Bool, true, List, length, slice_get, Option, Some, IsSomeAnd, ◌⊎◌}
+use Rattle.std.specs.Prelude.{◌≡◌, ℕ, ◌+◌, ◌<◌, Bool, true, List, length, slice_get, Some, IsSomeAnd, ◌⊎◌}
 use Rattle.camelot_values.specs.Value as value
 use Rattle.camelot_values.specs.Value.{Value, Values}
 use Rattle.camelot_values.specs.Kinds.{DataType, place_of}
@@ -12,7 +12,7 @@ use Rattle.camelot_values.specs.declared.kinds.Kind.{Kind}
 use Rattle.grail_blocks.specs.declared.blocks.CaseCell.{CaseCell}
 use Rattle.grail_blocks.specs.declared.blocks.CaseCell.TheVariants as cell
 use Rattle.grail_blocks.specs.States.{State, Ready, at_start, state_at}
-use Rattle.grail_code.specs.Code.{Op, Let, CaseArm, Term, Ret, Tail, Goto, If, Case, Block, Func, Code}
+use Rattle.grail_code.specs.Code.{Let, CaseArm, Term, Ret, Tail, Goto, If, Case, Block, Func, Code}
 use Rattle.grail_code.specs.WellFormed.{kind_of, is_heap_local}
 use Rattle.grail_code.specs.Meaning.{Locals, put, narrowed, values_of, op_run, put_all}
 

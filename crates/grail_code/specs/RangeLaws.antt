@@ -1,5 +1,5 @@
 -- Well-formed code within the limits whose names have their forms is within the ranges of the spelling.
-use Rattle.std.proofs.Common.{◌≡◌, ℕ, zero, suc, ◌+◌, ◌*◌, ◌-◌, ◌<◌, ◌≤◌, Bool, true, false, List, [], ◌∷◌, ◌++◌, length, map, Option, Some, None, refl, sym, ap, ◌∙◌, subst, arith, length-append}
+use Rattle.std.proofs.Common.{◌≡◌, ℕ, zero, suc, ◌*◌, ◌-◌, ◌<◌, ◌≤◌, Bool, List, [], ◌∷◌, ◌++◌, length, Option, Some, None, refl, sym, ap, ◌∙◌, subst, arith, length-append}
 use Rattle.std.specs.Prelude.{slice_get, IsSomeAnd}
 use Rattle.std.specs.List.{AllByRecursion}
 use Rattle.std.specs.Option.{option_map}
@@ -14,9 +14,9 @@ use Rattle.grail_blocks.specs.declared.blocks.Place.TheVariants as place
 use Rattle.grail_blocks.specs.declared.blocks.CaseCell.{CaseCell}
 use Rattle.grail_blocks.specs.declared.blocks.CaseCell.TheVariants as cell
 use Rattle.grail_code.specs.Code.{Op, Lit, Flag, Copy, Prim, Make, Call, Let, CaseArm, Term, Ret, Tail, Goto, If, Case, Block, Func, Code}
-use Rattle.grail_code.specs.WellFormed.{IsKnownKind, local_kinds, kind_of, HaveKinds, PlaceFits, Gives, LetFits, JumpFits, CellFits, ArmFits, ArmsFit, data_type, TermFits, BlockFits, BlocksFit, FuncFits, IsWellFormed}
+use Rattle.grail_code.specs.WellFormed.{IsKnownKind, local_kinds, kind_of, HaveKinds, PlaceFits, Gives, LetFits, JumpFits, CellFits, ArmsFit, data_type, TermFits, BlockFits, BlocksFit, FuncFits, IsWellFormed}
 use Rattle.grail_code.specs.Limits.{FuncIsWithin, IsWithinLimits, HaveParams, TypeIsNamed, IsNamed}
-use Rattle.grail_code.specs.Spelling.{AreCounted, IsLocal, IsBlockNumber, kind_code, FitsKind, FitsCon, FitsType, FitsPlace, FitsOp, FitsLet, FitsCell, FitsArm, FitsTerm, FitsBlock, FitsFunc, FitsCode}
+use Rattle.grail_code.specs.Spelling.{AreCounted, IsLocal, IsBlockNumber, FitsKind, FitsCon, FitsType, FitsPlace, FitsOp, FitsLet, FitsCell, FitsArm, FitsTerm, FitsBlock, FitsFunc, FitsCode}
 
 -- ---- lists
 

@@ -1,8 +1,8 @@
 -- Laws of sound code: well-formed code on fitting arguments doesn't get stuck, at whole runs and from each block on. Each is an instance of
 -- the induction over one run.
-use Rattle.std.proofs.Common.{◌≡◌, ℕ, zero, suc, ◌+◌, ◌<◌, ◌≤◌, Bool, true, false, List, [], ◌∷◌, ◌++◌, length, map, Option, Some, None, refl, sym, ap, ◌∙◌, subst, arith, inl, inr}
+use Rattle.std.proofs.Common.{◌≡◌, ℕ, zero, suc, ◌+◌, ◌<◌, ◌≤◌, Bool, true, false, List, [], ◌∷◌, ◌++◌, length, map, Some, refl, sym, ap, subst, arith, inl, inr}
 use Rattle.std.specs.Prelude.{cond, ◌==◌, ◌||◌, if◌then◌else◌, slice_get, IsSomeAnd, ◌⊎◌}
-use Rattle.std.specs.List.{AllByRecursion, range_with_len}
+use Rattle.std.specs.List.{range_with_len}
 use Rattle.std.proofs.lemmas.Bool.Decides.{nat_tests}
 use Rattle.camelot_values.specs.Value.{Value}
 use Rattle.camelot_values.specs.Kinds.{DataType}
@@ -18,9 +18,9 @@ use Rattle.grail_blocks.specs.States.{Ready, Unbound, nothing_bound}
 use Rattle.grail_blocks.specs.NarrowLaws.{bound_among}
 use Rattle.grail_blocks.specs.RunningLaws.{runs_from_first}
 use Rattle.grail_code.specs.Code.{Block, Func, Code}
-use Rattle.grail_code.specs.WellFormed.{kind_of, is_heap_local, BlockFits, BlocksFit, FuncFits, IsWellFormed}
+use Rattle.grail_code.specs.WellFormed.{is_heap_local, BlocksFit, FuncFits, IsWellFormed}
 use Rattle.grail_code.specs.Meaning.{Locals, arguments, narrow, blocks_run, body_run, bodies, from_block, run_of}
-use Rattle.grail_code.specs.Places.{Holds, LocalsFit, FitAt, CallsSafe, cell_effect, Claim, IsKept}
+use Rattle.grail_code.specs.Places.{Holds, FitAt, CallsSafe, cell_effect, Claim, IsKept}
 use Rattle.grail_code.specs.PlaceLaws.{holds_from_block, all_at}
 use Rattle.grail_code.specs.Soundness.{HaveBlocks}
 
@@ -69,7 +69,6 @@ as_many types [] [] fit = refl
 as_many types [] (v ∷ vs) fit = absurd fit
 as_many types (q ∷ qs) [] fit = absurd fit
 as_many types (q ∷ qs) (v ∷ vs) fit = ap suc (as_many types qs vs fit.1)
-
 
 -- A function's first block begins with its arguments.
 pub arguments_fit : (p : Code) (f : Func) (b : Block) (args : List Value) → b.params ≡ range_with_len 0 (length f.params) → ArgumentsFit p.types f.params args → FitAt p f b 0 (arguments args)

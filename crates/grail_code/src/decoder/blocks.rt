@@ -9,8 +9,8 @@ use super::names::{Letter, name};
 use super::reader::{Decode, Halt, list, number};
 use super::types::kind;
 use crate::code::{Block, Func};
-use grail_blocks::{CaseArm, CaseCell, Term};
 use camelot_values::Kind;
+use grail_blocks::{CaseArm, CaseCell, Term};
 use std::alloc::Global;
 
 #[tactic(auto, unfolding(crate::specs::CodeReader::cell_at, crate::specs::CodeReader::cell_rest, crate::specs::Reader::tag_at, crate::specs::Reader::byte_at))]
