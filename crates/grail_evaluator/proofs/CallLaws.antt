@@ -23,7 +23,9 @@ use Rattle.grail_code.specs.declared.code.Code.{Code}
 use Rattle.grail_code.specs.declared.code.Func.{Func}
 use Rattle.grail_code.specs.declared.code.Block.{Block}
 use Rattle.grail_evaluator.specs.Trees.{plain, plain_all}
-use Rattle.grail_evaluator.specs.Ends.{onto, calls_in, bodies_of, onward}
+use Rattle.grail_evaluator.specs.Ends.{reached_of, onto, calls_in, bodies_of, onward, OnReached}
+use Rattle.grail_evaluator.specs.declared.outcome.Reached.{Reached}
+use Rattle.grail_evaluator.specs.declared.outcome.Reached.TheVariants as reached
 use Rattle.grail_evaluator.specs.declared.counts.Counts.{Counts}
 use Rattle.grail_evaluator.specs.declared.tree.Tree.{Tree}
 
@@ -52,6 +54,19 @@ onto_then s t fuel v Stuck next e = absurd cc
 abbrev pub IsOver : Outcome Value → Type 0
 IsOver (Done v c p g) = ⊥
 IsOver o = ⊤
+
+-- what isn't a value is over
+pub is_over : (r : Reached) → ((v : Tree) (s : Counts) → r ≡ reached.Done v s → ⊥) → IsOver (reached_of r)
+is_over (reached.Done v s) other = absurd (other v s refl)
+is_over (reached.Fuel s) other = tt
+is_over (reached.Deep s) other = tt
+is_over reached.Stuck other = tt
+
+pub over_uses : (P : Counts → Type 0) (r : Reached) → ((v : Tree) (s : Counts) → r ≡ reached.Done v s → ⊥) → OnReached P r
+over_uses P (reached.Done v s) other = absurd (other v s refl)
+over_uses P (reached.Fuel s) other = tt
+over_uses P (reached.Deep s) other = tt
+over_uses P reached.Stuck other = tt
 
 onto_over : (s : Counts) (k : ℕ) (q o : Outcome Value) (next : ℕ → Value → Outcome Value) → IsOver q → q ≡ onto s o → q ≡ onto s (first_then k o next)
 onto_over s k q (Done v c p g) next over e = absurd (subst IsOver e over)

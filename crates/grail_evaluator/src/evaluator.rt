@@ -200,9 +200,7 @@ impl Evaluator<'_> {
                     bind(&mut env, binding.target, value)?;
                     counts = used;
                 }
-                Reached::Fuel(used) => return Ok(BlockEnd::Leaves(Ending::Over(Reached::Fuel(used)))),
-                Reached::Deep(used) => return Ok(BlockEnd::Leaves(Ending::Over(Reached::Deep(used)))),
-                Reached::Stuck => return Ok(BlockEnd::Leaves(Ending::Over(Reached::Stuck))),
+                over => return Ok(BlockEnd::Leaves(Ending::Over(over))),
             }
         }
         self.exit(counts, env, &block.term)
@@ -264,12 +262,7 @@ impl Evaluator<'_> {
     }
 
     // The end of a block.
-    fn exit(
-        &self,
-        counts: Counts,
-        env: Vec<Bound>,
-        term: &Term,
-    ) -> Result<BlockEnd, AllocError>
+    fn exit(&self, counts: Counts, env: Vec<Bound>, term: &Term) -> Result<BlockEnd, AllocError>
         requires { counts.low ≤ most_cells }
         ensures means { (enter : Enter) (later : Later) (fuel waits : ℕ) → IfOk result (λ end. end_run enter later fuel waits end
             ≡ onto counts (term_run self.now.code.now.types enter later (term_of term.now) (fuel - counts.calls) waits (env_of env.items))) }

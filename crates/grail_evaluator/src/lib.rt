@@ -9,8 +9,6 @@ mod evaluator;
 mod locals;
 mod outcome;
 mod steps;
-#[cfg(test)]
-mod tests;
 mod tree;
 
 pub use evaluator::run;

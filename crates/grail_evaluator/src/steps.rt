@@ -83,13 +83,7 @@ fn is_diamond(env: &[Bound], local: u32) -> bool
 
 /// An operator on two locals.
 #[tactic(auto, using(crate::proofs::StepLaws::no_left, crate::proofs::StepLaws::no_right, crate::proofs::StepLaws::both))]
-pub(crate) fn operate(
-    counts: Counts,
-    env: &[Bound],
-    op: PrimCode,
-    left: u32,
-    right: u32,
-) -> Reached
+pub(crate) fn operate(counts: Counts, env: &[Bound], op: PrimCode, left: u32, right: u32) -> Reached
     ensures means { reached_of result ≡ onto counts (operands (operator_of op) (env_of env.now left) (env_of env.now right)) }
     ensures used { OnReached (Stepped 0 counts) result }
 {

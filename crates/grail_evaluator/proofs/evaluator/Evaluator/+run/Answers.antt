@@ -1,12 +1,11 @@
-use Rattle.std.proofs.Common.{◌≡◌, ◌+◌, ◌-◌, ◌<◌, ◌≤◌, arith, length, map, ap, sym, ◌∙◌, subst, Some, true}
+use Rattle.std.proofs.Common.{◌≡◌, ◌-◌, ◌<◌, ◌≤◌, arith, length, ap, ◌∙◌, subst}
 use Rattle.std.specs.Prelude.{IfOk, slice_get}
-use Rattle.camelot_values.specs.Outcome.{Fuel, Deep, Stuck}
 use Rattle.grail_code.specs.Code.{func_of, let_of, term_of}
 use Rattle.grail_code.specs.Meaning.{jumps_from, from_block, body_run}
 use Rattle.grail_evaluator.specs.Trees.{plain, plain_all}
 use Rattle.grail_evaluator.specs.Locals.{env_of}
-use Rattle.grail_evaluator.specs.Ends.{onto, calls_in, bodies_of, onward, ending_run, end_run}
-use Rattle.grail_evaluator.proofs.CallLaws.{lets_more, lets_over, lets_end, from_is, jump_is, jump_stuck, body_is, no_body, function_is, other_count, entered_is}
+use Rattle.grail_evaluator.specs.Ends.{reached_of, onto, calls_in, bodies_of, onward, ending_run, end_run, Used}
+use Rattle.grail_evaluator.proofs.CallLaws.{is_over, over_uses, lets_more, lets_over, lets_end, from_is, jump_is, jump_stuck, body_is, no_body, function_is, other_count, entered_is}
 use Rattle.grail_evaluator.proofs.evaluator.Evaluator.+run.Goals as goal
 
 -- ---- a block
@@ -28,41 +27,21 @@ block-lets-preserved t c =
       cells = omega (arith, used.cells, c.lets.invariant.cells);
     }
 
-pub block-returns-in-Fuel-clause-means : goal.block-returns-in-Fuel-clause-means
-block-returns-in-Fuel-clause-means t c =
+pub block-returns-in_default : goal.block-returns-in_default
+block-returns-in_default t c =
     let own = c.args.self.now in
     let enter = calls_in own.code.now own.limit in
     let block = c.index-blocks-number.result in
     let next = onward own.code.now.types enter (jumps_from own.code.now.types enter (bodies_of c.args.blocks.now) c.args.number) (term_of block.term) c.args.waits in
     let less : c.lets.binding-index < length block.lets.items = rw c.deref-binding-items.ensures.value at c.lets-test.true in
     let is = rw c.deref-binding-items.ensures.value at c.binding-item.is in
-    let did = rw (c.in-Fuel.is, c.deref.ensures.value) at c.in_ok-reached.ensures.means in
+    let did = rw c.deref.ensures.value at c.in_ok-reached.ensures.means in
     let whole = c.lets.invariant.same ∙ ap (onto c.args.counts) (from_is own.code.now.types enter c.args.blocks.now c.args.number (own.fuel - c.args.counts.calls) c.args.waits block (env_of c.args.env.items) c.requires.there c.index-blocks-number.is) in
-    lets_over enter block.lets.items c.lets.binding-index c.binding-item.result (own.fuel - c.lets.counts.calls) c.args.waits c.lets.counts _ (env_of c.lets.env.items) next _ tt less is did whole
-
-pub block-returns-in-Deep-clause-means : goal.block-returns-in-Deep-clause-means
-block-returns-in-Deep-clause-means t c =
-    let own = c.args.self.now in
-    let enter = calls_in own.code.now own.limit in
-    let block = c.index-blocks-number.result in
-    let next = onward own.code.now.types enter (jumps_from own.code.now.types enter (bodies_of c.args.blocks.now) c.args.number) (term_of block.term) c.args.waits in
-    let less : c.lets.binding-index < length block.lets.items = rw c.deref-binding-items.ensures.value at c.lets-test.true in
-    let is = rw c.deref-binding-items.ensures.value at c.binding-item.is in
-    let did = rw (c.in-Deep.is, c.deref.ensures.value) at c.in_ok-reached.ensures.means in
-    let whole = c.lets.invariant.same ∙ ap (onto c.args.counts) (from_is own.code.now.types enter c.args.blocks.now c.args.number (own.fuel - c.args.counts.calls) c.args.waits block (env_of c.args.env.items) c.requires.there c.index-blocks-number.is) in
-    lets_over enter block.lets.items c.lets.binding-index c.binding-item.result (own.fuel - c.lets.counts.calls) c.args.waits c.lets.counts _ (env_of c.lets.env.items) next _ tt less is did whole
-
-pub block-returns-in-Stuck-clause-means : goal.block-returns-in-Stuck-clause-means
-block-returns-in-Stuck-clause-means t c =
-    let own = c.args.self.now in
-    let enter = calls_in own.code.now own.limit in
-    let block = c.index-blocks-number.result in
-    let next = onward own.code.now.types enter (jumps_from own.code.now.types enter (bodies_of c.args.blocks.now) c.args.number) (term_of block.term) c.args.waits in
-    let less : c.lets.binding-index < length block.lets.items = rw c.deref-binding-items.ensures.value at c.lets-test.true in
-    let is = rw c.deref-binding-items.ensures.value at c.binding-item.is in
-    let did = rw (c.in-Stuck.is, c.deref.ensures.value) at c.in_ok-reached.ensures.means in
-    let whole = c.lets.invariant.same ∙ ap (onto c.args.counts) (from_is own.code.now.types enter c.args.blocks.now c.args.number (own.fuel - c.args.counts.calls) c.args.waits block (env_of c.args.env.items) c.requires.there c.index-blocks-number.is) in
-    lets_over enter block.lets.items c.lets.binding-index c.binding-item.result (own.fuel - c.lets.counts.calls) c.args.waits c.lets.counts _ (env_of c.lets.env.items) next _ tt less is did whole
+    record {
+      means = lets_over enter block.lets.items c.lets.binding-index c.binding-item.result (own.fuel - c.lets.counts.calls) c.args.waits c.lets.counts (reached_of c.in_ok-reached.reached) (env_of c.lets.env.items) next _
+          (is_over c.in_ok-reached.reached c.in_default.not-Done) less is did whole;
+      used = over_uses (Used own.fuel 257 c.args.counts) c.in_ok-reached.reached c.in_default.not-Done;
+    }
 
 pub block-returns-clause-means : goal.block-returns-clause-means
 block-returns-clause-means t c =
