@@ -4,7 +4,8 @@ use Rattle.std.specs.Prelude.{◌==◌, ◌&&◌, ◌||◌, not, codes, flat_map
 use Rattle.std.specs.Str.{bytes_eq}
 use Rattle.std.specs.List.{AllByRecursion}
 use Rattle.camelot_host.specs.Lexemes.{Lexeme, Word, Symbol, is_variable}
-use Rattle.camelot_host.specs.FirstScript.{param_lexemes, AreDistinct}
+use Rattle.camelot_values.specs.Names.{AreDistinct}
+use Rattle.camelot_host.specs.FirstScript.{param_lexemes}
 use Rattle.camelot_host.specs.Reader.{then_read, only_if, and_then, word_at, symbol_at, this_word_at, this_symbol_at, variable_at, param_at, is_among, turn_at, params_from}
 use Rattle.camelot_host.proofs.Numbers.{only_if_some, same_bytes, bytes_same, both_true}
 use Rattle.camelot_host.proofs.Cutting.{byte_is, same_byte}
@@ -156,6 +157,32 @@ neither false c h = (refl, h)
 none_of_two : (b c : Bool) → b ≡ false → c ≡ false → b || c ≡ false
 none_of_two b c h k = ap (λ x. x || c) h ∙ k
 
+-- where a name stands among others
+place_of : (xs : List (List ℕ)) (w : List ℕ) → Contains xs w → (before rest : List (List ℕ)) × (xs ≡ before ++ w ∷ rest)
+place_of [] w (k, h, e) = absurd (omega arith)
+place_of (x ∷ xs) w m = either x xs w m (λ e. ([], xs, ap (λ y. y ∷ xs) e)) (λ n. let q = place_of xs w n in (x ∷ q.0, q.1, ap (λ l. x ∷ l) q.2))
+
+stands_there : (before rest : List (List ℕ)) (w : List ℕ) → Contains (before ++ w ∷ rest) w
+stands_there [] rest w = here w rest w refl
+stands_there (y ∷ before) rest w = later y (before ++ w ∷ rest) w (stands_there before rest w)
+
+pub distinct_head : (x : List ℕ) (xs : List (List ℕ)) → AreDistinct (x ∷ xs) → Contains xs x → ⊥
+distinct_head x xs d m = let q = place_of xs x m in d x [] q.0 q.1 (ap (λ l. x ∷ l) q.2)
+
+pub distinct_rest : (x : List ℕ) (xs : List (List ℕ)) → AreDistinct (x ∷ xs) → AreDistinct xs
+distinct_rest x xs d w before between rest e = d w (x ∷ before) between rest (ap (λ l. x ∷ l) e)
+
+distinct_none : AreDistinct {A = List ℕ} []
+distinct_none w [] between rest e = absurd cc
+distinct_none w (y ∷ before) between rest e = absurd cc
+
+distinct_more : (x : List ℕ) (xs : List (List ℕ)) → (Contains xs x → ⊥) → AreDistinct xs → AreDistinct (x ∷ xs)
+distinct_more x xs other d w [] between rest e =
+    let same : w ≡ x = cc in
+    let is : xs ≡ between ++ w ∷ rest = cc in
+    absurd (other (subst (Contains xs) same (subst (λ l. Contains l w) (sym is) (stands_there between rest w))))
+distinct_more x xs other d w (y ∷ before) between rest e = let is : xs ≡ before ++ w ∷ (between ++ w ∷ rest) = cc in d w before between rest is
+
 -- each name is none of those before it
 abbrev pub AreNew : List (List ℕ) → List (List ℕ) → Type 0
 AreNew seen [] = ⊤
@@ -167,14 +194,13 @@ new_misses seen (x ∷ xs) y h m =
     either x xs y m (λ e. ap (is_among seen) (sym e) ∙ h.0) (λ t. (neither (is_among seen y) (is_among (x ∷ []) y) (sym (among-append seen (x ∷ []) y) ∙ new_misses (seen ++ (x ∷ [])) xs y h.1 t)).0)
 
 pub new_is_distinct : (seen xs : List (List ℕ)) → AreNew seen xs → AreDistinct xs
-new_is_distinct seen [] h = tt
-new_is_distinct seen (x ∷ xs) h = (
-  λ m.
+new_is_distinct seen [] h = distinct_none
+new_is_distinct seen (x ∷ xs) h = distinct_more x xs
+    (λ m.
       let missed : is_among (seen ++ (x ∷ [])) x ≡ false = new_misses (seen ++ (x ∷ [])) xs x h.1 m in
       let found : is_among (seen ++ (x ∷ [])) x ≡ true = among-append seen (x ∷ []) x ∙ or_later (is_among seen x) (is_among (x ∷ []) x) (or_first (bytes_eq x x) false (bytes_same x)) in
-      absurd cc,
-  new_is_distinct (seen ++ (x ∷ [])) xs h.1,
-)
+      absurd cc)
+    (new_is_distinct (seen ++ (x ∷ [])) xs h.1)
 
 differ : (x y : List ℕ) (t : Bool) → bytes_eq x y ≡ t → (x ≡ y → ⊥) → t ≡ false
 differ x y true e h = absurd (h (same_bytes x y e))
@@ -184,8 +210,8 @@ pub distinct_is_new : (seen xs : List (List ℕ)) → AreDistinct xs → ((y : L
 distinct_is_new seen [] d h = tt
 distinct_is_new seen (x ∷ xs) d h = (
   h x (here x xs x refl),
-  distinct_is_new (seen ++ (x ∷ [])) xs d.1 (λ y m.
-      let other : bytes_eq x y ≡ false = differ x y (bytes_eq x y) refl (λ e. d.0 (subst (Contains xs) (sym e) m)) in
+  distinct_is_new (seen ++ (x ∷ [])) xs (distinct_rest x xs d) (λ y m.
+      let other : bytes_eq x y ≡ false = differ x y (bytes_eq x y) refl (λ e. distinct_head x xs d (subst (Contains xs) (sym e) m)) in
       among-append seen (x ∷ []) y ∙ none_of_two (is_among seen y) (is_among (x ∷ []) y) (h y (later x xs y m)) (none_of_two (bytes_eq x y) false other refl)),
 )
 

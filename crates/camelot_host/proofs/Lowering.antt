@@ -7,19 +7,20 @@ use Rattle.std.specs.Int.{w32, int_wrapping_add}
 use Rattle.std.proofs.lemmas.Bool.Decides.{nat_tests}
 use Rattle.std.proofs.lemmas.Option.{slice_get-map, slice_get-get_or}
 use Rattle.std.proofs.lemmas.List.{length-replicate, length-map}
+use Rattle.camelot_values.specs.Names.{AreDistinct}
 use Rattle.camelot_values.specs.Value as value
 use Rattle.camelot_values.specs.Value.{Value}
 use Rattle.camelot_values.specs.Kinds.{DataType}
 use Rattle.camelot_values.specs.declared.kinds.Kind.TheVariants as kind
 use Rattle.camelot_values.specs.Operator.{Add, operate}
 use Rattle.camelot_values.specs.Outcome.{Outcome, Done, Stuck, after, first_then, known, given, entered}
-use Rattle.camelot_values.proofs.OutcomeLaws.{after_nothing, at_once_then, then_same}
+use Rattle.camelot_values.specs.OutcomeLaws.{after_nothing, at_once_then, then_same}
 use Rattle.grail_code.specs.Code as code
-use Rattle.grail_code.specs.Code.{Prim, Binding, Ret}
+use Rattle.grail_code.specs.Code.{Prim, Let, Ret}
 use Rattle.grail_code.specs.Meaning as grail
-use Rattle.camelot_values.specs.Runs.{Enter}
+use Rattle.camelot_values.specs.Runs.{Enter, calls}
 use Rattle.grail_code.specs.Meaning.{Locals, put, arguments, operands, lets_run}
-use Rattle.camelot_host.specs.FirstScript.{Spells, SpellFurther, IsFunctionText, AreDistinct, part_expr, sum_expr, int_param, fun_of, source_of}
+use Rattle.camelot_host.specs.FirstScript.{Spells, SpellFurther, IsFunctionText, part_expr, sum_expr, int_param, fun_of, source_of}
 use Rattle.camelot_host.specs.Lexemes.{Lexeme, Word, Symbol}
 use Rattle.camelot_tree.specs.Tree as tree
 use Rattle.camelot_tree.specs.Tree.{Term, Source}
@@ -31,7 +32,7 @@ use Rattle.camelot_host.specs.declared.function.Part.TheVariants as part
 use Rattle.camelot_host.specs.declared.function.Function.{Function}
 use Rattle.camelot_host.specs.Lowered.{MeansSame, IsSumCode, NumberFits, BindInOrder, further_lets, further_local, sum_lets, sum_local, sum_function, only}
 use Rattle.camelot_host.proofs.Numbers.{same_bytes, bytes_same}
-use Rattle.camelot_host.proofs.FunctionLaws.{here, later}
+use Rattle.camelot_host.proofs.FunctionLaws.{here, later, distinct_head, distinct_rest}
 
 -- ---- the value of a sum, where each part has one
 
@@ -39,9 +40,32 @@ abbrev part_value : Environment → List (List ℕ) → Part → Option Value
 part_value scope names (part.Parameter i) = scope (get_or names i [])
 part_value scope names (part.Number n) = Some (value.Int (pos n))
 
+-- the sum of two ints, where there are two
+abbrev both_ints : Value → Value → Option Value
+both_ints (value.Int x) (value.Int y) = Some (value.Int (int_wrapping_add w32 x y))
+both_ints u v = None
+
+abbrev added : Option Value → Option Value → Option Value
+added (Some u) (Some v) = both_ints u v
+added o q = None
+
+operate_is : (u v : Value) → operate Add u v ≡ known (both_ints u v)
+operate_is (value.Int x) (value.Int y) = refl
+operate_is (value.Int x) (value.Flag b) = refl
+operate_is (value.Int x) value.Dia = refl
+operate_is (value.Int x) (value.Con c vs) = refl
+operate_is (value.Flag b) v = refl
+operate_is value.Dia v = refl
+operate_is (value.Con c vs) v = refl
+
+operands_are : (o q : Option Value) → operands Add o q ≡ known (added o q)
+operands_are None q = refl
+operands_are (Some u) None = refl
+operands_are (Some u) (Some v) = operate_is u v
+
 abbrev sum_value : Environment → List (List ℕ) → Option Value → List Part → Option Value
 sum_value scope names o [] = o
-sum_value scope names o (p ∷ ps) = sum_value scope names (operands Add o (part_value scope names p)) ps
+sum_value scope names o (p ∷ ps) = sum_value scope names (added o (part_value scope names p)) ps
 
 sum_value-None : (scope : Environment) (names : List (List ℕ)) (ps : List Part) → sum_value scope names None ps ≡ None
 sum_value-None scope names [] = refl
@@ -53,23 +77,23 @@ eval-part : (s : Source) (enter : Enter) (names : List (List ℕ)) (p : Part) (k
 eval-part s enter names (part.Parameter i) k w t scope = refl
 eval-part s enter names (part.Number n) k w t scope = refl
 
-add_known : (k : ℕ) (o q : Option Value) → first_then k (known o) (λ rest u. first_then rest (known q) (λ last v. known (operate Add u v))) ≡ known (operands Add o q)
+add_known : (k : ℕ) (o q : Option Value) → first_then k (known o) (λ rest u. first_then rest (known q) (λ last v. operate Add u v)) ≡ known (added o q)
 add_known k None q = refl
 add_known k (Some u) None = refl
-add_known k (Some u) (Some v) = after_nothing (after 0 0 0 (known (operate Add u v))) ∙ after_nothing (known (operate Add u v))
+add_known k (Some u) (Some v) = after_nothing (after 0 0 0 (operate Add u v)) ∙ after_nothing (operate Add u v) ∙ operate_is u v
 
 eval-add : (s : Source) (enter : Enter) (names : List (List ℕ)) (e : Term) (p : Part) (o : Option Value) (w : ℕ) (scope : Environment) → ((k : ℕ) → eval s enter e k w false scope ≡ known o)
-    → (k : ℕ) (t : Bool) → eval s enter (tree.Prim Add e (part_expr (part_of names p)) 1) k w t scope ≡ known (operands Add o (part_value scope names p))
+    → (k : ℕ) (t : Bool) → eval s enter (tree.Prim Add e (part_expr (part_of names p)) 1) k w t scope ≡ known (added o (part_value scope names p))
 eval-add s enter names e p o w scope h k t =
-    ap (λ x. first_then k x (λ rest u. first_then rest (eval s enter (part_expr (part_of names p)) rest w false scope) (λ last v. known (operate Add u v)))) (h k)
-    ∙ then_same k (known o) _ (λ rest u. first_then rest (known (part_value scope names p)) (λ last v. known (operate Add u v))) (λ j u. ap (λ x. first_then j x (λ last v. known (operate Add u v))) (eval-part s enter names p j w false scope))
+    ap (λ x. first_then k x (λ rest u. first_then rest (eval s enter (part_expr (part_of names p)) rest w false scope) (λ last v. operate Add u v))) (h k)
+    ∙ then_same k (known o) _ (λ rest u. first_then rest (known (part_value scope names p)) (λ last v. operate Add u v)) (λ j u. ap (λ x. first_then j x (λ last v. operate Add u v)) (eval-part s enter names p j w false scope))
     ∙ add_known k o (part_value scope names p)
 
 eval-sum : (s : Source) (enter : Enter) (names : List (List ℕ)) (e : Term) (ps : List Part) (o : Option Value) (w : ℕ) (scope : Environment) → ((k : ℕ) (t : Bool) → eval s enter e k w t scope ≡ known o)
     → (k : ℕ) (t : Bool) → eval s enter (sum_expr e (map (part_of names) ps)) k w t scope ≡ known (sum_value scope names o ps)
 eval-sum s enter names e [] o w scope h k t = h k t
 eval-sum s enter names e (p ∷ ps) o w scope h k t =
-    eval-sum s enter names (tree.Prim Add e (part_expr (part_of names p)) 1) ps (operands Add o (part_value scope names p)) w scope (eval-add s enter names e p o w scope (λ j. h j false)) k t
+    eval-sum s enter names (tree.Prim Add e (part_expr (part_of names p)) 1) ps (added o (part_value scope names p)) w scope (eval-add s enter names e p o w scope (λ j. h j false)) k t
 
 -- ---- the locals
 
@@ -102,17 +126,17 @@ further_runs : (enter : Enter) (count : ℕ) (names : List (List ℕ)) (scope : 
     → lets_run enter (further_lets s ps n) k w env (ends enter w (further_local s ps n)) ≡ known (sum_value scope names o ps)
 further_runs enter count names scope [] s n env o k w holds sum less many known_parts = ap known sum
 further_runs enter count names scope (part.Parameter i ∷ ps) s n env o k w holds sum less many known_parts =
-    ap (λ r. first_then k (known r) (λ left v. lets_run enter (further_lets n ps (suc n)) left w (put env n v) (ends enter w (further_local n ps (suc n)))))
-    (ap (λ x. operands Add x (env i)) sum ∙ ap (operands Add o) (holds.each i known_parts.0))
-    ∙ add_runs k (operands Add o (scope (get_or names i []))) scope names ps (λ left v. lets_run enter (further_lets n ps (suc n)) left w (put env n v) (ends enter w (further_local n ps (suc n))))
+    ap (λ r. first_then k r (λ left v. lets_run enter (further_lets n ps (suc n)) left w (put env n v) (ends enter w (further_local n ps (suc n)))))
+    (ap (λ x. operands Add x (env i)) sum ∙ ap (operands Add o) (holds.each i known_parts.0) ∙ operands_are o (scope (get_or names i [])))
+    ∙ add_runs k (added o (scope (get_or names i []))) scope names ps (λ left v. lets_run enter (further_lets n ps (suc n)) left w (put env n v) (ends enter w (further_local n ps (suc n))))
     (λ v. further_runs enter count names scope ps n (suc n) (put env n v) (Some v) k w (Holds-put count names scope env n v many holds) (put-same env n v) (omega arith) (omega arith) known_parts.1)
 further_runs enter count names scope (part.Number z ∷ ps) s n env o k w holds sum less many known_parts =
     let lit : Value = value.Int (pos z) in
     let env' : Locals = put env n lit in
     at_once_then k lit (λ left v. lets_run enter (record { target = suc n; op = Prim Add s n } ∷ further_lets (suc n) ps (suc (suc n))) left w (put env n v) (ends enter w (further_local (suc n) ps (suc (suc n)))))
-    ∙ ap (λ r. first_then k (known r) (λ left v. lets_run enter (further_lets (suc n) ps (suc (suc n))) left w (put env' (suc n) v) (ends enter w (further_local (suc n) ps (suc (suc n))))))
-    (ap (λ x. operands Add x (env' n)) (put-other env n s lit less ∙ sum) ∙ ap (operands Add o) (put-same env n lit))
-    ∙ add_runs k (operands Add o (Some lit)) scope names ps (λ left v. lets_run enter (further_lets (suc n) ps (suc (suc n))) left w (put env' (suc n) v) (ends enter w (further_local (suc n) ps (suc (suc n)))))
+    ∙ ap (λ r. first_then k r (λ left v. lets_run enter (further_lets (suc n) ps (suc (suc n))) left w (put env' (suc n) v) (ends enter w (further_local (suc n) ps (suc (suc n))))))
+    (ap (λ x. operands Add x (env' n)) (put-other env n s lit less ∙ sum) ∙ ap (operands Add o) (put-same env n lit) ∙ operands_are o (Some lit))
+    ∙ add_runs k (added o (Some lit)) scope names ps (λ left v. lets_run enter (further_lets (suc n) ps (suc (suc n))) left w (put env' (suc n) v) (ends enter w (further_local (suc n) ps (suc (suc n)))))
     (λ v. further_runs enter count names scope ps (suc n) (suc (suc n)) (put env' (suc n) v) (Some v) k w (Holds-put count names scope env' (suc n) v (omega arith) (Holds-put count names scope env n lit many holds)) (put-same env' (suc n) v) (omega arith) (omega arith) known_parts.1)
 
 sum_runs : (enter : Enter) (count : ℕ) (names : List (List ℕ)) (scope : Environment) (p : Part) (ps : List Part) (env : Locals) (k w : ℕ)
@@ -162,11 +186,11 @@ others_stay env (x ∷ xs) (v ∷ vs) y h =
 arguments_hold : (env : Environment) (names : List (List ℕ)) (args : List Value) → AreDistinct names → length args ≡ length names → (i : ℕ) → i < length names → slice_get args i ≡ bind_all env names args (get_or names i [])
 arguments_hold env [] args distinct full i less = absurd (omega arith)
 arguments_hold env (x ∷ xs) [] distinct full i less = absurd (omega arith)
-arguments_hold env (x ∷ xs) (v ∷ vs) distinct full zero less = sym (others_stay (meaning.put env x v) xs vs x distinct.0 ∙ ap (λ b. if b then Some v else env x) (bytes_same x))
+arguments_hold env (x ∷ xs) (v ∷ vs) distinct full zero less = sym (others_stay (meaning.put env x v) xs vs x (distinct_head x xs distinct) ∙ ap (λ b. if b then Some v else env x) (bytes_same x))
 arguments_hold env (x ∷ xs) (v ∷ vs) distinct full (suc j) less =
     let within : j < length xs = omega arith in
     let as_many : length vs ≡ length xs = omega (arith, full) in
-    arguments_hold (meaning.put env x v) xs vs distinct.1 as_many j within
+    arguments_hold (meaning.put env x v) xs vs (distinct_rest x xs distinct) as_many j within
 
 -- ---- whole functions
 
@@ -197,7 +221,7 @@ body_runs types enter s enter' f count k w args is distinct first more =
     ∙ ap (λ o. given o body) (sym (params_bound (λ n. None) names args))
 
 -- the code of a whole function
-abbrev sum_code : List ℕ → ℕ → Part → List Part → code.Program
+abbrev sum_code : List ℕ → ℕ → Part → List Part → code.Code
 sum_code name count p ps = only (sum_function name count (sum_lets count p ps) (sum_local count p ps))
 
 run_same : (f : Function) (count limit fuel : ℕ) (args : List Value)
@@ -205,11 +229,11 @@ run_same : (f : Function) (count limit fuel : ℕ) (args : List Value)
     → grail.run_of (sum_code f.name.now count f.first f.more.items) limit 0 fuel args ≡ meaning.run_of (source_of (function_of f)) limit 0 fuel args
 run_same f count limit zero args is distinct first more = refl
 run_same f count limit (suc k) args is distinct first more =
-    let p : code.Program = sum_code f.name.now count f.first f.more.items in
+    let p : code.Code = sum_code f.name.now count f.first f.more.items in
     let s : Source = source_of (function_of f) in
-    ap entered (body_runs p.types (grail.calls p limit k) s (meaning.calls s limit k) f count k 0 args is distinct first more)
+    ap entered (body_runs p.types (calls (grail.bodies p) limit k) s (calls (meaning.bodies s) limit k) f count k 0 args is distinct first more)
 
-the_code : (f : Function) (p : code.Program) (g : code.Function) (count local : ℕ) (lets : List Binding) (more : List Part)
+the_code : (f : Function) (p : code.Code) (g : code.Func) (count local : ℕ) (lets : List Let) (more : List Part)
     → p ≡ only g → g ≡ sum_function f.name.now count lets local → lets ≡ sum_lets count f.first more → local ≡ sum_local count f.first more → more ≡ f.more.items → count ≡ vec_len f.params
     → p ≡ sum_code f.name.now (vec_len f.params) f.first f.more.items
 the_code f p g count local lets more p_is g_is lets_are local_is more_is count_is =
@@ -231,11 +255,11 @@ sum_in_order count (part.Parameter i) ps = further_in_order i count ps
 sum_in_order count (part.Number z) ps = (refl, tt, further_in_order count (suc count) ps)
 
 is_sum_code : (name : List ℕ) (count : ℕ) (p : Part) (ps : List Part) → IsSumCode (sum_code name count p ps)
-is_sum_code name count p ps = record { lets = subst (λ n. BindInOrder n (sum_lets count p ps)) (sym (length-replicate count kind.Int)) (sum_in_order count p ps); exit = tt }
+is_sum_code name count p ps = record { lets = subst (λ n. BindInOrder n (sum_lets count p ps)) (sym (length-replicate count kind.Int)) (sum_in_order count p ps); term = tt }
 
 -- ---- what lowering promises, of code that is this
 
-pub lowered_means : (f : Function) (p : code.Program) (g : code.Function) (count local : ℕ) (lets : List Binding) (more : List Part)
+pub lowered_means : (f : Function) (p : code.Code) (g : code.Func) (count local : ℕ) (lets : List Let) (more : List Part)
     → p ≡ only g → g ≡ sum_function f.name.now count lets local → lets ≡ sum_lets count f.first more → local ≡ sum_local count f.first more → more ≡ f.more.items → count ≡ vec_len f.params
     → AreDistinct (names_of f.params.items) → IsKnown (vec_len f.params) f.first → AllByRecursion (IsKnown (vec_len f.params)) f.more.items
     → MeansSame (source_of (function_of f)) p
@@ -244,7 +268,7 @@ lowered_means f p g count local lets more p_is g_is lets_are local_is more_is co
       ∙ run_same f (vec_len f.params) limit fuel args (vec_len_names f) distinct first known;
 }
 
-pub lowered_is_sum : (f : Function) (p : code.Program) (g : code.Function) (count local : ℕ) (lets : List Binding) (more : List Part)
+pub lowered_is_sum : (f : Function) (p : code.Code) (g : code.Func) (count local : ℕ) (lets : List Let) (more : List Part)
     → p ≡ only g → g ≡ sum_function f.name.now count lets local → lets ≡ sum_lets count f.first more → local ≡ sum_local count f.first more → more ≡ f.more.items → count ≡ vec_len f.params
     → IsSumCode p
 lowered_is_sum f p g count local lets more p_is g_is lets_are local_is more_is count_is =
@@ -282,7 +306,7 @@ parts_int names zs [] x distinct full known_parts = (x, refl)
 parts_int names zs (p ∷ ps) x distinct full known_parts =
     let part = part_int names zs p distinct full known_parts.0 in
     let more = parts_int names zs ps (int_wrapping_add w32 x part.0) distinct full known_parts.1 in
-    (more.0, ap (λ o. sum_value (ints_bound names zs) names (operands Add (Some (value.Int x)) o) ps) part.1 ∙ more.1)
+    (more.0, ap (λ o. sum_value (ints_bound names zs) names (added (Some (value.Int x)) o) ps) part.1 ∙ more.1)
 
 sum_int : (names : List (List ℕ)) (zs : List ℤ) (p : Part) (ps : List Part) → AreDistinct names → length zs ≡ length names → IsKnown (length names) p → AllByRecursion (IsKnown (length names)) ps
     → (z : ℤ) × (sum_value (ints_bound names zs) names (part_value (ints_bound names zs) names p) ps ≡ Some (value.Int z))
@@ -299,7 +323,7 @@ sum_is_done f zs limit zero distinct first more full some_fuel = absurd (omega a
 sum_is_done f zs limit (suc k) distinct first more full some_fuel =
     let names : List (List ℕ) = names_of f.params.items in
     let s : Source = source_of (function_of f) in
-    let enter : Enter = meaning.calls s limit k in
+    let enter : Enter = calls (meaning.bodies s) limit k in
     let vs : List Value = map value.Int zs in
     let scope : Environment = bound_to names vs in
     let body : Environment → Outcome Value = λ env. eval s enter (fun_of (function_of f)).body k 0 true env in
@@ -315,7 +339,7 @@ sum_is_done f zs limit (suc k) distinct first more full some_fuel =
     )
 
 -- so its code never sticks there
-pub never_stuck : (f : Function) (p : code.Program) (zs : List ℤ) (limit fuel : ℕ) → MeansSame (source_of (function_of f)) p
+pub never_stuck : (f : Function) (p : code.Code) (zs : List ℤ) (limit fuel : ℕ) → MeansSame (source_of (function_of f)) p
     → AreDistinct (names_of f.params.items) → IsKnown (vec_len f.params) f.first → AllByRecursion (IsKnown (vec_len f.params)) f.more.items → length zs ≡ vec_len f.params → 1 ≤ fuel
     → grail.run_of p limit 0 fuel (map value.Int zs) ≡ Stuck → ⊥
 never_stuck f p zs limit fuel means distinct first more full some_fuel stuck =

@@ -8,15 +8,15 @@ use Rattle.std.proofs.lemmas.Option.{slice_get-map}
 use Rattle.camelot_values.specs.Value.{Value, Int}
 use Rattle.camelot_values.specs.Operator.{Add}
 use Rattle.camelot_values.specs.Outcome.{Outcome, Stuck, first_then, known, entered}
-use Rattle.camelot_values.proofs.OutcomeLaws.{at_once_then}
-use Rattle.grail_code.specs.Code.{Operation, Lit, Prim, Binding, Exit, Ret, BasicBlock, Function, Program, function_of, program_of}
+use Rattle.camelot_values.specs.OutcomeLaws.{at_once_then}
+use Rattle.grail_code.specs.Code.{Op, Lit, Prim, Let, Term, Ret, Block, Func, Code, func_of, code_of}
 use Rattle.camelot_values.specs.Operator as operator
-use Rattle.camelot_values.specs.Runs.{Enter}
+use Rattle.camelot_values.specs.Runs.{Enter, calls}
 use Rattle.camelot_values.specs.Kinds.{DataType}
-use Rattle.grail_code.specs.Meaning.{Locals, Later, jump_run, put, arguments, operands, op_run, lets_run, exit_run, block_run, blocks_run, body_run, calls, run_of}
-use Rattle.grail_code.specs.declared.code.Code.{Code}
-use Rattle.grail_code.specs.declared.code.Func.{Func}
-use Rattle.camelot_host.specs.Lowered.{IsRet, IsSumOperation, BindInOrder, IsSumBlock, OnlyOne, IsSumFunction, IsSumCode, RanTo, and_then, operation_value, locals_after, exit_value, block_value, first_block_value, function_value, Gives}
+use Rattle.grail_code.specs.Meaning.{Locals, Later, jump_run, put, arguments, operands, op_run, lets_run, term_run, narrow, block_run, blocks_run, body_run, bodies, run_of}
+use Rattle.grail_code.specs.declared.code.Code.{Code as DeclaredCode}
+use Rattle.grail_code.specs.declared.code.Func.{Func as DeclaredFunc}
+use Rattle.camelot_host.specs.Lowered.{IsRet, IsSumOperation, BindInOrder, IsSumBlock, OnlyOne, IsSumFunction, IsSumCode, RanTo, and_then, operation_value, locals_after, term_value, block_value, first_block_value, function_value, Gives}
 use Rattle.camelot_host.specs.declared.runner.RunError.{RunError}
 use Rattle.camelot_host.specs.declared.runner.RunError.TheVariants as error
 
@@ -39,15 +39,15 @@ push_is_put zs z y =
 
 -- ---- the lets
 
-sum_of_two : (o q : Option ℤ) → operands Add (option_map Int o) (option_map Int q) ≡ option_map Int (and_then o (λ x. and_then q (λ y. operation_value [] (Lit (int_wrapping_add w32 x y)))))
+sum_of_two : (o q : Option ℤ) → operands Add (option_map Int o) (option_map Int q) ≡ known (option_map Int (and_then o (λ x. and_then q (λ y. operation_value [] (Lit (int_wrapping_add w32 x y))))))
 sum_of_two None q = refl
 sum_of_two (Some x) None = refl
 sum_of_two (Some x) (Some y) = refl
 
-op_value : (enter : Enter) (k w : ℕ) (zs : List ℤ) (op : Operation) → IsSumOperation op → op_run enter k w (ints zs) op ≡ known (option_map Int (operation_value zs op))
+op_value : (enter : Enter) (k w : ℕ) (zs : List ℤ) (op : Op) → IsSumOperation op → op_run enter k w (ints zs) op ≡ known (option_map Int (operation_value zs op))
 op_value enter k w zs (Lit z) h = refl
 op_value enter k w zs (Prim operator.Add x y) h =
-    ap known (ap (λ o. operands Add o (ints zs y)) (slice_get-map Int zs x) ∙ ap (operands Add (option_map Int (slice_get zs x))) (slice_get-map Int zs y) ∙ sum_of_two (slice_get zs x) (slice_get zs y))
+    ap (λ o. operands Add o (ints zs y)) (slice_get-map Int zs x) ∙ ap (operands Add (option_map Int (slice_get zs x))) (slice_get-map Int zs y) ∙ sum_of_two (slice_get zs x) (slice_get zs y)
 op_value enter k w zs op h = absurd h
 
 -- what goes on with the locals, if there are any
@@ -60,7 +60,7 @@ one_let : (o : Option ℤ) (k : ℕ) (rest : ℤ → Option (List ℤ)) (run : �
 one_let None k rest run next h = refl
 one_let (Some z) k rest run next h = at_once_then k (Int z) run ∙ h z
 
-lets_value : (enter : Enter) (bs : List Binding) (zs : List ℤ) (k w : ℕ) (next : ℕ → Locals → Outcome Value) → BindInOrder (length zs) bs
+lets_value : (enter : Enter) (bs : List Let) (zs : List ℤ) (k w : ℕ) (next : ℕ → Locals → Outcome Value) → BindInOrder (length zs) bs
     → lets_run enter bs k w (ints zs) next ≡ go_on (locals_after zs bs) (next k)
 lets_value enter [] zs k w next order = refl
 lets_value enter (b ∷ bs) zs k w next order =
@@ -75,19 +75,19 @@ lets_value enter (b ∷ bs) zs k w next order =
 
 -- ---- a block, a function, a program
 
-exit_is : (types : List DataType) (enter : Enter) (later : Later) (k w : ℕ) (exit : Exit) (zs : List ℤ) → IsRet exit → exit_run types enter later exit k w (ints zs) ≡ known (option_map Int (exit_value zs exit))
-exit_is types enter later k w (Ret x) zs is = ap known (slice_get-map Int zs x)
-exit_is types enter later k w exit zs is = absurd is
+term_is : (types : List DataType) (enter : Enter) (later : Later) (k w : ℕ) (term : Term) (zs : List ℤ) → IsRet term → term_run types enter later term k w (ints zs) ≡ known (option_map Int (term_value zs term))
+term_is types enter later k w (Ret x) zs is = ap known (slice_get-map Int zs x)
+term_is types enter later k w term zs is = absurd is
 
-end_is : (types : List DataType) (enter : Enter) (later : Later) (k w : ℕ) (exit : Exit) (o : Option (List ℤ)) → IsRet exit → go_on o (exit_run types enter later exit k w) ≡ known (option_map Int (and_then o (λ zs. exit_value zs exit)))
-end_is types enter later k w exit None is = refl
-end_is types enter later k w exit (Some zs) is = exit_is types enter later k w exit zs is
+end_is : (types : List DataType) (enter : Enter) (later : Later) (k w : ℕ) (term : Term) (o : Option (List ℤ)) → IsRet term → go_on o (term_run types enter later term k w) ≡ known (option_map Int (and_then o (λ zs. term_value zs term)))
+end_is types enter later k w term None is = refl
+end_is types enter later k w term (Some zs) is = term_is types enter later k w term zs is
 
-block_is : (types : List DataType) (enter : Enter) (later : Later) (b : BasicBlock) (k w : ℕ) (args : List ℤ) → IsSumBlock (length args) b → block_run types enter later b k w (ints args) ≡ known (option_map Int (block_value args b))
+block_is : (types : List DataType) (enter : Enter) (later : Later) (b : Block) (k w : ℕ) (args : List ℤ) → IsSumBlock (length args) b → block_run types enter later (narrow b) k w (ints args) ≡ known (option_map Int (block_value args b))
 block_is types enter later b k w args sum =
-    lets_value enter b.lets args k w (λ left last. exit_run types enter later b.exit left w last) sum.lets ∙ end_is types enter later k w b.exit (locals_after args b.lets) sum.exit
+    lets_value enter b.lets args k w (λ left last. term_run types enter later b.term left w last) sum.lets ∙ end_is types enter later k w b.term (locals_after args b.lets) sum.term
 
-blocks_are : (types : List DataType) (enter : Enter) (bs : List BasicBlock) (k w : ℕ) (args : List ℤ) → OnlyOne (IsSumBlock (length args)) bs → blocks_run types enter bs k w (ints args) ≡ known (option_map Int (first_block_value args bs))
+blocks_are : (types : List DataType) (enter : Enter) (bs : List Block) (k w : ℕ) (args : List ℤ) → OnlyOne (IsSumBlock (length args)) bs → blocks_run types enter (map narrow bs) k w (ints args) ≡ known (option_map Int (first_block_value args bs))
 blocks_are types enter [] k w args only = absurd only
 blocks_are types enter (b ∷ []) k w args only = block_is types enter (jump_run types enter 1 []) b k w args only
 blocks_are types enter (b ∷ c ∷ bs) k w args only = absurd only
@@ -99,15 +99,15 @@ if_full n m x o h = by_cases (n == m) (λ t. h (grind (arith, nat_tests)))
     by_cases true k = k refl
     by_cases false k = refl
 
-function_is : (types : List DataType) (enter : Enter) (f : Function) (k w : ℕ) (args : List ℤ) → IsSumFunction f → body_run types enter (Some f) k w (map Int args) ≡ known (option_map Int (function_value args f))
+function_is : (types : List DataType) (enter : Enter) (f : Func) (k w : ℕ) (args : List ℤ) → IsSumFunction f → body_run types enter (Some f) k w (map Int args) ≡ known (option_map Int (function_value args f))
 function_is types enter f k w args only =
-    ap (λ n. if n == length f.params then blocks_run types enter f.blocks k w (ints args) else Stuck) (length-map args Int)
-    ∙ if_full (length args) (length f.params) (blocks_run types enter f.blocks k w (ints args)) (first_block_value args f.blocks)
+    ap (λ n. if n == length f.params then blocks_run types enter (map narrow f.blocks) k w (ints args) else Stuck) (length-map args Int)
+    ∙ if_full (length args) (length f.params) (blocks_run types enter (map narrow f.blocks) k w (ints args)) (first_block_value args f.blocks)
     (λ e. blocks_are types enter f.blocks k w args (subst (λ n. OnlyOne (IsSumBlock n) f.blocks) (sym e) only))
 
-program_is : (f : Function) (p : Program) (limit k : ℕ) (args : List ℤ) → p.funcs ≡ f ∷ [] → IsSumFunction f → run_of p limit 0 (suc k) (map Int args) ≡ entered (known (option_map Int (function_value args f)))
+program_is : (f : Func) (p : Code) (limit k : ℕ) (args : List ℤ) → p.funcs ≡ f ∷ [] → IsSumFunction f → run_of p limit 0 (suc k) (map Int args) ≡ entered (known (option_map Int (function_value args f)))
 program_is f p limit k args funcs only =
-    ap entered (ap (λ fs. body_run p.types (calls p limit k) (slice_get fs 0) k 0 (map Int args)) funcs ∙ function_is p.types (calls p limit k) f k 0 args only)
+    ap entered (ap (λ fs. body_run p.types (calls (bodies p) limit k) (slice_get fs 0) k 0 (map Int args)) funcs ∙ function_is p.types (calls (bodies p) limit k) f k 0 args only)
 
 -- ---- what the call of the runner promises
 
@@ -116,16 +116,16 @@ told (Ok z) o run gives e = e ∙ ap (λ q. entered (known (option_map Int q))) 
 told (Err error.Stuck) o run gives e = e ∙ ap (λ q. entered (known (option_map Int q))) gives
 told (Err error.Memory) o run gives e = tt
 
-only_first : (P : Function → Type 0) (fs : List Func) (d : Func) → OnlyOne P (map function_of fs) → (map function_of fs ≡ function_of (get_or fs 0 d) ∷ []) × P (function_of (get_or fs 0 d))
+only_first : (P : Func → Type 0) (fs : List DeclaredFunc) (d : DeclaredFunc) → OnlyOne P (map func_of fs) → (map func_of fs ≡ func_of (get_or fs 0 d) ∷ []) × P (func_of (get_or fs 0 d))
 only_first P [] d only = absurd only
 only_first P (f ∷ []) d only = (refl, only)
 only_first P (f ∷ g ∷ fs) d only = absurd only
 
-pub run_gives : (c : Code) (f : Func) (args : List ℤ) (result : Result ℤ RunError) → IsSumCode (program_of c) → f ≡ get_or c.funcs.items 0 f
-    → Gives (λ z. z) result (function_value args (function_of f)) → (limit fuel : ℕ) → 1 ≤ fuel → RanTo result (run_of (program_of c) limit 0 fuel (map Int args))
+pub run_gives : (c : DeclaredCode) (f : DeclaredFunc) (args : List ℤ) (result : Result ℤ RunError) → IsSumCode (code_of c) → f ≡ get_or c.funcs.items 0 f
+    → Gives (λ z. z) result (function_value args (func_of f)) → (limit fuel : ℕ) → 1 ≤ fuel → RanTo result (run_of (code_of c) limit 0 fuel (map Int args))
 run_gives c f args result shape f_is gives limit zero some = absurd (omega arith)
 run_gives c f args result shape f_is gives limit (suc k) some =
     let first = only_first IsSumFunction c.funcs.items f shape in
-    let same : function_of (get_or c.funcs.items 0 f) ≡ function_of f = ap function_of (sym f_is) in
-    told result (function_value args (function_of f)) _ gives
-    (program_is (function_of f) (program_of c) limit k args (first.0 ∙ ap (λ g. g ∷ []) same) (subst IsSumFunction same first.1))
+    let same : func_of (get_or c.funcs.items 0 f) ≡ func_of f = ap func_of (sym f_is) in
+    told result (function_value args (func_of f)) _ gives
+    (program_is (func_of f) (code_of c) limit k args (first.0 ∙ ap (λ g. g ∷ []) same) (subst IsSumFunction same first.1))

@@ -4,6 +4,7 @@ use Rattle.std.specs.Fmt.{decimal, signed_decimal}
 use Rattle.std.specs.Str.Parse.{IsNumeral, digits_value}
 use Rattle.std.specs.List.{AllByRecursion}
 use Rattle.std.specs.Int.{w32}
+use Rattle.camelot_values.specs.Names.{AreDistinct}
 use Rattle.camelot_values.specs.Operator.{Add}
 use Rattle.camelot_tree.specs.declared.tree.Name.{Name}
 use Rattle.camelot_tree.specs.declared.tree.Param.{Param}
@@ -52,11 +53,6 @@ abbrev pub SpellFurther : List (List ℕ) → List Lexeme → List Part → Type
 SpellFurther params [] [] = ⊤
 SpellFurther params (Symbol s ∷ Word w ∷ rest) (p ∷ ps) = (s ≡ 43) × Spells params w p × SpellFurther params rest ps
 SpellFurther params ls ps = ⊥
-
--- no name stands twice
-abbrev pub AreDistinct : List (List ℕ) → Type 0
-AreDistinct [] = ⊤
-AreDistinct (x ∷ xs) = ¬ Contains xs x × AreDistinct xs
 
 -- the words and symbols are those of this function
 pub record IsFunctionText (ls : List Lexeme) (f : Function) : Type 0 where

@@ -1,7 +1,7 @@
 -- What the reader knows of what it reads, and of what it refuses.
 use Rattle.std.specs.Prelude.{ℕ, ◌≤◌, List, vec_len, ⊤}
 use Rattle.std.specs.List.{AllByRecursion}
-use Rattle.camelot_host.specs.FirstScript.{AreDistinct}
+use Rattle.camelot_values.specs.Names.{AreDistinct}
 use Rattle.camelot_host.specs.Read.{names_of, IsKnown}
 use Rattle.camelot_host.specs.Lowered.{NumberFits}
 use Rattle.camelot_host.specs.Answers.{IsNoFirstScript}

@@ -1,7 +1,8 @@
 ghost use Rattle.std.specs.Prelude.{◌≡◌, suc, ◌+◌, ◌*◌, ◌≤◌, ◌++◌, map, length, vec_len, IfOk, OnOk};
 ghost use Rattle.std.specs.List.{AllByRecursion, range_with_len};
-ghost use Rattle.grail_code.specs.Code.{binding_of, block_of, function_of as code_function_of, program_of};
-ghost use Rattle.camelot_host.specs.FirstScript.{AreDistinct, source_of};
+ghost use Rattle.grail_code.specs.Code.{let_of, block_of, func_of, code_of};
+ghost use Rattle.camelot_values.specs.Names.{AreDistinct};
+ghost use Rattle.camelot_host.specs.FirstScript.{source_of};
 ghost use Rattle.camelot_host.specs.Read.{names_of, IsKnown, function_of};
 ghost use Rattle.camelot_host.specs.Lowered.{MeansSame, IsSumCode, NumberFits, behind, part_local, part_lets, add_lets, sum_lets, sum_local, sum_block, sum_function, only};
 
@@ -24,7 +25,7 @@ fn part_in(lets: &mut Vec<Let>, count: usize, part: Part) -> Result<u32, AllocEr
     requires known { IsKnown count part }
     requires fits { NumberFits part }
     ensures local { IfOk result (λ local. local ≡ part_local part (count + vec_len lets.old)) }
-    ensures lets { OnOk result (map binding_of lets.new.items ≡ map binding_of lets.old.items ++ part_lets part (count + vec_len lets.old)) }
+    ensures lets { OnOk result (map let_of lets.new.items ≡ map let_of lets.old.items ++ part_lets part (count + vec_len lets.old)) }
     ensures next { OnOk result (count + vec_len lets.new ≡ behind part (count + vec_len lets.old)) }
 {
     match part {
@@ -45,7 +46,7 @@ fn add(lets: &mut Vec<Let>, count: usize, sum: u32, part: Part) -> Result<u32, A
     requires known { IsKnown count part }
     requires fits { NumberFits part }
     ensures local { IfOk result (λ local. local ≡ behind part (count + vec_len lets.old)) }
-    ensures lets { OnOk result (map binding_of lets.new.items ≡ map binding_of lets.old.items ++ add_lets sum part (count + vec_len lets.old)) }
+    ensures lets { OnOk result (map let_of lets.new.items ≡ map let_of lets.old.items ++ add_lets sum part (count + vec_len lets.old)) }
     ensures next { OnOk result (count + vec_len lets.new ≡ suc (behind part (count + vec_len lets.old))) }
 {
     let right = part_in(lets, count, part)?;
@@ -67,7 +68,7 @@ fn sum_of(alloc: Global, count: usize, first: Part, more: &[Part]) -> Result<Sum
     requires more { AllByRecursion (IsKnown count) more.now }
     requires first_fits { NumberFits first }
     requires more_fit { AllByRecursion NumberFits more.now }
-    ensures lets { IfOk result (λ sum. map binding_of sum.lets.items ≡ sum_lets count first more.now) }
+    ensures lets { IfOk result (λ sum. map let_of sum.lets.items ≡ sum_lets count first more.now) }
     ensures local { IfOk result (λ sum. sum.local ≡ sum_local count first more.now) }
     ensures few { IfOk result (λ sum. vec_len sum.lets ≤ 1 + 2 * length more.now) }
 {
@@ -96,7 +97,7 @@ fn places(alloc: Global, count: usize) -> Result<Vec<u32>, AllocError>
 fn block(alloc: Global, count: usize, sum: SumLets) -> Result<Block, AllocError>
     requires count { count ≤ 16 }
     requires few { vec_len sum.lets ≤ 240 }
-    ensures { IfOk result (λ block. block_of block ≡ sum_block count (map binding_of sum.lets.items) sum.local) }
+    ensures { IfOk result (λ block. block_of block ≡ sum_block count (map let_of sum.lets.items) sum.local) }
 {
     let params = places(alloc, count)?;
     Ok(Block {
@@ -115,7 +116,7 @@ fn whole_function(
 ) -> Result<Func, AllocError>
     requires count { count ≤ 16 }
     requires few { vec_len sum.lets ≤ 240 }
-    ensures { IfOk result (λ func. code_function_of func ≡ sum_function name.now count (map binding_of sum.lets.items) sum.local) }
+    ensures { IfOk result (λ func. func_of func ≡ sum_function name.now count (map let_of sum.lets.items) sum.local) }
 {
     let name = Word::new(Vec::from_slice(alloc, name)?);
     let params = vec![in alloc; Kind::Int; count]?;
@@ -132,7 +133,7 @@ fn whole_function(
 
 // The code of this function alone.
 fn code_of(alloc: Global, func: Func) -> Result<Code, AllocError>
-    ensures { IfOk result (λ code. program_of code ≡ only (code_function_of func)) }
+    ensures { IfOk result (λ code. code_of code ≡ only (func_of func)) }
 {
     Ok(Code {
         types: Types::new(Vec::new(alloc)),
@@ -156,8 +157,8 @@ pub(crate) fn lower(alloc: Global, function: &Function) -> Result<Code, AllocErr
     requires more_fit { AllByRecursion NumberFits function.now.more.items }
     requires few_params { vec_len function.now.params ≤ 16 }
     requires few_parts { vec_len function.now.more ≤ 100 }
-    ensures means { IfOk result (λ code. MeansSame (source_of (function_of function.now)) (program_of code)) }
-    ensures sum { IfOk result (λ code. IsSumCode (program_of code)) }
+    ensures means { IfOk result (λ code. MeansSame (source_of (function_of function.now)) (code_of code)) }
+    ensures sum { IfOk result (λ code. IsSumCode (code_of code)) }
 {
     let count = function.params.len();
     let sum = sum_of(alloc, count, function.first, &function.more)?;

@@ -1,6 +1,6 @@
 ghost use Rattle.std.specs.Prelude.{◌≡◌, ℕ, ◌≤◌, map, length};
 ghost use Rattle.camelot_values.specs.Value.{Int};
-ghost use Rattle.grail_code.specs.Code.{program_of, function_of, block_of, binding_of, operation_of};
+ghost use Rattle.grail_code.specs.Code.{code_of, func_of, block_of, let_of, op_of};
 ghost use Rattle.grail_code.specs.Meaning.{run_of};
 ghost use Rattle.camelot_host.specs.Lowered.{IsSumCode, IsSumOperation, IsSumBlock, IsSumFunction, BindInOrder, RanTo, Gives, operation_value, locals_after, block_value, function_value};
 ghost use Rattle.camelot_host.specs.declared.runner.RunError.TheVariants.{Memory};
@@ -38,8 +38,8 @@ impl<T: Drop> From<AllocFailed<T>> for RunError {
 
 // The int that a let of a sum binds, if its operands are known.
 fn operation(locals: &[i32], op: &Op) -> Option<i32>
-    requires { IsSumOperation (operation_of op.now) }
-    ensures { result ≡ operation_value locals.now (operation_of op.now) }
+    requires { IsSumOperation (op_of op.now) }
+    ensures { result ≡ operation_value locals.now (op_of op.now) }
 {
     match op {
         Op::Lit(number) => Some(*number),
@@ -58,8 +58,8 @@ fn operation(locals: &[i32], op: &Op) -> Option<i32>
 
 // The arguments and then what the lets bind, in order.
 fn all_locals(alloc: Global, args: &[i32], lets: &[Let]) -> Result<Vec<i32>, RunError>
-    requires { BindInOrder (length args.now) (map binding_of lets.now) }
-    ensures { Gives (λ locals. locals.items) result (locals_after args.now (map binding_of lets.now)) }
+    requires { BindInOrder (length args.now) (map let_of lets.now) }
+    ensures { Gives (λ locals. locals.items) result (locals_after args.now (map let_of lets.now)) }
 {
     let mut locals = Vec::from_slice(alloc, args)?;
     'lets: for binding in lets {
@@ -83,8 +83,8 @@ fn block_result(alloc: Global, args: &[i32], block: &Block) -> Result<i32, RunEr
 
 // What the function returns.
 fn function_result(alloc: Global, args: &[i32], func: &Func) -> Result<i32, RunError>
-    requires { IsSumFunction (function_of func.now) }
-    ensures { Gives (λ value. value) result (function_value args.now (function_of func.now)) }
+    requires { IsSumFunction (func_of func.now) }
+    ensures { Gives (λ value. value) result (function_value args.now (func_of func.now)) }
 {
     if args.len() != func.params.len() {
         return Err(RunError::Stuck);
@@ -97,10 +97,9 @@ fn function_result(alloc: Global, args: &[i32], func: &Func) -> Result<i32, RunE
 /// # Errors
 ///
 /// `Stuck` where the code has no meaning on these arguments, and `Memory` where there is no memory for the locals.
-#[tactic(auto, using(crate::proofs::Running::run_gives))]
 pub(crate) fn run(alloc: Global, code: &Code, args: &[i32]) -> Result<i32, RunError>
-    requires { IsSumCode (program_of code.now) }
-    ensures { (limit fuel : ℕ) → 1 ≤ fuel → RanTo result (run_of (program_of code.now) limit 0 fuel (map Int args.now)) }
+    requires { IsSumCode (code_of code.now) }
+    ensures { (limit fuel : ℕ) → 1 ≤ fuel → RanTo result (run_of (code_of code.now) limit 0 fuel (map Int args.now)) }
 {
     function_result(alloc, args, &code.funcs[0])
 }

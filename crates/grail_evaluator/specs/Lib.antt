@@ -2,3 +2,4 @@
 pub mod Trees
 pub mod Locals
 pub mod Outcomes
+pub mod Ends

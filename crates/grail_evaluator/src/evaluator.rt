@@ -1,484 +1,377 @@
-ghost use Rattle.std.specs.Prelude.{◌≡◌, suc, ◌+◌, ◌<◌, ◌≤◌, cond, true, ◌∷◌, IfOk, Some, length, map, slice_get};
+ghost use Rattle.std.specs.Prelude.{◌≡◌, ℕ, ◌+◌, ◌*◌, ◌-◌, ◌<◌, ◌≤◌, true, false, IfOk, OnOk, MatchOption, Some, None, length, map, slice_get, vec_len};
 ghost use Rattle.std.specs.Option.{option_map};
+ghost use Rattle.camelot_values.specs.Outcome.{given};
+ghost use Rattle.camelot_values.specs.Runs.{Enter};
 ghost use Rattle.grail_code.specs.Code.{code_of, func_of, block_of, let_of, op_of, term_of, arm_of};
-ghost use Rattle.grail_code.specs.Meaning.{entering, op_run, lets_run, term_run, block_run, blocks_run, body_run, jump_run, run_of, cell_run, case_run, values_of};
-ghost use Rattle.camelot_values.specs.Outcome.{after, given};
-ghost use Rattle.camelot_values.specs.Runs.{is_too_deep};
+ghost use Rattle.grail_code.specs.Meaning.{Later, narrowed, op_run, term_run, case_run, cell_run, body_run, blocks_run, from_block, jumps_from, run_of};
 ghost use Rattle.grail_evaluator.specs.Trees.{plain, plain_all};
 ghost use Rattle.grail_evaluator.specs.Locals.{env_of};
-ghost use Rattle.grail_evaluator.specs.Outcomes.{Sees, onward, outcome_of};
-ghost use Rattle.grail_evaluator.specs.declared.evaluator.RunError.TheVariants.{Memory};
+ghost use Rattle.grail_evaluator.specs.Outcomes.{Tells};
+ghost use Rattle.grail_evaluator.specs.declared.outcome.Reached.TheVariants as reached;
+ghost use Rattle.grail_evaluator.specs.declared.ends.Ending.TheVariants as ending;
+ghost use Rattle.grail_evaluator.specs.declared.ends.BlockEnd.TheVariants as end;
+ghost use Rattle.grail_evaluator.specs.Ends.{reached_of, onto, calls_in, bodies_of, ending_run, end_run, most_cells, cells_a_call, Used, Stepped, OnReached, OnEnding, OnEnd};
 
+use super::counts::Counts;
+use super::ends::{BlockEnd, Ending};
 use super::locals::{Bound, arguments, bind, bind_all, narrow, values};
+use super::outcome::{Outcome, Reached, RunError, told};
 use super::steps::{a_diamond, arm_for, at_once, build, copied, flag_of, matched_at, operate};
 use super::tree::Tree;
-use grail_code::meaning::law_of_clock;
-use grail_code::{Block, CaseArm, CaseCell, Code, Func, Let, Op, Term};
-use std::alloc::{AllocError, AllocFailed, Global};
-use thiserror::Error;
+use grail_code::{Block, CaseArm, CaseCell, Code, Func, Op, Term};
+use std::alloc::{AllocError, Global};
 
-/// What a run comes to.
-#[derive(Debug, PartialEq, Drop)]
-pub enum Outcome {
-    /// A value; how many functions were entered; the peak of cells taken from the free list; and how far the net number
-    /// of cells ends below the peak.
-    Done {
-        value: Tree,
-        calls: u64,
-        peak: u64,
-        low: u64,
-    },
-    /// A call found no fuel left.
-    Fuel {
-        calls: u64,
-        peak: u64,
-    },
-    /// A call found as many calls waiting as may wait.
-    Deep {
-        peak: u64,
-    },
-    /// The code has no meaning on these arguments.
-    Stuck,
-}
-
-/// Why a run wasn't carried to its end.
-#[derive(Clone, Copy, Debug, PartialEq, Eq, Error)]
-pub enum RunError {
-    /// A count passed 64 bits.
-    #[error("a count is too large")]
-    Large,
-    /// There was no memory.
-    #[error("out of memory")]
-    Memory,
-}
-
-impl From<AllocError> for RunError {
-    ghost from_gives = { λ _ e. e ≡ Memory };
-
-    fn from(_error: AllocError) -> RunError {
-        RunError::Memory
-    }
-}
-
-impl<T: Drop> From<AllocFailed<T>> for RunError {
-    ghost from_gives = { λ _ e. e ≡ Memory };
-
-    fn from(_error: AllocFailed<T>) -> RunError {
-        RunError::Memory
-    }
-}
-
-// The outcome after a part of the run that came to a value with so many calls, this peak and this distance below it.
-fn behind(calls: u64, peak: u64, low: u64, outcome: Outcome) -> Result<Outcome, RunError>
-    ensures { Sees result (after calls peak low (outcome_of outcome)) }
-{
-    match outcome {
-        Outcome::Done {
-            value,
-            calls: more,
-            peak: next,
-            low: fall,
-        } => Ok(Outcome::Done {
-            value,
-            calls: sum(calls, more)?,
-            peak: sum(peak, next.saturating_sub(low))?,
-            low: sum(fall, low.saturating_sub(next))?,
-        }),
-        Outcome::Fuel {
-            calls: more,
-            peak: next,
-        } => Ok(Outcome::Fuel {
-            calls: sum(calls, more)?,
-            peak: sum(peak, next.saturating_sub(low))?,
-        }),
-        Outcome::Deep { peak: next } => Ok(Outcome::Deep {
-            peak: sum(peak, next.saturating_sub(low))?,
-        }),
-        Outcome::Stuck => Ok(Outcome::Stuck),
-    }
-}
-
-// Whether the call is one too many to wait.
-fn is_deep(limit: u64, waits: u64, tail: bool) -> bool
-    ensures { result ≡ is_too_deep limit waits tail }
-{
-    !tail && waits == limit
-}
-
-// How many calls wait in a function that is called so.
-fn waits_behind(waits: u64, tail: bool) -> Result<u64, RunError>
-    ensures { IfOk result (λ more. more ≡ cond tail waits (suc waits)) }
-{
-    if tail { Ok(waits) } else { sum(waits, 1) }
-}
-
-// The blocks of a function, of which there are at most 256.
-fn blocks_of(func: &Func) -> &[Block]
-    ensures blocks { result.now ≡ func.now.blocks.items }
-    ensures few { length result.now ≤ 256 }
-{
-    &func.blocks
-}
-
-// A sum of counts.
-fn sum(left: u64, right: u64) -> Result<u64, RunError>
-    ensures { IfOk result (λ total. total ≡ left + right) }
-{
-    left.checked_add(right).ok_or(RunError::Large)
-}
-
-// A run: the code, and how many calls may wait.
+// A run: the code, how many calls may wait, and the fuel of the whole run.
 #[derive(Drop)]
 struct Evaluator<'a> {
     alloc: Global,
     code: &'a Code,
     limit: u64,
+    fuel: u64,
 }
 
 impl Evaluator<'_> {
-    // A call of the function on these arguments.
+    // A function and those that it calls in tail position, where so many calls wait.
     #[cycle(run)]
-    #[tactic(auto, using(crate::proofs::CallLaws::call_is))]
-    fn call(
+    fn calls(
         &self,
-        fuel: u64,
+        mut counts: Counts,
         waits: u64,
-        tail: bool,
-        func: u32,
-        args: Vec<Tree>,
-    ) -> Result<Outcome, RunError>
-        ensures { Sees result (entering (code_of self.now.code.now) self.now.limit fuel waits tail func (plain_all args.items)) }
+        mut func: u32,
+        mut args: Vec<Tree>,
+    ) -> Result<Reached, AllocError>
+        requires calls { counts.calls ≤ self.now.fuel }
+        requires room { counts.peak + counts.low + cells_a_call * self.now.fuel ≤ most_cells + cells_a_call * counts.calls }
+        requires waits { waits ≤ self.now.limit }
+        ensures means { IfOk result (λ reached. reached_of reached ≡ onto counts (calls_in self.now.code.now self.now.limit (self.now.fuel - counts.calls) waits true func (plain_all args.items))) }
+        ensures used { IfOk result (OnReached (Used self.now.fuel 0 counts)) }
     {
-        law_of_clock();
-        if fuel == 0 {
-            return Ok(Outcome::Fuel { calls: 0, peak: 0 });
+        'calls: loop {
+            if counts.calls == self.fuel {
+                return Ok(Reached::Fuel(counts));
+            }
+            let ending = self.body(counts.entered(self.fuel), waits, func, args)?;
+            match ending {
+                Ending::Over(reached) => return Ok(reached),
+                Ending::Tail {
+                    counts: used,
+                    func: next,
+                    args: handed,
+                } => {
+                    counts = used;
+                    func = next;
+                    args = handed;
+                }
+            }
         }
-        if is_deep(self.limit, waits, tail) {
-            return Ok(Outcome::Deep { peak: 0 });
-        }
-        let waits = waits_behind(waits, tail)?;
-        let outcome = self.body(fuel - 1, waits, func, args)?;
-        behind(1, 0, 0, outcome)
     }
 
     // The body of the function of this number on these arguments.
     #[cycle(run)]
-    #[tactic(auto, using(crate::proofs::CallLaws::body_is, crate::proofs::CallLaws::no_body))]
-    fn body(&self, fuel: u64, waits: u64, func: u32, args: Vec<Tree>) -> Result<Outcome, RunError>
-        ensures { Sees result (body_run (code_of self.now.code.now).types (entering (code_of self.now.code.now) self.now.limit) (slice_get (map func_of self.now.code.now.funcs.items) func) fuel waits (plain_all args.items)) }
+    fn body(
+        &self,
+        counts: Counts,
+        waits: u64,
+        func: u32,
+        args: Vec<Tree>,
+    ) -> Result<Ending, AllocError>
+        requires calls { counts.calls ≤ self.now.fuel }
+        requires room { counts.peak + counts.low + cells_a_call + cells_a_call * self.now.fuel ≤ most_cells + cells_a_call * counts.calls }
+        requires waits { waits ≤ self.now.limit }
+        ensures means { IfOk result (λ ending. ending_run (calls_in self.now.code.now self.now.limit) self.now.fuel waits ending
+            ≡ onto counts (body_run self.now.code.now.types (calls_in self.now.code.now self.now.limit) (slice_get (map func_of self.now.code.now.funcs.items) func) (self.now.fuel - counts.calls) waits (plain_all args.items))) }
+        ensures used { IfOk result (OnEnding (Used self.now.fuel cells_a_call counts)) }
     {
         match self.code.funcs.get(func as usize) {
-            Some(func) => self.function(fuel, waits, func, args),
-            None => Ok(Outcome::Stuck),
+            Some(func) => self.function(counts, waits, func, args),
+            None => Ok(Ending::Over(Reached::Stuck)),
         }
     }
 
     // The body of the function on these arguments.
     #[cycle(run)]
-    #[tactic(auto, using(crate::proofs::CallLaws::function_is, crate::proofs::CallLaws::other_count))]
     fn function(
         &self,
-        fuel: u64,
+        counts: Counts,
         waits: u64,
         func: &Func,
         args: Vec<Tree>,
-    ) -> Result<Outcome, RunError>
-        ensures { Sees result (body_run (code_of self.now.code.now).types (entering (code_of self.now.code.now) self.now.limit) (Some (func_of func.now)) fuel waits (plain_all args.items)) }
+    ) -> Result<Ending, AllocError>
+        requires calls { counts.calls ≤ self.now.fuel }
+        requires room { counts.peak + counts.low + cells_a_call + cells_a_call * self.now.fuel ≤ most_cells + cells_a_call * counts.calls }
+        requires waits { waits ≤ self.now.limit }
+        ensures means { IfOk result (λ ending. ending_run (calls_in self.now.code.now self.now.limit) self.now.fuel waits ending
+            ≡ onto counts (body_run self.now.code.now.types (calls_in self.now.code.now self.now.limit) (Some (func_of func.now)) (self.now.fuel - counts.calls) waits (plain_all args.items))) }
+        ensures used { IfOk result (OnEnding (Used self.now.fuel cells_a_call counts)) }
     {
         if args.len() != func.params.len() {
-            return Ok(Outcome::Stuck);
+            return Ok(Ending::Over(Reached::Stuck));
         }
         let env = arguments(self.alloc, args)?;
-        self.blocks(fuel, waits, env, blocks_of(func))
+        self.blocks(counts, waits, &func.blocks, env)
     }
 
-    // These blocks, from the first on.
+    // The blocks of a function, from the first one on.
     #[cycle(run)]
     fn blocks(
         &self,
-        fuel: u64,
+        mut counts: Counts,
         waits: u64,
-        env: Vec<Bound>,
         blocks: &[Block],
-    ) -> Result<Outcome, RunError>
-        requires { length blocks.now ≤ 256 }
-        ensures { Sees result (blocks_run (code_of self.now.code.now).types (entering (code_of self.now.code.now) self.now.limit) (map block_of blocks.now) fuel waits (env_of env.items)) }
+        mut env: Vec<Bound>,
+    ) -> Result<Ending, AllocError>
+        requires some { 1 ≤ length blocks.now }
+        requires few { length blocks.now ≤ 256 }
+        requires calls { counts.calls ≤ self.now.fuel }
+        requires room { counts.peak + counts.low + cells_a_call + cells_a_call * self.now.fuel ≤ most_cells + cells_a_call * counts.calls }
+        requires waits { waits ≤ self.now.limit }
+        ensures means { IfOk result (λ ending. ending_run (calls_in self.now.code.now self.now.limit) self.now.fuel waits ending
+            ≡ onto counts (blocks_run self.now.code.now.types (calls_in self.now.code.now self.now.limit) (bodies_of blocks.now) (self.now.fuel - counts.calls) waits (env_of env.items))) }
+        ensures used { IfOk result (OnEnding (Used self.now.fuel cells_a_call counts)) }
     {
-        match blocks {
-            [] => Ok(Outcome::Stuck),
-            [block, later @ ..] => self.block(fuel, waits, env, block, 1, later),
+        let mut number = 0;
+        'blocks: loop {
+            let end = self.block(counts, waits, blocks, number, env)?;
+            match end {
+                BlockEnd::Leaves(ending) => return Ok(ending),
+                BlockEnd::Jumps {
+                    counts: used,
+                    target,
+                    env: bound,
+                } => {
+                    let handed = self.handed(blocks, number, target as usize, &bound)?;
+                    match handed {
+                        Some(next) => {
+                            counts = used;
+                            number = target as usize;
+                            env = next;
+                        }
+                        None => return Ok(Ending::Over(Reached::Stuck)),
+                    }
+                }
+            }
         }
+    }
+
+    // What a jump to this block hands on; a jump goes to a later block.
+    fn handed(
+        &self,
+        blocks: &[Block],
+        number: usize,
+        target: usize,
+        env: &[Bound],
+    ) -> Result<Option<Vec<Bound>>, AllocError>
+        ensures { IfOk result (λ handed. MatchOption handed (number < target → target < length blocks.now → ⊥)
+            (λ next. (number < target) × (target < length blocks.now) × (option_map (λ block. narrowed block.params.items (env_of env.now)) (slice_get blocks.now target) ≡ Some (env_of next.items)))) }
+    {
+        if target <= number || target >= blocks.len() {
+            return Ok(None);
+        }
+        let next = narrow(self.alloc, env, &blocks[target].params)?;
+        Ok(Some(next))
     }
 
     // A block: its lets and its end.
     #[cycle(run)]
-    #[tactic(auto, unfolding(crate::specs::Outcomes::onward))]
     fn block(
         &self,
-        fuel: u64,
+        mut counts: Counts,
         waits: u64,
-        env: Vec<Bound>,
-        block: &Block,
-        first: u64,
-        later: &[Block],
-    ) -> Result<Outcome, RunError>
-        requires { first + length later.now ≤ 256 }
-        ensures { Sees result (block_run (code_of self.now.code.now).types (entering (code_of self.now.code.now) self.now.limit) (jump_run (code_of self.now.code.now).types (entering (code_of self.now.code.now) self.now.limit) first (map block_of later.now)) (block_of block.now) fuel waits (env_of env.items)) }
-    {
-        self.lets(fuel, waits, env, &block.lets, &block.term, first, later)
-    }
-
-    // These lets and the end of their block.
-    #[cycle(run)]
-    fn lets(
-        &self,
-        fuel: u64,
-        waits: u64,
+        blocks: &[Block],
+        number: usize,
         mut env: Vec<Bound>,
-        lets: &[Let],
-        term: &Term,
-        first: u64,
-        later: &[Block],
-    ) -> Result<Outcome, RunError>
-        requires blocks { first + length later.now ≤ 256 }
-        requires lets { length lets.now ≤ 256 }
-        ensures { Sees result (lets_run (entering (code_of self.now.code.now) self.now.limit) (map let_of lets.now) fuel waits (env_of env.items) (onward (code_of self.now.code.now).types (entering (code_of self.now.code.now) self.now.limit) (jump_run (code_of self.now.code.now).types (entering (code_of self.now.code.now) self.now.limit) first (map block_of later.now)) (term_of term.now) waits)) }
+    ) -> Result<BlockEnd, AllocError>
+        requires there { number < length blocks.now }
+        requires calls { counts.calls ≤ self.now.fuel }
+        requires room { counts.peak + counts.low + 257 + cells_a_call * self.now.fuel ≤ most_cells + cells_a_call * counts.calls }
+        requires waits { waits ≤ self.now.limit }
+        ensures means { IfOk result (λ end. end_run (calls_in self.now.code.now self.now.limit) (jumps_from self.now.code.now.types (calls_in self.now.code.now self.now.limit) (bodies_of blocks.now) number) self.now.fuel waits end
+            ≡ onto counts (from_block self.now.code.now.types (calls_in self.now.code.now self.now.limit) (bodies_of blocks.now) number (self.now.fuel - counts.calls) waits (env_of env.items))) }
+        ensures used { IfOk result (OnEnd (Used self.now.fuel 257 counts)) }
     {
-        match lets {
-            [] => self.onward(fuel, waits, env, term, first, later),
-            [binding, more @ ..] => self.one_let(
-                fuel, waits, env, binding, more, term, first, later,
-            ),
-        }
-    }
-
-    // This let, those behind it, and the end of their block.
-    #[cycle(run)]
-    #[tactic(auto, using(crate::proofs::CallLaws::let_is, crate::proofs::CallLaws::let_stops))]
-    fn one_let(
-        &self,
-        fuel: u64,
-        waits: u64,
-        mut env: Vec<Bound>,
-        binding: &Let,
-        more: &[Let],
-        term: &Term,
-        first: u64,
-        later: &[Block],
-    ) -> Result<Outcome, RunError>
-        requires blocks { first + length later.now ≤ 256 }
-        requires lets { length more.now ≤ 255 }
-        ensures { Sees result (lets_run (entering (code_of self.now.code.now) self.now.limit) (let_of binding.now ∷ map let_of more.now) fuel waits (env_of env.items) (onward (code_of self.now.code.now).types (entering (code_of self.now.code.now) self.now.limit) (jump_run (code_of self.now.code.now).types (entering (code_of self.now.code.now) self.now.limit) first (map block_of later.now)) (term_of term.now) waits)) }
-    {
-        let outcome = self.operation(fuel, waits, &env, &binding.op)?;
-        match outcome {
-            Outcome::Done {
-                value,
-                calls,
-                peak,
-                low,
-            } => {
-                bind(&mut env, binding.target, value)?;
-                let left = fuel.saturating_sub(calls);
-                let outcome = self.lets(left, waits, env, more, term, first, later)?;
-                behind(calls, peak, low, outcome)
+        let block = &blocks[number];
+        'lets: for binding in &block.lets {
+            let reached = self.operation(counts, waits, &env, &binding.op)?;
+            match reached {
+                Reached::Done {
+                    value,
+                    counts: used,
+                } => {
+                    bind(&mut env, binding.target, value)?;
+                    counts = used;
+                }
+                over => return Ok(BlockEnd::Leaves(Ending::Over(over))),
             }
-            Outcome::Fuel { calls, peak } => Ok(Outcome::Fuel { calls, peak }),
-            Outcome::Deep { peak } => Ok(Outcome::Deep { peak }),
-            Outcome::Stuck => Ok(Outcome::Stuck),
         }
+        self.exit(counts, env, &block.term)
     }
 
     // What a let binds.
     #[cycle(run)]
-    fn operation(&self, fuel: u64, waits: u64, env: &[Bound], op: &Op) -> Result<Outcome, RunError>
-        ensures { Sees result (op_run (entering (code_of self.now.code.now) self.now.limit) fuel waits (env_of env.now) (op_of op.now)) }
+    fn operation(
+        &self,
+        counts: Counts,
+        waits: u64,
+        env: &[Bound],
+        op: &Op,
+    ) -> Result<Reached, AllocError>
+        requires calls { counts.calls ≤ self.now.fuel }
+        requires room { counts.peak + counts.low + 1 + cells_a_call * self.now.fuel ≤ most_cells + cells_a_call * counts.calls }
+        requires waits { waits ≤ self.now.limit }
+        ensures means { IfOk result (λ reached. reached_of reached ≡ onto counts (op_run (calls_in self.now.code.now self.now.limit) (self.now.fuel - counts.calls) waits (env_of env.now) (op_of op.now))) }
+        ensures used { IfOk result (OnReached (Used self.now.fuel 1 counts)) }
     {
         match op {
-            Op::Lit(number) => Ok(at_once(Tree::Int(*number))),
-            Op::Flag(truth) => Ok(at_once(Tree::Flag(*truth))),
-            Op::Copy(local) => copied(self.alloc, env, *local),
-            Op::Prim { op, left, right } => Ok(operate(env, *op, *left, *right)),
+            Op::Lit(number) => Ok(at_once(counts, Tree::Int(*number))),
+            Op::Flag(truth) => Ok(at_once(counts, Tree::Flag(*truth))),
+            Op::Copy(local) => copied(self.alloc, counts, env, *local),
+            Op::Prim { op, left, right } => Ok(operate(counts, env, *op, *left, *right)),
             Op::Make { con, args, place } => match values(self.alloc, env, args)? {
-                Some(args) => Ok(build(env, *con, args, *place)),
-                None => Ok(Outcome::Stuck),
+                Some(args) => Ok(build(counts, env, *con, args, *place)),
+                None => Ok(Reached::Stuck),
             },
             Op::Call { func, args } => match values(self.alloc, env, args)? {
-                Some(args) => self.call(fuel, waits, false, *func, args),
-                None => Ok(Outcome::Stuck),
+                Some(args) => self.call(counts, waits, *func, args),
+                None => Ok(Reached::Stuck),
             },
         }
     }
 
-    // What follows the lets of a block.
+    // A call that isn't in tail position, so that it waits.
     #[cycle(run)]
-    #[tactic(auto, unfolding(crate::specs::Outcomes::onward))]
-    fn onward(
+    fn call(
         &self,
-        fuel: u64,
+        counts: Counts,
         waits: u64,
-        env: Vec<Bound>,
-        term: &Term,
-        first: u64,
-        later: &[Block],
-    ) -> Result<Outcome, RunError>
-        requires { first + length later.now ≤ 256 }
-        ensures { Sees result (onward (code_of self.now.code.now).types (entering (code_of self.now.code.now) self.now.limit) (jump_run (code_of self.now.code.now).types (entering (code_of self.now.code.now) self.now.limit) first (map block_of later.now)) (term_of term.now) waits fuel (env_of env.items)) }
+        func: u32,
+        args: Vec<Tree>,
+    ) -> Result<Reached, AllocError>
+        requires calls { counts.calls ≤ self.now.fuel }
+        requires room { counts.peak + counts.low + cells_a_call * self.now.fuel ≤ most_cells + cells_a_call * counts.calls }
+        requires waits { waits ≤ self.now.limit }
+        ensures means { IfOk result (λ reached. reached_of reached ≡ onto counts (calls_in self.now.code.now self.now.limit (self.now.fuel - counts.calls) waits false func (plain_all args.items))) }
+        ensures used { IfOk result (OnReached (Used self.now.fuel 0 counts)) }
     {
-        self.exit(fuel, waits, env, term, first, later)
+        if counts.calls == self.fuel {
+            return Ok(Reached::Fuel(counts));
+        }
+        if waits == self.limit {
+            return Ok(Reached::Deep(counts));
+        }
+        self.calls(counts, waits + 1, func, args)
     }
 
     // The end of a block.
-    #[cycle(run)]
-    fn exit(
-        &self,
-        fuel: u64,
-        waits: u64,
-        env: Vec<Bound>,
-        term: &Term,
-        first: u64,
-        later: &[Block],
-    ) -> Result<Outcome, RunError>
-        requires { first + length later.now ≤ 256 }
-        ensures { Sees result (term_run (code_of self.now.code.now).types (entering (code_of self.now.code.now) self.now.limit) (jump_run (code_of self.now.code.now).types (entering (code_of self.now.code.now) self.now.limit) first (map block_of later.now)) (term_of term.now) fuel waits (env_of env.items)) }
+    fn exit(&self, counts: Counts, env: Vec<Bound>, term: &Term) -> Result<BlockEnd, AllocError>
+        requires { counts.low ≤ most_cells }
+        ensures means { (enter : Enter) (later : Later) (fuel waits : ℕ) → IfOk result (λ end. end_run enter later fuel waits end
+            ≡ onto counts (term_run self.now.code.now.types enter later (term_of term.now) (fuel - counts.calls) waits (env_of env.items))) }
+        ensures used { IfOk result (OnEnd (Stepped 1 counts)) }
     {
         match term {
-            Term::Ret(local) => copied(self.alloc, &env, *local),
-            Term::Tail { func, args } => self.tail_call(fuel, waits, &env, *func, args),
-            Term::Goto(target) => self.jump(fuel, waits, env, *target, first, later),
-            Term::If { cond, yes, no } => match flag_of(&env, *cond) {
-                Some(true) => self.jump(fuel, waits, env, *yes, first, later),
-                Some(false) => self.jump(fuel, waits, env, *no, first, later),
-                None => Ok(Outcome::Stuck),
+            Term::Ret(local) => {
+                let reached = copied(self.alloc, counts, &env, *local)?;
+                Ok(BlockEnd::Leaves(Ending::Over(reached)))
+            }
+            Term::Tail { func, args } => match values(self.alloc, &env, args)? {
+                Some(args) => Ok(BlockEnd::Leaves(Ending::Tail {
+                    counts,
+                    func: *func,
+                    args,
+                })),
+                None => Ok(stuck()),
             },
-            Term::Case { on, arms } => self.case(fuel, waits, env, *on, arms, first, later),
-        }
-    }
-
-    // A call in tail position.
-    #[cycle(run)]
-    fn tail_call(
-        &self,
-        fuel: u64,
-        waits: u64,
-        env: &[Bound],
-        func: u32,
-        args: &[u32],
-    ) -> Result<Outcome, RunError>
-        ensures { Sees result (given (values_of (env_of env.now) args.now) (λ vs. entering (code_of self.now.code.now) self.now.limit fuel waits true func vs)) }
-    {
-        match values(self.alloc, env, args)? {
-            Some(args) => self.call(fuel, waits, true, func, args),
-            None => Ok(Outcome::Stuck),
+            Term::Goto(target) => Ok(BlockEnd::Jumps {
+                counts,
+                target: *target,
+                env,
+            }),
+            Term::If { cond, yes, no } => match flag_of(&env, *cond) {
+                Some(true) => Ok(BlockEnd::Jumps {
+                    counts,
+                    target: *yes,
+                    env,
+                }),
+                Some(false) => Ok(BlockEnd::Jumps {
+                    counts,
+                    target: *no,
+                    env,
+                }),
+                None => Ok(stuck()),
+            },
+            Term::Case { on, arms } => self.case(counts, env, *on, arms),
         }
     }
 
     // The arm of the constructor in this local.
-    #[cycle(run)]
     fn case(
         &self,
-        fuel: u64,
-        waits: u64,
+        counts: Counts,
         mut env: Vec<Bound>,
         on: u32,
         arms: &[CaseArm],
-        first: u64,
-        later: &[Block],
-    ) -> Result<Outcome, RunError>
-        requires { first + length later.now ≤ 256 }
-        ensures { Sees result (given (env_of env.items on) (λ v. case_run (code_of self.now.code.now).types (jump_run (code_of self.now.code.now).types (entering (code_of self.now.code.now) self.now.limit) first (map block_of later.now)) v (map arm_of arms.now) fuel waits (env_of env.items))) }
+    ) -> Result<BlockEnd, AllocError>
+        requires { counts.low ≤ most_cells }
+        ensures means { (enter : Enter) (later : Later) (fuel waits : ℕ) → IfOk result (λ end. end_run enter later fuel waits end
+            ≡ onto counts (given (env_of env.items on) (λ v. case_run self.now.code.now.types later v (map arm_of arms.now) (fuel - counts.calls) waits (env_of env.items)))) }
+        ensures used { IfOk result (OnEnd (Stepped 1 counts)) }
     {
         let Some(matched) = matched_at(self.alloc, &env, on)? else {
-            return Ok(Outcome::Stuck);
+            return Ok(stuck());
         };
         let Some(arm) = arm_for(&self.code.types, arms, matched.con) else {
-            return Ok(Outcome::Stuck);
+            return Ok(stuck());
         };
         if !bind_all(self.alloc, &mut env, &arm.fields, &matched.parts)? {
-            return Ok(Outcome::Stuck);
+            return Ok(stuck());
         }
-        self.arm(fuel, waits, env, arm, first, later)
+        take(counts, env, arm)
     }
+}
 
-    // An arm whose fields are bound: what becomes of the cell, and then its block.
-    #[cycle(run)]
-    #[tactic(auto, using(crate::proofs::CallLaws::kept_arm))]
-    fn arm(
-        &self,
-        fuel: u64,
-        waits: u64,
-        mut env: Vec<Bound>,
-        arm: &CaseArm,
-        first: u64,
-        later: &[Block],
-    ) -> Result<Outcome, RunError>
-        requires { first + length later.now ≤ 256 }
-        ensures { Sees result (cell_run arm.now.cell (env_of env.items) (λ last. jump_run (code_of self.now.code.now).types (entering (code_of self.now.code.now) self.now.limit) first (map block_of later.now) arm.now.target fuel waits last)) }
-    {
-        match arm.cell {
-            CaseCell::Inline => self.jump(fuel, waits, env, arm.target, first, later),
-            CaseCell::Free => {
-                let outcome = self.jump(fuel, waits, env, arm.target, first, later)?;
-                behind(0, 0, 1, outcome)
-            }
-            CaseCell::Keep(diamond) => {
-                bind(&mut env, diamond, a_diamond())?;
-                self.jump(fuel, waits, env, arm.target, first, later)
-            }
-        }
-    }
+// The code has no meaning here.
+fn stuck() -> BlockEnd
+    ensures { result ≡ end.Leaves (ending.Over reached.Stuck) }
+{
+    BlockEnd::Leaves(Ending::Over(Reached::Stuck))
+}
 
-    // A jump to the block of this number.
-    #[cycle(run)]
-    fn jump(
-        &self,
-        fuel: u64,
-        waits: u64,
-        env: Vec<Bound>,
-        target: u32,
-        first: u64,
-        later: &[Block],
-    ) -> Result<Outcome, RunError>
-        requires { first + length later.now ≤ 256 }
-        ensures { Sees result (jump_run (code_of self.now.code.now).types (entering (code_of self.now.code.now) self.now.limit) first (map block_of later.now) target fuel waits (env_of env.items)) }
-    {
-        match later {
-            [] => Ok(Outcome::Stuck),
-            [block, rest @ ..] => self.jump_over(fuel, waits, env, target, first, block, rest),
-        }
-    }
-
-    // A jump to this block or to one behind it.
-    #[cycle(run)]
-    #[tactic(auto, using(crate::proofs::CallLaws::jump_here, crate::proofs::CallLaws::jump_on))]
-    fn jump_over(
-        &self,
-        fuel: u64,
-        waits: u64,
-        env: Vec<Bound>,
-        target: u32,
-        first: u64,
-        block: &Block,
-        rest: &[Block],
-    ) -> Result<Outcome, RunError>
-        requires { first + length rest.now < 256 }
-        ensures { Sees result (jump_run (code_of self.now.code.now).types (entering (code_of self.now.code.now) self.now.limit) first (block_of block.now ∷ map block_of rest.now) target fuel waits (env_of env.items)) }
-    {
-        if target as u64 == first {
-            let env = narrow(self.alloc, &env, &block.params)?;
-            self.block(fuel, waits, env, block, first + 1, rest)
-        } else {
-            self.jump(fuel, waits, env, target, first + 1, rest)
+// An arm whose fields are bound: what becomes of the cell, and then its block.
+fn take(counts: Counts, mut env: Vec<Bound>, arm: &CaseArm) -> Result<BlockEnd, AllocError>
+    requires { counts.low ≤ most_cells }
+    ensures means { (enter : Enter) (later : Later) (fuel waits : ℕ) → IfOk result (λ end. end_run enter later fuel waits end
+        ≡ onto counts (cell_run arm.now.cell (env_of env.items) (λ last. later arm.now.target (fuel - counts.calls) waits last))) }
+    ensures used { IfOk result (OnEnd (Stepped 1 counts)) }
+{
+    match arm.cell {
+        CaseCell::Inline => Ok(BlockEnd::Jumps {
+            counts,
+            target: arm.target,
+            env,
+        }),
+        CaseCell::Free => Ok(BlockEnd::Jumps {
+            counts: counts.given(),
+            target: arm.target,
+            env,
+        }),
+        CaseCell::Keep(diamond) => {
+            bind(&mut env, diamond, a_diamond())?;
+            Ok(BlockEnd::Jumps {
+                counts,
+                target: arm.target,
+                env,
+            })
         }
     }
 }
 
 /// What the function of this number comes to on these arguments, with so much fuel and where so many calls may wait.
-/// It copies values as it goes and is slow, and recurses for every call and jump, so that the stack bounds the calls that it can follow.
+/// It copies values as it goes and is slow. Jumps and calls in tail position are turns of loops; a call that waits is a call here, so that
+/// the stack bounds how many of them can wait.
 ///
 /// # Errors
 ///
-/// [`RunError::Large`] where a count passes 64 bits, and [`RunError::Memory`] where there is no memory.
+/// [`RunError::Large`] just where the outcome has a count of more than 64 bits, and [`RunError::Memory`] where there is no memory.
 pub fn run(
     alloc: Global,
     code: &Code,
@@ -487,7 +380,14 @@ pub fn run(
     fuel: u64,
     args: Vec<Tree>,
 ) -> Result<Outcome, RunError>
-    ensures { Sees result (run_of (code_of code.now) limit func fuel (plain_all args.items)) }
+    ensures { Tells result (run_of (code_of code.now) limit func fuel (plain_all args.items)) }
 {
-    Evaluator { alloc, code, limit }.call(fuel, 0, true, func, args)
+    let evaluator = Evaluator {
+        alloc,
+        code,
+        limit,
+        fuel,
+    };
+    let reached = evaluator.calls(Counts::none(), 0, func, args)?;
+    told(reached)
 }

@@ -3,10 +3,14 @@
 //! run on cells, by the machine.
 #![tactic(auto)]
 
+mod counts;
+mod ends;
 mod evaluator;
 mod locals;
+mod outcome;
 mod steps;
 mod tree;
 
-pub use evaluator::{Outcome, RunError, run};
+pub use evaluator::run;
+pub use outcome::{Outcome, RunError};
 pub use tree::Tree;

@@ -1,21 +1,22 @@
-ghost use Rattle.std.specs.Prelude.{◌≡◌, IfOk, MatchOption, Some, map};
+ghost use Rattle.std.specs.Prelude.{◌≡◌, ℕ, ◌-◌, ◌≤◌, IfOk, MatchOption, Some, map};
 ghost use Rattle.std.specs.Option.{option_map};
 ghost use Rattle.camelot_values.specs.Kinds.{place_of};
 ghost use Rattle.camelot_values.specs.Value.{Con, Dia, parts};
 ghost use Rattle.camelot_values.specs.Operator.{on_ints};
-ghost use Rattle.camelot_values.specs.Outcome.{known};
+ghost use Rattle.camelot_values.specs.Outcome.{at_once, known};
 ghost use Rattle.grail_code.specs.Code.{arm_of, operator_of};
 ghost use Rattle.grail_code.specs.Meaning.{arm_at, built, operands};
 ghost use Rattle.grail_evaluator.specs.Trees.{plain, plain_all};
 ghost use Rattle.grail_evaluator.specs.Locals.{env_of};
-ghost use Rattle.grail_evaluator.specs.Outcomes.{outcome_of, Sees, int_at, flag_at, IsDiamond, IsNoCon};
+ghost use Rattle.grail_evaluator.specs.Ends.{reached_of, onto, most_cells, Stepped, OnReached, int_at, flag_at, IsDiamond, IsNoCon};
 
-use super::evaluator::{Outcome, RunError};
+use super::counts::Counts;
 use super::locals::{Bound, value_of};
+use super::outcome::Reached;
 use super::tree::Tree;
 use camelot_values::Types;
 use grail_code::{CaseArm, Place, PrimCode};
-use std::alloc::Global;
+use std::alloc::{AllocError, Global};
 
 /// A diamond.
 pub(crate) fn a_diamond() -> Tree
@@ -25,20 +26,17 @@ pub(crate) fn a_diamond() -> Tree
 }
 
 /// A value at no cost.
-pub(crate) fn at_once(value: Tree) -> Outcome
-    ensures { outcome_of result ≡ known (Some (plain value)) }
+#[tactic(auto, using(crate::proofs::StepLaws::onto_once))]
+pub(crate) fn at_once(counts: Counts, value: Tree) -> Reached
+    ensures means { reached_of result ≡ onto counts (at_once (plain value)) }
+    ensures used { OnReached (Stepped 0 counts) result }
 {
-    Outcome::Done {
-        value,
-        calls: 0,
-        peak: 0,
-        low: 0,
-    }
+    Reached::Done { value, counts }
 }
 
 // What the operator makes of two ints.
 fn on_ints(op: PrimCode, left: i32, right: i32) -> Tree
-    ensures { plain result ≡ on_ints (operator_of op) left right }
+    ensures { at_once (plain result) ≡ on_ints (operator_of op) left right }
 {
     match op {
         PrimCode::Add => Tree::Int(left.wrapping_add(right)),
@@ -85,49 +83,65 @@ fn is_diamond(env: &[Bound], local: u32) -> bool
 
 /// An operator on two locals.
 #[tactic(auto, using(crate::proofs::StepLaws::no_left, crate::proofs::StepLaws::no_right, crate::proofs::StepLaws::both))]
-pub(crate) fn operate(env: &[Bound], op: PrimCode, left: u32, right: u32) -> Outcome
-    ensures { outcome_of result ≡ known (operands (operator_of op) (env_of env.now left) (env_of env.now right)) }
+pub(crate) fn operate(counts: Counts, env: &[Bound], op: PrimCode, left: u32, right: u32) -> Reached
+    ensures means { reached_of result ≡ onto counts (operands (operator_of op) (env_of env.now left) (env_of env.now right)) }
+    ensures used { OnReached (Stepped 0 counts) result }
 {
     match int_of(env, left) {
         Some(left) => match int_of(env, right) {
-            Some(right) => at_once(on_ints(op, left, right)),
-            None => Outcome::Stuck,
+            Some(right) => at_once(counts, on_ints(op, left, right)),
+            None => Reached::Stuck,
         },
-        None => Outcome::Stuck,
+        None => Reached::Stuck,
     }
 }
 
 /// A constructor's value, in no cell, in a new one or in that of a diamond.
-#[tactic(auto, using(crate::proofs::StepLaws::in_diamond, crate::proofs::StepLaws::no_diamond))]
-pub(crate) fn build(env: &[Bound], con: u32, args: Vec<Tree>, place: Place) -> Outcome
-    ensures { outcome_of result ≡ built con (plain_all args.items) place (env_of env.now) }
+#[tactic(auto, using(crate::proofs::StepLaws::in_new, crate::proofs::StepLaws::in_diamond, crate::proofs::StepLaws::no_diamond))]
+pub(crate) fn build(
+    counts: Counts,
+    env: &[Bound],
+    con: u32,
+    args: Vec<Tree>,
+    place: Place,
+) -> Reached
+    requires { counts.peak ≤ most_cells }
+    ensures means { reached_of result ≡ onto counts (built con (plain_all args.items) place (env_of env.now)) }
+    ensures used { OnReached (Stepped 1 counts) result }
 {
     let value = Tree::Con { con, parts: args };
     match place {
-        Place::Inline => at_once(value),
-        Place::New => Outcome::Done {
+        Place::Inline => at_once(counts, value),
+        Place::New => Reached::Done {
             value,
-            calls: 0,
-            peak: 1,
-            low: 0,
+            counts: counts.taken(),
         },
         Place::Reuse(diamond) => {
             if is_diamond(env, diamond) {
-                at_once(value)
+                at_once(counts, value)
             } else {
-                Outcome::Stuck
+                Reached::Stuck
             }
         }
     }
 }
 
 /// The value of a local.
-pub(crate) fn copied(alloc: Global, env: &[Bound], local: u32) -> Result<Outcome, RunError>
-    ensures { Sees result (known (env_of env.now local)) }
+pub(crate) fn copied(
+    alloc: Global,
+    counts: Counts,
+    env: &[Bound],
+    local: u32,
+) -> Result<Reached, AllocError>
+    ensures means { IfOk result (λ reached. reached_of reached ≡ onto counts (known (env_of env.now local))) }
+    ensures used { IfOk result (OnReached (Stepped 0 counts)) }
 {
     match value_of(env, local) {
-        Some(value) => Ok(at_once(value.copy(alloc)?)),
-        None => Ok(Outcome::Stuck),
+        Some(value) => {
+            let value = value.copy(alloc)?;
+            Ok(at_once(counts, value))
+        }
+        None => Ok(Reached::Stuck),
     }
 }
 
@@ -143,7 +157,7 @@ pub(crate) fn matched_at(
     alloc: Global,
     env: &[Bound],
     local: u32,
-) -> Result<Option<Matched>, RunError>
+) -> Result<Option<Matched>, AllocError>
     ensures { IfOk result (λ found. MatchOption found (IsNoCon (env_of env.now local)) (λ m. env_of env.now local ≡ Some (Con m.con (parts (plain_all m.parts.items))))) }
 {
     match value_of(env, local) {
