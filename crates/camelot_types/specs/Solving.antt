@@ -15,7 +15,8 @@ use Rattle.camelot_values.specs.Names.{find}
 use Rattle.camelot_typing.specs.Kinds.{Head, Globals, Scope, bind, constructor_number, fields_of, is_inline, head_of, bound_names, arm_scope}
 use Rattle.camelot_typing.specs.Typing.{params_scope}
 use Rattle.camelot_typing.specs.Typed.{FunctionKinds}
-use Rattle.camelot_types.specs.Walk.{Step, Must, Same, kind_name, line_of, con_guess, has_cell, cons_of_type}
+use Rattle.camelot_types.specs.Walk.{Step, Must, Same, kind_name, line_of, con_guess, cons_of_type}
+use Rattle.camelot_tree.specs.Cells.{has_cell}
 use Rattle.camelot_types.specs.declared.fault.TypeFault.{TypeFault}
 use Rattle.camelot_types.specs.declared.fault.TypeFault.TheVariants.{UnknownName, Duplicate, Arity, Clash, MissingArm, RepeatedArm, PlaceOnInline}
 use Rattle.camelot_types.specs.declared.guess.Guess.{Guess}

@@ -20,6 +20,7 @@ use Rattle.camelot_tree.specs.Tree as tree
 use Rattle.camelot_values.specs.Names.{find}
 use Rattle.camelot_typing.specs.Kinds.{Head, Globals, Scope, bind, or_else, kind_of_atom, types_of, constructor_number, fields_of, is_inline, built_kind, numbers_of, head_of, bound_names, arm_scope, atom_of}
 use Rattle.camelot_typing.specs.Typing.{params_scope}
+use Rattle.camelot_tree.specs.Cells.{has_cell}
 use Rattle.camelot_types.specs.declared.fault.TypeFault.{TypeFault}
 use Rattle.camelot_types.specs.declared.fault.TypeFault.TheVariants.{UnknownName, UnknownType, Duplicate, Arity, Clash, MissingArm, RepeatedArm, TooManyFields, PlaceOnInline, TooMany}
 use Rattle.camelot_types.specs.declared.guess.Guess.{Guess}
@@ -165,9 +166,10 @@ line_of (Match e as' l) = l
 line_of (Build c es place) = c.line
 line_of (Call f es) = f.line
 
-abbrev pub count : Terms → ℕ
-count NoTerms = 0
-count (AndTerm e es) = suc (count es)
+-- how many arguments there are
+abbrev pub argument_count : Terms → ℕ
+argument_count NoTerms = 0
+argument_count (AndTerm e es) = suc (argument_count es)
 
 abbrev pub guess : Globals Guess → Scope Guess → Term → Guess
 guess g s e = atom_of Known g s e
@@ -190,19 +192,14 @@ place_same s (Some d) = Same (or_else (find s d.word) (Known kind.Int)) (Known k
 abbrev pub build_steps : Globals Guess → Scope Guess → Name → Terms → Option Name → Option ℕ → List Step
 build_steps g s c es place None = Must false (UnknownName c.word c.line) ∷ []
 build_steps g s c es place (Some con) =
-    Must (count es == length (fields_of g.types con)) (Arity c.word (count es) (length (fields_of g.types con)) c.line)
+    Must (argument_count es == length (fields_of g.types con)) (Arity c.word (argument_count es) (length (fields_of g.types con)) c.line)
     ∷ Must (not (is_inline g.types con) || not (is_some place)) (PlaceOnInline c.word c.line)
     ∷ (place_known s place ++ (same_steps g s es (map Known (fields_of g.types con)) ++ place_same s place))
 
 -- a call, behind its arguments
 abbrev pub call_steps : Globals Guess → Scope Guess → Name → Terms → Option (Head Guess) → List Step
 call_steps g s f es None = Must false (UnknownName f.word f.line) ∷ []
-call_steps g s f es (Some h) = Must (count es == length h.params) (Arity f.word (count es) (length h.params) f.line) ∷ same_steps g s es h.params
-
--- an `@` stands in an arm
-abbrev pub has_cell : ArmCell → Bool
-has_cell cell.Plain = false
-has_cell x = true
+call_steps g s f es (Some h) = Must (argument_count es == length h.params) (Arity f.word (argument_count es) (length h.params) f.line) ∷ same_steps g s es h.params
 
 -- the guess for a constructor's values
 abbrev pub con_guess : List DataType → ℕ → Guess

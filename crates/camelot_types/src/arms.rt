@@ -3,7 +3,8 @@
 ghost use Rattle.std.specs.Prelude.{◌≡◌, ◌++◌, map, OnOk, IfOk, IfErr, Some};
 ghost use Rattle.camelot_typing.specs.Kinds.{field_names, cell_names, bound_names, bind_fields, bind_cell, arm_scope, constructor_number};
 ghost use Rattle.camelot_types.specs.Tables.{globals_view};
-ghost use Rattle.camelot_types.specs.Walk.{has_cell, cons_of_type};
+ghost use Rattle.camelot_types.specs.Walk.{cons_of_type};
+ghost use Rattle.camelot_tree.specs.Cells.{has_cell};
 ghost use Rattle.camelot_types.specs.Solving.{Stops, headed, missing_checked};
 ghost use Rattle.camelot_types.specs.Doing.{StopsWith, Allows, Leaves};
 ghost use Rattle.camelot_values.specs.Kinds.{constructor_name};

@@ -36,7 +36,7 @@ fn operator_kind(op: PrimOp) -> Kind
 impl<'a> Walker<'a> {
     /// An expression.
     #[cycle(walk)]
-    #[tactic(auto, using(crate::proofs::Looping::unwound_begins, crate::proofs::Looping::leaf_stops, camelot_tree::proofs::SpineLaws::none_larger))]
+    #[tactic(auto, using(crate::proofs::Looping::unwound_begins, crate::proofs::Looping::leaf_stops, camelot_tree::specs::SpineLaws::none_larger))]
     pub(crate) fn expr(&mut self, globals: &Globals<'_>, expr: &'a Expr) -> Result<Guess, TypeFault>
         ensures found { Finds (walk (globals_view globals.now) self.old.scope (work_of self.old) (term_of expr.now)) (work_of self.new) result }
         ensures scope { OnOk result (self.new.scope ≡ self.old.scope) }

@@ -1,7 +1,7 @@
 use Rattle.std.proofs.Common.{◌≡◌, ◌+◌, ◌≤◌, [], ◌++◌, map, length, drop, refl, sym, ap, ◌∙◌, subst, arith, None}
 use Rattle.camelot_tree.specs.Tree.{Term, Prim, If, Match, Build, Arms, term_of, branch_of, operator_of, terms, arms}
 use Rattle.camelot_tree.specs.Spine.{size, terms_size, arms_size}
-use Rattle.camelot_tree.proofs.SpineLaws.{leaf_smaller, argument_smaller, arm_smaller}
+use Rattle.camelot_tree.specs.SpineLaws.{leaf_smaller, argument_smaller, arm_smaller}
 use Rattle.linear_use.specs.Flow.{flow, all_flow, all_next, kinds_in, cell_flow}
 use Rattle.linear_use.specs.Walk.{globals_in, first_of, AreAt, Walked, WalksParts, kinds_at, all_kinds_at, arms_kinds_at}
 use Rattle.linear_use.proofs.Walking.{Tells, err_walks, with_scope, with_spent, with_end, at_front}
