@@ -17,7 +17,8 @@ use Rattle.camelot_types.specs.Walk.{Step, Same, Choice, under, HasFault, few, t
 use Rattle.camelot_types.specs.Solving.{Walked, Goes, Stops, and_then, looked_up, made_same, run, Work, body_walked, Bodies, bodies_on, closed, settled, settled_funs, fresh, unknowns}
 use Rattle.camelot_types.specs.Declaring.{types_checked, headers_checked}
 use Rattle.camelot_typing.specs.Settled.{KindsSettled}
-use Rattle.camelot_types.specs.Checked.{bodies_walked, program_walked, HasCause, KindsLeft}
+use Rattle.camelot_types.specs.Checked.{bodies_walked, program_walked, KindsLeft}
+use Rattle.camelot_types.specs.Walk.{HasCause}
 use Rattle.camelot_types.specs.Doing.{StopsWith}
 use Rattle.camelot_types.proofs.Unifying.{IsWithin, Respects, Ran, run_ran, run_finds, fault_runs, runs_on, choice_of, choice_respects, choice_forced, IsFresh, append_run, get_past, AllWithin}
 use Rattle.camelot_types.proofs.Choosing.{head_under}

@@ -1,3 +1,4 @@
+-- Private: words for functions of this crate.
 -- What private functions do: the steps of the walk, done one by one over a table of what is known of each unknown. An unknown
 -- stands in the table for itself until an equality gives it a kind or another unknown.
 use Rattle.std.specs.Prelude.{ℕ, zero, suc, ◌+◌, ◌==◌, ◌||◌, not, Bool, true, false, if◌then◌else◌, List, [], ◌∷◌, ◌++◌, map, length, Option, Some, None, is_some, get_or}

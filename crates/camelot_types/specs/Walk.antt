@@ -1,8 +1,9 @@
+-- Cited by contracts.
 -- The check of types as a walk through the program's text: a list of steps in their order. A step is a test, with the fault where it
 -- fails, or two atoms that have to be the same. The atom of a parameter or a result that isn't written is an unknown, which has a
 -- number; what is known so far of an atom is a guess. An equality fails where the earlier steps hold for some choice of the
 -- unknowns, and with it for none (unification in the manner of Milner 1978, over atoms). The first step that fails is the fault.
-use Rattle.std.specs.Prelude.{◌≡◌, ℕ, suc, ◌+◌, nat_le, ◌==◌, ◌||◌, not, Bool, true, false, List, [], ◌∷◌, ◌++◌, map, flat_map, length, slice_get, Option, Some, None, is_some, codes}
+use Rattle.std.specs.Prelude.{◌≡◌, ℕ, suc, ◌+◌, nat_le, ◌==◌, ◌||◌, not, Bool, true, false, List, [], ◌∷◌, ◌++◌, map, flat_map, length, slice_get, Option, Some, None, is_some, codes, ⊤}
 use Rattle.std.specs.List.{AllByRecursion, list_any}
 use Rattle.std.specs.Option.{option_map_or}
 use Rattle.camelot_values.specs.Names.{stands}
@@ -22,7 +23,7 @@ use Rattle.camelot_typing.specs.Kinds.{Head, Globals, Scope, bind, or_else, kind
 use Rattle.camelot_typing.specs.Typing.{params_scope}
 use Rattle.camelot_tree.specs.Cells.{has_cell}
 use Rattle.camelot_types.specs.declared.fault.TypeFault.{TypeFault}
-use Rattle.camelot_types.specs.declared.fault.TypeFault.TheVariants.{UnknownName, UnknownType, Duplicate, Arity, Clash, MissingArm, RepeatedArm, TooManyFields, PlaceOnInline, TooMany}
+use Rattle.camelot_types.specs.declared.fault.TypeFault.TheVariants.{UnknownName, UnknownType, Duplicate, Arity, Clash, MissingArm, RepeatedArm, TooManyFields, PlaceOnInline, TooMany, Memory}
 use Rattle.camelot_types.specs.declared.guess.Guess.{Guess}
 use Rattle.camelot_types.specs.declared.guess.Guess.TheVariants.{Known, Unknown}
 
@@ -291,3 +292,8 @@ program_steps p =
 -- the first fault of a program
 abbrev pub HasFault : Source → TypeFault → Type 0
 HasFault p fault = IsFirstFault (types_of p) (program_steps p) fault
+
+-- want of memory has no cause in the program
+abbrev pub HasCause : Source → TypeFault → Type 0
+HasCause p Memory = ⊤
+HasCause p fault = HasFault p fault

@@ -8,7 +8,8 @@ ghost use Rattle.camelot_typing.specs.Typed.{typing_kinds, functions_kinds};
 ghost use Rattle.camelot_typing.specs.TypedPrograms.{typing_of};
 ghost use Rattle.camelot_typing.specs.Settled.{KindsSettled};
 ghost use Rattle.camelot_types.specs.Walk.{HasFault};
-ghost use Rattle.camelot_types.specs.Checked.{HasCause, BodiesChecked, Checks};
+ghost use Rattle.camelot_types.specs.Checked.{BodiesChecked, Checks};
+ghost use Rattle.camelot_types.specs.Walk.{HasCause};
 ghost use Rattle.camelot_types.specs.declared.fault.TypeFault.{TypeFault};
 ghost use Rattle.camelot_types.specs.declared.fault.TypeFault.TheVariants.{Memory};
 

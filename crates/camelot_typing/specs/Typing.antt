@@ -1,3 +1,4 @@
+-- Cited by contracts.
 -- Typed programs: some choice of one kind for each parameter, result, local and expression obeys the rules of ML's typing (Milner
 -- 1978) without type parameters, in the monomorphic form of LFPL (Hofmann 2000). The check makes kinds equal one by one; this
 -- definition has no order.

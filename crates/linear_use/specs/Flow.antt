@@ -1,3 +1,4 @@
+-- Cited by contracts.
 -- The check of uses as a walk in text order. An expression is a flow of uses of heap variables: one after the other, or one of two
 -- ways. Each variable that is bound gets a number of its own. A use of a variable that some way up to it used before is a fault, and
 -- so is an arm of a boxed constructor without `@` and a parameter that is marked `read`. The first fault in text order is answered.

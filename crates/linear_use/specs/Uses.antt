@@ -1,3 +1,4 @@
+-- Cited by contracts.
 -- The affine rule of LFPL (Hofmann 2000): every variable of a heap kind is used at most once on each path through its scope. Uses
 -- are added over parts that are all evaluated, and the greatest is taken over branches and arms. The check keeps a list of spent
 -- variables on a walk; this definition counts.

@@ -6,7 +6,7 @@ use Rattle.camelot_typing.specs.Typed.{functions_kinds, typing_kinds}
 use Rattle.camelot_typing.specs.TypedPrograms.{typing_of}
 use Rattle.camelot_typing.specs.Settled.{KindsSettled}
 use Rattle.camelot_types.specs.Walk.{HasFault}
-use Rattle.camelot_types.specs.Checked.{HasCause}
+use Rattle.camelot_types.specs.Walk.{HasCause}
 use Rattle.camelot_types.specs.declared.fault.TypeFault.{TypeFault}
 use Rattle.camelot_types.specs.declared.fault.TypeFault.TheVariants.{Memory}
 use Rattle.camelot_types.proofs.program.check.Goals as goal
