@@ -1,41 +1,104 @@
--- Names in a set, and their numbers.
-use Rattle.std.proofs.Common.{◌≡◌, ℕ, suc, ◌+◌, Bool, true, false, cond, List, [], ◌∷◌, map, length, nat_lt, position, Option, Some, None, refl, ap, ◌∙◌, Bor, arith}
-use Rattle.std.specs.Prelude.{not, ◌||◌}
-use Rattle.std.specs.List.{list_any, position_or_len}
+-- Names in a table, and their places.
+use Rattle.std.proofs.Common.{◌≡◌, ℕ, zero, suc, ◌<◌, Bool, true, false, cond, List, [], ◌∷◌, ◌++◌, map, length, Option, Some, None, IfSome, Result, Ok, Err, is_ok, OnErr, refl, sym, ap, subst, ◌∙◌, Bor, arith}
+use Rattle.std.specs.Prelude.{not, ◌||◌, is_some, if◌then◌else◌, IsTrue}
 use Rattle.std.specs.Option.{option_map}
+use Rattle.std.specs.BTreeMap.{BTreeMap, UpdatesBy}
+use Rattle.std.specs.Map.{update}
 use Rattle.std.specs.Str.{bytes_eq}
-use Rattle.std.specs.Cmp.Lexicographic.{nat_list_eq_equiv}
-use Rattle.std.proofs.lemmas.Bool.Decides.{nat_tests}
+use Rattle.std.specs.Cmp.Lexicographic.{slice_cmp, nat_list_eq_equiv, bytes_decides}
+use Rattle.std.specs.Ordering.{nat_cmp}
+use Rattle.std.proofs.lemmas.Map.Text.{btree_map_updates_str}
+use Rattle.std.proofs.lemmas.List.{map-append, length-map}
 use Rattle.camelot_values.specs.Names.{stands, place_among}
+use Rattle.camelot_names.specs.Kept.{at_name, ArePlaces}
 
-stands_among : (words : List (Bor (List ℕ))) (name : List ℕ) → list_any (λ word. bytes_eq name word.now) words ≡ stands (map (λ word. word.now) words) name
-stands_among [] name = refl
-stands_among (w ∷ ws) name = ap (λ b. bytes_eq name w.now || b) (stands_among ws name)
-
-pub added_is : (b : Bool) (words : List (Bor (List ℕ))) (name : List ℕ) → b ≡ not (list_any (λ word. bytes_eq name word.now) words) → b ≡ not (stands (map (λ word. word.now) words) name)
-added_is b words name h = h ∙ ap not (stands_among words name)
-
--- ---- numbers
-
-position_more : {X : Type 0} (p : X → Bool) (x : X) (xs : List X) → position p (x ∷ xs) ≡ cond (p x) (Some 0) (option_map suc (position p xs))
-position_more p x xs = by (p x)
+-- a name stands where it has a place
+stands_placed : (ws : List (List ℕ)) (name : List ℕ) → is_some (place_among ws name) ≡ stands ws name
+stands_placed [] name = refl
+stands_placed (w ∷ ws) name = by (bytes_eq w name) (bytes_eq name w) (nat_list_eq_equiv.symm w name) (place_among ws name) (stands ws name) (stands_placed ws name)
   where
-    one_on : (b : Bool) (q : ℕ) → cond b (Some (1 + q)) None ≡ option_map suc (cond b (Some q) None)
-    one_on true q = let e : 1 + q ≡ suc q = omega arith in ap Some e
-    one_on false q = refl
+    by : (a b : Bool) → a ≡ b → (o : Option ℕ) (c : Bool) → is_some o ≡ c → is_some (if a then Some 0 else option_map suc o) ≡ (b || c)
+    by true true e o c h = refl
+    by true false e o c h = absurd cc
+    by false true e o c h = absurd cc
+    by false false e None c h = h
+    by false false e (Some i) c h = h
 
-    by : (b : Bool) → (let i = cond (not b) (1 + position_or_len p xs) 0 in cond (nat_lt i (suc (length xs))) (Some i) None) ≡ cond b (Some 0) (option_map suc (position p xs))
-    by true = let e : nat_lt 0 (suc (length xs)) ≡ true = grind (arith, nat_tests) in ap (λ c. cond c (Some 0) None) e
-    by false =
-        let e : nat_lt (1 + position_or_len p xs) (suc (length xs)) ≡ nat_lt (position_or_len p xs) (length xs) = grind (arith, nat_tests) in
-        ap (λ c. cond c (Some (1 + position_or_len p xs)) None) e ∙ one_on (nat_lt (position_or_len p xs) (length xs)) (position_or_len p xs)
+pub stands_is : (b : Bool) (places : BTreeMap (Bor (List ℕ)) ℕ) (ws : List (List ℕ)) (name : List ℕ) → ArePlaces places ws → b ≡ is_some (at_name places name) → b ≡ stands ws name
+stands_is b places ws name kept h = h ∙ ap is_some (kept name) ∙ stands_placed ws name
 
-place_in : (words : List (Bor (List ℕ))) (name : List ℕ) → position (λ word. bytes_eq name word.now) words ≡ place_among (map (λ word. word.now) words) name
-place_in [] name = refl
-place_in (w ∷ ws) name =
-    position_more (λ word. bytes_eq name word.now) w ws
-    ∙ ap (λ b. cond b (Some 0) (option_map suc (position (λ word. bytes_eq name word.now) ws))) (nat_list_eq_equiv.symm name w.now)
-    ∙ ap (λ o. cond (bytes_eq w.now name) (Some 0) (option_map suc o)) (place_in ws name)
+pub not_new : (b : Bool) (places : BTreeMap (Bor (List ℕ)) ℕ) (ws : List (List ℕ)) (name : List ℕ) → ArePlaces places ws → b ≡ is_some (at_name places name) → b ≡ true → false ≡ not (stands ws name)
+not_new b places ws name kept h t = sym (ap not (sym (stands_is b places ws name kept h) ∙ t))
 
-pub place_is : (o : Option ℕ) (words : List (Bor (List ℕ))) (name : List ℕ) → o ≡ position (λ word. bytes_eq name word.now) words → o ≡ place_among (map (λ word. word.now) words) name
-place_is o words name h = h ∙ place_in words name
+pub is_new : (b : Bool) (places : BTreeMap (Bor (List ℕ)) ℕ) (ws : List (List ℕ)) (name : List ℕ) → ArePlaces places ws → b ≡ is_some (at_name places name) → b ≡ false → true ≡ not (stands ws name)
+is_new b places ws name kept h t = sym (ap not (sym (stands_is b places ws name kept h) ∙ t))
+
+pub refused_new : {A E : Type 0} (r : Result A E) (b : Bool) (places : BTreeMap (Bor (List ℕ)) ℕ) (ws : List (List ℕ)) (name : List ℕ) → ArePlaces places ws → b ≡ is_some (at_name places name) → b ≡ false
+    → OnErr r (IsTrue (not (stands ws name)))
+refused_new (Ok x) b places ws name kept h t = tt
+refused_new (Err e) b places ws name kept h t = sym (is_new b places ws name kept h t)
+
+-- ---- a new name gets the next place
+
+unplaced : (ws : List (List ℕ)) (name : List ℕ) → stands ws name ≡ false → place_among ws name ≡ None
+unplaced ws name h = by (place_among ws name) (stands_placed ws name ∙ h)
+  where
+    by : (o : Option ℕ) → is_some o ≡ false → o ≡ None
+    by None e = refl
+    by (Some i) e = absurd cc
+
+places_added : (ws : List (List ℕ)) (w name : List ℕ) → place_among ws w ≡ None → place_among (ws ++ w ∷ []) name ≡ cond (bytes_eq w name) (Some (length ws)) (place_among ws name)
+places_added [] w name h = by (bytes_eq w name) (Some 0) None
+  where
+    by : (b : Bool) (first none : Option ℕ) → (if b then first else none) ≡ cond b first none
+    by true first none = refl
+    by false first none = refl
+places_added (v ∷ ws) w name h =
+    let apart = split (bytes_eq v w) (place_among ws w) h in
+    by (bytes_eq v name) refl (bytes_eq w name) refl (place_among (ws ++ w ∷ []) name) apart.0 (places_added ws w name apart.1)
+  where
+    split : (b : Bool) (o : Option ℕ) → (if b then Some 0 else option_map suc o) ≡ None → (b ≡ false) × (o ≡ None)
+    split true o e = absurd cc
+    split false None e = (refl, refl)
+    split false (Some i) e = absurd cc
+
+    by : (a : Bool) → bytes_eq v name ≡ a → (b : Bool) → bytes_eq w name ≡ b → (o : Option ℕ) → bytes_eq v w ≡ false → o ≡ cond b (Some (length ws)) (place_among ws name)
+        → (if a then Some 0 else option_map suc o) ≡ cond b (Some (suc (length ws))) (if a then Some 0 else option_map suc (place_among ws name))
+    by true e true f o apart r =
+        let same : bytes_eq v w ≡ true = ap (bytes_eq v) ((bytes_decides w name).0 f) ∙ e in
+        absurd cc
+    by true e false f o apart r = refl
+    by false e true f o apart r = ap (option_map suc) r
+    by false e false f o apart r = ap (option_map suc) r
+
+pub places_kept : (old new : BTreeMap (Bor (List ℕ)) ℕ) (ws : List (List ℕ)) (w : List ℕ) → ArePlaces old ws → stands ws w ≡ false
+    → ((name : List ℕ) → at_name new name ≡ update bytes_eq (at_name old) w (Some (length ws)) name) → ArePlaces new (ws ++ w ∷ [])
+places_kept old new ws w kept absent updated name =
+    updated name ∙ ap (cond (bytes_eq w name) (Some (length ws))) (kept name) ∙ sym (places_added ws w name (unplaced ws w absent))
+
+-- the same, as the code does it
+pub places_pushed : {A E : Type 0} (b : Bool) (old new : BTreeMap (Bor (List ℕ)) ℕ) (ws room more : List (Bor (List ℕ))) (w : Bor (List ℕ)) (i : ℕ) (r : Result A E) (x : A)
+    → ArePlaces old (map (λ word. word.now) ws) → b ≡ is_some (at_name old w.now) → b ≡ false → i ≡ length room → room ≡ ws → more ≡ (if is_ok r then room ++ w ∷ [] else room) → r ≡ Ok x
+    → UpdatesBy (λ x y. slice_cmp nat_cmp x.now y.now) (λ k. slice_cmp nat_cmp w.now k.now) old new (Some i) → ArePlaces new (map (λ word. word.now) more)
+places_pushed b old new ws room more w i r x kept h t place reserved pushed ok updates =
+    let e : more ≡ ws ++ w ∷ [] = pushed ∙ ap (λ r. if is_ok r then room ++ w ∷ [] else room) ok ∙ ap (λ l. l ++ w ∷ []) reserved in
+    let names : map (λ word. word.now) more ≡ map (λ word. word.now) ws ++ w.now ∷ [] = ap (map (λ word. word.now)) e ∙ map-append (λ word. word.now) ws (w ∷ []) in
+    let here : i ≡ length (map (λ word. word.now) ws) = place ∙ ap length reserved ∙ sym (length-map ws (λ word. word.now)) in
+    let absent : stands (map (λ word. word.now) ws) w.now ≡ false = sym (stands_is b old (map (λ word. word.now) ws) w.now kept h) ∙ t in
+    subst (ArePlaces new) (sym names) (places_kept old new (map (λ word. word.now) ws) w.now kept absent
+    (λ name. btree_map_updates_str w.now old new (Some i) updates name ∙ ap (λ n. update bytes_eq (at_name old) w.now (Some n) name) here))
+
+-- ---- places
+
+within : (ws : List (List ℕ)) (name : List ℕ) (i : ℕ) → place_among ws name ≡ Some i → i < length ws
+within [] name i e = absurd cc
+within (w ∷ ws) name i e = by (bytes_eq w name) (place_among ws name) (λ j. within ws name j) e
+  where
+    by : (b : Bool) (o : Option ℕ) → ((j : ℕ) → o ≡ Some j → j < length ws) → (if b then Some 0 else option_map suc o) ≡ Some i → i < suc (length ws)
+    by true o rec e = let same : 0 ≡ i = cc in omega (arith, same)
+    by false None rec e = absurd cc
+    by false (Some j) rec e = let same : suc j ≡ i = cc in let less = rec j refl in omega (arith, same, less)
+
+pub place_within : (o : Option ℕ) (ws : List (List ℕ)) (name : List ℕ) → o ≡ place_among ws name → IfSome o (λ i. i < length ws)
+place_within None ws name e = tt
+place_within (Some i) ws name e = within ws name i (sym e)

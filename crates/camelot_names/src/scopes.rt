@@ -1,24 +1,26 @@
 //! Scopes: what a name means, by its innermost binding.
-ghost use Rattle.std.specs.Prelude.{◌≡◌, ◌-◌, ◌<◌, [], ◌∷◌, length, drop, OnOk, OnErr};
+ghost use Rattle.std.specs.Prelude.{◌≡◌, ℕ, ◌-◌, ◌<◌, List, [], ◌∷◌, length, drop, IsSome, OnOk, OnErr};
+ghost use Rattle.std.specs.Map.{update};
+ghost use Rattle.std.specs.Str.{bytes_eq};
+ghost use Rattle.camelot_names.specs.Kept.{at_name};
 ghost use Rattle.camelot_values.specs.Names.{find};
 
-use indexmap::IndexMap;
 use std::alloc::{AllocError, Global};
+use std::collections::BTreeMap;
 use std::marker::Model;
 
-// A name that is bound, its place among the words, and what it meant before.
+// A name that is bound, and what it meant before, where it meant something.
 #[derive(Drop)]
 struct Binding<'a, T: Copy> {
     name: &'a [u8],
     value: T,
-    place: usize,
     hidden: Option<T>,
 }
 
-/// Bindings of names, each hiding what its name meant before. Each call takes constant time, and `leave` as much for each binding that it takes off.
+/// Bindings of names, each hiding what its name meant before. The map has the names that are bound, and no others.
 #[derive(Drop)]
 pub struct Scope<'a, T: Copy> {
-    words: IndexMap<&'a [u8], Option<T>>,
+    words: BTreeMap<&'a [u8], T>,
     bindings: Vec<Binding<'a, T>>,
 }
 
@@ -31,7 +33,7 @@ impl<'a, T: Copy> Model for Scope<'a, T> {
 
     ghost view = { λ scope. map bound (reverse scope.bindings.items) };
 
-    ghost invariant = { λ scope. IsKept scope.words.entries (reverse scope.bindings.items) };
+    ghost invariant = { λ scope. IsKept scope.words (reverse scope.bindings.items) };
 }
 
 impl<'a, T: Copy> Scope<'a, T> {
@@ -40,7 +42,7 @@ impl<'a, T: Copy> Scope<'a, T> {
         ensures { result ≡ [] }
     {
         Scope {
-            words: IndexMap::new(alloc),
+            words: BTreeMap::new(alloc),
             bindings: Vec::new(alloc),
         }
     }
@@ -52,12 +54,11 @@ impl<'a, T: Copy> Scope<'a, T> {
     {
         // Room first, so that nothing has changed where memory runs out.
         self.bindings.reserve(1)?;
-        let (place, older) = self.words.insert_full(name, Some(value))?;
+        let hidden = self.words.insert(name, value)?;
         let binding = Binding {
             name,
             value,
-            place,
-            hidden: older.flatten(),
+            hidden,
         };
         self.bindings.push(binding).unwrap();
         Ok(())
@@ -67,7 +68,7 @@ impl<'a, T: Copy> Scope<'a, T> {
     pub fn find(&self, name: &[u8]) -> Option<T>
         ensures { result ≡ find self.now name.now }
     {
-        self.words.get(name).copied().flatten()
+        self.words.get(name).copied()
     }
 
     /// How many bindings there are.
@@ -92,7 +93,21 @@ impl<'a, T: Copy> Scope<'a, T> {
         ensures { self.new ≡ drop 1 self.old }
     {
         let binding = self.bindings.pop().unwrap();
-        let (_, meaning) = self.words.pair_mut(binding.place);
-        *meaning = binding.hidden;
+        restore(&mut self.words, binding.name, binding.hidden);
+    }
+}
+
+// What a name meant before: it is taken out where it meant nothing.
+fn restore<'a, T: Copy>(words: &mut BTreeMap<&'a [u8], T>, name: &'a [u8], hidden: Option<T>)
+    requires { IsSome (at_name words.old name.now) }
+    ensures { (other : List ℕ) → at_name words.new other ≡ update bytes_eq (at_name words.old) name.now hidden other }
+{
+    match hidden {
+        Some(value) => {
+            let _now = words.insert(name, value);
+        }
+        None => {
+            let _now = words.remove(name);
+        }
     }
 }

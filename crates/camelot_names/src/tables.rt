@@ -2,20 +2,26 @@
 ghost use Rattle.std.specs.Prelude.{◌≡◌, ℕ, ◌<◌, List, [], ◌∷◌, ◌++◌, length, map, not, if◌then◌else◌, IfSome, IfOk, OnErr, IsTrue};
 ghost use Rattle.camelot_values.specs.Names.{stands, place_among};
 
-use indexmap::IndexSet;
 use std::alloc::{AllocError, Global};
+use std::collections::BTreeMap;
 use std::marker::Model;
 
 /// Names, each once, numbered from zero in the order in which they were added.
 #[derive(Drop)]
 pub struct Names<'a> {
-    words: IndexSet<&'a [u8]>,
+    words: Vec<&'a [u8]>,
+    places: BTreeMap<&'a [u8], usize>,
 }
 
 impl<'a> Model for Names<'a> {
+    ghost use Rattle.std.specs.Prelude.{ℕ, List, map};
+    ghost use Rattle.camelot_names.specs.Kept.{ArePlaces};
+
     ghost Value = { List (List ℕ) };
 
-    ghost view = { λ names. map (λ word. word.now) names.words.keys };
+    ghost view = { λ names. map (λ word. word.now) names.words.items };
+
+    ghost invariant = { λ names. ArePlaces names.places (map (λ word. word.now) names.words.items) };
 }
 
 impl<'a> Names<'a> {
@@ -24,12 +30,12 @@ impl<'a> Names<'a> {
         ensures { result ≡ [] }
     {
         Names {
-            words: IndexSet::new(alloc),
+            words: Vec::new(alloc),
+            places: BTreeMap::new(alloc),
         }
     }
 
     /// Adds a name unless it stands already, and answers whether it is new; a new one gets the next number. It fails for want of memory alone.
-    #[tactic(auto, using(crate::proofs::NameLaws::added_is))]
     pub fn add(&mut self, name: &'a [u8]) -> Result<bool, AllocError>
         ensures new { IfOk result (λ new. new ≡ not (stands self.old name.now)) }
         ensures names { IfOk result (λ new. self.new ≡ (if new then self.old ++ name.now ∷ [] else self.old)) }
@@ -38,17 +44,23 @@ impl<'a> Names<'a> {
         // A name that stands is never refused.
         ensures absent { OnErr result (IsTrue (not (stands self.old name.now))) }
     {
-        let added = self.words.insert(name)?;
-        Ok(added)
+        if self.places.contains_key(name) {
+            return Ok(false);
+        }
+        // Room first, so that nothing has changed where memory runs out.
+        self.words.reserve(1)?;
+        let number = self.words.len();
+        let _none = self.places.insert(name, number)?;
+        self.words.push(name).unwrap();
+        Ok(true)
     }
 
     /// The number of a name, if it stands.
-    #[tactic(auto, using(crate::proofs::NameLaws::place_is))]
     pub fn number(&self, name: &[u8]) -> Option<usize>
         ensures number { result ≡ place_among self.now name.now }
         ensures within { IfSome result (λ i. i < length self.now) }
     {
-        self.words.get_index_of(name)
+        self.places.get(name).copied()
     }
 
     /// How many names there are.

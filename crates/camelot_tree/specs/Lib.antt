@@ -7,3 +7,4 @@ pub mod Meaning
 pub mod Tokens
 pub mod SpineLaws
 pub mod MeaningLaws
+pub mod Cells

@@ -1,10 +1,11 @@
 -- What the whole check comes to: the run of the program's steps over a fresh table.
 use Rattle.std.proofs.Common.{◌≡◌, ℕ, suc, ◌+◌, ◌<◌, Bool, true, false, List, [], ◌∷◌, ◌++◌, map, length, refl, sym, ap, ◌∙◌, subst, append_assoc, append-nil, inl, inr}
-use Rattle.std.specs.Prelude.{nat_lt, codes, ◌⊎◌}
+use Rattle.std.specs.Prelude.{nat_lt, codes, ◌⊎◌, IsTrue}
 use Rattle.std.proofs.lemmas.Bool.{ltb-true, lt-ltb}
 use Rattle.camelot_values.specs.Kinds.{DataType}
 use Rattle.camelot_values.specs.declared.kinds.Kind.{Kind}
 use Rattle.camelot_tree.specs.Tree.{Function, Source}
+use Rattle.camelot_tree.specs.Tokens.{has_ints}
 use Rattle.camelot_typing.specs.Kinds.{Head, Globals, Scope, atoms_of, types_of}
 use Rattle.camelot_typing.specs.Typing.{Signature, IsDeclared, params_scope, globals_of, IsTyped, IsWithinLimits}
 use Rattle.camelot_typing.specs.Typed.{FunctionKinds, signatures_of, functions_kinds, typing, typing_kinds, IsTyping}
@@ -16,7 +17,8 @@ use Rattle.camelot_types.specs.Walk.{Step, Same, Choice, under, HasFault, few, t
 use Rattle.camelot_types.specs.Solving.{Walked, Goes, Stops, and_then, looked_up, made_same, run, Work, body_walked, Bodies, bodies_on, closed, settled, settled_funs, fresh, unknowns}
 use Rattle.camelot_types.specs.Declaring.{types_checked, headers_checked}
 use Rattle.camelot_typing.specs.Settled.{KindsSettled}
-use Rattle.camelot_types.specs.Checked.{bodies_walked, program_walked, HasCause, KindsLeft}
+use Rattle.camelot_types.specs.Checked.{bodies_walked, program_walked, KindsLeft}
+use Rattle.camelot_types.specs.Walk.{HasCause}
 use Rattle.camelot_types.specs.Doing.{StopsWith}
 use Rattle.camelot_types.proofs.Unifying.{IsWithin, Respects, Ran, run_ran, run_finds, fault_runs, runs_on, choice_of, choice_respects, choice_forced, IsFresh, append_run, get_past, AllWithin}
 use Rattle.camelot_types.proofs.Choosing.{head_under}
@@ -213,11 +215,11 @@ pub record Taken (p : Source) (kinds : List FunctionKinds) : Type 0 where
   pub settled : (sigs : List Signature) → IsTyped p sigs → KindsSettled (typing_kinds (typing p kinds)) (functions_kinds (globals_of p sigs) p.funs sigs)
   pub sound : (fault : TypeFault) → HasFault p fault → ⊥
 
-taken_with : (p : Source) (kinds : List FunctionKinds) (table : List Guess) → program_run p ≡ Goes table → kinds ≡ answered (choice_of table) (guesses_of p) p.funs (head_guesses p 0 p.funs) → Taken p kinds
-taken_with p kinds table h e =
+taken_with : (p : Source) (kinds : List FunctionKinds) (table : List Guess) → IsTrue (has_ints p) → program_run p ≡ Goes table → kinds ≡ answered (choice_of table) (guesses_of p) p.funs (head_guesses p 0 p.funs) → Taken p kinds
+taken_with p kinds table ints h e =
     let choice : Choice = choice_of table in
     let ran : Ran (types_of p) (start p) table (program_steps p) = run_ran (types_of p) (start p) table (program_steps p) (fresh_start p).sound (within p) h in
-    let both = program_sound choice p (kept_declared (types_of p) table ran.sound.within) (ran.holds choice (choice_respects table ran.sound.settled)) in
+    let both = program_sound choice p (kept_declared (types_of p) table ran.sound.within) ints (ran.holds choice (choice_respects table ran.sound.settled)) in
     let same : signatures_of p.funs kinds ≡ signatures_under choice p = ap (signatures_of p.funs) e ∙ heads_answered choice p (guesses_of p) 0 p.funs in
     let own : kinds ≡ typing_kinds (typing p kinds) = e ∙ answered_is choice p ∙ ap (λ ss. functions_kinds (globals_of p ss) p.funs ss) (sym same) in
     record {
@@ -235,10 +237,10 @@ taken_with p kinds table h e =
     apart : (t : List Guess) (fault : TypeFault) → (let o : Walked (List Guess) = Goes t in o) ≡ Stops fault → ⊥
     apart t fault h = absurd cc
 
-taken : (p : Source) (kinds : List FunctionKinds) (work : Bodies) → program_walked p ≡ Goes work → kinds ≡ settled_funs work.table (head_guesses p 0 p.funs) work.atoms → Taken p kinds
-taken p kinds work h e =
+taken : (p : Source) (kinds : List FunctionKinds) (work : Bodies) → IsTrue (has_ints p) → program_walked p ≡ Goes work → kinds ≡ settled_funs work.table (head_guesses p 0 p.funs) work.atoms → Taken p kinds
+taken p kinds work ints h e =
     let g = given_goes (all_work (program_atoms p)) (program_run p) work (sym (walked_is p) ∙ h) in
-    taken_with p kinds g.0 g.1 (e ∙ ap (λ w. settled_funs w.table (head_guesses p 0 p.funs) w.atoms) g.2 ∙ funs_settled g.0 (guesses_of p) p.funs (head_guesses p 0 p.funs))
+    taken_with p kinds g.0 ints g.1 (e ∙ ap (λ w. settled_funs w.table (head_guesses p 0 p.funs) w.atoms) g.2 ∙ funs_settled g.0 (guesses_of p) p.funs (head_guesses p 0 p.funs))
 
 -- ---- how the whole walk goes on
 
@@ -277,12 +279,8 @@ stops_at_bodies p fault e g h = stops_along (bodies_walked p) (program_walked p)
 pub left_of_all : (p : Source) (kinds : List FunctionKinds) → types_checked p ≡ Goes tt → headers_checked p ≡ Goes tt → KindsLeft p (bodies_walked p) kinds → KindsLeft p (program_walked p) kinds
 left_of_all p kinds e g h = record { work = h.work; walked = walked_on p (Goes h.work) e g h.walked; kinds_are = h.kinds_are }
 
-pub taken_of : (p : Source) (kinds : List FunctionKinds) → KindsLeft p (program_walked p) kinds → Taken p kinds
-taken_of p kinds h = taken p kinds h.work h.walked h.kinds_are
-
--- the same of a copy of the program
-pub taken_copy : (p q : Source) (kinds : List FunctionKinds) → q ≡ p → KindsLeft p (program_walked p) kinds → Taken q kinds
-taken_copy p q kinds e h = subst (λ r. Taken r kinds) (sym e) (taken_of p kinds h)
+pub taken_of : (p : Source) (kinds : List FunctionKinds) → IsTrue (has_ints p) → KindsLeft p (program_walked p) kinds → Taken p kinds
+taken_of p kinds ints h = taken p kinds h.work ints h.walked h.kinds_are
 
 -- ---- each program is typed within the limits, or it has one fault
 
@@ -290,13 +288,13 @@ taken_copy p q kinds e h = subst (λ r. Taken r kinds) (sym e) (taken_of p kinds
 abbrev pub IsTypable : Source → Type 0
 IsTypable p = (sigs : List Signature) × (IsTyped p sigs × IsWithinLimits p)
 
-pub one_or_other : (p : Source) → IsTypable p ⊎ ((fault : TypeFault) × HasFault p fault)
-one_or_other p = by_run (program_run p) refl
+pub one_or_other : (p : Source) → IsTrue (has_ints p) → IsTypable p ⊎ ((fault : TypeFault) × HasFault p fault)
+one_or_other p ints = by_run (program_run p) refl
   where
     by_run : (o : Walked (List Guess)) → program_run p ≡ o → IsTypable p ⊎ ((fault : TypeFault) × HasFault p fault)
     by_run (Goes t) h =
         let kinds : List FunctionKinds = answered (choice_of t) (guesses_of p) p.funs (head_guesses p 0 p.funs) in
-        let all = taken_with p kinds t h refl in
+        let all = taken_with p kinds t ints h refl in
         inl (signatures_of p.funs kinds, (all.typed.typed, all.typed.within))
     by_run (Stops fault) h = inr (fault, run_finds (types_of p) (start p) (program_steps p) fault (fresh_start p) (within p) h)
 

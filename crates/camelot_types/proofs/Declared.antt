@@ -14,7 +14,7 @@ use Rattle.camelot_tree.specs.declared.tree.Param.{Param}
 use Rattle.camelot_tree.specs.Tree.{Constructor, DataType, Function, Source}
 use Rattle.camelot_tree.specs.Shape.{is_nothing, con_is_whole, type_is_whole, fun_is_whole, is_whole}
 use Rattle.camelot_typing.specs.Kinds.{kind_of_atom, field_kind, constructor_kinds, data_kinds, types_of}
-use Rattle.camelot_typing.specs.Typing.{all_constructors}
+use Rattle.camelot_tree.specs.Meaning.{declared_constructors}
 use Rattle.camelot_types.specs.declared.fault.TypeFault.{TypeFault}
 use Rattle.camelot_types.specs.declared.fault.TypeFault.TheVariants.{UnknownType, TooManyFields, TooMany}
 use Rattle.camelot_types.specs.declared.guess.Guess.{Guess}
@@ -260,5 +260,5 @@ names_of_types p (t ∷ ts) =
     ∙ ap (λ l. map {B = List ℕ} (λ c. c.name.word) t.cons ++ l) (names_of_types p ts)
     ∙ sym (map-append {B = List ℕ} (λ c. c.name.word) t.cons (flat_map (λ t. t.cons) ts))
 
-pub con_names_are : (p : Source) → map (λ c. c.name) (constructors (types_of p)) ≡ map (λ c. c.name.word) (all_constructors p)
+pub con_names_are : (p : Source) → map (λ c. c.name) (constructors (types_of p)) ≡ map (λ c. c.name.word) (declared_constructors p)
 con_names_are p = names_of_types p p.types

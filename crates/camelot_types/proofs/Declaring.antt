@@ -4,7 +4,7 @@ use Rattle.std.specs.Prelude.{nat_le, flat_map, codes}
 use Rattle.std.specs.List.{AllByRecursion}
 use Rattle.std.proofs.lemmas.Bool.{leb-true, le-leb}
 use Rattle.camelot_values.specs.Names.{AreDistinct}
-use Rattle.camelot_values.proofs.NameLists.{AreNew, new_distinct, distinct_new}
+use Rattle.camelot_values.specs.NameLaws.{AreNew, new_distinct, distinct_new}
 use Rattle.camelot_tree.specs.declared.tree.Name.{Name}
 use Rattle.camelot_tree.specs.declared.tree.Atom.{Atom}
 use Rattle.camelot_tree.specs.declared.tree.Atom.TheVariants as atom

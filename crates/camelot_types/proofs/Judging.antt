@@ -6,7 +6,7 @@ use Rattle.std.specs.Option.{option_map, option_map_or}
 use Rattle.std.proofs.lemmas.Bool.{eqb-true}
 use Rattle.std.proofs.lemmas.Bool.Decides.{nat_tests}
 use Rattle.camelot_values.specs.Names.{AreDistinct, find}
-use Rattle.camelot_values.proofs.NameLists.{AreNew, new_distinct, distinct_new}
+use Rattle.camelot_values.specs.NameLaws.{AreNew, new_distinct, distinct_new}
 use Rattle.camelot_values.specs.Kinds.{DataType, type_of}
 use Rattle.camelot_values.specs.declared.kinds.Kind.{Kind}
 use Rattle.camelot_values.specs.declared.kinds.Kind.TheVariants as kind
@@ -17,10 +17,11 @@ use Rattle.camelot_tree.specs.Tree.{Term, Num, Truth, Var, Prim, If, Let, Match,
 use Rattle.camelot_tree.specs.Meaning.{is_that}
 use Rattle.camelot_typing.specs.Kinds.{Head, Globals, Scope, bind, or_else, constructor_number, fields_of, is_inline, built_kind, numbers_of, head_of, bound_names, arm_scope}
 use Rattle.camelot_typing.specs.Typing.{Signature, PlaceFits, CellFits, arms_with, Covers, HeadFits, HasKind, HaveKinds, ArmsHaveKind}
-use Rattle.camelot_typing.proofs.Numbers.{among_numbers}
+use Rattle.camelot_typing.specs.NumberLaws.{among_numbers}
 use Rattle.camelot_types.specs.declared.guess.Guess.{Guess}
 use Rattle.camelot_types.specs.declared.guess.Guess.TheVariants.{Known}
-use Rattle.camelot_types.specs.Walk.{Step, Same, Choice, under, Holds, AllHold, new_names, words, line_of, count, guess, same_steps, place_known, place_same, build_steps, call_steps, has_cell, con_guess, head_steps, arm_numbers, missing_steps, cons_of_type, first_number, steps, all_steps, arms_steps}
+use Rattle.camelot_types.specs.Walk.{Step, Same, Choice, under, Holds, AllHold, new_names, words, line_of, argument_count, guess, same_steps, place_known, place_same, build_steps, call_steps, con_guess, head_steps, arm_numbers, missing_steps, cons_of_type, first_number, steps, all_steps, arms_steps}
+use Rattle.camelot_tree.specs.Cells.{has_cell}
 use Rattle.camelot_types.proofs.Unifying.{all_both, all_front, all_back}
 use Rattle.camelot_types.proofs.Numbers.{owned, times, is_in, times_some, some_times, NoneRepeated, at_most_once, not_repeated}
 use Rattle.camelot_types.proofs.Choosing.{head_under, globals_under, scope_under, find_under, head_of_under, arm_under}
@@ -253,12 +254,12 @@ match_sound choice g s e c fs x b as' l ke h kb arms missing =
 -- ---- a build and a call
 
 build_sound : (choice : Choice) (g : Globals Guess) (s : Scope Guess) (c : Name) (es : Terms) (place : Option Name) (o : Option ℕ) → constructor_number g.types c.word ≡ o
-    → ((ts : List Guess) → count es ≡ length ts → AllHold choice (same_steps g s es ts) → HaveKinds (globals_under choice g) (scope_under choice s) es (map (under choice) ts))
+    → ((ts : List Guess) → argument_count es ≡ length ts → AllHold choice (same_steps g s es ts) → HaveKinds (globals_under choice g) (scope_under choice s) es (map (under choice) ts))
     → AllHold choice (build_steps g s c es place o) → HasKind (globals_under choice g) (scope_under choice s) (Build c es place) (under choice (guess g s (Build c es place)))
 build_sound choice g s c es place None e f h = let q : false ≡ true = h.0 in cc
 build_sound choice g s c es place (Some con) e f h =
     let ts : List Guess = map Known (fields_of g.types con) in
-    let n : count es ≡ length ts = same_count (count es) (length (fields_of g.types con)) h.0 ∙ sym (length_known (fields_of g.types con)) in
+    let n : argument_count es ≡ length ts = same_count (argument_count es) (length (fields_of g.types con)) h.0 ∙ sym (length_known (fields_of g.types con)) in
     let rest = h.1.1 in
     let known = all_front choice (place_known s place) (same_steps g s es ts ++ place_same s place) rest in
     let sames = all_back choice (place_known s place) (same_steps g s es ts ++ place_same s place) rest in
@@ -273,14 +274,14 @@ build_sound choice g s c es place (Some con) e f h =
     )
 
 call_sound : (choice : Choice) (g : Globals Guess) (s : Scope Guess) (f : Name) (es : Terms) (o : Option (Head Guess)) → head_of g.heads f.word ≡ o
-    → ((ts : List Guess) → count es ≡ length ts → AllHold choice (same_steps g s es ts) → HaveKinds (globals_under choice g) (scope_under choice s) es (map (under choice) ts))
+    → ((ts : List Guess) → argument_count es ≡ length ts → AllHold choice (same_steps g s es ts) → HaveKinds (globals_under choice g) (scope_under choice s) es (map (under choice) ts))
     → AllHold choice (call_steps g s f es o) → HasKind (globals_under choice g) (scope_under choice s) (Call f es) (under choice (guess g s (Call f es)))
 call_sound choice g s f es None e k h = let q : false ≡ true = h.0 in cc
 call_sound choice g s f es (Some d) e k h = (
   head_under choice d,
   head_of_under choice g.heads f.word ∙ ap (option_map (head_under choice)) e,
   ap (λ o. under choice (option_map_or (λ h. h.result) o (Known kind.Int))) (sym e),
-  k d.params (same_count (count es) (length d.params) h.0) h.1,
+  k d.params (same_count (argument_count es) (length d.params) h.0) h.1,
 )
 
 -- ---- steps that hold give kinds
@@ -343,7 +344,7 @@ mutual
       call_sound choice g s f es (head_of g.heads f.word) refl
       (λ ts n k. sound_all choice g s es ts n (all_front choice (all_steps g s es) last h) k) (all_back choice (all_steps g s es) last h)
 
-  pub sound_all : (choice : Choice) (g : Globals Guess) (s : Scope Guess) (es : Terms) (ts : List Guess) → count es ≡ length ts → AllHold choice (all_steps g s es) → AllHold choice (same_steps g s es ts)
+  pub sound_all : (choice : Choice) (g : Globals Guess) (s : Scope Guess) (es : Terms) (ts : List Guess) → argument_count es ≡ length ts → AllHold choice (all_steps g s es) → AllHold choice (same_steps g s es ts)
       → HaveKinds (globals_under choice g) (scope_under choice s) es (map (under choice) ts)
   sound_all choice g s NoTerms [] n h k = tt
   sound_all choice g s NoTerms (t ∷ ts) n h k = absurd (omega (arith, n))
@@ -379,7 +380,7 @@ pub record Judged (choice : Choice) (g : Globals Guess) (s : Scope Guess) (e : T
 -- those of arguments, for what is needed
 pub record AllJudged (choice : Choice) (g : Globals Guess) (s : Scope Guess) (es : Terms) (ts : List Guess) : Type 0 where
   pub hold : AllHold choice (all_steps g s es)
-  pub count_is : count es ≡ length ts
+  pub count_is : argument_count es ≡ length ts
   pub same : AllHold choice (same_steps g s es ts)
 
 -- an arm's head fits, for a type whose constructors are compared so
@@ -398,7 +399,7 @@ build_complete choice g s c es place k con e b all fits =
     let ts : List Guess = map Known (fields_of g.types con) in
     record {
       hold = all_both choice (all_steps g s es) (build_steps g s c es place (constructor_number g.types c.word)) all.hold (subst (λ o. AllHold choice (build_steps g s c es place o)) (sym e) (
-        count_same (count es) (length (fields_of g.types con)) (all.count_is ∙ length_known (fields_of g.types con)),
+        count_same (argument_count es) (length (fields_of g.types con)) (all.count_is ∙ length_known (fields_of g.types con)),
         (p.test, all_both choice (place_known s place) (same_steps g s es ts ++ place_same s place) p.known (all_both choice (same_steps g s es ts) (place_same s place) all.same p.same)),
       ));
       is = ap (λ o. or_else (built_kind g.types (or_else o 0)) kind.Int) e ∙ ap (λ o. or_else o kind.Int) b;
@@ -421,7 +422,7 @@ call_complete : (choice : Choice) (g : Globals Guess) (s : Scope Guess) (f : Nam
     → Judged choice g s (Call f es) k
 call_complete choice g s f es k h n r all = record {
   hold = all_both choice (all_steps g s es) (call_steps g s f es (head_of g.heads f.word)) all.hold
-      (subst (λ o. AllHold choice (call_steps g s f es o)) (sym n.is) (count_same (count es) (length n.head.params) all.count_is, all.same));
+      (subst (λ o. AllHold choice (call_steps g s f es o)) (sym n.is) (count_same (argument_count es) (length n.head.params) all.count_is, all.same));
   is = ap (λ o. under choice (option_map_or (λ h. h.result) o (Known kind.Int))) n.is ∙ ap (λ h. h.result) n.signature ∙ r;
 }
 

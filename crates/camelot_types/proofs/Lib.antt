@@ -10,6 +10,7 @@ pub mod Starting
 pub mod Answering
 pub mod Finding
 pub mod Siblings
+pub mod FactLaws
 pub mod Walking
 pub mod Heading
 pub mod Passing

@@ -1,15 +1,17 @@
 -- The steps of a program hold for a choice exactly where the program is typed, within the limits, with the kinds that the choice gives.
 use Rattle.std.proofs.Common.{◌≡◌, ℕ, zero, suc, ◌+◌, ◌≤◌, List, [], ◌∷◌, ◌++◌, map, length, get_or, Option, Some, None, refl, sym, ap, ◌∙◌, subst, arith}
-use Rattle.std.specs.Prelude.{is_some, codes, IsSome}
+use Rattle.std.specs.Prelude.{is_some, codes, IsSome, IsTrue}
 use Rattle.std.specs.List.{AllByRecursion}
-use Rattle.camelot_values.proofs.NameLists.{new_distinct, distinct_new}
+use Rattle.camelot_values.specs.NameLaws.{new_distinct, distinct_new}
 use Rattle.camelot_values.specs.declared.kinds.Kind.{Kind}
 use Rattle.camelot_values.specs.declared.kinds.Kind.TheVariants as kind
 use Rattle.camelot_tree.specs.declared.tree.Atom.{Atom}
 use Rattle.camelot_tree.specs.declared.tree.Param.{Param}
 use Rattle.camelot_tree.specs.Tree.{Function, Source}
+use Rattle.camelot_tree.specs.Tokens.{has_ints}
 use Rattle.camelot_typing.specs.Kinds.{Head, Globals, Scope, or_else, kind_of_atom, types_of}
-use Rattle.camelot_typing.specs.Typing.{Signature, HasKind, IsDeclared, Stands, ParamsStand, params_scope, FunctionsFit, all_constructors, globals_of, IsTyped, IsWithinLimits}
+use Rattle.camelot_typing.specs.Typing.{Signature, HasKind, IsDeclared, Stands, ParamsStand, params_scope, FunctionsFit, globals_of, IsTyped, IsWithinLimits}
+use Rattle.camelot_tree.specs.Meaning.{declared_constructors}
 use Rattle.camelot_types.specs.declared.guess.Guess.{Guess}
 use Rattle.camelot_types.specs.Walk.{Step, Same, Choice, under, AllHold, few, types_steps, headers_steps, guess_of, param_guesses, head_guess, head_guesses, guesses_of, line_of, guess, steps, body_steps, bodies_steps, program_steps}
 use Rattle.camelot_types.proofs.Unifying.{all_both, all_front, all_back}
@@ -77,18 +79,19 @@ limits_of : (p : Source) (fs : List Function) → AllByRecursion (HeaderFits p) 
 limits_of p [] h = tt
 limits_of p (f ∷ fs) h = (h.0.few, limits_of p fs h.1)
 
-pub program_sound : (choice : Choice) (p : Source) → ((x : ℕ) → IsDeclared (types_of p) (choice x)) → AllHold choice (program_steps p) → IsTyped p (signatures_under choice p) × IsWithinLimits p
-program_sound choice p d h =
+pub program_sound : (choice : Choice) (p : Source) → ((x : ℕ) → IsDeclared (types_of p) (choice x)) → IsTrue (has_ints p) → AllHold choice (program_steps p) → IsTyped p (signatures_under choice p) × IsWithinLimits p
+program_sound choice p d ints h =
     let types = types_hold choice p [] [] p.types (all_front choice (types_steps p [] [] p.types) (header_part p) h.1) in
     let behind = all_back choice (types_steps p [] [] p.types) (header_part p) h.1 in
     let headers = headers_hold choice p [] p.funs (all_front choice (headers_steps p [] p.funs) (body_part p) behind.1) in
     let bodies = all_back choice (headers_steps p [] p.funs) (body_part p) behind.1 in (
       record {
         type_names = new_distinct (map (λ t. t.name.word) p.types) types.names;
-        con_names = new_distinct (map (λ c. c.name.word) (all_constructors p)) types.con_names;
+        con_names = new_distinct (map (λ c. c.name.word) (declared_constructors p)) types.con_names;
         fun_names = new_distinct (map (λ f. f.name.word) p.funs) headers.names;
         fields = types.fit;
         functions = functions_fit choice p (guesses_of p) 0 p.funs d headers.fit bodies;
+        literals = ints;
       },
       record {
         types = few_hold (λ t. t.name) 64 p.types h.0;
@@ -198,7 +201,7 @@ program_complete p sigs t l =
     let fits : FunctionsFit p (globals_of p (signatures_under choice p)) p.funs (signatures_under choice p) = subst (λ ss. FunctionsFit p (globals_of p ss) p.funs ss) (sym are.same) t.functions in
     let types : TypesFit p [] [] p.types = record {
       names = distinct_new (map (λ t. t.name.word) p.types) t.type_names;
-      con_names = distinct_new (map (λ c. c.name.word) (all_constructors p)) t.con_names;
+      con_names = distinct_new (map (λ c. c.name.word) (declared_constructors p)) t.con_names;
       few = l.cons;
       fit = t.fields;
     } in

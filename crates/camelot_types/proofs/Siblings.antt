@@ -5,7 +5,7 @@ use Rattle.std.specs.Option.{option_map_or}
 use Rattle.std.proofs.lemmas.Bool.{ltb-true, lt-ltb}
 use Rattle.camelot_values.specs.Kinds.{DataType, type_of}
 use Rattle.camelot_typing.specs.Kinds.{numbers_from, numbers_of}
-use Rattle.camelot_types.specs.Siblings.{numbers_from_type}
+use Rattle.camelot_types.specs.Facts.{numbers_from_type}
 use Rattle.camelot_types.specs.Walk.{cons_of_type}
 
 row_of : (first : ℕ) (types : List DataType) (t : ℕ) → numbers_from first types t ≡ get_or (numbers_from_type first types) t []

@@ -16,7 +16,8 @@ use Rattle.camelot_types.specs.declared.fault.TypeFault.{TypeFault}
 use Rattle.camelot_types.specs.declared.fault.TypeFault.TheVariants.{UnknownName, Duplicate, MissingArm}
 use Rattle.camelot_types.specs.declared.guess.Guess.{Guess}
 use Rattle.camelot_types.specs.declared.guess.Guess.TheVariants.{Known}
-use Rattle.camelot_types.specs.Walk.{Step, Must, Same, new_names, line_of, count, guess, same_steps, place_known, place_same, build_steps, call_steps, has_cell, con_guess, head_steps, arm_numbers, missing_steps, cons_of_type, steps, all_steps, arms_steps}
+use Rattle.camelot_types.specs.Walk.{Step, Must, Same, new_names, line_of, argument_count, guess, same_steps, place_known, place_same, build_steps, call_steps, con_guess, head_steps, arm_numbers, missing_steps, cons_of_type, steps, all_steps, arms_steps}
+use Rattle.camelot_tree.specs.Cells.{has_cell}
 use Rattle.camelot_types.proofs.Unifying.{append_run}
 use Rattle.camelot_types.specs.Solving.{Walked, Goes, Stops, and_then, made_same, step_done, run, name_found, place_found, all_same, place_made, arity_checked, place_checked, con_found, built, called, names_checked, repeat_checked, headed, missing_checked, Work, Found, FoundAll, FoundArms, with_table, lines_of, noted, walk, walk_all, walk_arms, rest_of, unwound}
 
@@ -121,7 +122,7 @@ abbrev pub guesses_of : Globals Guess → Scope Guess → Terms → List Guess
 guesses_of g s NoTerms = []
 guesses_of g s (AndTerm e es) = guess g s e ∷ guesses_of g s es
 
-guesses_count : (g : Globals Guess) (s : Scope Guess) (es : Terms) → length (guesses_of g s es) ≡ count es
+guesses_count : (g : Globals Guess) (s : Scope Guess) (es : Terms) → length (guesses_of g s es) ≡ argument_count es
 guesses_count g s NoTerms = refl
 guesses_count g s (AndTerm e es) = ap suc (guesses_count g s es)
 
@@ -158,7 +159,7 @@ built_is g table s c es place con =
     let rest : Walked (List Guess) =
     and_then (place_checked c (is_inline g.types con) (is_some place)) (λ v. and_then (place_found s place) (λ d. and_then (all_same g.types table (lines_of es) (guesses_of g s es) ts) (λ next. place_made g.types next place d))) in
     ap (λ n. and_then (arity_checked c n (length (fields_of g.types con))) (λ u. rest)) (guesses_count g s es)
-    ∙ test_is g.types table (count es == length (fields_of g.types con)) _ (λ u. rest) _
+    ∙ test_is g.types table (argument_count es == length (fields_of g.types con)) _ (λ u. rest) _
     (test_is g.types table (not (is_inline g.types con) || not (is_some place)) _ _ _
     (placed_is g.types table s place (all_same g.types table (lines_of es) (guesses_of g s es) ts) (same_steps g s es ts) (all_same_is g.types table g s es ts)))
 
@@ -168,7 +169,7 @@ called_is g table s f es None = refl
 called_is g table s f es (Some h) =
     let rest : Walked (List Guess) = all_same g.types table (lines_of es) (guesses_of g s es) h.params in
     ap (λ n. and_then (arity_checked f n (length h.params)) (λ u. rest)) (guesses_count g s es)
-    ∙ test_is g.types table (count es == length h.params) _ (λ u. rest) _ (all_same_is g.types table g s es h.params)
+    ∙ test_is g.types table (argument_count es == length h.params) _ (λ u. rest) _ (all_same_is g.types table g s es h.params)
 
 -- ---- what stands before an arm's body
 

@@ -1,22 +1,17 @@
--- What the check answers.
-use Rattle.std.specs.Prelude.{◌≡◌, List, [], map, Result, Ok, Err, ⊤}
+-- Private: words for functions of this crate.
+-- What the check answers, in its parts.
+use Rattle.std.specs.Prelude.{◌≡◌, List, [], map, Result, Ok, Err}
 use Rattle.camelot_tree.specs.Tree.{Source}
 use Rattle.camelot_typing.specs.Kinds.{types_of}
 use Rattle.camelot_typing.specs.declared.kinds.FunKinds.{FunKinds}
 use Rattle.camelot_typing.specs.Typed.{FunctionKinds, kinds_of}
 use Rattle.camelot_types.specs.declared.fault.TypeFault.{TypeFault}
-use Rattle.camelot_types.specs.declared.fault.TypeFault.TheVariants.{Memory}
 use Rattle.camelot_types.specs.declared.program.Parts.{Parts}
-use Rattle.camelot_types.specs.Walk.{HasFault, guesses_of, head_guesses}
+use Rattle.camelot_types.specs.Walk.{guesses_of, head_guesses}
 use Rattle.camelot_types.specs.Solving.{Walked, Goes, and_then, bodies_on, Bodies, settled_funs, fresh, unknowns}
 use Rattle.camelot_types.specs.Declaring.{types_checked, headers_checked}
 use Rattle.camelot_types.specs.Doing.{StopsWith}
 use Rattle.std.specs.Global.{Vec}
-
--- want of memory has no cause in the program
-abbrev pub HasCause : Source → TypeFault → Type 0
-HasCause p Memory = ⊤
-HasCause p fault = HasFault p fault
 
 -- the walk of all bodies
 abbrev pub bodies_walked : Source → Walked Bodies

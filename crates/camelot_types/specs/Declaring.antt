@@ -1,3 +1,4 @@
+-- Private: words for functions of this crate.
 -- What private functions do with declarations: the tests of types and of headers, done one by one.
 use Rattle.std.specs.Prelude.{ℕ, nat_le, if◌then◌else◌, List, [], ◌∷◌, ◌++◌, map, length, Option, Some, None, codes}
 use Rattle.camelot_tree.specs.declared.tree.Atom.{Atom}

@@ -1,3 +1,4 @@
+-- Private: words for functions of this crate.
 -- How answers of private functions tell what the walk comes to: want of memory says nothing.
 use Rattle.std.specs.Prelude.{◌≡◌, ℕ, List, Result, Ok, Err, ⊤}
 use Rattle.camelot_types.specs.declared.fault.TypeFault.{TypeFault}

@@ -1,3 +1,4 @@
+-- Private: words for functions of this crate.
 -- How the answers about bodies tell what the walk comes to.
 use Rattle.std.specs.Prelude.{◌≡◌, map, Result, Ok, Err}
 use Rattle.camelot_types.specs.declared.fault.TypeFault.{TypeFault}

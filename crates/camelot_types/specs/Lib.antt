@@ -4,7 +4,7 @@ pub mod Solving
 pub mod Doing
 pub mod Tables
 pub mod Working
-pub mod Siblings
+pub mod Facts
 pub mod Declaring
 pub mod Ending
 pub mod Checked

@@ -1,3 +1,4 @@
+-- Private: words for functions of this crate.
 -- What private functions do: the steps of the walk, done one by one over a table of what is known of each unknown. An unknown
 -- stands in the table for itself until an equality gives it a kind or another unknown.
 use Rattle.std.specs.Prelude.{ℕ, zero, suc, ◌+◌, ◌==◌, ◌||◌, not, Bool, true, false, if◌then◌else◌, List, [], ◌∷◌, ◌++◌, map, length, Option, Some, None, is_some, get_or}
@@ -15,7 +16,8 @@ use Rattle.camelot_values.specs.Names.{find}
 use Rattle.camelot_typing.specs.Kinds.{Head, Globals, Scope, bind, constructor_number, fields_of, is_inline, head_of, bound_names, arm_scope}
 use Rattle.camelot_typing.specs.Typing.{params_scope}
 use Rattle.camelot_typing.specs.Typed.{FunctionKinds}
-use Rattle.camelot_types.specs.Walk.{Step, Must, Same, kind_name, line_of, con_guess, has_cell, cons_of_type}
+use Rattle.camelot_types.specs.Walk.{Step, Must, Same, kind_name, line_of, con_guess, cons_of_type}
+use Rattle.camelot_tree.specs.Cells.{has_cell}
 use Rattle.camelot_types.specs.declared.fault.TypeFault.{TypeFault}
 use Rattle.camelot_types.specs.declared.fault.TypeFault.TheVariants.{UnknownName, Duplicate, Arity, Clash, MissingArm, RepeatedArm, PlaceOnInline}
 use Rattle.camelot_types.specs.declared.guess.Guess.{Guess}

@@ -1,3 +1,4 @@
+-- Private: words for functions of this crate.
 -- What the code knows of the whole program, as plain data.
 use Rattle.std.specs.Prelude.{map}
 use Rattle.camelot_typing.specs.Kinds.{Head}

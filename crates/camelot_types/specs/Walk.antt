@@ -1,8 +1,9 @@
+-- Cited by contracts.
 -- The check of types as a walk through the program's text: a list of steps in their order. A step is a test, with the fault where it
 -- fails, or two atoms that have to be the same. The atom of a parameter or a result that isn't written is an unknown, which has a
 -- number; what is known so far of an atom is a guess. An equality fails where the earlier steps hold for some choice of the
 -- unknowns, and with it for none (unification in the manner of Milner 1978, over atoms). The first step that fails is the fault.
-use Rattle.std.specs.Prelude.{◌≡◌, ℕ, suc, ◌+◌, nat_le, ◌==◌, ◌||◌, not, Bool, true, false, List, [], ◌∷◌, ◌++◌, map, flat_map, length, slice_get, Option, Some, None, is_some, codes}
+use Rattle.std.specs.Prelude.{◌≡◌, ℕ, suc, ◌+◌, nat_le, ◌==◌, ◌||◌, not, Bool, true, false, List, [], ◌∷◌, ◌++◌, map, flat_map, length, slice_get, Option, Some, None, is_some, codes, ⊤}
 use Rattle.std.specs.List.{AllByRecursion, list_any}
 use Rattle.std.specs.Option.{option_map_or}
 use Rattle.camelot_values.specs.Names.{stands}
@@ -20,8 +21,9 @@ use Rattle.camelot_tree.specs.Tree as tree
 use Rattle.camelot_values.specs.Names.{find}
 use Rattle.camelot_typing.specs.Kinds.{Head, Globals, Scope, bind, or_else, kind_of_atom, types_of, constructor_number, fields_of, is_inline, built_kind, numbers_of, head_of, bound_names, arm_scope, atom_of}
 use Rattle.camelot_typing.specs.Typing.{params_scope}
+use Rattle.camelot_tree.specs.Cells.{has_cell}
 use Rattle.camelot_types.specs.declared.fault.TypeFault.{TypeFault}
-use Rattle.camelot_types.specs.declared.fault.TypeFault.TheVariants.{UnknownName, UnknownType, Duplicate, Arity, Clash, MissingArm, RepeatedArm, TooManyFields, PlaceOnInline, TooMany}
+use Rattle.camelot_types.specs.declared.fault.TypeFault.TheVariants.{UnknownName, UnknownType, Duplicate, Arity, Clash, MissingArm, RepeatedArm, TooManyFields, PlaceOnInline, TooMany, Memory}
 use Rattle.camelot_types.specs.declared.guess.Guess.{Guess}
 use Rattle.camelot_types.specs.declared.guess.Guess.TheVariants.{Known, Unknown}
 
@@ -165,9 +167,10 @@ line_of (Match e as' l) = l
 line_of (Build c es place) = c.line
 line_of (Call f es) = f.line
 
-abbrev pub count : Terms → ℕ
-count NoTerms = 0
-count (AndTerm e es) = suc (count es)
+-- how many arguments there are
+abbrev pub argument_count : Terms → ℕ
+argument_count NoTerms = 0
+argument_count (AndTerm e es) = suc (argument_count es)
 
 abbrev pub guess : Globals Guess → Scope Guess → Term → Guess
 guess g s e = atom_of Known g s e
@@ -190,19 +193,14 @@ place_same s (Some d) = Same (or_else (find s d.word) (Known kind.Int)) (Known k
 abbrev pub build_steps : Globals Guess → Scope Guess → Name → Terms → Option Name → Option ℕ → List Step
 build_steps g s c es place None = Must false (UnknownName c.word c.line) ∷ []
 build_steps g s c es place (Some con) =
-    Must (count es == length (fields_of g.types con)) (Arity c.word (count es) (length (fields_of g.types con)) c.line)
+    Must (argument_count es == length (fields_of g.types con)) (Arity c.word (argument_count es) (length (fields_of g.types con)) c.line)
     ∷ Must (not (is_inline g.types con) || not (is_some place)) (PlaceOnInline c.word c.line)
     ∷ (place_known s place ++ (same_steps g s es (map Known (fields_of g.types con)) ++ place_same s place))
 
 -- a call, behind its arguments
 abbrev pub call_steps : Globals Guess → Scope Guess → Name → Terms → Option (Head Guess) → List Step
 call_steps g s f es None = Must false (UnknownName f.word f.line) ∷ []
-call_steps g s f es (Some h) = Must (count es == length h.params) (Arity f.word (count es) (length h.params) f.line) ∷ same_steps g s es h.params
-
--- an `@` stands in an arm
-abbrev pub has_cell : ArmCell → Bool
-has_cell cell.Plain = false
-has_cell x = true
+call_steps g s f es (Some h) = Must (argument_count es == length h.params) (Arity f.word (argument_count es) (length h.params) f.line) ∷ same_steps g s es h.params
 
 -- the guess for a constructor's values
 abbrev pub con_guess : List DataType → ℕ → Guess
@@ -294,3 +292,8 @@ program_steps p =
 -- the first fault of a program
 abbrev pub HasFault : Source → TypeFault → Type 0
 HasFault p fault = IsFirstFault (types_of p) (program_steps p) fault
+
+-- want of memory has no cause in the program
+abbrev pub HasCause : Source → TypeFault → Type 0
+HasCause p Memory = ⊤
+HasCause p fault = HasFault p fault

@@ -1,3 +1,4 @@
+-- Private: words for functions of this crate.
 -- What the walk of expressions keeps, as plain data.
 use Rattle.camelot_types.specs.Solving.{Work}
 use Rattle.camelot_types.specs.declared.walker.Walker.{Walker}

@@ -3,7 +3,8 @@
 ghost use Rattle.std.specs.Prelude.{◌≡◌, ◌++◌, map, OnOk, IfOk, IfErr, Some};
 ghost use Rattle.camelot_typing.specs.Kinds.{field_names, cell_names, bound_names, bind_fields, bind_cell, arm_scope, constructor_number};
 ghost use Rattle.camelot_types.specs.Tables.{globals_view};
-ghost use Rattle.camelot_types.specs.Walk.{has_cell, cons_of_type};
+ghost use Rattle.camelot_types.specs.Walk.{cons_of_type};
+ghost use Rattle.camelot_tree.specs.Cells.{has_cell};
 ghost use Rattle.camelot_types.specs.Solving.{Stops, headed, missing_checked};
 ghost use Rattle.camelot_types.specs.Doing.{StopsWith, Allows, Leaves};
 ghost use Rattle.camelot_values.specs.Kinds.{constructor_name};
@@ -63,7 +64,7 @@ impl<'a> Walker<'a> {
     #[tactic(auto, unfolding(crate::specs::Solving::headed))]
     pub(crate) fn head(
         &mut self,
-        globals: &Globals<'_>,
+        globals: &Globals<'_, '_>,
         earlier: &[u32],
         left: Guess,
         right: Guess,
@@ -76,9 +77,9 @@ impl<'a> Walker<'a> {
     {
         check_repeat(self.alloc, &arm.con, con, earlier)?;
         self.same(globals, left, right, arm.con.line)?;
-        let need = fields_of(globals.types, con).len();
+        let need = fields_of(globals, con).len();
         check_arity(self.alloc, &arm.con, arm.fields.len(), need)?;
-        let inline = is_inline(globals.types, con);
+        let inline = is_inline(globals, con);
         check_place(self.alloc, &arm.con, inline, has_cell(&arm.cell))?;
         let names = bound_names(self.alloc, &arm.fields, &arm.cell)?;
         check_names(self.alloc, &names)
@@ -119,7 +120,7 @@ impl<'a> Walker<'a> {
     /// Binds the names of an arm of this constructor.
     pub(crate) fn bind_arm(
         &mut self,
-        globals: &Globals<'_>,
+        globals: &Globals<'_, '_>,
         con: u32,
         arm: &'a Arm,
     ) -> Result<(), TypeFault>
@@ -129,16 +130,16 @@ impl<'a> Walker<'a> {
         ensures table { self.new.table.items ≡ self.old.table.items }
         ensures atoms { self.new.atoms.items ≡ self.old.atoms.items }
     {
-        self.bind_fields(&arm.fields, fields_of(globals.types, con))?;
+        self.bind_fields(&arm.fields, fields_of(globals, con))?;
         self.bind_cell(&arm.cell)
     }
 
     /// The fault of a match without an arm for this constructor.
-    fn missing(&self, globals: &Globals<'_>, con: u32, line: u32) -> TypeFault
+    fn missing(&self, globals: &Globals<'_, '_>, con: u32, line: u32) -> TypeFault
         ensures { StopsWith {A = Unit {0}} (Stops (MissingArm (constructor_name (globals_view globals.now).types con) line)) result }
     {
-        let name = match globals.types.con(con) {
-            Some(found) => found.name.copy(self.alloc),
+        let name = match globals.fact(con) {
+            Some(fact) => fact.con.name.copy(self.alloc),
             None => word(self.alloc, b""),
         };
         match name {
@@ -154,7 +155,7 @@ impl<'a> Walker<'a> {
     #[tactic(auto, unfolding(crate::specs::Solving::missing_checked))]
     pub(crate) fn check_missing(
         &self,
-        globals: &Globals<'_>,
+        globals: &Globals<'_, '_>,
         there: &[u32],
         line: u32,
         con: u32,

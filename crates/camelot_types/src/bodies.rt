@@ -55,7 +55,7 @@ impl<'a> Walker<'a> {
 #[tactic(auto, unfolding(crate::specs::Solving::body_walked))]
 fn walk_body(
     alloc: Global,
-    globals: &Globals<'_>,
+    globals: &Globals<'_, '_>,
     table: Vec<Guess>,
     fun: &FunDecl,
     head: &FunHead<'_>,
@@ -81,7 +81,7 @@ fn walk_body(
 #[tactic(auto, unfolding(crate::specs::Solving::bodies_on))]
 pub(crate) fn walk_bodies(
     alloc: Global,
-    globals: &Globals<'_>,
+    globals: &Globals<'_, '_>,
     table: Vec<Guess>,
     funs: &[FunDecl],
 ) -> Result<BodiesWork, TypeFault>

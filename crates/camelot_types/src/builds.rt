@@ -52,7 +52,7 @@ impl Walker<'_> {
     #[tactic(auto, unfolding(crate::specs::Solving::place_made))]
     fn same_place(
         &mut self,
-        globals: &Globals<'_>,
+        globals: &Globals<'_, '_>,
         place: &Option<Name>,
         guess: Option<Guess>,
     ) -> Result<(), TypeFault>
@@ -72,7 +72,7 @@ impl Walker<'_> {
     #[tactic(auto, unfolding(crate::specs::Solving::all_same))]
     fn same_params(
         &mut self,
-        globals: &Globals<'_>,
+        globals: &Globals<'_, '_>,
         args: &[Expr],
         guesses: &[Guess],
         needed: &[Guess],
@@ -98,7 +98,7 @@ impl Walker<'_> {
     #[tactic(auto, unfolding(crate::specs::Solving::all_same))]
     fn same_fields(
         &mut self,
-        globals: &Globals<'_>,
+        globals: &Globals<'_, '_>,
         args: &[Expr],
         guesses: &[Guess],
         needed: &[Kind],
@@ -124,7 +124,7 @@ impl Walker<'_> {
     #[tactic(auto, unfolding(crate::specs::Solving::built))]
     pub(crate) fn build(
         &mut self,
-        globals: &Globals<'_>,
+        globals: &Globals<'_, '_>,
         name: &Name,
         con: u32,
         args: &[Expr],
@@ -135,12 +135,12 @@ impl Walker<'_> {
         ensures atoms { self.new.atoms.items ≡ self.old.atoms.items }
         ensures scope { self.new.scope ≡ self.old.scope }
     {
-        let fields = fields_of(globals.types, con);
+        let fields = fields_of(globals, con);
         check_arity(self.alloc, name, guesses.len(), fields.len())?;
         check_place(
             self.alloc,
             name,
-            is_inline(globals.types, con),
+            is_inline(globals, con),
             place.is_some(),
         )?;
         let diamond = self.place(place)?;
@@ -152,7 +152,7 @@ impl Walker<'_> {
     #[tactic(auto, unfolding(crate::specs::Solving::called))]
     pub(crate) fn call(
         &mut self,
-        globals: &Globals<'_>,
+        globals: &Globals<'_, '_>,
         name: &Name,
         head: Option<&FunHead<'_>>,
         args: &[Expr],

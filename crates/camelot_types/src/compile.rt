@@ -1,16 +1,14 @@
 //! The program's types with the kinds of all fields, and the numbers of their constructors.
 
-ghost use Rattle.std.specs.Prelude.{◌≡◌, ◌≤◌, ◌+◌, map, length, IfOk, IfErr, OnOk};
+ghost use Rattle.std.specs.Prelude.{◌≡◌, ◌≤◌, ◌+◌, map, length, IfOk, OnOk};
 ghost use Rattle.camelot_values.specs.Kinds.{AreTypes};
 ghost use Rattle.camelot_values.specs.Kinds as values;
 ghost use Rattle.camelot_tree.specs.Tree as tree;
 ghost use Rattle.camelot_tree.specs.Programs.{program_of};
 ghost use Rattle.camelot_typing.specs.Kinds.{field_kind, constructor_kinds, data_kinds, types_of, numbered};
-ghost use Rattle.camelot_types.specs.declared.fault.TypeFault.TheVariants.{Memory};
-ghost use Rattle.camelot_types.specs.Siblings.{numbers_from_type};
+ghost use Rattle.camelot_types.specs.Facts.{numbers_from_type};
 
 use crate::atoms::kind_of_atom;
-use crate::fault::TypeFault;
 use camelot_tree::{Atom, ConDecl, Program, TypeDecl};
 use camelot_values::{Con, Kind, TypeDef, Types};
 use std::alloc::{AllocError, Global};
@@ -74,24 +72,24 @@ pub(crate) fn compile_types(alloc: Global, program: &Program) -> Result<Types, A
 }
 
 /// The numbers of the constructors of one type, from the next number on.
-fn numbered(alloc: Global, next: &mut u32, cons: &[Con]) -> Result<Vec<u32>, TypeFault>
+fn numbered(alloc: Global, next: &mut u32, cons: &[Con]) -> Result<Vec<u32>, AllocError>
+    requires { next.old + length cons.now ≤ 4096 }
     ensures numbers { IfOk result (λ numbers. numbers.items ≡ numbered next.old (map values.constructor_of cons.now)) }
-    ensures next { OnOk result (next.new ≡ next.old + length (map values.constructor_of cons.now)) }
-    ensures memory { IfErr result (λ fault. fault ≡ Memory) }
+    ensures next { OnOk result (next.new ≡ next.old + length cons.now) }
 {
     let mut numbers = Vec::new(alloc);
     'cons: for _con in cons {
         numbers.push(*next)?;
-        *next = next.checked_add(1).ok_or(TypeFault::Memory)?;
+        *next += 1;
     }
     Ok(numbers)
 }
 
 /// The numbers of the constructors of each type, from 0 on through all types.
-pub(crate) fn type_numbers(alloc: Global, types: &Types) -> Result<Vec<Vec<u32>>, TypeFault>
-    ensures numbers { IfOk result (λ numbers. map (λ v. v.items) numbers.items ≡ numbers_from_type 0 types.now) }
-    ensures memory { IfErr result (λ fault. fault ≡ Memory) }
+pub(crate) fn type_numbers(alloc: Global, types: &Types) -> Result<Vec<Vec<u32>>, AllocError>
+    ensures { IfOk result (λ numbers. map (λ v. v.items) numbers.items ≡ numbers_from_type 0 types.now) }
 {
+    types.limits();
     let mut numbers = Vec::new(alloc);
     let mut next = 0;
     let defs = types.defs();

@@ -1,7 +1,7 @@
 //! Constructors by their numbers.
 
 ghost use Rattle.std.specs.Prelude.{◌≡◌, ◌<◌, ◌^◌, IfOk};
-ghost use Rattle.camelot_values.specs.Kinds.{constructor_of};
+ghost use Rattle.camelot_values.specs.Kinds.{constructor_of, constructor, type_of};
 ghost use Rattle.camelot_typing.specs.Kinds.{constructor_number, fields_of, is_inline, head_of};
 ghost use Rattle.camelot_types.specs.Walk.{con_guess, cons_of_type};
 ghost use Rattle.camelot_types.specs.Tables.{globals_view, head_view};
@@ -9,45 +9,55 @@ ghost use Rattle.camelot_types.specs.Solving.{con_found};
 ghost use Rattle.camelot_types.specs.Doing.{Gives};
 ghost use Rattle.std.specs.Option.{option_map};
 
+use crate::facts::ConFact;
 use crate::fault::TypeFault;
 use crate::globals::{FunHead, Globals};
 use crate::guess::Guess;
 use crate::names::unknown_name;
 use camelot_tree::Name;
-use camelot_values::{Kind, Types};
+use camelot_values::Kind;
 use std::alloc::Global;
 
 /// The kinds of a constructor's fields.
-pub(crate) fn fields_of(types: &Types, con: u32) -> &[Kind]
-    ensures { result.now ≡ fields_of types.now con }
+pub(crate) fn fields_of<'g>(globals: &'g Globals<'_, '_>, con: u32) -> &'g [Kind]
+    ensures { result.now ≡ fields_of (globals_view globals.now).types con }
 {
-    match types.con(con) {
-        Some(found) => &found.fields,
+    match globals.fact(con) {
+        Some(fact) => &fact.con.fields,
         None => &[],
     }
 }
 
 /// Whether a constructor needs no cell.
-pub(crate) fn is_inline(types: &Types, con: u32) -> bool
-    ensures { result ≡ is_inline types.now con }
+pub(crate) fn is_inline(globals: &Globals<'_, '_>, con: u32) -> bool
+    ensures { result ≡ is_inline (globals_view globals.now).types con }
 {
-    match types.con(con) {
-        Some(found) => found.inline,
+    match globals.fact(con) {
+        Some(fact) => fact.con.inline,
         None => false,
     }
 }
 
 /// The guess for a constructor's values: the kind of its type.
-pub(crate) fn con_guess(types: &Types, con: u32) -> Guess
-    ensures { result ≡ con_guess types.now con }
+pub(crate) fn con_guess(globals: &Globals<'_, '_>, con: u32) -> Guess
+    ensures { result ≡ con_guess (globals_view globals.now).types con }
 {
-    match types.type_of(con) {
-        Some(number) => Guess::Known(Kind::Of(number)),
+    match globals.fact(con) {
+        Some(fact) => Guess::Known(Kind::Of(fact.owner)),
         None => Guess::Known(Kind::Int),
     }
 }
 
-impl Globals<'_> {
+impl Globals<'_, '_> {
+    /// The constructor of this number, with its type.
+    #[tactic(auto, using(crate::proofs::FactLaws::fact_con, crate::proofs::FactLaws::fact_owner))]
+    pub(crate) fn fact(&self, con: u32) -> Option<&ConFact<'_>>
+        ensures con { option_map (λ f. constructor_of f.now.con.now) result ≡ constructor (globals_view self.now).types con }
+        ensures owner { option_map (λ f. f.now.owner) result ≡ type_of (globals_view self.now).types con }
+    {
+        self.facts.get(con as usize)
+    }
+
     /// The number of the constructor of this name.
     #[tactic(auto, unfolding(crate::specs::Solving::con_found))]
     pub(crate) fn con(&self, alloc: Global, name: &Name) -> Result<u32, TypeFault>
@@ -64,8 +74,8 @@ impl Globals<'_> {
     pub(crate) fn siblings(&self, con: u32) -> &[u32]
         ensures { result.now ≡ cons_of_type (globals_view self.now).types con }
     {
-        match self.types.type_of(con) {
-            Some(number) => match self.numbers.get(number as usize) {
+        match self.fact(con) {
+            Some(fact) => match self.numbers.get(fact.owner as usize) {
                 Some(numbers) => numbers,
                 None => &[],
             },

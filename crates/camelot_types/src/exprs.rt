@@ -36,8 +36,8 @@ fn operator_kind(op: PrimOp) -> Kind
 impl<'a> Walker<'a> {
     /// An expression.
     #[cycle(walk)]
-    #[tactic(auto, using(crate::proofs::Looping::unwound_begins, crate::proofs::Looping::leaf_stops, camelot_tree::proofs::SpineLaws::none_larger))]
-    pub(crate) fn expr(&mut self, globals: &Globals<'_>, expr: &'a Expr) -> Result<Guess, TypeFault>
+    #[tactic(auto, using(crate::proofs::Looping::unwound_begins, crate::proofs::Looping::leaf_stops, camelot_tree::specs::SpineLaws::none_larger))]
+    pub(crate) fn expr(&mut self, globals: &Globals<'_, '_>, expr: &'a Expr) -> Result<Guess, TypeFault>
         ensures found { Finds (walk (globals_view globals.now) self.old.scope (work_of self.old) (term_of expr.now)) (work_of self.new) result }
         ensures scope { OnOk result (self.new.scope ≡ self.old.scope) }
     {
@@ -58,7 +58,7 @@ impl<'a> Walker<'a> {
     #[tactic(auto, unfolding(crate::specs::Solving::rest_of))]
     fn rest(
         &mut self,
-        globals: &Globals<'_>,
+        globals: &Globals<'_, '_>,
         parent: &'a Expr,
         first: Guess,
     ) -> Result<Guess, TypeFault>
@@ -91,7 +91,7 @@ impl<'a> Walker<'a> {
     /// What a left end begins with.
     #[cycle(walk)]
     #[tactic(auto, unfolding(crate::specs::Solving::walk))]
-    fn leaf(&mut self, globals: &Globals<'_>, expr: &'a Expr) -> Result<Guess, TypeFault>
+    fn leaf(&mut self, globals: &Globals<'_, '_>, expr: &'a Expr) -> Result<Guess, TypeFault>
         requires { IsLeaf (term_of expr.now) }
         ensures found { Finds (walk (globals_view globals.now) self.old.scope (work_of self.old) (term_of expr.now)) (work_of self.new) result }
         ensures scope { OnOk result (self.new.scope ≡ self.old.scope) }
@@ -116,7 +116,7 @@ impl<'a> Walker<'a> {
     #[tactic(auto, unfolding(crate::specs::Solving::walk))]
     fn bound(
         &mut self,
-        globals: &Globals<'_>,
+        globals: &Globals<'_, '_>,
         name: &'a Name,
         value: &'a Expr,
         body: &'a Expr,
@@ -137,7 +137,7 @@ impl<'a> Walker<'a> {
     #[tactic(auto, unfolding(crate::specs::Solving::walk))]
     fn built(
         &mut self,
-        globals: &Globals<'_>,
+        globals: &Globals<'_, '_>,
         con: &Name,
         args: &'a [Expr],
         place: &Option<Name>,
@@ -148,7 +148,7 @@ impl<'a> Walker<'a> {
         let guesses = self.args(globals, args)?;
         let number = globals.con(self.alloc, con)?;
         self.build(globals, con, number, args, &guesses, place)?;
-        self.note(con_guess(globals.types, number))
+        self.note(con_guess(globals, number))
     }
 
     /// A call.
@@ -156,7 +156,7 @@ impl<'a> Walker<'a> {
     #[tactic(auto, unfolding(crate::specs::Solving::walk))]
     fn called(
         &mut self,
-        globals: &Globals<'_>,
+        globals: &Globals<'_, '_>,
         fun: &Name,
         args: &'a [Expr],
     ) -> Result<Guess, TypeFault>
@@ -175,7 +175,7 @@ impl<'a> Walker<'a> {
     /// Arguments in order, with their guesses.
     #[cycle(walk)]
     #[tactic(auto, using(crate::proofs::Looping::args_begin, crate::proofs::Looping::args_more, crate::proofs::Looping::args_fail, crate::proofs::Looping::args_end))]
-    fn args(&mut self, globals: &Globals<'_>, args: &'a [Expr]) -> Result<Vec<Guess>, TypeFault>
+    fn args(&mut self, globals: &Globals<'_, '_>, args: &'a [Expr]) -> Result<Vec<Guess>, TypeFault>
         ensures found { FindsAll (walk_all (globals_view globals.now) self.old.scope (work_of self.old) (terms (map term_of args.now))) (work_of self.new) (lines_of (terms (map term_of args.now))) result }
         ensures scope { OnOk result (self.new.scope ≡ self.old.scope) }
     {
@@ -194,7 +194,7 @@ impl<'a> Walker<'a> {
     #[tactic(auto, using(crate::proofs::Looping::finds_match))]
     fn matched(
         &mut self,
-        globals: &Globals<'_>,
+        globals: &Globals<'_, '_>,
         on: &'a Expr,
         arms: &'a [Arm],
         line: u32,
@@ -210,7 +210,7 @@ impl<'a> Walker<'a> {
     #[tactic(auto, unfolding(crate::specs::Solving::match_walk))]
     fn match_arms(
         &mut self,
-        globals: &Globals<'_>,
+        globals: &Globals<'_, '_>,
         on: &'a Expr,
         arms: &'a [Arm],
         line: u32,
@@ -236,7 +236,7 @@ impl<'a> Walker<'a> {
     #[tactic(auto, using(crate::proofs::Looping::arm_left))]
     fn arm_body(
         &mut self,
-        globals: &Globals<'_>,
+        globals: &Globals<'_, '_>,
         con: u32,
         arm: &'a Arm,
     ) -> Result<Guess, TypeFault>
@@ -256,7 +256,7 @@ impl<'a> Walker<'a> {
     #[tactic(auto, unfolding(crate::specs::Solving::first_arm), using(crate::proofs::Looping::number_found))]
     fn first_arm(
         &mut self,
-        globals: &Globals<'_>,
+        globals: &Globals<'_, '_>,
         scrutinee: Guess,
         arm: &'a Arm,
     ) -> Result<BodyGuess, TypeFault>
@@ -267,7 +267,7 @@ impl<'a> Walker<'a> {
         self.head(
             globals,
             &[],
-            con_guess(globals.types, con),
+            con_guess(globals, con),
             scrutinee,
             con,
             arm,
@@ -281,7 +281,7 @@ impl<'a> Walker<'a> {
     #[tactic(auto, unfolding(crate::specs::Solving::next_arm), using(crate::proofs::Looping::number_found))]
     fn next_arm(
         &mut self,
-        globals: &Globals<'_>,
+        globals: &Globals<'_, '_>,
         numbers: &[u32],
         first: BodyGuess,
         arm: &'a Arm,
@@ -290,12 +290,12 @@ impl<'a> Walker<'a> {
         ensures scope { OnOk result (self.new.scope ≡ self.old.scope) }
     {
         let con = globals.con(self.alloc, &arm.con)?;
-        let of_first = con_guess(globals.types, first.con);
+        let of_first = con_guess(globals, first.con);
         self.head(
             globals,
             numbers,
             of_first,
-            con_guess(globals.types, con),
+            con_guess(globals, con),
             con,
             arm,
         )?;
@@ -309,7 +309,7 @@ impl<'a> Walker<'a> {
     #[tactic(auto, using(crate::proofs::Looping::arms_begin, crate::proofs::Looping::arms_more, crate::proofs::Looping::arms_fail, crate::proofs::Looping::arms_end))]
     fn arms(
         &mut self,
-        globals: &Globals<'_>,
+        globals: &Globals<'_, '_>,
         first: BodyGuess,
         arms: &'a [Arm],
     ) -> Result<Vec<u32>, TypeFault>

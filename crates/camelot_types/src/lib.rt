@@ -9,6 +9,7 @@ mod builds;
 mod compile;
 mod constructors;
 mod exprs;
+mod facts;
 mod fault;
 mod globals;
 mod guess;
@@ -24,4 +25,4 @@ mod walker;
 
 pub use camelot_typing::{FunKinds, Typed};
 pub use fault::TypeFault;
-pub use program::check;
+pub use program::{check, check_program};

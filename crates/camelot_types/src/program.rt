@@ -8,12 +8,14 @@ ghost use Rattle.camelot_typing.specs.Typed.{typing_kinds, functions_kinds};
 ghost use Rattle.camelot_typing.specs.TypedPrograms.{typing_of};
 ghost use Rattle.camelot_typing.specs.Settled.{KindsSettled};
 ghost use Rattle.camelot_types.specs.Walk.{HasFault};
-ghost use Rattle.camelot_types.specs.Checked.{HasCause, BodiesChecked, Checks};
+ghost use Rattle.camelot_types.specs.Checked.{BodiesChecked, Checks};
+ghost use Rattle.camelot_types.specs.Walk.{HasCause};
 ghost use Rattle.camelot_types.specs.declared.fault.TypeFault.{TypeFault};
 ghost use Rattle.camelot_types.specs.declared.fault.TypeFault.TheVariants.{Memory};
 
 use crate::bodies::walk_bodies;
 use crate::compile::{compile_types, type_numbers};
+use crate::facts::con_facts;
 use crate::fault::TypeFault;
 use crate::globals::Globals;
 use crate::headers::check_headers;
@@ -27,12 +29,12 @@ use camelot_values::Types;
 use std::alloc::Global;
 
 /// The kinds of all functions, whose declarations and headers are checked.
-fn check_bodies(
+fn check_bodies<'p>(
     alloc: Global,
-    program: &Program,
+    program: &'p Program,
     types: &Types,
-    cons: Names<'_>,
-    funs: Names<'_>,
+    cons: Names<'p>,
+    funs: Names<'p>,
 ) -> Result<Vec<FunKinds>, TypeFault>
     requires types { types.now ≡ types_of (program_of program.now) }
     requires few_types { length program.now.types.items ≤ 64 }
@@ -42,16 +44,16 @@ fn check_bodies(
     requires funs { funs ≡ map (λ f. f.name.word) (program_of program.now).funs }
     ensures { BodiesChecked (program_of program.now) result }
 {
-    if cons.len() > 1 << 16 {
-        return Err(TypeFault::Memory);
-    }
+    types.limits();
     let heads = head_guesses(alloc, program, &program.funs)?;
+    let facts = con_facts(alloc, types)?;
     let numbers = type_numbers(alloc, types)?;
     let globals = Globals {
         types,
         cons,
         funs,
         heads,
+        facts,
         numbers,
     };
     let table = fresh(alloc, unknowns(&program.funs))?;
@@ -86,7 +88,7 @@ fn check_parts(alloc: Global, program: &Program) -> Result<Parts, TypeFault>
     }
 }
 
-/// Checks the types of a program.
+/// Checks the types of a program, which becomes that of the answer.
 ///
 /// A program is typed where some choice of one kind for each parameter, result, local and expression obeys the rules of ML's typing
 /// (Milner 1978) without type parameters; a kind that nothing fixes becomes `int`. The walk through the text is
@@ -96,31 +98,45 @@ fn check_parts(alloc: Global, program: &Program) -> Result<Parts, TypeFault>
 ///
 /// The first step of the walk that fails: first the declarations of types, then the headers of functions, then their bodies, each in text
 /// order; see [`TypeFault`]. [`TypeFault::Memory`] where memory runs out.
-pub fn check(alloc: Global, program: &Program) -> Result<Typed, TypeFault>
+pub fn check_program(alloc: Global, program: Program) -> Result<Typed, TypeFault>
     // The answer is this program, typed with these kinds, within the limits.
+    ensures program { IfOk result (λ typed. (typing_of typed).source ≡ program_of program) }
+    ensures typed { IfOk result (λ typed. IsTyped (program_of program) (typing_of typed).signatures) }
+    ensures within { IfOk result (λ _. IsWithinLimits (program_of program)) }
+    // A kind other than `int` is the same in every choice that obeys the rules.
+    ensures settled { IfOk result (λ typed. (signatures : List Signature) → IsTyped (program_of program) signatures
+        → KindsSettled (typing_kinds (typing_of typed)) (functions_kinds (globals_of (program_of program) signatures) (program_of program).funs signatures)) }
+    // A fault is the first one of the walk.
+    ensures fault { IfErr result (HasCause (program_of program)) }
+    // A typed program within the limits is taken, and one that has a fault is refused for it, unless memory runs out.
+    ensures takes { (signatures : List Signature) → IsTyped (program_of program) signatures → IsWithinLimits (program_of program)
+        → MatchResult result (λ _. ⊤) (λ found. found ≡ Memory) }
+    ensures refuses { (fault : TypeFault) → HasFault (program_of program) fault
+        → MatchResult result (λ _. ⊥) (λ found. (found ≡ fault) ⊎ (found ≡ Memory)) }
+{
+    match check_parts(alloc, &program) {
+        Ok(parts) => Ok(Typed {
+            program,
+            types: parts.types,
+            funs: parts.funs,
+        }),
+        Err(fault) => Err(fault),
+    }
+}
+
+/// Checks the types of a copy of the program, as [`check_program`] does.
+pub fn check(alloc: Global, program: &Program) -> Result<Typed, TypeFault>
     ensures program { IfOk result (λ typed. (typing_of typed).source ≡ program_of program.now) }
     ensures typed { IfOk result (λ typed. IsTyped (program_of program.now) (typing_of typed).signatures) }
     ensures within { IfOk result (λ _. IsWithinLimits (program_of program.now)) }
-    // A kind other than `int` is the same in every choice that obeys the rules.
     ensures settled { IfOk result (λ typed. (signatures : List Signature) → IsTyped (program_of program.now) signatures
         → KindsSettled (typing_kinds (typing_of typed)) (functions_kinds (globals_of (program_of program.now) signatures) (program_of program.now).funs signatures)) }
-    // A fault is the first one of the walk.
     ensures fault { IfErr result (HasCause (program_of program.now)) }
-    // A typed program within the limits is taken, and one that has a fault is refused for it, unless memory runs out.
     ensures takes { (signatures : List Signature) → IsTyped (program_of program.now) signatures → IsWithinLimits (program_of program.now)
         → MatchResult result (λ _. ⊤) (λ found. found ≡ Memory) }
     ensures refuses { (fault : TypeFault) → HasFault (program_of program.now) fault
         → MatchResult result (λ _. ⊥) (λ found. (found ≡ fault) ⊎ (found ≡ Memory)) }
 {
-    match check_parts(alloc, program) {
-        Ok(parts) => {
-            let copy = program.copy(alloc)?;
-            Ok(Typed {
-                program: copy,
-                types: parts.types,
-                funs: parts.funs,
-            })
-        }
-        Err(fault) => Err(fault),
-    }
+    let copy = program.copy(alloc)?;
+    check_program(alloc, copy)
 }

@@ -91,8 +91,7 @@ fn clash(alloc: Global, types: &Types, left: Kind, right: Kind, line: u32) -> Ty
     }
 }
 
-/// Makes two guesses the same, as the table has them: two kinds have to be the same already, and an unknown gets the other guess. So
-/// there are at most as many replacements as unknowns.
+/// Makes two guesses the same, as the table has them: two kinds have to be the same already, and an unknown gets the other guess.
 #[tactic(auto, unfolding(crate::specs::Solving::made_same))]
 pub(crate) fn make_same(
     alloc: Global,

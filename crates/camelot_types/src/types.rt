@@ -4,7 +4,7 @@ ghost use Rattle.std.specs.Prelude.{◌≡◌, ◌≤◌, [], ◌∷◌, ◌++�
 ghost use Rattle.camelot_values.specs.Names.{stands};
 ghost use Rattle.camelot_tree.specs.Tree.{data_type_of, constructor_of};
 ghost use Rattle.camelot_tree.specs.Programs.{program_of};
-ghost use Rattle.camelot_typing.specs.Typing.{all_constructors};
+ghost use Rattle.camelot_tree.specs.Meaning.{declared_constructors};
 ghost use Rattle.camelot_types.specs.declared.fault.TypeFault.TheVariants.{TooManyFields};
 ghost use Rattle.camelot_types.specs.Walk.{words, con_names};
 ghost use Rattle.camelot_types.specs.Solving.{Stops, names_checked};
@@ -142,7 +142,7 @@ fn check_type<'a>(
 pub(crate) fn check_types(alloc: Global, program: &Program) -> Result<Names<'_>, TypeFault>
     ensures allowed { Allows (types_checked (program_of program.now)) result }
     ensures few { OnOk result (length program.now.types.items ≤ 64) }
-    ensures names { IfOk result (λ names. names ≡ map (λ c. c.name.word) (all_constructors (program_of program.now))) }
+    ensures names { IfOk result (λ names. names ≡ map (λ c. c.name.word) (declared_constructors (program_of program.now))) }
 {
     check_few_types(alloc, &program.types)?;
     let mut names = Names::new(alloc);

@@ -40,7 +40,7 @@ impl<'a> Walker<'a> {
     /// Makes two guesses the same.
     pub(crate) fn same(
         &mut self,
-        globals: &Globals<'_>,
+        globals: &Globals<'_, '_>,
         left: Guess,
         right: Guess,
         line: u32,

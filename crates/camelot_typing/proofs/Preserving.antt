@@ -1,6 +1,7 @@
 -- A typed program on fitting arguments doesn't get stuck, and what it comes to is of the function's result kind.
 use Rattle.std.proofs.Common.{◌≡◌, ℕ, zero, suc, ◌+◌, ◌-◌, ◌≤◌, Bool, true, false, List, [], ◌∷◌, ◌++◌, length, map, Option, Some, None, refl, sym, ap, ◌∙◌, subst, arith}
-use Rattle.std.specs.Prelude.{cond, if◌then◌else◌, slice_get, IsSomeAnd}
+use Rattle.std.specs.Prelude.{cond, ◌&&◌, if◌then◌else◌, slice_get, IsSomeAnd, IsTrue}
+use Rattle.std.specs.List.{list_all}
 use Rattle.std.specs.Option.{option_map, option_map_or}
 use Rattle.std.specs.Str.{bytes_eq}
 use Rattle.std.proofs.lemmas.Bool.Decides.{nat_tests}
@@ -10,13 +11,15 @@ use Rattle.camelot_values.specs.Names.{AreDistinct, find}
 use Rattle.camelot_values.specs.Kinds as values
 use Rattle.camelot_values.specs.Kinds.{DataType, constructor, type_of}
 use Rattle.camelot_values.specs.Typing.{Fits, FitAll, ArgumentsFit, IsSafe, operator_kind}
-use Rattle.camelot_values.specs.Operator as operator
-use Rattle.camelot_values.specs.Operator.{Operator, operate}
-use Rattle.camelot_values.specs.Outcome.{Outcome, Done, Fuel, Deep, Stuck, after, first_then, at_once, known, given, entered}
-use Rattle.camelot_values.specs.Runs.{Enter, chosen, on_diamond, is_too_deep}
+use Rattle.camelot_values.specs.Operator.{operate}
+use Rattle.camelot_values.specs.Bounds.{Yields}
+use Rattle.camelot_values.specs.BoundLaws.{yields_after, yields_then}
+use Rattle.camelot_values.specs.IntLaws.{operate_sound, passing_int}
+use Rattle.camelot_values.specs.Outcome.{Outcome, Done, Deep, first_then, at_once, known, given, entered}
+use Rattle.camelot_values.specs.Runs.{Enter, chosen, on_diamond, is_too_deep, calls}
 use Rattle.camelot_values.specs.declared.kinds.Kind.{Kind}
 use Rattle.camelot_values.specs.declared.kinds.Kind.TheVariants as kind
-use Rattle.camelot_values.proofs.NameLists.{same_name, name_itself}
+use Rattle.camelot_values.specs.NameLaws.{same_name, name_itself}
 use Rattle.camelot_tree.specs.declared.tree.Name.{Name}
 use Rattle.camelot_tree.specs.declared.tree.Param.{Param}
 use Rattle.camelot_tree.specs.declared.tree.ArmCell.{ArmCell}
@@ -24,45 +27,32 @@ use Rattle.camelot_tree.specs.declared.tree.ArmCell.TheVariants as cell
 use Rattle.camelot_tree.specs.Tree as tree
 use Rattle.camelot_tree.specs.Tree.{Term, Num, Truth, Var, Prim, If, Let, Match, Build, Call, Terms, NoTerms, AndTerm, Arms, NoArms, AndArm, Function, Source}
 use Rattle.camelot_tree.specs.Meaning as meaning
-use Rattle.camelot_tree.specs.Meaning.{Environment, put, put_field, put_fields, put_params, in_cell, placed, cell_run, is_that, on_constructor, eval, eval_all, arms_run, function_number, body_run, calls, run_of}
+use Rattle.camelot_tree.specs.Meaning.{Environment, put, put_field, put_fields, put_params, in_cell, placed, cell_run, is_that, on_constructor, eval, eval_all, arms_run, function_number, body_run, bodies, run_of}
+use Rattle.camelot_tree.specs.Tokens.{term_has_ints, terms_have_ints, arms_have_ints, has_ints}
 use Rattle.camelot_typing.specs.Kinds.{Scope, bind, bind_fields, bind_cell, arm_scope, or_else, types_of, constructor_number, fields_of, is_inline, built_kind}
 use Rattle.camelot_typing.specs.Typing.{Signature, known_kind, PlaceFits, arms_with, HeadFits, HasKind, HaveKinds, ArmsHaveKind, ParamsStand, params_scope, FunctionFits, FunctionsFit, globals_of, IsTyped}
-use Rattle.camelot_typing.proofs.Numbers.{number_same, At, numbered_constructor, written_constructor, head_number, signature_function, among_numbers}
+use Rattle.camelot_typing.specs.NumberLaws.{number_same, At, numbered_constructor, written_constructor, head_number, signature_function, among_numbers}
 
 -- ---- outcomes
 
--- the run isn't stuck, and what it comes to has this property
-abbrev pub Comes : {A : Type 0} → (A → Type 0) → Outcome A → Type 0
-Comes P (Done v calls peak low) = P v
-Comes P (Fuel calls peak) = Unit {0}
-Comes P (Deep peak) = Unit {0}
-Comes P Stuck = ⊥
+yields_known : {A : Type 0} (P : A → Type 0) (o : Option A) → IsSomeAnd o P → Yields P (known o)
+yields_known P None h = absurd h
+yields_known P (Some v) h = h
 
-pub comes_after : {A : Type 0} (P : A → Type 0) (c p l : ℕ) (o : Outcome A) → Comes P o → Comes P (after c p l o)
-comes_after P c p l (Done v d r m) h = h
-comes_after P c p l (Fuel d r) h = tt
-comes_after P c p l (Deep r) h = tt
-comes_after P c p l Stuck h = absurd h
+yields_given : {A B : Type 0} (P : A → Type 0) (Q : B → Type 0) (o : Option A) (next : A → Outcome B) → IsSomeAnd o P → ((v : A) → P v → Yields Q (next v)) → Yields Q (given o next)
+yields_given P Q None next h go = absurd h
+yields_given P Q (Some v) next h go = go v h
 
-pub comes_then : {A B : Type 0} (P : A → Type 0) (Q : B → Type 0) (k : ℕ) (o : Outcome A) (next : ℕ → A → Outcome B) → Comes P o → ((j : ℕ) (v : A) → P v → Comes Q (next j v)) → Comes Q (first_then k o next)
-comes_then P Q k (Done v c p l) next h go = comes_after Q c p l (next (k - c) v) (go (k - c) v h)
-comes_then P Q k (Fuel c p) next h go = tt
-comes_then P Q k (Deep p) next h go = tt
-comes_then P Q k Stuck next h go = absurd h
+-- ---- literals
 
-pub comes_known : {A : Type 0} (P : A → Type 0) (o : Option A) → IsSomeAnd o P → Comes P (known o)
-comes_known P None h = absurd h
-comes_known P (Some v) h = h
+both_hold : (a b : Bool) → (a && b) ≡ true → (a ≡ true) × (b ≡ true)
+both_hold true b h = (refl, h)
+both_hold false b h = absurd cc
 
-pub comes_given : {A B : Type 0} (P : A → Type 0) (Q : B → Type 0) (o : Option A) (next : A → Outcome B) → IsSomeAnd o P → ((v : A) → P v → Comes Q (next v)) → Comes Q (given o next)
-comes_given P Q None next h go = absurd h
-comes_given P Q (Some v) next h go = go v h
-
-pub comes_sound : (types : List DataType) (q : Kind) (o : Outcome Value) → Comes (Fits types q) o → IsSafe types q o
-comes_sound types q (Done v c p l) h = h
-comes_sound types q (Fuel c p) h = tt
-comes_sound types q (Deep p) h = tt
-comes_sound types q Stuck h = absurd h
+each_holds : {A : Type 0} (test : A → Bool) (xs : List A) (i : ℕ) (x : A) → list_all test xs ≡ true → slice_get xs i ≡ Some x → test x ≡ true
+each_holds test [] i x h e = absurd cc
+each_holds test (y ∷ ys) zero x h e = let same : y ≡ x = cc in subst (λ z. test z ≡ true) same (both_hold (test y) (list_all test ys) h).0
+each_holds test (y ∷ ys) (suc i) x h e = each_holds test ys i x (both_hold (test y) (list_all test ys) h).1 e
 
 -- ---- names
 
@@ -166,7 +156,7 @@ params_bound types env (x ∷ xs) (k ∷ ks) (v ∷ vs) full distinct fit =
 
 -- the calls of the program's functions on fitting arguments come to values of the results' kinds
 abbrev pub CallsFit : Source → List Signature → Enter → Type 0
-CallsFit p sigs enter = (k w : ℕ) (t : Bool) (i : ℕ) (args : List Value) (s : Signature) → slice_get sigs i ≡ Some s → ArgumentsFit (types_of p) s.params args → Comes (Fits (types_of p) s.result) (enter k w t i args)
+CallsFit p sigs enter = (k w : ℕ) (t : Bool) (i : ℕ) (args : List Value) (s : Signature) → slice_get sigs i ≡ Some s → ArgumentsFit (types_of p) s.params args → Yields (Fits (types_of p) s.result) (enter k w t i args)
 
 not_built : (o : Option ℕ) (k : Kind) → ((t : ℕ) → kind.Of t ≡ k → ⊥) → option_map kind.Of o ≡ Some k → ⊥
 not_built None k none e = cc
@@ -181,31 +171,14 @@ no_flag t e = cc
 no_dia : (t : ℕ) → kind.Of t ≡ kind.Dia → ⊥
 no_dia t e = cc
 
-pub operator_fits : (types : List DataType) (op : Operator) (u v : Value) → Fits types kind.Int u → Fits types kind.Int v → Comes (Fits types (operator_kind op)) (known (operate op u v))
-operator_fits types operator.Add (value.Int x) (value.Int y) h g = refl
-operator_fits types operator.Sub (value.Int x) (value.Int y) h g = refl
-operator_fits types operator.Mul (value.Int x) (value.Int y) h g = refl
-operator_fits types operator.Eq (value.Int x) (value.Int y) h g = refl
-operator_fits types operator.Ne (value.Int x) (value.Int y) h g = refl
-operator_fits types operator.Lt (value.Int x) (value.Int y) h g = refl
-operator_fits types operator.Le (value.Int x) (value.Int y) h g = refl
-operator_fits types operator.Gt (value.Int x) (value.Int y) h g = refl
-operator_fits types operator.Ge (value.Int x) (value.Int y) h g = refl
-operator_fits types op (value.Int x) (value.Flag y) h g = absurd cc
-operator_fits types op (value.Int x) value.Dia h g = absurd cc
-operator_fits types op (value.Int x) (value.Con c vs) h g = absurd (not_built (type_of types c) kind.Int no_int g.0)
-operator_fits types op (value.Flag x) v h g = absurd cc
-operator_fits types op value.Dia v h g = absurd cc
-operator_fits types op (value.Con c vs) v h g = absurd (not_built (type_of types c) kind.Int no_int h.0)
-
-pub chosen_fits : (types : List DataType) (q : Kind) (v : Value) (a b : Outcome Value) → Fits types kind.Flag v → Comes (Fits types q) a → Comes (Fits types q) b → Comes (Fits types q) (chosen v a b)
+pub chosen_fits : (types : List DataType) (q : Kind) (v : Value) (a b : Outcome Value) → Fits types kind.Flag v → Yields (Fits types q) a → Yields (Fits types q) b → Yields (Fits types q) (chosen v a b)
 chosen_fits types q (value.Flag true) a b h s t = s
 chosen_fits types q (value.Flag false) a b h s t = t
 chosen_fits types q (value.Int z) a b h s t = absurd cc
 chosen_fits types q value.Dia a b h s t = absurd cc
 chosen_fits types q (value.Con c vs) a b h s t = absurd (not_built (type_of types c) kind.Flag no_flag h.0)
 
-pub on_diamond_fits : (types : List DataType) (q : Kind) (u : Value) (o : Outcome Value) → Fits types kind.Dia u → Comes (Fits types q) o → Comes (Fits types q) (on_diamond u o)
+pub on_diamond_fits : (types : List DataType) (q : Kind) (u : Value) (o : Outcome Value) → Fits types kind.Dia u → Yields (Fits types q) o → Yields (Fits types q) (on_diamond u o)
 on_diamond_fits types q value.Dia o h g = g
 on_diamond_fits types q (value.Int z) o h g = absurd cc
 on_diamond_fits types q (value.Flag b) o h g = absurd cc
@@ -213,19 +186,19 @@ on_diamond_fits types q (value.Con c vs) o h g = absurd (not_built (type_of type
 
 -- ---- builds
 
-in_cell_fits : (types : List DataType) (q : Kind) (c : tree.Constructor) (v : Value) → Fits types q v → Comes (Fits types q) (in_cell (Some c) v)
+in_cell_fits : (types : List DataType) (q : Kind) (c : tree.Constructor) (v : Value) → Fits types q v → Yields (Fits types q) (in_cell (Some c) v)
 in_cell_fits types q c v h = by_test c.inline
   where
-    by_test : (b : Bool) → Comes (Fits types q) (if b then at_once v else Done v 0 1 0)
+    by_test : (b : Bool) → Yields (Fits types q) (if b then at_once v else Done v 0 1 0)
     by_test true = h
     by_test false = h
 
-placed_fits : (p : Source) (s : Scope Kind) (q : Kind) (place : Option Name) (inline : Bool) (env : Environment) (con : ℕ) (vs : List Value) → Scoped (types_of p) s env → At (meaning.constructors p) con → PlaceFits s inline place
-    → Fits (types_of p) q (value.Con con (parts vs)) → Comes (Fits (types_of p) q) (placed p place env con vs)
+placed_fits : (p : Source) (s : Scope Kind) (q : Kind) (place : Option Name) (inline : Bool) (env : Environment) (con : ℕ) (vs : List Value) → Scoped (types_of p) s env → At (meaning.declared_constructors p) con → PlaceFits s inline place
+    → Fits (types_of p) q (value.Con con (parts vs)) → Yields (Fits (types_of p) q) (placed p place env con vs)
 placed_fits p s q None inline env con vs h at place fit =
-    subst (λ o. Comes (Fits (types_of p) q) (in_cell o (value.Con con (parts vs)))) (sym at.is) (in_cell_fits (types_of p) q at.item (value.Con con (parts vs)) fit)
+    subst (λ o. Yields (Fits (types_of p) q) (in_cell o (value.Con con (parts vs)))) (sym at.is) (in_cell_fits (types_of p) q at.item (value.Con con (parts vs)) fit)
 placed_fits p s q (Some d) inline env con vs h at place fit =
-    comes_given (Fits (types_of p) kind.Dia) (Fits (types_of p) q) (env d.word) (λ v. on_diamond v (at_once (value.Con con (parts vs)))) (h.holds d.word kind.Dia place.1)
+    yields_given (Fits (types_of p) kind.Dia) (Fits (types_of p) q) (env d.word) (λ v. on_diamond v (at_once (value.Con con (parts vs)))) (h.holds d.word kind.Dia place.1)
     (λ v g. on_diamond_fits (types_of p) q v (at_once (value.Con con (parts vs))) g fit)
 
 -- a constructor's value, from values of its fields' kinds
@@ -237,23 +210,23 @@ con_fits types q con vs at built fit =
 -- ---- arms
 
 cell_fits : (types : List DataType) (q : Kind) (s : Scope Kind) (x : ArmCell) (env : Environment) (next : Environment → Outcome Value) → Scoped types s env
-    → ((last : Environment) → Scoped types (bind_cell known_kind x s) last → Comes (Fits types q) (next last)) → Comes (Fits types q) (cell_run x env next)
+    → ((last : Environment) → Scoped types (bind_cell known_kind x s) last → Yields (Fits types q) (next last)) → Yields (Fits types q) (cell_run x env next)
 cell_fits types q s cell.Plain env next h go = go env h
-cell_fits types q s cell.Free env next h go = comes_after (Fits types q) 0 0 1 (next env) (go env h)
+cell_fits types q s cell.Free env next h go = yields_after (Fits types q) 0 0 1 (next env) (go env h)
 cell_fits types q s (cell.Keep d) env next h go = go (put env d.word value.Dia) (scoped_bind types s env d.word kind.Dia value.Dia h refl)
 
 -- the arm of the value's constructor, where its body comes to a value of this kind
 arm_fits : (types : List DataType) (q : Kind) (t con : ℕ) (def : values.Constructor) (c : Name) (fs : List (Option Name)) (x : ArmCell) (vs : Values) (s : Scope Kind) (env : Environment) (next : Environment → Outcome Value) → Scoped types s env
     → HeadFits types t c fs x → constructor_number types c.word ≡ Some con → constructor types con ≡ Some def → FitAll types def.fields vs
-    → ((last : Environment) → Scoped types (arm_scope known_kind types c fs x s) last → Comes (Fits types q) (next last))
-    → Comes (Fits types q) (given (put_fields env fs vs) (λ bound. cell_run x bound next))
+    → ((last : Environment) → Scoped types (arm_scope known_kind types c fs x s) last → Yields (Fits types q) (next last))
+    → Yields (Fits types q) (given (put_fields env fs vs) (λ bound. cell_run x bound next))
 arm_fits types q t con def c fs x vs s env next h head number is fit go =
     let same : head.con ≡ con = number_one head.con con (sym head.is ∙ number) in
     let fields : fields_of types con ≡ def.fields = ap (λ o. option_map_or (λ c. c.fields) o []) is in
     let full : length fs ≡ length def.fields = head.full ∙ ap (λ n. length (fields_of types n)) same ∙ ap length fields in
     let kinds : fields_of types (or_else (constructor_number types c.word) 0) ≡ def.fields = ap (λ o. fields_of types (or_else o 0)) number ∙ fields in
     let r = fields_bound types s env fs def.fields vs h full fit in
-    subst (λ o. Comes (Fits types q) (given o (λ bound. cell_run x bound next))) (sym r.is)
+    subst (λ o. Yields (Fits types q) (given o (λ bound. cell_run x bound next))) (sym r.is)
     (cell_fits types q (bind_fields known_kind fs def.fields s) x r.bound next r.fits
     (λ last g. go last (subst (λ ks. Scoped types (bind_cell known_kind x (bind_fields known_kind fs ks s)) last) (sym kinds) g)))
   where
@@ -263,11 +236,11 @@ arm_fits types q t con def c fs x vs s env next h head number is fit go =
 -- the first arm, or one behind it
 by_arm : (p : Source) (enter : Enter) (c : Name) (fs : List (Option Name)) (x : ArmCell) (b : Term) (as' : Arms) (con : ℕ) (vs : Values) (fuel waits : ℕ) (tail : Bool) (env : Environment) (types : List DataType) (q : Kind)
     → constructor_number types c.word ≡ meaning.constructor_number p c → 1 ≤ arms_with types con (AndArm c fs x b as')
-    → (constructor_number types c.word ≡ Some con → Comes (Fits types q) (given (put_fields env fs vs) (λ bound. cell_run x bound (λ last. eval p enter b fuel waits tail last))))
-    → (1 ≤ arms_with types con as' → Comes (Fits types q) (arms_run p enter as' con vs fuel waits tail env))
-    → Comes (Fits types q) (arms_run p enter (AndArm c fs x b as') con vs fuel waits tail env)
+    → (constructor_number types c.word ≡ Some con → Yields (Fits types q) (given (put_fields env fs vs) (λ bound. cell_run x bound (λ last. eval p enter b fuel waits tail last))))
+    → (1 ≤ arms_with types con as' → Yields (Fits types q) (arms_run p enter as' con vs fuel waits tail env))
+    → Yields (Fits types q) (arms_run p enter (AndArm c fs x b as') con vs fuel waits tail env)
 by_arm p enter c fs x b as' con vs fuel waits tail env types q same some here later =
-    subst (λ o. Comes (Fits types q) (if is_that o con then given (put_fields env fs vs) (λ bound. cell_run x bound (λ last. eval p enter b fuel waits tail last)) else arms_run p enter as' con vs fuel waits tail env)) same
+    subst (λ o. Yields (Fits types q) (if is_that o con then given (put_fields env fs vs) (λ bound. cell_run x bound (λ last. eval p enter b fuel waits tail last)) else arms_run p enter as' con vs fuel waits tail env)) same
     (by_test (is_that (constructor_number types c.word) con) refl some)
   where
     found : (o : Option ℕ) → is_that o con ≡ true → o ≡ Some con
@@ -275,13 +248,13 @@ by_arm p enter c fs x b as' con vs fuel waits tail env types q same some here la
     found (Some m) e = let equal : m ≡ con = grind (arith, nat_tests, e) in ap Some equal
 
     by_test : (t : Bool) → is_that (constructor_number types c.word) con ≡ t → 1 ≤ (if t then 1 else 0) + arms_with types con as'
-        → Comes (Fits types q) (if t then given (put_fields env fs vs) (λ bound. cell_run x bound (λ last. eval p enter b fuel waits tail last)) else arms_run p enter as' con vs fuel waits tail env)
+        → Yields (Fits types q) (if t then given (put_fields env fs vs) (λ bound. cell_run x bound (λ last. eval p enter b fuel waits tail last)) else arms_run p enter as' con vs fuel waits tail env)
     by_test true e more = here (found (constructor_number types c.word) e)
     by_test false e more = later (omega (arith, more))
 
 -- a value of a type is a constructor of it
 on_constructor_fits : (types : List DataType) (q : Kind) (t : ℕ) (v : Value) (next : ℕ → Values → Outcome Value) → Fits types (kind.Of t) v
-    → ((con : ℕ) (vs : Values) (def : values.Constructor) → type_of types con ≡ Some t → constructor types con ≡ Some def → FitAll types def.fields vs → Comes (Fits types q) (next con vs)) → Comes (Fits types q) (on_constructor v next)
+    → ((con : ℕ) (vs : Values) (def : values.Constructor) → type_of types con ≡ Some t → constructor types con ≡ Some def → FitAll types def.fields vs → Yields (Fits types q) (next con vs)) → Yields (Fits types q) (on_constructor v next)
 on_constructor_fits types q t (value.Int z) next h go = absurd cc
 on_constructor_fits types q t (value.Flag b) next h go = absurd cc
 on_constructor_fits types q t value.Dia next h go = absurd cc
@@ -291,7 +264,7 @@ on_constructor_fits types q t (value.Con c vs) next h go = by_con (constructor t
     owned None e = absurd cc
     owned (Some u) e = let same : u ≡ t = cc in ap Some same
 
-    by_con : (o : Option values.Constructor) → constructor types c ≡ o → IsSomeAnd o (λ con. FitAll types con.fields vs) → Comes (Fits types q) (next c vs)
+    by_con : (o : Option values.Constructor) → constructor types c ≡ o → IsSomeAnd o (λ con. FitAll types con.fields vs) → Yields (Fits types q) (next c vs)
     by_con None e g = absurd g
     by_con (Some def) e g = go c vs def (owned (type_of types c) h.0) e g
 
@@ -299,69 +272,69 @@ on_constructor_fits types q t (value.Con c vs) next h go = by_con (constructor t
 
 mutual
   pub eval_fits : (p : Source) (sigs : List Signature) (enter : Enter) → FunctionsFit p (globals_of p sigs) p.funs sigs → CallsFit p sigs enter → (e : Term) (s : Scope Kind) (q : Kind) (fuel waits : ℕ) (tail : Bool) (env : Environment)
-      → Scoped (types_of p) s env → HasKind (globals_of p sigs) s e q → Comes (Fits (types_of p) q) (eval p enter e fuel waits tail env)
-  eval_fits p sigs enter known_funs entry (Num z l) s q fuel waits tail env h k = k
-  eval_fits p sigs enter known_funs entry (Truth b l) s q fuel waits tail env h k = k
-  eval_fits p sigs enter known_funs entry (Var n) s q fuel waits tail env h k = comes_known (Fits (types_of p) q) (env n.word) (h.holds n.word q k)
-  eval_fits p sigs enter known_funs entry (Prim op a b l) s q fuel waits tail env h k =
-      comes_then (Fits (types_of p) kind.Int) (Fits (types_of p) q) fuel (eval p enter a fuel waits false env) (λ left u. first_then left (eval p enter b left waits false env) (λ last v. known (operate op u v)))
-      (eval_fits p sigs enter known_funs entry a s kind.Int fuel waits false env h k.0)
-      (λ left u u_fits. comes_then (Fits (types_of p) kind.Int) (Fits (types_of p) q) left (eval p enter b left waits false env) (λ last v. known (operate op u v))
-      (eval_fits p sigs enter known_funs entry b s kind.Int left waits false env h k.1)
-      (λ last v v_fits. subst (λ r. Comes (Fits (types_of p) r) (known (operate op u v))) (sym k.2) (operator_fits (types_of p) op u v u_fits v_fits)))
-  eval_fits p sigs enter known_funs entry (If c a b l) s q fuel waits tail env h k =
-      comes_then (Fits (types_of p) kind.Flag) (Fits (types_of p) q) fuel (eval p enter c fuel waits false env) (λ left v. chosen v (eval p enter a left waits tail env) (eval p enter b left waits tail env))
-      (eval_fits p sigs enter known_funs entry c s kind.Flag fuel waits false env h k.0)
+      → Scoped (types_of p) s env → term_has_ints e ≡ true → HasKind (globals_of p sigs) s e q → Yields (Fits (types_of p) q) (eval p enter e fuel waits tail env)
+  eval_fits p sigs enter known_funs entry (Num z l) s q fuel waits tail env h i k = (k, passing_int z i)
+  eval_fits p sigs enter known_funs entry (Truth b l) s q fuel waits tail env h i k = k
+  eval_fits p sigs enter known_funs entry (Var n) s q fuel waits tail env h i k = yields_known (Fits (types_of p) q) (env n.word) (h.holds n.word q k)
+  eval_fits p sigs enter known_funs entry (Prim op a b l) s q fuel waits tail env h i k =
+      yields_then (Fits (types_of p) kind.Int) (Fits (types_of p) q) fuel (eval p enter a fuel waits false env) (λ left u. first_then left (eval p enter b left waits false env) (λ last v. operate op u v))
+      (eval_fits p sigs enter known_funs entry a s kind.Int fuel waits false env h (both_hold (term_has_ints a) (term_has_ints b) i).0 k.0)
+      (λ left u u_fits. yields_then (Fits (types_of p) kind.Int) (Fits (types_of p) q) left (eval p enter b left waits false env) (λ last v. operate op u v)
+      (eval_fits p sigs enter known_funs entry b s kind.Int left waits false env h (both_hold (term_has_ints a) (term_has_ints b) i).1 k.1)
+      (λ last v v_fits. subst (λ r. Yields (Fits (types_of p) r) (operate op u v)) (sym k.2) (operate_sound (types_of p) op u v u_fits v_fits)))
+  eval_fits p sigs enter known_funs entry (If c a b l) s q fuel waits tail env h i k =
+      yields_then (Fits (types_of p) kind.Flag) (Fits (types_of p) q) fuel (eval p enter c fuel waits false env) (λ left v. chosen v (eval p enter a left waits tail env) (eval p enter b left waits tail env))
+      (eval_fits p sigs enter known_funs entry c s kind.Flag fuel waits false env h (both_hold (term_has_ints c) (term_has_ints a && term_has_ints b) i).0 k.0)
       (λ left v v_fits. chosen_fits (types_of p) q v (eval p enter a left waits tail env) (eval p enter b left waits tail env) v_fits
-      (eval_fits p sigs enter known_funs entry a s q left waits tail env h k.1) (eval_fits p sigs enter known_funs entry b s q left waits tail env h k.2))
-  eval_fits p sigs enter known_funs entry (Let n e b) s q fuel waits tail env h k =
-      comes_then (Fits (types_of p) k.0) (Fits (types_of p) q) fuel (eval p enter e fuel waits false env) (λ left v. eval p enter b left waits tail (put env n.word v))
-      (eval_fits p sigs enter known_funs entry e s k.0 fuel waits false env h k.1)
-      (λ left v v_fits. eval_fits p sigs enter known_funs entry b (bind n.word k.0 s) q left waits tail (put env n.word v) (scoped_bind (types_of p) s env n.word k.0 v h v_fits) k.2)
-  eval_fits p sigs enter known_funs entry (Match e NoArms l) s q fuel waits tail env h k = absurd k
-  eval_fits p sigs enter known_funs entry (Match e (AndArm c fs x b as') l) s q fuel waits tail env h k =
-      comes_then (Fits (types_of p) (kind.Of k.0)) (Fits (types_of p) q) fuel (eval p enter e fuel waits false env) (λ left v. on_constructor v (λ con vs. arms_run p enter (AndArm c fs x b as') con vs left waits tail env))
-      (eval_fits p sigs enter known_funs entry e s (kind.Of k.0) fuel waits false env h k.1)
+      (eval_fits p sigs enter known_funs entry a s q left waits tail env h (both_hold (term_has_ints a) (term_has_ints b) (both_hold (term_has_ints c) (term_has_ints a && term_has_ints b) i).1).0 k.1) (eval_fits p sigs enter known_funs entry b s q left waits tail env h (both_hold (term_has_ints a) (term_has_ints b) (both_hold (term_has_ints c) (term_has_ints a && term_has_ints b) i).1).1 k.2))
+  eval_fits p sigs enter known_funs entry (Let n e b) s q fuel waits tail env h i k =
+      yields_then (Fits (types_of p) k.0) (Fits (types_of p) q) fuel (eval p enter e fuel waits false env) (λ left v. eval p enter b left waits tail (put env n.word v))
+      (eval_fits p sigs enter known_funs entry e s k.0 fuel waits false env h (both_hold (term_has_ints e) (term_has_ints b) i).0 k.1)
+      (λ left v v_fits. eval_fits p sigs enter known_funs entry b (bind n.word k.0 s) q left waits tail (put env n.word v) (scoped_bind (types_of p) s env n.word k.0 v h v_fits) (both_hold (term_has_ints e) (term_has_ints b) i).1 k.2)
+  eval_fits p sigs enter known_funs entry (Match e NoArms l) s q fuel waits tail env h i k = absurd k
+  eval_fits p sigs enter known_funs entry (Match e (AndArm c fs x b as') l) s q fuel waits tail env h i k =
+      yields_then (Fits (types_of p) (kind.Of k.0)) (Fits (types_of p) q) fuel (eval p enter e fuel waits false env) (λ left v. on_constructor v (λ con vs. arms_run p enter (AndArm c fs x b as') con vs left waits tail env))
+      (eval_fits p sigs enter known_funs entry e s (kind.Of k.0) fuel waits false env h (both_hold (term_has_ints e) (arms_have_ints (AndArm c fs x b as')) i).0 k.1)
       (λ left v v_fits. on_constructor_fits (types_of p) q k.0 v (λ con vs. arms_run p enter (AndArm c fs x b as') con vs left waits tail env) v_fits
       (λ con vs def owned is fit.
       let one : arms_with (types_of p) con (AndArm c fs x b as') ≡ 1 = among_numbers (λ con. arms_with (types_of p) con (AndArm c fs x b as') ≡ 1) (types_of p) con k.0 owned k.2 in
-      arms_fit p sigs enter known_funs entry (AndArm c fs x b as') s q k.0 con def vs left waits tail env h k.3 (omega (arith, one)) is fit))
-  eval_fits p sigs enter known_funs entry (Build c es place) s q fuel waits tail env h k =
-      comes_then (ArgumentsFit (types_of p) (fields_of (types_of p) k.0)) (Fits (types_of p) q) fuel (eval_all p enter es fuel waits env) (λ left vs. given (meaning.constructor_number p c) (λ con. placed p place env con vs))
-      (all_fit p sigs enter known_funs entry es s (fields_of (types_of p) k.0) fuel waits env h k.3)
-      (λ left vs vs_fit. subst (λ o. Comes (Fits (types_of p) q) (given o (λ con. placed p place env con vs))) (sym (sym (number_same p c) ∙ k.1))
+      arms_fit p sigs enter known_funs entry (AndArm c fs x b as') s q k.0 con def vs left waits tail env h (both_hold (term_has_ints e) (arms_have_ints (AndArm c fs x b as')) i).1 k.3 (omega (arith, one)) is fit))
+  eval_fits p sigs enter known_funs entry (Build c es place) s q fuel waits tail env h i k =
+      yields_then (ArgumentsFit (types_of p) (fields_of (types_of p) k.0)) (Fits (types_of p) q) fuel (eval_all p enter es fuel waits env) (λ left vs. given (meaning.constructor_number p c) (λ con. placed p place env con vs))
+      (all_fit p sigs enter known_funs entry es s (fields_of (types_of p) k.0) fuel waits env h i k.3)
+      (λ left vs vs_fit. subst (λ o. Yields (Fits (types_of p) q) (given o (λ con. placed p place env con vs))) (sym (sym (number_same p c) ∙ k.1))
       (placed_fits p s q place (is_inline (types_of p) k.0) env k.0 vs h (written_constructor p c k.0 k.1) k.4
       (con_fits (types_of p) q k.0 vs (numbered_constructor p c k.0 k.1) k.2 vs_fit)))
-  eval_fits p sigs enter known_funs entry (Call f es) s q fuel waits tail env h k =
-      comes_then (ArgumentsFit (types_of p) k.0.params) (Fits (types_of p) q) fuel (eval_all p enter es fuel waits env) (λ left vs. given (function_number p f) (λ func. enter left waits tail func vs))
-      (all_fit p sigs enter known_funs entry es s k.0.params fuel waits env h k.3)
+  eval_fits p sigs enter known_funs entry (Call f es) s q fuel waits tail env h i k =
+      yields_then (ArgumentsFit (types_of p) k.0.params) (Fits (types_of p) q) fuel (eval_all p enter es fuel waits env) (λ left vs. given (function_number p f) (λ func. enter left waits tail func vs))
+      (all_fit p sigs enter known_funs entry es s k.0.params fuel waits env h i k.3)
       (λ left vs vs_fit.
       let n = head_number p (globals_of p sigs) p.funs sigs f.word k.0 known_funs k.1 in
-      subst (λ o. Comes (Fits (types_of p) q) (given o (λ func. enter left waits tail func vs))) (sym n.is)
-      (subst (λ r. Comes (Fits (types_of p) r) (enter left waits tail n.number vs)) k.2 (entry left waits tail n.number vs k.0 n.at vs_fit)))
+      subst (λ o. Yields (Fits (types_of p) q) (given o (λ func. enter left waits tail func vs))) (sym n.is)
+      (subst (λ r. Yields (Fits (types_of p) r) (enter left waits tail n.number vs)) k.2 (entry left waits tail n.number vs k.0 n.at vs_fit)))
 
   pub all_fit : (p : Source) (sigs : List Signature) (enter : Enter) → FunctionsFit p (globals_of p sigs) p.funs sigs → CallsFit p sigs enter → (es : Terms) (s : Scope Kind) (ks : List Kind) (fuel waits : ℕ) (env : Environment)
-      → Scoped (types_of p) s env → HaveKinds (globals_of p sigs) s es ks → Comes (ArgumentsFit (types_of p) ks) (eval_all p enter es fuel waits env)
-  all_fit p sigs enter known_funs entry NoTerms s [] fuel waits env h k = tt
-  all_fit p sigs enter known_funs entry NoTerms s (q ∷ ks) fuel waits env h k = absurd k
-  all_fit p sigs enter known_funs entry (AndTerm e es) s [] fuel waits env h k = absurd k
-  all_fit p sigs enter known_funs entry (AndTerm e es) s (q ∷ ks) fuel waits env h k =
-      comes_then (Fits (types_of p) q) (ArgumentsFit (types_of p) (q ∷ ks)) fuel (eval p enter e fuel waits false env) (λ left v. first_then left (eval_all p enter es left waits env) (λ last vs. at_once (v ∷ vs)))
-      (eval_fits p sigs enter known_funs entry e s q fuel waits false env h k.0)
-      (λ left v v_fits. comes_then (ArgumentsFit (types_of p) ks) (ArgumentsFit (types_of p) (q ∷ ks)) left (eval_all p enter es left waits env) (λ last vs. at_once (v ∷ vs))
-      (all_fit p sigs enter known_funs entry es s ks left waits env h k.1)
+      → Scoped (types_of p) s env → terms_have_ints es ≡ true → HaveKinds (globals_of p sigs) s es ks → Yields (ArgumentsFit (types_of p) ks) (eval_all p enter es fuel waits env)
+  all_fit p sigs enter known_funs entry NoTerms s [] fuel waits env h i k = tt
+  all_fit p sigs enter known_funs entry NoTerms s (q ∷ ks) fuel waits env h i k = absurd k
+  all_fit p sigs enter known_funs entry (AndTerm e es) s [] fuel waits env h i k = absurd k
+  all_fit p sigs enter known_funs entry (AndTerm e es) s (q ∷ ks) fuel waits env h i k =
+      yields_then (Fits (types_of p) q) (ArgumentsFit (types_of p) (q ∷ ks)) fuel (eval p enter e fuel waits false env) (λ left v. first_then left (eval_all p enter es left waits env) (λ last vs. at_once (v ∷ vs)))
+      (eval_fits p sigs enter known_funs entry e s q fuel waits false env h (both_hold (term_has_ints e) (terms_have_ints es) i).0 k.0)
+      (λ left v v_fits. yields_then (ArgumentsFit (types_of p) ks) (ArgumentsFit (types_of p) (q ∷ ks)) left (eval_all p enter es left waits env) (λ last vs. at_once (v ∷ vs))
+      (all_fit p sigs enter known_funs entry es s ks left waits env h (both_hold (term_has_ints e) (terms_have_ints es) i).1 k.1)
       (λ last vs vs_fit. (v_fits, vs_fit)))
 
   -- some arm is for the value's constructor
   pub arms_fit : (p : Source) (sigs : List Signature) (enter : Enter) → FunctionsFit p (globals_of p sigs) p.funs sigs → CallsFit p sigs enter → (as' : Arms) (s : Scope Kind) (q : Kind) (t con : ℕ) (def : values.Constructor) (vs : Values)
-      (fuel waits : ℕ) (tail : Bool) (env : Environment) → Scoped (types_of p) s env → ArmsHaveKind (globals_of p sigs) s t as' q → 1 ≤ arms_with (types_of p) con as' → constructor (types_of p) con ≡ Some def → FitAll (types_of p) def.fields vs
-      → Comes (Fits (types_of p) q) (arms_run p enter as' con vs fuel waits tail env)
-  arms_fit p sigs enter known_funs entry NoArms s q t con def vs fuel waits tail env h k some is fit = absurd (omega (arith, some))
-  arms_fit p sigs enter known_funs entry (AndArm c fs x b as') s q t con def vs fuel waits tail env h k some is fit =
+      (fuel waits : ℕ) (tail : Bool) (env : Environment) → Scoped (types_of p) s env → arms_have_ints as' ≡ true → ArmsHaveKind (globals_of p sigs) s t as' q → 1 ≤ arms_with (types_of p) con as' → constructor (types_of p) con ≡ Some def → FitAll (types_of p) def.fields vs
+      → Yields (Fits (types_of p) q) (arms_run p enter as' con vs fuel waits tail env)
+  arms_fit p sigs enter known_funs entry NoArms s q t con def vs fuel waits tail env h i k some is fit = absurd (omega (arith, some))
+  arms_fit p sigs enter known_funs entry (AndArm c fs x b as') s q t con def vs fuel waits tail env h i k some is fit =
       by_arm p enter c fs x b as' con vs fuel waits tail env (types_of p) q (number_same p c) some
       (λ number. arm_fits (types_of p) q t con def c fs x vs s env (λ last. eval p enter b fuel waits tail last) h k.0 number is fit
-      (λ last g. eval_fits p sigs enter known_funs entry b (arm_scope known_kind (types_of p) c fs x s) q fuel waits tail last g k.1))
-      (λ more. arms_fit p sigs enter known_funs entry as' s q t con def vs fuel waits tail env h k.2 more is fit)
+      (λ last g. eval_fits p sigs enter known_funs entry b (arm_scope known_kind (types_of p) c fs x s) q fuel waits tail last g (both_hold (term_has_ints b) (arms_have_ints as') i).0 k.1))
+      (λ more. arms_fit p sigs enter known_funs entry as' s q t con def vs fuel waits tail env h (both_hold (term_has_ints b) (arms_have_ints as') i).1 k.2 more is fit)
 
 -- ---- functions and programs
 
@@ -372,26 +345,27 @@ params_full p (x ∷ xs) [] h = absurd h
 params_full p (x ∷ xs) (k ∷ ks) h = ap suc (params_full p xs ks h.1)
 
 body_fits : (p : Source) (sigs : List Signature) (enter : Enter) → FunctionsFit p (globals_of p sigs) p.funs sigs → CallsFit p sigs enter → (f : Function) (s : Signature) (fuel waits : ℕ) (args : List Value)
-    → FunctionFits p (globals_of p sigs) f s → ArgumentsFit (types_of p) s.params args → Comes (Fits (types_of p) s.result) (body_run p enter (Some f) fuel waits args)
-body_fits p sigs enter known_funs entry f s fuel waits args fit args_fit =
+    → term_has_ints f.body ≡ true → FunctionFits p (globals_of p sigs) f s → ArgumentsFit (types_of p) s.params args → Yields (Fits (types_of p) s.result) (body_run p enter (Some f) fuel waits args)
+body_fits p sigs enter known_funs entry f s fuel waits args ints fit args_fit =
     let r = params_bound (types_of p) (λ n. None) f.params s.params args (params_full p f.params s.params fit.params) fit.distinct args_fit in
-    subst (λ o. Comes (Fits (types_of p) s.result) (given o (λ env. eval p enter f.body fuel waits true env))) (sym r.is)
-    (eval_fits p sigs enter known_funs entry f.body (params_scope f.params s.params) s.result fuel waits true r.bound r.fits fit.body)
+    subst (λ o. Yields (Fits (types_of p) s.result) (given o (λ env. eval p enter f.body fuel waits true env))) (sym r.is)
+    (eval_fits p sigs enter known_funs entry f.body (params_scope f.params s.params) s.result fuel waits true r.bound r.fits ints fit.body)
 
-pub calls_fit : (p : Source) (sigs : List Signature) → FunctionsFit p (globals_of p sigs) p.funs sigs → (limit clock : ℕ) → CallsFit p sigs (calls p limit clock)
-calls_fit p sigs known_funs limit clock zero w t i args s is fit = tt
-calls_fit p sigs known_funs limit zero (suc k) w t i args s is fit = tt
-calls_fit p sigs known_funs limit (suc clock) (suc k) w t i args s is fit =
+pub calls_fit : (p : Source) (sigs : List Signature) → FunctionsFit p (globals_of p sigs) p.funs sigs → IsTrue (has_ints p) → (limit clock : ℕ) → CallsFit p sigs (calls (bodies p) limit clock)
+calls_fit p sigs known_funs ints limit clock zero w t i args s is fit = tt
+calls_fit p sigs known_funs ints limit zero (suc k) w t i args s is fit = tt
+calls_fit p sigs known_funs ints limit (suc clock) (suc k) w t i args s is fit =
     let f = signature_function p (globals_of p sigs) p.funs sigs i s known_funs is in
     by_depth (is_too_deep limit w t)
-    (subst (λ o. Comes (Fits (types_of p) s.result) (body_run p (calls p limit clock) o k (cond t w (suc w)) args)) (sym f.is)
-    (body_fits p sigs (calls p limit clock) known_funs (calls_fit p sigs known_funs limit clock) f.function s k (cond t w (suc w)) args f.fits fit))
+    (subst (λ o. Yields (Fits (types_of p) s.result) (body_run p (calls (bodies p) limit clock) o k (cond t w (suc w)) args)) (sym f.is)
+    (body_fits p sigs (calls (bodies p) limit clock) known_funs (calls_fit p sigs known_funs ints limit clock) f.function s k (cond t w (suc w)) args
+    (each_holds (λ f. term_has_ints f.body) p.funs i f.function ints f.is) f.fits fit))
   where
-    by_depth : (b : Bool) → Comes (Fits (types_of p) s.result) (body_run p (calls p limit clock) (slice_get p.funs i) k (cond t w (suc w)) args)
-        → Comes (Fits (types_of p) s.result) (if b then Deep 0 else entered (body_run p (calls p limit clock) (slice_get p.funs i) k (cond t w (suc w)) args))
+    by_depth : (b : Bool) → Yields (Fits (types_of p) s.result) (body_run p (calls (bodies p) limit clock) (slice_get p.funs i) k (cond t w (suc w)) args)
+        → Yields (Fits (types_of p) s.result) (if b then Deep 0 else entered (body_run p (calls (bodies p) limit clock) (slice_get p.funs i) k (cond t w (suc w)) args))
     by_depth true h = tt
-    by_depth false h = comes_after (Fits (types_of p) s.result) 1 0 0 (body_run p (calls p limit clock) (slice_get p.funs i) k (cond t w (suc w)) args) h
+    by_depth false h = yields_after (Fits (types_of p) s.result) 1 0 0 (body_run p (calls (bodies p) limit clock) (slice_get p.funs i) k (cond t w (suc w)) args) h
 
 pub never_stuck : (p : Source) (sigs : List Signature) (limit func fuel : ℕ) (args : List Value) (s : Signature) → IsTyped p sigs → slice_get sigs func ≡ Some s → ArgumentsFit (types_of p) s.params args
     → IsSafe (types_of p) s.result (run_of p limit func fuel args)
-never_stuck p sigs limit func fuel args s typed is fit = comes_sound (types_of p) s.result (run_of p limit func fuel args) (calls_fit p sigs typed.functions limit fuel fuel 0 true func args s is fit)
+never_stuck p sigs limit func fuel args s typed is fit = calls_fit p sigs typed.functions typed.literals limit fuel fuel 0 true func args s is fit

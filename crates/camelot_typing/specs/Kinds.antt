@@ -1,3 +1,4 @@
+-- Cited by contracts.
 -- The kinds of names and expressions. All of it is stated over any sort of atoms, with what stands for a kind that is known: with
 -- the kinds themselves this is what typing speaks of, and with guesses it is what the check works with.
 use Rattle.std.specs.Prelude.{ℕ, zero, suc, ◌+◌, Bool, false, if◌then◌else◌, List, [], ◌∷◌, ◌++◌, map, length, Option, Some, None}

@@ -4,3 +4,4 @@ pub mod Typing
 pub mod Typed
 pub mod TypedPrograms
 pub mod Settled
+pub mod NumberLaws

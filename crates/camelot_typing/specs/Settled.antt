@@ -1,3 +1,4 @@
+-- Cited by contracts.
 -- Kinds of functions that a choice settles: what isn't `int` there is the same in the other list.
 use Rattle.std.specs.Prelude.{◌≡◌, List, [], ◌∷◌}
 use Rattle.camelot_values.specs.declared.kinds.Kind.{Kind}

@@ -1,3 +1,4 @@
+-- Cited by contracts.
 -- A program with its kinds.
 use Rattle.std.specs.Prelude.{List, [], ◌∷◌}
 use Rattle.camelot_values.specs.declared.kinds.Kind.{Kind}

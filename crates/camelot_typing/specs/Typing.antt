@@ -1,7 +1,8 @@
+-- Cited by contracts.
 -- Typed programs: some choice of one kind for each parameter, result, local and expression obeys the rules of ML's typing (Milner
 -- 1978) without type parameters, in the monomorphic form of LFPL (Hofmann 2000). The check makes kinds equal one by one; this
 -- definition has no order.
-use Rattle.std.specs.Prelude.{◌≡◌, ℕ, ◌+◌, ◌≤◌, ◌<◌, Bool, false, if◌then◌else◌, List, [], ◌∷◌, map, flat_map, length, Option, Some, None, IsSome}
+use Rattle.std.specs.Prelude.{◌≡◌, ℕ, ◌+◌, ◌≤◌, ◌<◌, Bool, false, if◌then◌else◌, List, [], ◌∷◌, map, length, Option, Some, None, IsSome, IsTrue}
 use Rattle.std.specs.List.{AllByRecursion}
 use Rattle.camelot_values.specs.Names.{AreDistinct}
 use Rattle.camelot_values.specs.Kinds.{DataType, type_of}
@@ -15,7 +16,8 @@ use Rattle.camelot_tree.specs.declared.tree.ArmCell.{ArmCell}
 use Rattle.camelot_tree.specs.declared.tree.ArmCell.TheVariants as cell
 use Rattle.camelot_tree.specs.Tree.{Term, Num, Truth, Var, Prim, If, Let, Match, Build, Call, Terms, NoTerms, AndTerm, Arms, NoArms, AndArm, Constructor, Function, Source}
 use Rattle.camelot_values.specs.Names.{find}
-use Rattle.camelot_tree.specs.Meaning.{is_that}
+use Rattle.camelot_tree.specs.Meaning.{is_that, declared_constructors}
+use Rattle.camelot_tree.specs.Tokens.{has_ints}
 use Rattle.camelot_typing.specs.Kinds.{Head, Globals, Scope, bind, kind_of_atom, types_of, constructor_number, built_kind, fields_of, is_inline, numbers_of, head_of, bound_names, arm_scope}
 
 -- what is known of a program whose functions have these kinds
@@ -124,19 +126,17 @@ IsDeclaredAtom p a = IsSome (kind_of_atom p a)
 abbrev pub ConstructorFits : Source → Constructor → Type 0
 ConstructorFits p c = (length c.fields ≤ 4) × AllByRecursion (IsDeclaredAtom p) c.fields
 
-abbrev pub all_constructors : Source → List Constructor
-all_constructors p = flat_map (λ t. t.cons) p.types
-
 abbrev pub globals_of : Source → List Signature → Globals Kind
 globals_of p sigs = record { types = types_of p; heads = sigs }
 
--- the program is typed with these kinds of parameters and results
+-- the program is typed with these kinds of parameters and results, and each of its literals has 32 bits
 pub record IsTyped (p : Source) (sigs : List Signature) : Type 0 where
   pub type_names : AreDistinct (map (λ t. t.name.word) p.types)
-  pub con_names : AreDistinct (map (λ c. c.name.word) (all_constructors p))
+  pub con_names : AreDistinct (map (λ c. c.name.word) (declared_constructors p))
   pub fun_names : AreDistinct (map (λ f. f.name.word) p.funs)
-  pub fields : AllByRecursion (ConstructorFits p) (all_constructors p)
+  pub fields : AllByRecursion (ConstructorFits p) (declared_constructors p)
   pub functions : FunctionsFit p (globals_of p sigs) p.funs sigs
+  pub literals : IsTrue (has_ints p)
 
 -- at most 64 types, 64 constructors of one type, 64 functions and 16 parameters
 pub record IsWithinLimits (p : Source) : Type 0 where

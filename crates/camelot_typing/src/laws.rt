@@ -1,18 +1,23 @@
 //! Laws of typing, as the contracts of functions that do nothing.
-ghost use Rattle.std.specs.Prelude.{◌≡◌, ℕ, List, Some, slice_get};
+ghost use Rattle.std.specs.Prelude.{◌≡◌, ℕ, List, Some, slice_get, IsTrue};
 ghost use Rattle.camelot_values.specs.Value.{Value};
+ghost use Rattle.camelot_values.specs.Kinds.{DataType, type_of};
+ghost use Rattle.camelot_values.specs.Lists.{is_among};
 ghost use Rattle.camelot_values.specs.Typing.{ArgumentsFit, IsSafe};
 ghost use Rattle.camelot_values.specs.declared.kinds.Kind.{Kind};
+ghost use Rattle.camelot_tree.specs.declared.tree.Name.{Name};
 ghost use Rattle.camelot_tree.specs.Tree.{Term, Source};
 ghost use Rattle.camelot_tree.specs.Meaning.{run_of};
-ghost use Rattle.camelot_typing.specs.Kinds.{Globals, Scope, atom_of, types_of};
+ghost use Rattle.camelot_tree.specs.Meaning as meaning;
+ghost use Rattle.camelot_typing.specs.Kinds.{Globals, Scope, atom_of, types_of, constructor_number, numbers_of};
 ghost use Rattle.camelot_typing.specs.Typing.{HasKind, IsTyped, Signature, known_kind};
+ghost use Rattle.camelot_typing.specs.Typed.{Typing, typing_kinds, IsTyping};
+ghost use Rattle.camelot_typing.specs.Settled.{IsSettled};
 
 /// A typed program on fitting arguments is never stuck, whatever the fuel and the limit of waiting calls: a run comes to a
 /// value of the function's result kind, or stops on fuel or depth. So every name that is read has a value of its kind, each
-/// function and constructor that is named is declared, each value that is taken apart has an arm, and what is named behind
-/// `@` is a diamond.
-#[tactic(auto, using(crate::proofs::Preserving::never_stuck))]
+/// function and constructor that is named is declared, each value that is taken apart has an arm, what is named behind
+/// `@` is a diamond, and each int has 32 bits.
 pub fn law_of_typing()
     ensures { (p : Source) (sigs : List Signature) (limit func fuel : ℕ) (args : List Value) (s : Signature) → IsTyped p sigs
         → slice_get sigs func ≡ Some s → ArgumentsFit (types_of p) s.params args → IsSafe (types_of p) s.result (run_of p limit func fuel args) }
@@ -23,4 +28,20 @@ pub fn law_of_typing()
 pub fn law_of_kinds()
     ensures one { (g : Globals Kind) (s : Scope Kind) (e : Term) (k q : Kind) → HasKind g s e k → HasKind g s e q → k ≡ q }
     ensures computed { (g : Globals Kind) (s : Scope Kind) (e : Term) (k : Kind) → HasKind g s e k → k ≡ atom_of known_kind g s e }
+{}
+
+/// The kinds of a program are a function of it: it has one typing that is settled, so the kinds of its functions' parameters, of their
+/// results and of all expressions are the same whoever finds them.
+#[tactic(auto, using(crate::proofs::OneTyping::one_typing, crate::proofs::OneTyping::one_kinds))]
+pub fn law_of_one_typing()
+    ensures typing { (t u : Typing) → t.source ≡ u.source → IsTyping t → IsSettled t → IsTyping u → IsSettled u → t ≡ u }
+    ensures kinds { (t u : Typing) → t.source ≡ u.source → IsTyping t → IsSettled t → IsTyping u → IsSettled u → typing_kinds t ≡ typing_kinds u }
+{}
+
+/// A constructor has the same number among a program's constructors, by which values have it, and among those of its types with the
+/// kinds of their fields; and a constructor that belongs to a type is among that type's.
+#[tactic(auto, using(crate::specs::NumberLaws::number_same, crate::specs::NumberLaws::is_among_numbers))]
+pub fn law_of_numbers()
+    ensures same { (p : Source) (con : Name) → constructor_number (types_of p) con.word ≡ meaning.constructor_number p con }
+    ensures among { (types : List DataType) (con number : ℕ) → type_of types con ≡ Some number → IsTrue (is_among (numbers_of types number) con) }
 {}

@@ -11,7 +11,8 @@ use camelot_values::Types;
 /// A typed program with its types and the kinds of its functions and expressions. Its type keeps that the program is typed with these
 /// kinds (`specs/Typing.antt`) within the limits of 64 types, 64 constructors of one type, 64 functions and 16 parameters of one
 /// function, that a kind other than `int` is the same in every choice of kinds that obeys the rules, so that what nothing fixes is `int`, that
-/// `types` are its types, and that `funs` has the kinds of its functions and of all their expressions.
+/// `types` are its types, and that `funs` has the kinds of its functions and of all their expressions. That names have their forms and
+/// literals 32 bits is kept by `program` itself.
 #[derive(Drop)]
 pub struct Typed {
     pub program: Program,

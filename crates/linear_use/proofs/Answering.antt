@@ -7,7 +7,8 @@ use Rattle.camelot_typing.specs.Typing.{IsTyped}
 use Rattle.camelot_typing.specs.Typed.{Typing, IsTyping}
 use Rattle.linear_use.specs.declared.fault.UseFault.{UseFault}
 use Rattle.linear_use.specs.declared.fault.UseFault.TheVariants.{Twice, ReadMatch, Memory}
-use Rattle.linear_use.specs.Walk.{first, is_memory}
+use Rattle.linear_use.specs.Walk.{is_memory}
+use Rattle.linear_use.specs.Answers.{first}
 use Rattle.linear_use.specs.Answers.{KeepsRule, faults_of, Takes}
 use Rattle.linear_use.proofs.Programs.{keeps_by_faults, faultless_by_rule}
 use Rattle.linear_use.proofs.Props.{keeps_prop}

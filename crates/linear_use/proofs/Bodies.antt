@@ -14,7 +14,7 @@ use Rattle.linear_use.specs.declared.fault.UseFault.{UseFault}
 use Rattle.linear_use.specs.declared.fault.UseFault.TheVariants.{ReadMatch}
 use Rattle.linear_use.specs.declared.variable.Variable.{Variable}
 use Rattle.linear_use.specs.declared.state.State.{State}
-use Rattle.linear_use.specs.Uses.{has_cell}
+use Rattle.camelot_tree.specs.Cells.{has_cell}
 use Rattle.linear_use.specs.Flow.{Flow, Nothing, Fault, After, Either, used, kinds_in, con_fields, fields_count, number_fields, number_cell, cell_flow, arm_variables, arm_count, next_of, flow}
 use Rattle.linear_use.specs.Walk.{first_of, AreAt, Walked, kinds_at, parts_kinds, arm_flow, arm_kinds_at}
 use Rattle.linear_use.proofs.Flows.{nothing_behind}

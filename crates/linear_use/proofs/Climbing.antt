@@ -1,9 +1,9 @@
 -- Laws of the walk along a left end.
-use Rattle.std.proofs.Common.{◌≡◌, ℕ, ◌+◌, ◌≤◌, List, [], ◌∷◌, ◌++◌, map, length, Some, refl, sym, ap, ◌∙◌, subst, arith, length-append}
+use Rattle.std.proofs.Common.{◌≡◌, ℕ, ◌+◌, ◌≤◌, ◌<◌, List, [], ◌∷◌, ◌++◌, map, length, Some, refl, sym, ap, ◌∙◌, subst, arith, length-append}
 use Rattle.camelot_values.specs.declared.kinds.Kind.{Kind}
 use Rattle.camelot_tree.specs.Tree.{Term, Num, Truth, Var, Prim, If, Let, Match, Build, Call}
 use Rattle.camelot_tree.specs.Spine.{spine_of, leaf_of, size}
-use Rattle.camelot_tree.proofs.SpineLaws.{NoLarger, spine_no_larger, no_larger_front, no_larger_last}
+use Rattle.camelot_tree.specs.SpineLaws.{NoLarger, spine_no_larger, no_larger_front, no_larger_last}
 use Rattle.camelot_typing.specs.Kinds.{Globals, Scope, atom_of, atoms_of}
 use Rattle.camelot_typing.specs.Typing.{known_kind}
 use Rattle.linear_use.specs.declared.fault.UseFault.{UseFault}
@@ -11,7 +11,7 @@ use Rattle.linear_use.specs.declared.variable.Variable.{Variable}
 use Rattle.linear_use.specs.declared.state.State.{State}
 use Rattle.linear_use.specs.Flow.{After, kinds_in, next_of, flow}
 use Rattle.linear_use.specs.Walk.{first_of, AreAt, Walked, kinds_at, parts_kinds, first_part, rest_flow, rest_next, rest_kinds}
-use Rattle.linear_use.proofs.Walking.{Tells, at_front, kinds_split, seq_tells, seq_at, seq_walked, walked_count, finished, tells_first}
+use Rattle.linear_use.proofs.Walking.{Tells, at_front, end_within, kinds_split, seq_tells, seq_at, seq_walked, walked_count, finished, tells_first}
 
 -- an operator or a conditional
 abbrev pub IsParent : Term → Type 0
@@ -134,6 +134,14 @@ leaf_at g s ex place e leaf h a =
 
 pub leaf_tells : (g : Globals Kind) (s0 : State) (fault : UseFault) (e leaf : Term) → leaf ≡ leaf_of e → Tells fault s0.spent (flow g s0.next s0.scope leaf) → Tells fault s0.spent (flow g s0.next s0.scope e)
 leaf_tells g s0 fault e leaf h t = chain_tells g s0.next s0.scope s0.spent fault (spine_of e) (leaf_of e) e (chain_spine e) (λ m. ap (λ x. first_of s0.spent (flow g s0.next s0.scope x)) (sym h) ∙ t m)
+
+-- the place of the leaf's own kind
+pub leaf_end : (g : Globals Kind) (ex : List Kind) (e leaf : Term) (s0 s1 : State) → leaf ≡ leaf_of e → AreAt ex s0.position (kinds_at g s0 e) → WalkedParts g leaf s0 s1 → s1.position < length ex
+leaf_end g ex e leaf s0 s1 h a w =
+    let s = kinds_in s0.scope in
+    let own : AreAt ex s0.position (atoms_of known_kind g s (leaf_of e)) = chain_at g s ex s0.position (spine_of e) (leaf_of e) e (chain_spine e) a in
+    let is : AreAt ex s0.position (atoms_of known_kind g s leaf) = subst (λ x. AreAt ex s0.position (atoms_of known_kind g s x)) (sym h) own in
+    end_within ex s0.position s1.position (parts_kinds g s leaf) (atom_of known_kind g s leaf) w.position (subst (AreAt ex s0.position) (kinds_split g s leaf) is)
 
 map_last : {A : Type 0} (f : A → Term) (xs : List A) (x : A) → map f (xs ++ x ∷ []) ≡ map f xs ++ f x ∷ []
 map_last f [] x = refl

@@ -11,7 +11,8 @@ use Rattle.camelot_typing.specs.Kinds.{Globals, Scope, bind, or_else, constructo
 use Rattle.camelot_typing.specs.Typing.{known_kind}
 use Rattle.linear_use.specs.declared.variable.Variable.{Variable}
 use Rattle.linear_use.specs.declared.fault.UseFault.TheVariants.{ReadMatch}
-use Rattle.linear_use.specs.Uses.{is_bound, place_use, uses, all_uses, arms_uses, has_cell}
+use Rattle.linear_use.specs.Uses.{is_bound, place_use, uses, all_uses, arms_uses}
+use Rattle.camelot_tree.specs.Cells.{has_cell}
 use Rattle.linear_use.specs.Flow.{Nothing, Fault, place_flow, kinds_in, con_fields, fields_count, arm_variables, arm_count, cell_flow, next_of, all_next, arms_next, flow, all_flow, arms_flow}
 use Rattle.linear_use.proofs.Flows.{flow_uses}
 use Rattle.linear_use.proofs.Shapes.{IsFull, AllAreFull, ArmsAreFull, HeadIsFull}

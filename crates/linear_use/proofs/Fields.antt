@@ -7,7 +7,7 @@ use Rattle.camelot_values.specs.Heap.{is_heap}
 use Rattle.camelot_values.specs.Names.{find}
 use Rattle.camelot_values.specs.declared.kinds.Kind.{Kind}
 use Rattle.camelot_values.specs.declared.kinds.Kind.TheVariants as kind
-use Rattle.camelot_values.proofs.NameLists.{name_itself}
+use Rattle.camelot_values.specs.NameLaws.{name_itself}
 use Rattle.camelot_tree.specs.declared.tree.Name.{Name}
 use Rattle.camelot_tree.specs.declared.tree.ArmCell.{ArmCell}
 use Rattle.camelot_tree.specs.declared.tree.ArmCell.TheVariants as cell

@@ -16,7 +16,8 @@ use Rattle.linear_use.specs.declared.fault.UseFault.TheVariants.{Twice, ReadMatc
 use Rattle.linear_use.specs.declared.variable.Variable.{Variable}
 use Rattle.linear_use.specs.declared.state.State.{State}
 use Rattle.linear_use.specs.Flow.{Flow, Nothing, Use, Fault, After, Either, used, is_spent, faults, kinds_in, flow, param_variables, read_flow, function_flow, functions_faults}
-use Rattle.linear_use.specs.Walk.{first, first_of, is_memory, Finds, AreAt, Walks, globals_in}
+use Rattle.linear_use.specs.Walk.{first_of, is_memory, Finds, AreAt, Walks, globals_in}
+use Rattle.linear_use.specs.Answers.{first}
 use Rattle.linear_use.proofs.Walking.{or_none, or_some}
 use Rattle.linear_use.proofs.Programs.{param_kinds}
 

@@ -12,7 +12,8 @@ use Rattle.camelot_tree.specs.Tree.{Term, Num, Truth, Var, Prim, If, Let, Match,
 use Rattle.camelot_typing.specs.Kinds.{Globals, Scope, bind, bound_names, arm_scope, atom_of}
 use Rattle.camelot_typing.specs.Typing.{Signature, known_kind, params_scope}
 use Rattle.camelot_typing.specs.Typed.{Typing, typing_globals}
-use Rattle.linear_use.specs.Uses.{has_cell, UsedOnce, EachUsedOnce, CellTaken, IsLinear, AllAreLinear, ArmsAreLinear, ParamsUsedOnce, FunctionsAreLinear}
+use Rattle.linear_use.specs.Uses.{UsedOnce, EachUsedOnce, CellTaken, IsLinear, AllAreLinear, ArmsAreLinear, ParamsUsedOnce, FunctionsAreLinear}
+use Rattle.camelot_tree.specs.Cells.{has_cell}
 use Rattle.linear_use.specs.Answers.{KeepsRule}
 
 to_prop : {A B : Type 0} → IsProp B → IsProp (A → B)

@@ -14,7 +14,8 @@ use Rattle.camelot_typing.specs.Kinds.{Globals, Scope, bind, or_else, constructo
 use Rattle.camelot_typing.specs.Typing.{known_kind}
 use Rattle.linear_use.specs.declared.variable.Variable.{Variable}
 use Rattle.linear_use.specs.declared.fault.UseFault.TheVariants.{ReadMatch}
-use Rattle.linear_use.specs.Uses.{uses, has_cell, UsedOnce, EachUsedOnce, CellTaken, IsLinear, AllAreLinear, ArmsAreLinear}
+use Rattle.linear_use.specs.Uses.{uses, UsedOnce, EachUsedOnce, CellTaken, IsLinear, AllAreLinear, ArmsAreLinear}
+use Rattle.camelot_tree.specs.Cells.{has_cell}
 use Rattle.linear_use.specs.Flow.{Flow, Nothing, Use, Fault, After, Either, use_flow, name_flow, place_flow, kinds_in, con_fields, fields_count, cell_count, arm_variables, arm_count, cell_flow, next_of, all_next, arms_next, flow, all_flow, arms_flow}
 use Rattle.linear_use.proofs.Flows.{flow_uses, IsClean}
 use Rattle.linear_use.proofs.Shapes.{IsFull, AllAreFull, ArmsAreFull, HeadIsFull}

@@ -9,13 +9,13 @@ use Rattle.camelot_values.specs.Names.{stands}
 use Rattle.camelot_values.specs.Kinds.{DataType, constructors, constructor_of, data_type_of}
 use Rattle.camelot_values.specs.declared.kinds.Con.{Con}
 use Rattle.camelot_values.specs.declared.kinds.TypeDef.{TypeDef}
-use Rattle.camelot_values.proofs.NameLists.{AreNew, distinct_new}
+use Rattle.camelot_values.specs.NameLaws.{AreNew, distinct_new}
 use Rattle.camelot_tree.specs.Tree as tree
 use Rattle.camelot_tree.specs.Tree.{Source}
 use Rattle.linear_use.specs.Tables.{with_names}
 use Rattle.linear_use.proofs.Flows.{nothing_behind}
 use Rattle.camelot_typing.specs.Kinds.{types_of, data_kinds, constructor_kinds}
-use Rattle.camelot_typing.specs.Typing.{all_constructors}
+use Rattle.camelot_tree.specs.Meaning.{declared_constructors}
 use Rattle.camelot_typing.specs.Typed.{Typing, IsTyping}
 
 abbrev pub con_words : List DataType → List (List ℕ)
@@ -41,29 +41,10 @@ new_prop earlier [] = Unit-prop
 new_prop earlier (w ∷ ws) = ×_prop (Bool-set (not (stands earlier w)) true) (new_prop (earlier ++ w ∷ []) ws)
 
 words_new : (t : Typing) → IsTyping t → AreNew [] (con_words (types_of t.source))
-words_new t h = subst (AreNew []) (sym (words_of t.source t.source.types)) (distinct_new (map (λ c. c.name.word) (all_constructors t.source)) h.typed.con_names)
+words_new t h = subst (AreNew []) (sym (words_of t.source t.source.types)) (distinct_new (map (λ c. c.name.word) (declared_constructors t.source)) h.typed.con_names)
 
 pub names_new : (t : Typing) (types : List DataType) → ∥ IsTyping t ∥₁ → types ≡ types_of t.source → AreNew [] (con_words types)
 names_new t types h e = subst (λ l. AreNew [] (con_words l)) (sym e) (∥∥₁_elim h (new_prop [] (con_words (types_of t.source))) (words_new t))
-
-length_map : {A B : Type 0} (f : A → B) (xs : List A) → length (map f xs) ≡ length xs
-length_map f [] = refl
-length_map f (x ∷ xs) = ap suc (length_map f xs)
-
-count_cons : (p : Source) (ts : List tree.DataType) → AllByRecursion (λ t. length t.cons ≤ 64) ts → length (constructors (map (data_kinds p) ts)) ≤ 64 * length ts
-count_cons p [] h = omega arith
-count_cons p (t ∷ ts) h =
-    let a = length-append (map (constructor_kinds p) t.cons) (constructors (map (data_kinds p) ts)) in
-    let b = length_map (constructor_kinds p) t.cons in
-    let c = count_cons p ts h.1 in
-    let d = h.0 in
-    omega (arith, a, b, c, d)
-
-cons_few : (t : Typing) → IsTyping t → length (constructors (types_of t.source)) ≤ 4096
-cons_few t h = let a = count_cons t.source t.source.types h.within.cons in let b = h.within.types in omega (arith, a, b)
-
-pub few_cons : (t : Typing) (types : List DataType) → ∥ IsTyping t ∥₁ → types ≡ types_of t.source → length (constructors types) ≤ 4096
-few_cons t types h e = subst (λ l. length (constructors l) ≤ 4096) (sym e) (∥∥₁_elim h le_prop (cons_few t))
 
 -- ---- adding names
 

@@ -1,5 +1,5 @@
 -- The trees of the code as plain data, and the walk's steps at each sort of expression.
-use Rattle.std.proofs.Common.{◌≡◌, ℕ, suc, ◌+◌, ◌≤◌, List, [], ◌∷◌, ◌++◌, map, length, Box, Vec, Global, Option, refl, sym, ap, subst, arith, rules, append_assoc, length-append}
+use Rattle.std.proofs.Common.{◌≡◌, ℕ, suc, ◌+◌, ◌≤◌, ◌<◌, List, [], ◌∷◌, ◌++◌, map, length, Box, Vec, Global, Option, refl, sym, ap, subst, arith, rules, append_assoc, length-append}
 use Rattle.std.specs.Prelude.{Result, Ok, Err}
 use Rattle.camelot_values.specs.declared.kinds.Kind.{Kind}
 use Rattle.camelot_values.specs.Operator.{Operator}
@@ -17,7 +17,7 @@ use Rattle.linear_use.specs.declared.fault.UseFault.{UseFault}
 use Rattle.linear_use.specs.declared.state.State.{State}
 use Rattle.linear_use.specs.Flow.{Either, kinds_in, place_flow, next_of, all_next, arms_next, flow, all_flow, arms_flow}
 use Rattle.linear_use.specs.Walk.{AreAt, Walked, Walks, WalksParts, WalksArms, kinds_at, all_kinds_at, arms_kinds_at, parts_kinds, rest_kinds}
-use Rattle.linear_use.proofs.Walking.{at_front, seq_at, seq_tells, seq_walked, walked_count, finished}
+use Rattle.linear_use.proofs.Walking.{at_front, end_within, seq_at, seq_tells, seq_walked, walked_count, finished}
 use Rattle.linear_use.proofs.Climbing.{WalkedTerm, WalkedRest}
 
 -- ---- the code's trees
@@ -115,3 +115,17 @@ if_walked g s0 s1 s2 e c a b l q w f =
     let n = length-append (kinds_at g s0 a ++ kinds_at g s0 b) k in
     let m = ap length (append_assoc (kinds_at g s0 a) (kinds_at g s0 b) k) in
     subst (λ x. WalkedRest g x s0 s2) (sym q) (finished _ _ (length (kinds_at g s0 a ++ kinds_at g s0 b)) _ s0 s1 s2 w f (omega (arith, n, m)))
+
+-- ---- the places of their own kinds
+
+pub prim_end : (g : Globals Kind) (ex : List Kind) (s0 s1 : State) (e a b : Term) (op : Operator) (l : ℕ) → e ≡ Prim op a b l → AreAt ex s0.position (rest_kinds g (kinds_in s0.scope) e) → WalkedTerm g b s0 s1
+    → s1.position < length ex
+prim_end g ex s0 s1 e a b op l q h w =
+    end_within ex s0.position s1.position (kinds_at g s0 b) (atom_of known_kind g (kinds_in s0.scope) (Prim op a b l)) w.position (subst (λ x. AreAt ex s0.position (rest_kinds g (kinds_in s0.scope) x)) q h)
+
+pub if_end : (g : Globals Kind) (ex : List Kind) (s0 s1 : State) (e c a b : Term) (l : ℕ) → e ≡ If c a b l → AreAt ex s0.position (rest_kinds g (kinds_in s0.scope) e) → WalkedBranches g a b s0 s1
+    → s1.position < length ex
+if_end g ex s0 s1 e c a b l q h w =
+    let k = atom_of known_kind g (kinds_in s0.scope) (If c a b l) in
+    end_within ex s0.position s1.position (kinds_at g s0 a ++ kinds_at g s0 b) k w.position
+    (subst (AreAt ex s0.position) (sym (append_assoc (kinds_at g s0 a) (kinds_at g s0 b) (k ∷ []))) (subst (λ x. AreAt ex s0.position (rest_kinds g (kinds_in s0.scope) x)) q h))

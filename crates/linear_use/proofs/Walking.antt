@@ -1,5 +1,5 @@
 -- Laws of the walk's steps.
-use Rattle.std.proofs.Common.{◌≡◌, ℕ, suc, ◌+◌, ◌-◌, false, List, [], ◌∷◌, ◌++◌, length, Option, Some, None, refl, sym, ap, ◌∙◌, subst, arith, slice_get, append_assoc, length-append}
+use Rattle.std.proofs.Common.{◌≡◌, ℕ, zero, suc, ◌+◌, ◌-◌, ◌<◌, false, List, [], ◌∷◌, ◌++◌, length, Option, Some, None, refl, sym, ap, ◌∙◌, subst, arith, slice_get, append_assoc, length-append}
 use Rattle.std.specs.Prelude.{Result, Ok, Err, IsErrAnd}
 use Rattle.std.specs.Option.{option_or}
 use Rattle.camelot_values.specs.declared.kinds.Kind.{Kind}
@@ -30,6 +30,16 @@ at_back ex p q (x ∷ xs) ys e h = at_back ex (suc p) q xs ys (omega (arith, e))
 last_at : (ex : List Kind) (p q : ℕ) (xs : List Kind) (k : Kind) → q ≡ p + length xs → AreAt ex p (xs ++ k ∷ []) → slice_get ex q ≡ Some k
 last_at ex p q [] k e h = let r : q ≡ p = omega (arith, e) in ap (slice_get ex) r ∙ h.0
 last_at ex p q (x ∷ xs) k e h = last_at ex (suc p) q xs k (omega (arith, e)) h.1
+
+-- what stands in the list stands within it
+within_list : {A : Type 0} (xs : List A) (i : ℕ) (x : A) → slice_get xs i ≡ Some x → i < length xs
+within_list [] i x h = absurd cc
+within_list (y ∷ xs) zero x h = omega arith
+within_list (y ∷ xs) (suc i) x h = let l = within_list xs i x h in omega (arith, l)
+
+-- the place of the kind behind these
+pub end_within : (ex : List Kind) (p q : ℕ) (xs : List Kind) (k : Kind) → q ≡ p + length xs → AreAt ex p (xs ++ k ∷ []) → q < length ex
+end_within ex p q xs k e h = within_list ex q k (last_at ex p q xs k e h)
 
 -- the kinds of an expression are those of its parts, and its own
 pub kinds_split : (g : Globals Kind) (s : Scope Kind) (e : Term) → atoms_of known_kind g s e ≡ parts_kinds g s e ++ atom_of known_kind g s e ∷ []

@@ -1,11 +1,11 @@
+-- Cited by contracts.
 -- What the check answers.
-use Rattle.std.specs.Prelude.{◌≡◌, Some, Result, Ok, Err, List, ⊤}
+use Rattle.std.specs.Prelude.{◌≡◌, Option, Some, None, Result, Ok, Err, List, [], ◌∷◌, ⊤}
 use Rattle.camelot_typing.specs.Typed.{Typing}
 use Rattle.linear_use.specs.declared.fault.UseFault.{UseFault}
 use Rattle.linear_use.specs.declared.fault.UseFault.TheVariants.{Memory}
 use Rattle.linear_use.specs.Uses as rule
 use Rattle.linear_use.specs.Flow.{program_faults}
-use Rattle.linear_use.specs.Walk.{first}
 
 -- the rule, and the faults, of a program with its kinds
 abbrev pub KeepsRule : Typing → Type 0
@@ -13,6 +13,11 @@ KeepsRule t = rule.KeepsRule t.source t.signatures
 
 abbrev pub faults_of : Typing → List UseFault
 faults_of t = program_faults t.source t.signatures
+
+-- the first of these faults, where there is one
+abbrev pub first : List UseFault → Option UseFault
+first [] = None
+first (fault ∷ faults) = Some fault
 
 -- the first of these faults, unless memory ran out
 abbrev pub IsFirst : List UseFault → UseFault → Type 0

@@ -1,3 +1,4 @@
+-- Private: words for functions of this crate.
 -- How the spent variables are kept: their numbers in the order of use, and how often each stands there.
 use Rattle.std.specs.Prelude.{◌≡◌, ℕ, ◌+◌, ◌==◌, if◌then◌else◌, List, [], ◌∷◌, slice_index}
 

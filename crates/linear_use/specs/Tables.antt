@@ -1,3 +1,4 @@
+-- Private: words for functions of this crate.
 -- How the names of constructors are kept.
 use Rattle.std.specs.Prelude.{ℕ, not, if◌then◌else◌, List, [], ◌∷◌, ◌++◌}
 use Rattle.camelot_values.specs.Names.{stands}

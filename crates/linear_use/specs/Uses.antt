@@ -1,3 +1,4 @@
+-- Cited by contracts.
 -- The affine rule of LFPL (Hofmann 2000): every variable of a heap kind is used at most once on each path through its scope. Uses
 -- are added over parts that are all evaluated, and the greatest is taken over branches and arms. The check keeps a list of spent
 -- variables on a walk; this definition counts.
@@ -14,6 +15,7 @@ use Rattle.camelot_tree.specs.declared.tree.Param.{Param}
 use Rattle.camelot_tree.specs.declared.tree.ArmCell.{ArmCell}
 use Rattle.camelot_tree.specs.declared.tree.ArmCell.TheVariants as cell
 use Rattle.camelot_tree.specs.Tree.{Term, Num, Truth, Var, Prim, If, Let, Match, Build, Call, Terms, NoTerms, AndTerm, Arms, NoArms, AndArm, Function, Source}
+use Rattle.camelot_tree.specs.Cells.{has_cell}
 use Rattle.camelot_typing.specs.Kinds.{Globals, Scope, bind, or_else, constructor_number, is_inline, bound_names, arm_scope, atom_of}
 use Rattle.camelot_typing.specs.Typing.{Signature, known_kind, params_scope, globals_of}
 
@@ -60,10 +62,6 @@ abbrev pub EachUsedOnce : List DataType → Scope Kind → List Name → Term �
 EachUsedOnce types inner ns e = AllByRecursion (λ n. UsedOnce types (or_else (find inner n.word) Int) n.word e) ns
 
 -- an arm of a boxed constructor has an `@`
-abbrev pub has_cell : ArmCell → Bool
-has_cell cell.Plain = false
-has_cell x = true
-
 abbrev pub CellTaken : List DataType → Name → ArmCell → Type 0
 CellTaken types c x = is_inline types (or_else (constructor_number types c.word) 0) ≡ false → has_cell x ≡ true
 

@@ -1,3 +1,4 @@
+-- Private: words for functions of this crate.
 -- The walk of the code: it answers the first fault, or goes on with what is spent. It goes along the left end of an expression in a
 -- loop, and takes the kinds of expressions from their list.
 use Rattle.std.specs.Prelude.{◌≡◌, ℕ, suc, ◌+◌, Bool, true, false, if◌then◌else◌, List, [], ◌∷◌, ◌++◌, map, length, Option, Some, None, Result, Ok, Err, slice_get}
@@ -17,10 +18,6 @@ use Rattle.linear_use.specs.declared.state.State.{State}
 use Rattle.linear_use.specs.Flow.{Flow, Nothing, Use, Fault, After, Either, used, is_spent, kinds_in, cell_flow, arm_variables, arm_count, next_of, all_next, arms_next, flow, all_flow, arms_flow}
 
 -- ---- the first fault
-
-abbrev pub first : List UseFault → Option UseFault
-first [] = None
-first (fault ∷ faults) = Some fault
 
 -- the first fault of a flow, where these variables are spent already
 abbrev pub first_of : List ℕ → Flow → Option UseFault

@@ -1,7 +1,7 @@
 ghost use Rattle.std.specs.Prelude.{◌≡◌, Some, IfOk, IfErr};
 ghost use Rattle.camelot_typing.specs.TypedPrograms.{typing_of};
 ghost use Rattle.linear_use.specs.declared.fault.UseFault.{UseFault};
-ghost use Rattle.linear_use.specs.Walk.{first};
+ghost use Rattle.linear_use.specs.Answers.{first};
 ghost use Rattle.linear_use.specs.Answers.{KeepsRule, faults_of, IsFirst, Takes, Refuses};
 
 use crate::fault::UseFault;
@@ -17,8 +17,8 @@ pub struct Linear {
     pub ghost keeps: { ∥ KeepsRule (typing_of typed) ∥₁ },
 }
 
-/// The program, if it keeps the rule of use. An error is its first place in text order that breaks the rule, or `Memory`. Time is
-/// linear in the program but for the nesting of branches, and the stack grows with no chain of operators or conditions.
+/// The program, if it keeps the rule of use. An error is its first place in text order that breaks the rule, or `Memory`. Chains of
+/// operators and conditions are walked in a loop.
 #[tactic(auto, using(crate::proofs::Answering::keeps_where, crate::proofs::Answering::merely_where))]
 pub fn check_use(alloc: Global, typed: Typed) -> Result<Linear, UseFault>
     // It is the program that was given.

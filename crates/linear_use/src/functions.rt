@@ -7,7 +7,8 @@ ghost use Rattle.camelot_typing.specs.Typing.{known_kind, params_scope};
 ghost use Rattle.camelot_typing.specs.Typed.{kinds_of, signature_of};
 ghost use Rattle.camelot_typing.specs.TypedPrograms.{typing_of};
 ghost use Rattle.linear_use.specs.Flow.{param_variables, read_flow, function_flow};
-ghost use Rattle.linear_use.specs.Walk.{Finds, first, first_of, globals_in};
+ghost use Rattle.linear_use.specs.Walk.{Finds, first_of, globals_in};
+ghost use Rattle.linear_use.specs.Answers.{first};
 ghost use Rattle.linear_use.specs.Answers.{faults_of};
 
 use crate::fault::UseFault;

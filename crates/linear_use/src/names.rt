@@ -36,5 +36,5 @@ pub(crate) fn constructor_names<'a>(
 pub(crate) fn law_of_few(typed: &Typed)
     ensures { length (constructors typed.now.types) ≤ 4096 }
 {
-    let _types = &typed.types;
+    typed.types.limits();
 }

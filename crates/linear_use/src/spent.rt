@@ -1,12 +1,12 @@
 //! The variables that are spent on the way.
-ghost use Rattle.std.specs.Prelude.{◌≡◌, ℕ, ◌≤◌, ◌<◌, [], ◌∷◌, ◌++◌, length, take, drop, reverse, slice_index, Some, OnOk, MatchOption};
+ghost use Rattle.std.specs.Prelude.{◌≡◌, ℕ, ◌≤◌, ◌<◌, ◌^◌, [], ◌∷◌, ◌++◌, length, take, drop, reverse, slice_index, Some, OnOk, MatchOption};
 ghost use Rattle.linear_use.specs.Flow.{is_spent};
 
 use std::alloc::{AllocError, Global};
 use std::marker::Model;
 
-/// The numbers of the variables that are spent, in the order of their uses, and how often each stands among them. So a test takes
-/// constant time, and the last uses can be taken off again.
+/// The numbers of the variables that are spent, in the order of their uses, and how often each stands among them. So a test is one
+/// look-up, and the last uses can be taken off again.
 #[derive(Drop)]
 pub(crate) struct Spent {
     counts: Vec<usize>,
@@ -85,6 +85,17 @@ impl Spent {
             counts: Vec::new(alloc),
             log: Vec::new(alloc),
         }
+    }
+
+    /// A count for the variable of this number. So there are no more variables than a vector may have items.
+    #[tactic(auto, using(crate::proofs::Counts::counted_same))]
+    pub(crate) fn count(&mut self, number: usize) -> Result<(), AllocError>
+        ensures same { OnOk result (self.new ≡ self.old) }
+        ensures small { OnOk result (number < 2 ^ 63) }
+    {
+        grow(&mut self.counts, number)?;
+        let _counts = self.counts.len();
+        Ok(())
     }
 
     /// Whether the variable of this number is spent.

@@ -1,4 +1,4 @@
-ghost use Rattle.std.specs.Prelude.{◌≡◌, ◌+◌, suc, OnOk};
+ghost use Rattle.std.specs.Prelude.{◌≡◌, ◌<◌, ◌+◌, suc, length, OnOk};
 ghost use Rattle.camelot_typing.specs.Kinds.{bind};
 
 use crate::spent::Spent;
@@ -28,23 +28,19 @@ impl<'a> State<'a> {
         ensures position { OnOk result (self.new.position ≡ self.old.position) }
     {
         let number = self.next;
-        let Some(next) = number.checked_add(1) else {
-            return Err(AllocError);
-        };
-        self.next = next;
+        self.spent.count(number)?;
+        self.next = number + 1;
         self.scope
             .bind(name.word.bytes(), Variable { number, kind })?;
         Ok(())
     }
 
-    /// An expression has been walked to its end.
-    pub(crate) fn finish(&mut self) -> Result<(), AllocError>
-        ensures { OnOk result (self.new ≡ record self.old { position = self.old.position + 1 }) }
+    /// The next of these expressions has been walked to its end.
+    pub(crate) fn finish(&mut self, exprs: &[Kind])
+        requires { self.old.position < length exprs.now }
+        ensures { self.new ≡ record self.old { position = self.old.position + 1 } }
     {
-        let Some(position) = self.position.checked_add(1) else {
-            return Err(AllocError);
-        };
-        self.position = position;
-        Ok(())
+        let _count = exprs.len();
+        self.position += 1;
     }
 }

@@ -26,7 +26,7 @@ pub(crate) fn walk<'a>(
     let spine = left_spine(known.alloc, expr)?;
     let mut parents = spine.parents;
     walk_parts(known, state, spine.leaf)?;
-    state.finish()?;
+    state.finish(known.exprs);
     'up: while let Some(parent) = parents.pop() {
         walk_rest(known, state, parent)?;
     }
@@ -48,7 +48,7 @@ fn walk_rest<'a>(
         Expr::If { yes, no, .. } => walk_branches(known, state, yes, no)?,
         _ => return Ok(()),
     }
-    state.finish()?;
+    state.finish(known.exprs);
     Ok(())
 }
 

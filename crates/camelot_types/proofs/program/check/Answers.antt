@@ -1,43 +1,37 @@
-use Rattle.std.proofs.Common.{◌∙◌, ap, sym, subst, map}
-use Rattle.camelot_tree.specs.Programs.{program_of}
+use Rattle.std.proofs.Common.{◌≡◌, List, subst}
+use Rattle.std.specs.Prelude.{IfOk, IfErr, MatchResult, ◌⊎◌, ⊤}
 use Rattle.camelot_tree.specs.Tree.{Source}
-use Rattle.camelot_typing.specs.Kinds.{types_of}
-use Rattle.camelot_typing.specs.Typing.{IsTyped, globals_of}
-use Rattle.camelot_typing.specs.Typed.{kinds_of, signatures_of, functions_kinds, typing, typing_kinds}
+use Rattle.camelot_typing.specs.Typing.{Signature, IsTyped, IsWithinLimits, globals_of}
+use Rattle.camelot_typing.specs.Typed.{functions_kinds, typing_kinds}
+use Rattle.camelot_typing.specs.TypedPrograms.{typing_of}
 use Rattle.camelot_typing.specs.Settled.{KindsSettled}
-use Rattle.camelot_types.proofs.Checking.{refused, taken_of, taken_copy}
+use Rattle.camelot_types.specs.Walk.{HasFault}
+use Rattle.camelot_types.specs.Walk.{HasCause}
+use Rattle.camelot_types.specs.declared.fault.TypeFault.{TypeFault}
+use Rattle.camelot_types.specs.declared.fault.TypeFault.TheVariants.{Memory}
 use Rattle.camelot_types.proofs.program.check.Goals as goal
 
-pub invariant_of-result : goal.invariant_of-result
-invariant_of-result c =
-    let same = c.in_ok-copy-in-Ok.ensures in
-    let t = taken_copy (program_of c.args.program.now) (program_of c.in_ok-copy-in-Ok.copy) (map kinds_of c.in-Ok.parts.funs.items) same c.in-Ok.ensures.kinds in
-    record { typed = ∣ t.typed ∣₁; settled = ∣ t.settled ∣₁; its_types = c.in-Ok.ensures.types_are ∙ ap (λ p. types_of p) (sym same); its_kinds = t.kinds_are }
+pub returns-clause-program : goal.returns-clause-program
+returns-clause-program c = subst (λ (p : Source). IfOk c.check_program.result (λ typed. (typing_of typed).source ≡ p)) c.in_ok-copy.ensures c.check_program.ensures.program
 
-pub returns-in_ok-copy-in-Ok-clause-typed : goal.returns-in_ok-copy-in-Ok-clause-typed
-returns-in_ok-copy-in-Ok-clause-typed c =
-    let p = program_of c.args.program.now in
-    let kinds = map kinds_of c.in-Ok.parts.funs.items in
-    subst (λ (q : Source). IsTyped p (signatures_of q.funs kinds)) (sym c.in_ok-copy-in-Ok.ensures) (taken_of p kinds c.in-Ok.ensures.kinds).typed.typed
+pub returns-clause-typed : goal.returns-clause-typed
+returns-clause-typed c = subst (λ (p : Source). IfOk c.check_program.result (λ typed. IsTyped p (typing_of typed).signatures)) c.in_ok-copy.ensures c.check_program.ensures.typed
 
-pub returns-in_ok-copy-in-Ok-clause-within : goal.returns-in_ok-copy-in-Ok-clause-within
-returns-in_ok-copy-in-Ok-clause-within c = (taken_of (program_of c.args.program.now) (map kinds_of c.in-Ok.parts.funs.items) c.in-Ok.ensures.kinds).typed.within
+pub returns-clause-within : goal.returns-clause-within
+returns-clause-within c = subst (λ (p : Source). IfOk c.check_program.result (λ _. IsWithinLimits p)) c.in_ok-copy.ensures c.check_program.ensures.within
 
-pub returns-in_ok-copy-in-Ok-clause-settled : goal.returns-in_ok-copy-in-Ok-clause-settled
-returns-in_ok-copy-in-Ok-clause-settled c signatures t =
-    let p = program_of c.args.program.now in
-    let kinds = map kinds_of c.in-Ok.parts.funs.items in
-    subst (λ (q : Source). KindsSettled (typing_kinds (typing q kinds)) (functions_kinds (globals_of p signatures) p.funs signatures)) (sym c.in_ok-copy-in-Ok.ensures)
-    ((taken_of p kinds c.in-Ok.ensures.kinds).settled signatures t)
+pub returns-clause-settled : goal.returns-clause-settled
+returns-clause-settled c =
+    subst (λ (p : Source). IfOk c.check_program.result (λ typed. (signatures : List Signature) → IsTyped p signatures → KindsSettled (typing_kinds (typing_of typed)) (functions_kinds (globals_of p signatures) p.funs signatures)))
+    c.in_ok-copy.ensures c.check_program.ensures.settled
 
-pub returns-in_ok-copy-in-Ok-clause-refuses : goal.returns-in_ok-copy-in-Ok-clause-refuses
-returns-in_ok-copy-in-Ok-clause-refuses c fault h = (taken_of (program_of c.args.program.now) (map kinds_of c.in-Ok.parts.funs.items) c.in-Ok.ensures.kinds).sound fault h
+pub returns-clause-fault : goal.returns-clause-fault
+returns-clause-fault c = subst (λ (p : Source). IfErr c.check_program.result (HasCause p)) c.in_ok-copy.ensures c.check_program.ensures.fault
 
-pub returns-in-Err-clause-fault : goal.returns-in-Err-clause-fault
-returns-in-Err-clause-fault c = (refused (program_of c.args.program.now) c.in-Err.fault c.in-Err.ensures).cause
+pub returns-clause-takes : goal.returns-clause-takes
+returns-clause-takes c =
+    subst (λ (p : Source). (signatures : List Signature) → IsTyped p signatures → IsWithinLimits p → MatchResult c.check_program.result (λ _. ⊤) (λ found. found ≡ Memory)) c.in_ok-copy.ensures c.check_program.ensures.takes
 
-pub returns-in-Err-clause-takes : goal.returns-in-Err-clause-takes
-returns-in-Err-clause-takes c signatures t l = (refused (program_of c.args.program.now) c.in-Err.fault c.in-Err.ensures).typed signatures t l
-
-pub returns-in-Err-clause-refuses : goal.returns-in-Err-clause-refuses
-returns-in-Err-clause-refuses c fault h = (refused (program_of c.args.program.now) c.in-Err.fault c.in-Err.ensures).fault fault h
+pub returns-clause-refuses : goal.returns-clause-refuses
+returns-clause-refuses c =
+    subst (λ (p : Source). (fault : TypeFault) → HasFault p fault → MatchResult c.check_program.result (λ _. ⊥) (λ found. (found ≡ fault) ⊎ (found ≡ Memory))) c.in_ok-copy.ensures c.check_program.ensures.refuses

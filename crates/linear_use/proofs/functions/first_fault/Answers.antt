@@ -2,7 +2,8 @@ use Rattle.std.proofs.Common.{◌≡◌, length, map, sym, ap, ◌∙◌, ◌⊎
 use Rattle.camelot_tree.specs.Tree.{function_of}
 use Rattle.camelot_typing.specs.Typed.{kinds_of}
 use Rattle.linear_use.specs.Flow.{functions_faults}
-use Rattle.linear_use.specs.Walk.{first, globals_in}
+use Rattle.linear_use.specs.Walk.{globals_in}
+use Rattle.linear_use.specs.Answers.{first}
 use Rattle.linear_use.proofs.FunctionLaws.{funs_step, funs_stop, kinds_step, functions_over, finds_err, globals_is}
 use Rattle.linear_use.proofs.functions.first_fault.Goals as goal
 

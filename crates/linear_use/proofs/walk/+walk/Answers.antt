@@ -1,14 +1,15 @@
-use Rattle.std.proofs.Common.{◌≡◌, ◌+◌, ◌≤◌, [], ◌++◌, map, length, drop, refl, sym, ap, ◌∙◌, subst, arith, None}
+use Rattle.std.proofs.Common.{◌≡◌, ◌+◌, ◌≤◌, ◌<◌, [], ◌++◌, map, length, drop, refl, sym, ap, ◌∙◌, subst, arith, None}
 use Rattle.camelot_tree.specs.Tree.{Term, Prim, If, Match, Build, Arms, term_of, branch_of, operator_of, terms, arms}
 use Rattle.camelot_tree.specs.Spine.{size, terms_size, arms_size}
-use Rattle.camelot_tree.proofs.SpineLaws.{leaf_smaller, argument_smaller, arm_smaller}
+use Rattle.camelot_tree.specs.SpineLaws.{leaf_smaller, argument_smaller, arm_smaller}
+use Rattle.linear_use.specs.declared.state.State.{State}
 use Rattle.linear_use.specs.Flow.{flow, all_flow, all_next, kinds_in, cell_flow}
 use Rattle.linear_use.specs.Walk.{globals_in, first_of, AreAt, Walked, WalksParts, kinds_at, all_kinds_at, arms_kinds_at}
 use Rattle.linear_use.proofs.Walking.{Tells, err_walks, with_scope, with_spent, with_end, at_front}
-use Rattle.linear_use.proofs.Climbing.{WalkedTerm, climb_begun, leaf_at, leaf_tells, climb_smaller, climb_at, climb_tells, climbed_on}
+use Rattle.linear_use.proofs.Climbing.{WalkedTerm, climb_begun, leaf_at, leaf_tells, leaf_end, climb_smaller, climb_at, climb_tells, climbed_on}
 use Rattle.linear_use.proofs.Lists.{all_at, all_step, left_terms, arms_at, arms_step, left_arms}
 use Rattle.linear_use.proofs.Bodies.{let_bound, let_at, let_tells, let_walked, arm_at, arm_tells, arm_walked}
-use Rattle.linear_use.proofs.Trees.{WalkedBranches, arm_is, match_is, build_is, prim_is, if_is, match_at, match_smaller, match_whole, build_walked, prim_at, prim_smaller, prim_walked, if_at, if_smaller, if_walked}
+use Rattle.linear_use.proofs.Trees.{WalkedBranches, arm_is, match_is, build_is, prim_is, if_is, match_at, match_smaller, match_whole, build_walked, prim_at, prim_smaller, prim_walked, if_at, if_smaller, if_walked, prim_end, if_end}
 use Rattle.linear_use.proofs.walk.+walk.Goals as goal
 use Rattle.linear_use.proofs.walk.+walk.Goals.{walk_rest-in-Prim+in_ok-walk-in-Prim, walk_rest-in-If+in_ok-walk_branches-in-If}
 
@@ -22,10 +23,14 @@ walk-returns-in_err-walk_parts t c =
     err_walks c.from_residual-in_err-walk_parts.result c.in_err-walk_parts.field-0.0 _ _ _ c.args.state.now c.walk_parts.new.state c.from_residual-in_err-walk_parts.ensures.1
     (leaf_tells (globals_in c.args.known.now.typed.now) c.args.state.now c.in_err-walk_parts.field-0.0 (term_of c.args.expr.now) (term_of c.in_ok-spine.spine.leaf.now) c.in_ok-spine.ensures.leaf c.in_err-walk_parts.ensures)
 
+pub walk-finish-requires : goal.walk-finish-requires
+walk-finish-requires t c =
+    leaf_end (globals_in c.args.known.now.typed.now) c.args.known.now.exprs.now (term_of c.args.expr.now) (term_of c.in_ok-spine.spine.leaf.now) c.args.state.now c.walk_parts.new.state c.in_ok-spine.ensures.leaf c.requires c.in_ok-walk_parts.ensures
+
 pub walk-up-init : goal.walk-up-init
 walk-up-init t c =
     record {
-      climbed = climb_begun (globals_in c.args.known.now.typed.now) (term_of c.args.expr.now) (term_of c.in_ok-spine.spine.leaf.now) _ c.args.state.now c.walk_parts.new.state c.finish.new.self c.in_ok-spine.ensures.parents c.in_ok-spine.ensures.leaf c.in_ok-walk_parts.ensures c.in_ok-finish.ensures;
+      climbed = climb_begun (globals_in c.args.known.now.typed.now) (term_of c.args.expr.now) (term_of c.in_ok-spine.spine.leaf.now) _ c.args.state.now c.walk_parts.new.state c.finish.new.self c.in_ok-spine.ensures.parents c.in_ok-spine.ensures.leaf c.in_ok-walk_parts.ensures c.finish.ensures;
     }
 
 pub walk-walk_rest-requires : goal.walk-walk_rest-requires
@@ -152,6 +157,24 @@ walk_rest-walk_branches-requires t c =
     let P : Term → Term → Type 0 = λ a b. AreAt c.args.known.now.exprs.now c.args.state.now.position (kinds_at (globals_in c.args.known.now.typed.now) c.args.state.now a ++ kinds_at (globals_in c.args.known.now.typed.now) c.args.state.now b) in
     (omega (arith, less, yes_size, no_size, c.decreases), subst (λ a. P a (term_of c.deref-in-If-2.result.now)) (sym yes) (subst (λ b. P (term_of c.in-If.yes.value) b) (sym no) (if_at (globals_in c.args.known.now.typed.now) c.args.known.now.exprs.now c.args.state.now (term_of c.args.parent.now) (term_of c.in-If.cond.value) (term_of c.in-If.yes.value) (term_of c.in-If.no.value) c.in-If.line is c.requires)))
 
+pub walk_rest-finish-requires : goal.walk_rest-finish-requires
+walk_rest-finish-requires t c =
+    elim c.match-parent.branch [
+      | walk_rest-in-Prim+in_ok-walk-in-Prim w ↦
+          let is : (term_of c.args.parent.now) ≡ Prim (operator_of w.in-Prim.op) (term_of w.in-Prim.left.value) (term_of w.in-Prim.right.value) w.in-Prim.line = ap term_of w.in-Prim.is ∙ prim_is w.in-Prim.op w.in-Prim.left w.in-Prim.right w.in-Prim.line in
+          let right : term_of w.deref.result.now ≡ term_of w.in-Prim.right.value = ap term_of w.deref.ensures in
+          subst (λ (s : State). s.position < length c.args.known.now.exprs.now) (sym w.state-is)
+          (prim_end (globals_in c.args.known.now.typed.now) c.args.known.now.exprs.now c.args.state.now w.walk.new.state (term_of c.args.parent.now) (term_of w.in-Prim.left.value) (term_of w.in-Prim.right.value) (operator_of w.in-Prim.op) w.in-Prim.line is c.requires
+          (subst (λ x. WalkedTerm (globals_in c.args.known.now.typed.now) x c.args.state.now w.walk.new.state) right w.in_ok-walk-in-Prim.ensures))
+      | walk_rest-in-If+in_ok-walk_branches-in-If w ↦
+          let is : (term_of c.args.parent.now) ≡ If (term_of w.in-If.cond.value) (term_of w.in-If.yes.value) (term_of w.in-If.no.value) w.in-If.line = ap term_of w.in-If.is ∙ if_is w.in-If.cond w.in-If.yes w.in-If.no w.in-If.line in
+          let yes : term_of w.deref-in-If.result.now ≡ term_of w.in-If.yes.value = ap term_of w.deref-in-If.ensures in
+          let no : term_of w.deref-in-If-2.result.now ≡ term_of w.in-If.no.value = ap term_of w.deref-in-If-2.ensures in
+          subst (λ (s : State). s.position < length c.args.known.now.exprs.now) (sym w.state-is)
+          (if_end (globals_in c.args.known.now.typed.now) c.args.known.now.exprs.now c.args.state.now w.walk_branches.new.state (term_of c.args.parent.now) (term_of w.in-If.cond.value) (term_of w.in-If.yes.value) (term_of w.in-If.no.value) w.in-If.line is c.requires
+          (subst (λ a. WalkedBranches (globals_in c.args.known.now.typed.now) a (term_of w.in-If.no.value) c.args.state.now w.walk_branches.new.state) yes (subst (λ b. WalkedBranches (globals_in c.args.known.now.typed.now) (term_of w.deref-in-If.result.now) b c.args.state.now w.walk_branches.new.state) no w.in_ok-walk_branches-in-If.ensures)))
+    ]
+
 pub walk_rest-returns : goal.walk_rest-returns
 walk_rest-returns t c =
     elim c.match-parent.branch [
@@ -159,12 +182,12 @@ walk_rest-returns t c =
           let is : (term_of c.args.parent.now) ≡ Prim (operator_of w.in-Prim.op) (term_of w.in-Prim.left.value) (term_of w.in-Prim.right.value) w.in-Prim.line = ap term_of w.in-Prim.is ∙ prim_is w.in-Prim.op w.in-Prim.left w.in-Prim.right w.in-Prim.line in
           let right : term_of w.deref.result.now ≡ term_of w.in-Prim.right.value = ap term_of w.deref.ensures in
           prim_walked (globals_in c.args.known.now.typed.now) c.args.state.now w.walk.new.state c.finish.new.self (term_of c.args.parent.now) (term_of w.in-Prim.left.value) (term_of w.in-Prim.right.value) (operator_of w.in-Prim.op) w.in-Prim.line is (subst (λ x. WalkedTerm (globals_in c.args.known.now.typed.now) x c.args.state.now w.walk.new.state) right w.in_ok-walk-in-Prim.ensures)
-          (c.in_ok-finish.ensures ∙ with_end c.match-parent.state w.walk.new.state w.state-is)
+          (c.finish.ensures ∙ with_end c.match-parent.state w.walk.new.state w.state-is)
       | walk_rest-in-If+in_ok-walk_branches-in-If w ↦
           let is : (term_of c.args.parent.now) ≡ If (term_of w.in-If.cond.value) (term_of w.in-If.yes.value) (term_of w.in-If.no.value) w.in-If.line = ap term_of w.in-If.is ∙ if_is w.in-If.cond w.in-If.yes w.in-If.no w.in-If.line in
           let yes : term_of w.deref-in-If.result.now ≡ term_of w.in-If.yes.value = ap term_of w.deref-in-If.ensures in
           let no : term_of w.deref-in-If-2.result.now ≡ term_of w.in-If.no.value = ap term_of w.deref-in-If-2.ensures in
           if_walked (globals_in c.args.known.now.typed.now) c.args.state.now w.walk_branches.new.state c.finish.new.self (term_of c.args.parent.now) (term_of w.in-If.cond.value) (term_of w.in-If.yes.value) (term_of w.in-If.no.value) w.in-If.line is
           (subst (λ a. WalkedBranches (globals_in c.args.known.now.typed.now) a (term_of w.in-If.no.value) c.args.state.now w.walk_branches.new.state) yes (subst (λ b. WalkedBranches (globals_in c.args.known.now.typed.now) (term_of w.deref-in-If.result.now) b c.args.state.now w.walk_branches.new.state) no w.in_ok-walk_branches-in-If.ensures))
-          (c.in_ok-finish.ensures ∙ with_end c.match-parent.state w.walk_branches.new.state w.state-is)
+          (c.finish.ensures ∙ with_end c.match-parent.state w.walk_branches.new.state w.state-is)
     ]

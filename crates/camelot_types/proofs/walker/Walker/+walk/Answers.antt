@@ -1,7 +1,7 @@
 use Rattle.std.proofs.Common.{◌≡◌, ◌≤◌, ◌+◌, map, drop, sym, ◌∙◌, subst, arith}
 use Rattle.camelot_tree.specs.Tree.{term_of, branch_of, terms, arms}
 use Rattle.camelot_tree.specs.Spine.{size, terms_size, arms_size}
-use Rattle.camelot_tree.proofs.SpineLaws.{leaf_smaller, last_popped, front_popped, argument_smaller, arm_smaller}
+use Rattle.camelot_tree.specs.SpineLaws.{leaf_smaller, last_popped, front_popped, argument_smaller, arm_smaller}
 use Rattle.camelot_types.specs.Tables.{globals_view}
 use Rattle.camelot_types.specs.Working.{work_of}
 use Rattle.camelot_types.specs.Solving.{Walked, Goes, Found, walk, rest_of, next_arm}

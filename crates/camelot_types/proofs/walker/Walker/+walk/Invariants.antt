@@ -1,7 +1,7 @@
 use Rattle.std.proofs.Common.{◌≡◌, ◌+◌, ◌*◌, drop, map, length}
 use Rattle.camelot_tree.specs.Tree.{term_of, branch_of, terms, arms}
 use Rattle.camelot_tree.specs.Spine.{size, terms_size, arms_size}
-use Rattle.camelot_tree.proofs.SpineLaws.{NoLarger}
+use Rattle.camelot_tree.specs.SpineLaws.{NoLarger}
 use Rattle.camelot_types.specs.Tables.{globals_view}
 use Rattle.camelot_types.specs.Working.{work_of}
 use Rattle.camelot_types.specs.Solving.{Goes, walk, unwound}

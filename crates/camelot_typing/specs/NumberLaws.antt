@@ -1,7 +1,8 @@
+-- Laws for the proofs of this crate and of those above it; `law_of_numbers` has two of them as its clauses.
 -- Names and numbers: typing and meaning number constructors and functions alike, and a type's constructors are those that
 -- belong to it.
-use Rattle.std.proofs.Common.{◌≡◌, ℕ, zero, suc, ◌+◌, ◌-◌, ◌<◌, ◌≤◌, Bool, true, false, List, [], ◌∷◌, ◌++◌, length, map, Option, Some, None, refl, sym, ap, ◌∙◌, subst, arith}
-use Rattle.std.specs.Prelude.{slice_get, nat_lt, if◌then◌else◌, flat_map}
+use Rattle.std.proofs.Common.{◌≡◌, ℕ, zero, suc, ◌+◌, ◌-◌, ◌*◌, ◌<◌, ◌≤◌, Bool, true, false, List, [], ◌∷◌, ◌++◌, length, map, Option, Some, None, refl, sym, ap, ◌∙◌, subst, arith, length-append}
+use Rattle.std.specs.Prelude.{slice_get, nat_lt, ◌==◌, ◌||◌, IsTrue, if◌then◌else◌, flat_map}
 use Rattle.std.specs.List.{AllByRecursion}
 use Rattle.std.specs.Option.{option_map}
 use Rattle.std.specs.Str.{bytes_eq}
@@ -9,7 +10,8 @@ use Rattle.std.proofs.lemmas.List.{map-append}
 use Rattle.std.proofs.lemmas.Bool.Decides.{nat_tests}
 use Rattle.camelot_values.specs.Names.{place_among}
 use Rattle.camelot_values.specs.Kinds as values
-use Rattle.camelot_values.specs.Kinds.{DataType, type_from, type_of, constructor}
+use Rattle.camelot_values.specs.Kinds.{DataType, IsDataType, AreTypes, type_from, type_of, constructor}
+use Rattle.camelot_values.specs.Lists.{is_among}
 use Rattle.camelot_values.specs.declared.kinds.Kind.{Kind}
 use Rattle.camelot_tree.specs.declared.tree.Name.{Name}
 use Rattle.camelot_tree.specs.Tree as tree
@@ -31,7 +33,7 @@ names_same p (c ∷ cs) = ap (λ l. c.name.word ∷ l) (names_same p cs)
 
 -- a constructor has the same number in both
 pub number_same : (p : Source) (c : Name) → constructor_number (types_of p) c.word ≡ meaning.constructor_number p c
-number_same p c = ap (λ l. place_among (map (λ c. c.name) l) c.word) (constructors_same p p.types) ∙ ap (λ l. place_among l c.word) (names_same p (meaning.constructors p))
+number_same p c = ap (λ l. place_among (map (λ c. c.name) l) c.word) (constructors_same p p.types) ∙ ap (λ l. place_among l c.word) (names_same p (meaning.declared_constructors p))
 
 -- what stands at a place among names
 pub record At {A : Type 0} (xs : List A) (i : ℕ) : Type 0 where
@@ -59,8 +61,8 @@ place_has name_of (x ∷ xs) name i e = by_test (bytes_eq (name_of x) name) (λ 
 pub numbered_constructor : (p : Source) (c : Name) (con : ℕ) → constructor_number (types_of p) c.word ≡ Some con → At (values.constructors (types_of p)) con
 numbered_constructor p c con e = place_has (λ c. c.name) (values.constructors (types_of p)) c.word con e
 
-pub written_constructor : (p : Source) (c : Name) (con : ℕ) → constructor_number (types_of p) c.word ≡ Some con → At (meaning.constructors p) con
-written_constructor p c con e = place_has (λ c. c.name.word) (meaning.constructors p) c.word con (sym (number_same p c) ∙ e)
+pub written_constructor : (p : Source) (c : Name) (con : ℕ) → constructor_number (types_of p) c.word ≡ Some con → At (meaning.declared_constructors p) con
+written_constructor p c con e = place_has (λ c. c.name.word) (meaning.declared_constructors p) c.word con (sym (number_same p c) ∙ e)
 
 -- ---- functions by name
 
@@ -148,3 +150,36 @@ among_from P number first c (suc t) (d ∷ ds) e h =
 
 pub among_numbers : (P : ℕ → Type 0) (types : List DataType) (c t : ℕ) → type_of types c ≡ Some t → AllByRecursion P (numbers_of types t) → P c
 among_numbers P types c t e h = let same : t ≡ 0 + t = omega arith in let back : 0 + c ≡ c = omega arith in subst P back (among_from P 0 0 c t types (e ∙ ap Some same) h)
+
+all_among : (ns : List ℕ) → AllByRecursion (λ n. is_among ns n ≡ true) ns
+all_among ns = each ns (λ n h. h)
+  where
+    itself : (n : ℕ) (ms : List ℕ) → is_among (n ∷ ms) n ≡ true
+    itself n ms = let e : (n == n) ≡ true = grind (arith, nat_tests) in ap (λ b. b || is_among ms n) e
+
+    or_true : (a b : Bool) → b ≡ true → (a || b) ≡ true
+    or_true true b h = refl
+    or_true false b h = h
+
+    each : (ms : List ℕ) → ((n : ℕ) → is_among ms n ≡ true → is_among ns n ≡ true) → AllByRecursion (λ n. is_among ns n ≡ true) ms
+    each [] sub = tt
+    each (m ∷ ms) sub = (sub m (itself m ms), each ms (λ n h. sub n (or_true (m == n) (is_among ms n) h)))
+
+-- a constructor that belongs to a type is among that type's
+pub is_among_numbers : (types : List DataType) (c t : ℕ) → type_of types c ≡ Some t → IsTrue (is_among (numbers_of types t) c)
+is_among_numbers types c t e = among_numbers (λ n. is_among (numbers_of types t) n ≡ true) types c t e (all_among (numbers_of types t))
+
+-- ---- how many constructors there are
+
+-- at most 64 times 64
+few_from : (n : ℕ) (types : List DataType) → length types ≤ n → AllByRecursion IsDataType types → length (values.constructors types) ≤ 64 * n
+few_from n [] h each = omega arith
+few_from zero (d ∷ ds) h each = absurd (omega (arith, h))
+few_from (suc n) (d ∷ ds) h each =
+    let rest = few_from n ds (omega (arith, h)) each.1 in
+    let own = each.0.few_cons in
+    let both = length-append d.cons (values.constructors ds) in
+    omega (arith, rest, own, both)
+
+pub few_constructors : (types : List DataType) → AreTypes types → length (values.constructors types) ≤ 4096
+few_constructors types h = let e = few_from 64 types h.few_types h.each in omega (arith, e)
