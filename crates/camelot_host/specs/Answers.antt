@@ -1,3 +1,4 @@
+-- Cited by contracts.
 -- What stands behind each status of the host.
 use Rattle.std.specs.Prelude.{◌≡◌, ℕ, ℤ, ◌++◌, ◌+◌, ◌≤◌, ◌⊎◌, List, [], ◌∷◌, length, codes, Option, ⊤}
 use Rattle.std.specs.Io.KnownBytes.{IsAtEnd}

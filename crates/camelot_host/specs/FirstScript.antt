@@ -1,3 +1,4 @@
+-- Cited by contracts.
 -- First scripts: one program of one function, which adds its parameters and numbers, and one job of it.
 use Rattle.std.specs.Prelude.{◌≡◌, ℕ, ◌≤◌, ◌⊎◌, ℤ, pos, false, List, [], ◌∷◌, ◌++◌, length, map, flat_map, codes, Some, IsTrue, Contains, FitsSigned, ⊤}
 use Rattle.std.specs.Fmt.{decimal, signed_decimal}

@@ -1,3 +1,4 @@
+-- Cited by contracts.
 -- The words and symbols of a program's text, as far as first scripts need them: there are no comments, and each
 -- symbol is one byte. A word is a longest run of letters, digits and `_`. So `1a` is one word here and two tokens of the
 -- language, but no first script has it either way.

@@ -1,3 +1,4 @@
+-- Cited by contracts.
 -- The lines that the host writes.
 use Rattle.std.specs.Prelude.{ℕ, List, [], ◌++◌, map, codes}
 use Rattle.std.specs.Fmt.{decimal}

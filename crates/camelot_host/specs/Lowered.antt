@@ -1,3 +1,4 @@
+-- Private: words for functions of this crate.
 -- A sum as code in normal form, where each operand is a local (administrative normal form: Flanagan, Sabry, Duba,
 -- Felleisen 1993). First what lowering and running promise, then the lets that the code makes, then the steps of a run.
 use Rattle.std.specs.Prelude.{◌≡◌, ℕ, suc, ◌≤◌, ℤ, pos, if◌then◌else◌, ◌==◌, Option, Some, None, Result, Ok, Err, List, [], ◌∷◌, ◌++◌, length, replicate, slice_get, ⊤}

@@ -1,3 +1,4 @@
+-- Private: words for functions of this crate.
 -- What the private reader keeps, as plain data.
 use Rattle.std.specs.Prelude.{ℕ, ◌<◌, List, [], map, slice_index_or, ⊤}
 use Rattle.std.specs.Borrow.{Bor}

@@ -1,3 +1,4 @@
+-- Private: words for functions of this crate.
 -- The reader of first scripts as functions on lists: each answers a value and what is left, or nothing.
 use Rattle.std.specs.Prelude.{ℕ, zero, suc, ◌^◌, ◌+◌, ◌-◌, ◌*◌, ◌==◌, ◌&&◌, not, nat_le, nat_lt, Bool, true, false, if◌then◌else◌, ℤ, pos, neg_ℤ, nat_eq, Option, Some, None, List, [], ◌∷◌, ◌++◌, length, take, drop, codes}
 use Rattle.std.specs.Fmt.{decimal}

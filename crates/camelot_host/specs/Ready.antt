@@ -1,3 +1,4 @@
+-- Private: words for functions of this crate.
 -- What the reader knows of what it reads, and of what it refuses.
 use Rattle.std.specs.Prelude.{ℕ, ◌≤◌, List, vec_len, ⊤}
 use Rattle.std.specs.List.{AllByRecursion}

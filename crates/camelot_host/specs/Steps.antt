@@ -1,3 +1,4 @@
+-- Private: words for functions of this crate.
 -- What a step of the private reader did, against the reader on lists.
 use Rattle.std.specs.Prelude.{◌≡◌, Option, Some, None, Result, Ok, Err, List, [], ◌∷◌, ◌++◌, ⊤}
 use Rattle.camelot_host.specs.Lexemes as spec

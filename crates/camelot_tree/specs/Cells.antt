@@ -1,3 +1,4 @@
+-- Cited by contracts.
 -- What an arm says of the cell of the matched value.
 use Rattle.std.specs.Prelude.{Bool, true, false}
 use Rattle.camelot_tree.specs.declared.tree.ArmCell.{ArmCell}

@@ -1,3 +1,4 @@
+-- Cited by contracts.
 -- What a program means: a big-step evaluation, from left to right, with counters in place of a heap (Hofmann and Jost
 -- 2003). Outcomes, operators, calls with their fuel and depth, and the steps of cells are those of the meaning of code. A program that reads an unknown name, or takes apart or builds what has another form, is
 -- Stuck; a typed program isn't. It knows no cells, frames or ranges, and the code evaluates nothing.

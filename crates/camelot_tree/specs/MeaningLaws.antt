@@ -1,3 +1,4 @@
+-- Laws, for the proofs of this crate and of those above it.
 -- What bodies mean respects every relation between runs that basic steps have and sequence keeps: so the laws of clock and fuel hold of
 -- programs.
 use Rattle.std.proofs.Common.{ℕ, ◌-◌, Bool, true, false, List, [], ◌∷◌, Option, Some, None}

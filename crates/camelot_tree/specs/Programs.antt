@@ -1,3 +1,4 @@
+-- Cited by contracts.
 -- A program of the code as plain data.
 use Rattle.std.specs.Prelude.{map}
 use Rattle.camelot_tree.specs.declared.program.Program.{Program}

@@ -1,3 +1,4 @@
+-- Cited by contracts.
 -- What the grammar gives of numbers: each type has a constructor, each function a parameter, each match an arm, and an
 -- inline constructor no fields.
 use Rattle.std.specs.Prelude.{Bool, true, false, not, ◌&&◌, ◌||◌, List, [], ◌∷◌}

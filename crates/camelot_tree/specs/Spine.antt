@@ -1,3 +1,4 @@
+-- Cited by contracts.
 -- The left end of an expression. Chains of operators nest to the left, as deep as the text is long, while
 -- everything else nests within the levels of the grammar: so walks over trees go along the left end in a loop.
 use Rattle.std.specs.Prelude.{ℕ, suc, ◌+◌, List, [], ◌∷◌}

@@ -1,3 +1,4 @@
+-- Cited by contracts.
 -- The tree of a program as plain data. The code keeps lists in vectors and parts in boxes.
 use Rattle.std.specs.Prelude.{ℕ, ℤ, Bool, List, [], ◌∷◌, map, Option}
 use Rattle.camelot_values.specs.Operator as operator

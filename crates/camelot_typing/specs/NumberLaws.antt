@@ -1,4 +1,4 @@
--- Laws for the proofs of this crate and of those above it; `law_of_numbers` has two of them as its clauses.
+-- Laws, for the proofs of this crate and of those above it; `law_of_numbers` has two of them as its clauses.
 -- Names and numbers: typing and meaning number constructors and functions alike, and a type's constructors are those that
 -- belong to it.
 use Rattle.std.proofs.Common.{◌≡◌, ℕ, zero, suc, ◌+◌, ◌-◌, ◌*◌, ◌<◌, ◌≤◌, Bool, true, false, List, [], ◌∷◌, ◌++◌, length, map, Option, Some, None, refl, sym, ap, ◌∙◌, subst, arith, length-append}

@@ -1,3 +1,4 @@
+-- Laws, for the proofs of this crate and of those above it.
 -- One run after another: what holds of both parts holds of the whole.
 use Rattle.std.proofs.Common.{◌≡◌, ℕ, ◌+◌, ◌-◌, ◌*◌, ◌≤◌, refl, arith}
 use Rattle.camelot_values.specs.Outcome.{Outcome, Done, Fuel, Deep, Stuck, after, first_then}

@@ -1,3 +1,4 @@
+-- Cited by contracts.
 -- What holds of the value that a run comes to, and of its cells: bounds on the peak and on the net, in units of which each cell
 -- costs so many, as in the potentials of Hofmann and Jost (2003).
 use Rattle.std.specs.Prelude.{ℕ, ◌+◌, ◌*◌, ◌≤◌}

@@ -1,3 +1,4 @@
+-- Cited by contracts.
 -- What the laws of fuel say of a run.
 use Rattle.std.specs.Prelude.{◌≡◌, ℕ, ◌≤◌}
 use Rattle.camelot_values.specs.Outcome.{Outcome, Fuel}

@@ -1,3 +1,4 @@
+-- Cited by contracts.
 -- Which kinds have values that take cells, and which constructors stand in the values of a kind. A type with no boxed
 -- constructor needs no cell; every other type, and the diamond, is a heap type (Hofmann 2000), whose values are used
 -- at most once.

@@ -1,3 +1,4 @@
+-- Laws, for the proofs of this crate and of those above it.
 -- Laws of ints of 32 bits.
 use Rattle.std.proofs.Common.{◌≡◌, ℕ, ◌<◌, refl, arith}
 use Rattle.std.specs.Prelude.{ℤ, pos, negsuc, IsTrue, List}

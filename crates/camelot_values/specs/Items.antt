@@ -1,3 +1,4 @@
+-- Cited by contracts.
 -- A value as the list of its nodes in prefix order, and back.
 use Rattle.std.specs.Prelude.{◌≡◌, ℕ, zero, suc, Option, Some, None, List, [], ◌∷◌, refl}
 use Rattle.std.proofs.Common.{sym, ap, ◌∙◌}

@@ -1,3 +1,4 @@
+-- Cited by contracts.
 -- The types of a program as plain data: names, constructors and the kinds of their fields. The code keeps them in
 -- vectors.
 use Rattle.std.specs.Prelude.{◌≡◌, ℕ, suc, ◌-◌, ◌≤◌, nat_lt, ◌==◌, if◌then◌else◌, Bool, true, false, List, [], ◌∷◌, map, length, flat_map, slice_get, Option, Some, None}

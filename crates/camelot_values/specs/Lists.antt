@@ -1,3 +1,4 @@
+-- Cited by contracts.
 -- Lists of numbers.
 use Rattle.std.specs.Prelude.{ℕ, ◌<◌, ◌==◌, Bool, List, [], ◌∷◌}
 use Rattle.std.specs.List.{list_any}

@@ -1,3 +1,4 @@
+-- Laws, for the proofs of this crate and of those above it.
 -- Laws of names: the test of a name's form, and names that stand twice or don't.
 use Rattle.std.proofs.Common.{◌≡◌, ℕ, Bool, true, false, List, [], ◌∷◌, ◌++◌, refl, sym, ap, ◌∙◌, subst, append_assoc, arith}
 use Rattle.std.specs.Prelude.{◌||◌, ◌&&◌, not, nat_eq, nat_le, IsTrue, length}

@@ -1,3 +1,4 @@
+-- Cited by contracts.
 -- The names of programs: a letter, and then letters, digits or `_`; at most 64 bytes.
 use Rattle.std.specs.Prelude.{◌≡◌, ℕ, suc, ◌≤◌, nat_le, ◌==◌, ◌&&◌, ◌||◌, if◌then◌else◌, Bool, false, List, [], ◌∷◌, ◌++◌, length, Option, Some, None, IsTrue}
 use Rattle.std.specs.List.{list_all, list_any}

@@ -1,3 +1,4 @@
+-- Cited by contracts.
 -- The operators of the language on values: sums, differences and products wrap to 32 bits in two's complement,
 -- comparisons are those of whole numbers. An operator comes to an outcome, as every step of a run does.
 use Rattle.std.specs.Prelude.{not, ℤ, int_lt}

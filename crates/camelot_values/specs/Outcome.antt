@@ -1,3 +1,4 @@
+-- Cited by contracts.
 -- What a run comes to, for the source language and for code alike. It is the big-step evaluation of Hofmann and
 -- Jost (2003) with counters in place of a heap, in the manner of functional big-step semantics (Owens, Myreen,
 -- Kumar, Tan 2016). The net number of cells starts at 0, rises by 1 for each cell taken from the free list and

@@ -1,3 +1,4 @@
+-- Laws, for the proofs of this crate and of those above it.
 -- The laws of outcomes: what comes after what.
 use Rattle.std.proofs.Common.{◌≡◌, ℕ, ◌+◌, ◌-◌, refl, sym, ap, ◌∙◌, arith}
 use Rattle.std.specs.Prelude.{pos, ◌+ℤ◌}

@@ -1,3 +1,4 @@
+-- Laws, for the proofs of this crate and of those above it.
 -- The list of the constructors that a kind reaches has just these, ascending.
 use Rattle.std.proofs.Common.{◌≡◌, ℕ, zero, suc, ◌+◌, ◌-◌, ◌<◌, ◌≤◌, Bool, true, false, List, [], ◌∷◌, ◌++◌, length, Option, Some, None, refl, sym, ap, ◌∙◌, subst, arith, inl, inr, length-append}
 use Rattle.std.specs.Prelude.{slice_get, cond, IsTrue, ◌⊎◌, ◌↔◌, nat_lt, if◌then◌else◌, ◌==◌, ◌||◌, ◌&&◌}

@@ -1,3 +1,4 @@
+-- Laws, for the proofs of this crate and of those above it.
 -- Laws of whole runs: what two runs have in common that take the same steps with other fuel or another clock. A relation between
 -- outcomes that holds of each basic step, and is kept by one run after another, holds of whole runs, of the source language and of
 -- code alike: what the bodies of functions mean only has to respect such relations.

@@ -1,3 +1,4 @@
+-- Cited by contracts.
 -- Steps of a run that the source language and code have in common.
 use Rattle.std.specs.Prelude.{ℕ, zero, suc, Bool, true, false, cond, ◌==◌, ◌&&◌, not, if◌then◌else◌, List}
 use Rattle.camelot_values.specs.Value.{Value, Flag, Dia}

@@ -1,3 +1,4 @@
+-- Private: words for functions of this crate.
 -- What the private search for the types in a type does to its marks.
 use Rattle.std.specs.Prelude.{◌≡◌, ℕ, List, length, [], ◌∷◌, slice_get, slice_set, Option, Some}
 use Rattle.camelot_values.specs.Kinds.{DataType}

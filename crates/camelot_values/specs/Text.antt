@@ -1,3 +1,4 @@
+-- Cited by contracts.
 -- Values as text.
 use Rattle.std.specs.Prelude.{ℕ, cond, List, [], ◌++◌, codes}
 use Rattle.std.specs.Fmt.{signed_decimal}

@@ -1,3 +1,4 @@
+-- Cited by contracts.
 -- Which values are of which kind, what operators give, and what it means that a run doesn't get stuck.
 use Rattle.std.specs.Prelude.{◌≡◌, List, [], ◌∷◌, Some, IsSomeAnd}
 use Rattle.std.specs.Option.{option_map}

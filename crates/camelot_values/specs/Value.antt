@@ -1,3 +1,4 @@
+-- Cited by contracts.
 -- The values of Camelot and Grail: those of LFPL (Hofmann 2000) with the memory cells forgotten. The code keeps
 -- a value as the list of its nodes in prefix order (Items).
 use Rattle.std.specs.Prelude.{ℕ, suc, Bool, ℤ, pos, negsuc, nat_lt, List, [], ◌∷◌}

@@ -1,3 +1,4 @@
+-- Laws, for the proofs of this crate and of those above it.
 -- What isn't ready isn't looked at: two environments that agree on the ready locals give the same outcome, so that narrowing a jump to the
 -- target's parameters changes nothing where each block's uses are ready.
 use Rattle.std.proofs.Common.{◌≡◌, ℕ, zero, suc, ◌+◌, Bool, true, false, List, [], ◌∷◌, ◌++◌, map, Option, Some, None, refl, sym, ap, ◌∙◌, subst, arith, inl, inr}

@@ -1,3 +1,4 @@
+-- Laws, for the proofs of this crate and of those above it.
 -- Laws of blocks: what they mean respects every relation between runs that basic steps have and sequence keeps, and a jump to a later
 -- block is that block.
 use Rattle.std.proofs.Common.{◌≡◌, ℕ, zero, suc, ◌+◌, ◌-◌, ◌<◌, ◌≤◌, Bool, true, false, List, [], ◌∷◌, drop, Option, Some, None, refl, sym, ap, ◌∙◌, arith}

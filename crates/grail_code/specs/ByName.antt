@@ -1,3 +1,4 @@
+-- Cited by contracts.
 -- Functions by their names.
 use Rattle.std.specs.Prelude.{◌≡◌, ℕ, ◌<◌, List, slice_get, Some}
 use Rattle.std.specs.Option.{option_map}

@@ -1,3 +1,4 @@
+-- Private: words for functions of this crate.
 -- Reading the spelling of code from the left, part by part in the order of the spelling.
 use Rattle.std.specs.Prelude.{◌≡◌, ℕ, zero, suc, ◌-◌, ◌==◌, Bool, true, false, List, [], ◌∷◌, length, Result, Ok, Err}
 use Rattle.std.specs.Int.{w32, cast_signed}

@@ -1,3 +1,4 @@
+-- Cited by contracts.
 -- What decoding answers, as against what bytes are: code, the beginning of a spelling, or neither from some byte on.
 use Rattle.std.specs.Prelude.{◌≡◌, ℕ, List, Result, Ok, Err}
 use Rattle.grail_code.specs.declared.code.Code.{Code as DeclaredCode}

@@ -1,3 +1,4 @@
+-- Laws, for the proofs of this crate and of those above it.
 -- Laws of places: that every ready local has a value of its kind is kept by a let, by the end of a block, and from a block on; and the
 -- induction over one run of a function with what is ready at each place.
 use Rattle.std.proofs.Common.{◌≡◌, ℕ, zero, suc, ◌+◌, ◌<◌, ◌≤◌, Bool, true, false, List, [], ◌∷◌, ◌++◌, length, map, Option, Some, None, refl, sym, ap, ◌∙◌, subst, arith, inl, inr}

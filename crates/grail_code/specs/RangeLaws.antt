@@ -1,3 +1,4 @@
+-- Laws, for the proofs of this crate and of those above it.
 -- Well-formed code within the limits whose names have their forms is within the ranges of the spelling.
 use Rattle.std.proofs.Common.{◌≡◌, ℕ, zero, suc, ◌*◌, ◌-◌, ◌<◌, ◌≤◌, Bool, List, [], ◌∷◌, ◌++◌, length, Option, Some, None, refl, sym, ap, ◌∙◌, subst, arith, length-append}
 use Rattle.std.specs.Prelude.{slice_get, IsSomeAnd}

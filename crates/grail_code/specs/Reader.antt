@@ -1,3 +1,4 @@
+-- Private: words for functions of this crate.
 -- Reading bytes from the left, as functions on lists. A reader answers a value and the bytes behind it, or where it
 -- stopped. What is bad is told by how many bytes are left from there on, so that readers in a row hand it on unchanged.
 use Rattle.std.specs.Prelude.{◌≡◌, ℕ, zero, suc, ◌+◌, ◌-◌, ◌*◌, ◌/◌, min, nat_lt, if◌then◌else◌, Bool, List, [], ◌∷◌, length, Result, Ok, Err}

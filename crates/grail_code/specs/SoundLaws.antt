@@ -1,3 +1,4 @@
+-- Laws, for the proofs of this crate and of those above it.
 -- Laws of sound code: well-formed code on fitting arguments doesn't get stuck, at whole runs and from each block on. Each is an instance of
 -- the induction over one run.
 use Rattle.std.proofs.Common.{◌≡◌, ℕ, zero, suc, ◌+◌, ◌<◌, ◌≤◌, Bool, true, false, List, [], ◌∷◌, ◌++◌, length, map, Some, refl, sym, ap, subst, arith, inl, inr}

@@ -1,3 +1,4 @@
+-- Cited by contracts.
 -- The spelling of Grail code in bytes, format `GRL1`: four bytes that name the format, then the types and the functions.
 -- It is a function of the code, and each count is followed by exactly so many things. `docs/GRAIL.md` tells it in words.
 use Rattle.std.specs.Prelude.{◌≡◌, ℕ, zero, suc, ◌+◌, ◌/◌, ◌%◌, ◌≤◌, ◌<◌, nat_lt, if◌then◌else◌, true, List, [], ◌∷◌, ◌++◌, length, take, flat_map, FitsSigned}

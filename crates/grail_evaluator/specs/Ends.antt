@@ -1,3 +1,4 @@
+-- Private: words for functions of this crate.
 -- What parts of a run come to and how they go on, with all that was used until then.
 use Rattle.std.specs.Prelude.{◌≡◌, ℕ, ◌+◌, ◌*◌, ◌-◌, ◌≤◌, Bool, true, false, List, map, Option, Some, None, ℤ, ⊤}
 use Rattle.camelot_values.specs.Value as value

@@ -1,3 +1,4 @@
+-- Private: words for functions of this crate.
 -- The evaluator's locals, which it keeps in the order in which they were bound, as the locals of the meaning of code.
 use Rattle.std.specs.Prelude.{ℕ, ◌==◌, if◌then◌else◌, List, [], ◌∷◌, ◌++◌, map, Option, Some, None}
 use Rattle.std.specs.List.{list_any}

@@ -1,3 +1,4 @@
+-- Cited by contracts.
 -- The evaluator's outcomes as those of the meaning of code.
 use Rattle.std.specs.Prelude.{◌≡◌, ◌<◌, ◌^◌, Result, Ok, Err, ⊤}
 use Rattle.camelot_values.specs.Value.{Value}

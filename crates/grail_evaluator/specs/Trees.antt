@@ -1,3 +1,4 @@
+-- Cited by contracts.
 -- The evaluator's trees as values.
 use Rattle.std.specs.Prelude.{List, map}
 use Rattle.camelot_values.specs.Value as value

@@ -1,3 +1,4 @@
+-- Cited by contracts.
 -- Counts of bytes and of faults. A count has 64 bits and stands still at its last value.
 use Rattle.std.specs.Prelude.{◌≡◌, ℕ, ◌+◌, ◌-◌, ◌^◌, ◌≤◌, min, max}
 

@@ -1,3 +1,4 @@
+-- Cited by contracts.
 -- What contracts see of the sources and sinks over memory.
 use Rattle.std.specs.Prelude.{◌≡◌, ℕ, ◌+◌, ◌-◌, ◌<◌, ◌≤◌, ◌⊎◌, List, ◌++◌, length, take, drop, min, Contains, Option, Some, None, Result, Ok, Err, nat_le, if◌then◌else◌}
 use Rattle.host_io.specs.Counts.{risen}

@@ -1,3 +1,4 @@
+-- Cited by contracts.
 -- What a sink was told, where it tells which bytes it was given.
 use Rattle.std.specs.Prelude.{◌≡◌, ℕ, ◌<◌, List, ◌++◌, length, take, Option, Some, None, ⊤}
 

@@ -1,3 +1,4 @@
+-- Cited by contracts.
 -- What a source of bytes gives, where it tells which bytes it has left.
 use Rattle.std.specs.Prelude.{◌≡◌, ℕ, ◌+◌, ◌≤◌, ◌↔◌, List, [], length, Option, Some, None, ⊤}
 use Rattle.std.specs.Io.KnownBytes.{Consumes}

@@ -1,3 +1,4 @@
+-- Cited by contracts.
 -- Comments between `(*` and `*)`, which nest, as in Standard ML (Milner, Tofte, Harper 1990, section 2.3).
 use Rattle.std.specs.Prelude.{ℕ, suc, zero, Bool, true, false, ◌&&◌, ◌==◌, List, [], ◌∷◌, if◌then◌else◌}
 use Rattle.std.specs.Str.{byte}

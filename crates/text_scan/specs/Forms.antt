@@ -1,3 +1,4 @@
+-- Cited by contracts.
 -- What one token looks like. The rules are those of the lexical conventions of ML languages (as in the manual of
 -- Caml Light, Leroy 1997), cut down to ASCII. They speak of a token's bytes alone; the code looks at its first byte
 -- and then runs on.

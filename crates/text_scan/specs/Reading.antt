@@ -1,3 +1,4 @@
+-- Cited by contracts.
 -- How a text is read: as white space, comments and tokens, one after the other, and each token the longest that begins
 -- at its place (the rule of the longest match; Aho, Lam, Sethi and Ullman 2006, section 3.5.3). The code goes through the
 -- text once and looks at the first bytes of each place; the definitions say what a reading is, and not how it is found.

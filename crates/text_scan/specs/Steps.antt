@@ -1,3 +1,4 @@
+-- Private: words for functions of this crate.
 -- Words for the contracts of private functions, which look at one place of a text.
 use Rattle.std.specs.Prelude.{◌≡◌, ℕ, List}
 use Rattle.std.specs.List.{prefix_len}
