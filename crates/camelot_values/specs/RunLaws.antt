@@ -279,3 +279,19 @@ short_is bodies r limit f k j args v c q l e h =
 -- More fuel doesn't help a run that went too deep.
 pub deep_is : (bodies : Bodies) → Respect bodies → (limit f k j : ℕ) (args : List Value) (q : ℕ) → run_from bodies limit f k args ≡ Deep q → k ≤ j → run_from bodies limit f j args ≡ Deep q
 deep_is bodies r limit f k j args q e h = let g : Goes k (Deep q) (run_from bodies limit f j args) = subst (λ o. Goes k o (run_from bodies limit f j args)) e (more_fuel bodies r limit f k j args h) in g
+
+-- ---- one run
+
+-- What holds where a call finds no fuel and where it is too deep, and of each body whose calls have it, holds of all calls. Q says it of the
+-- function's number, the arguments and the outcome.
+pub kept_by_calls : (bodies : Bodies) (limit : ℕ) (Q : ℕ → List Value → Outcome Value → Type 0) → ((f : ℕ) (args : List Value) → Q f args (Fuel 0 0)) → ((f : ℕ) (args : List Value) → Q f args (Deep 0))
+    → ((enter : Enter) → ((k w : ℕ) (t : Bool) (f : ℕ) (args : List Value) → Q f args (enter k w t f args)) → (f k w : ℕ) (args : List Value) → Q f args (entered (bodies enter f k w args)))
+    → (clock k w : ℕ) (t : Bool) (f : ℕ) (args : List Value) → Q f args (calls bodies limit clock k w t f args)
+kept_by_calls bodies limit Q fuel deep step clock zero w t f args = fuel f args
+kept_by_calls bodies limit Q fuel deep step zero (suc k) w t f args = fuel f args
+kept_by_calls bodies limit Q fuel deep step (suc clock) (suc k) w t f args =
+    by_depth (is_too_deep limit w t) (step (calls bodies limit clock) (kept_by_calls bodies limit Q fuel deep step clock) f k (cond t w (suc w)) args)
+  where
+    by_depth : (b : Bool) → Q f args (entered (bodies (calls bodies limit clock) f k (cond t w (suc w)) args)) → Q f args (if b then Deep 0 else entered (bodies (calls bodies limit clock) f k (cond t w (suc w)) args))
+    by_depth true h = deep f args
+    by_depth false h = h

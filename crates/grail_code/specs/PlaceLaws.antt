@@ -67,12 +67,12 @@ let_keeps types f h s env l v q fit k fits =
     (fit_bound types f (state_after h s (map Use (operands_of l.op))) env l.target v q (fit_used types f h s (operands_of l.op) env fit) k fits)
 
 -- a local of this kind has a value of it
-record Found (types : List DataType) (env : Locals) (x : ℕ) (q : Kind) : Type 0 where
-  value : Value
-  is : env x ≡ Some value
-  fits : Fits types q value
+pub record Found (types : List DataType) (env : Locals) (x : ℕ) (q : Kind) : Type 0 where
+  pub value : Value
+  pub is : env x ≡ Some value
+  pub fits : Fits types q value
 
-found : (types : List DataType) (f : Func) (env : Locals) (x : ℕ) (q : Kind) → Holds types f env x → kind_of f x ≡ Some q → Found types env x q
+pub found : (types : List DataType) (f : Func) (env : Locals) (x : ℕ) (q : Kind) → Holds types f env x → kind_of f x ≡ Some q → Found types env x q
 found types f env x q h k = by_value (env x) refl h
   where
     by_value : (o : Option Value) → env x ≡ o → IsSomeAnd o (λ v. IsSomeAnd (kind_of f x) (λ q. Fits types q v)) → Found types env x q
@@ -80,12 +80,12 @@ found types f env x q h k = by_value (env x) refl h
     by_value (Some v) e g = record { value = v; is = e; fits = subst (λ o. IsSomeAnd o (λ r. Fits types r v)) k g }
 
 -- locals of these kinds have values of them
-record FoundAll (types : List DataType) (env : Locals) (xs : List ℕ) (qs : List Kind) : Type 0 where
-  values : List Value
-  is : values_of env xs ≡ Some values
-  fit : ArgumentsFit types qs values
+pub record FoundAll (types : List DataType) (env : Locals) (xs : List ℕ) (qs : List Kind) : Type 0 where
+  pub values : List Value
+  pub is : values_of env xs ≡ Some values
+  pub fit : ArgumentsFit types qs values
 
-found_all : (types : List DataType) (f : Func) (h : ℕ → Bool) (s : State) (env : Locals) (xs : List ℕ) (qs : List Kind) → LocalsFit types f s env → AreReady h s (map Use xs) → HaveKinds f xs qs → FoundAll types env xs qs
+pub found_all : (types : List DataType) (f : Func) (h : ℕ → Bool) (s : State) (env : Locals) (xs : List ℕ) (qs : List Kind) → LocalsFit types f s env → AreReady h s (map Use xs) → HaveKinds f xs qs → FoundAll types env xs qs
 found_all types f h s env [] [] fit r k = record { values = []; is = refl; fit = tt }
 found_all types f h s env [] (q ∷ qs) fit r k = absurd cc
 found_all types f h s env (x ∷ xs) [] fit r k = absurd cc
@@ -170,12 +170,12 @@ jump_keeps p f h s env to target fit is r = record { holds = λ x e. hold x (bou
     hold x (inr e) = absurd cc
 
 -- fields of these kinds are bound to parts of these kinds
-record BoundAll (types : List DataType) (f : Func) (h : ℕ → Bool) (s : State) (env : Locals) (xs : List ℕ) (vs : Values) : Type 0 where
-  bound : Locals
-  is : put_all env xs vs ≡ Some bound
-  fits : LocalsFit types f (state_after h s (map Bind xs)) bound
+pub record BoundAll (types : List DataType) (f : Func) (h : ℕ → Bool) (s : State) (env : Locals) (xs : List ℕ) (vs : Values) : Type 0 where
+  pub bound : Locals
+  pub is : put_all env xs vs ≡ Some bound
+  pub fits : LocalsFit types f (state_after h s (map Bind xs)) bound
 
-bound_all : (types : List DataType) (f : Func) (h : ℕ → Bool) (s : State) (env : Locals) (xs : List ℕ) (qs : List Kind) (vs : Values) → LocalsFit types f s env → HaveKinds f xs qs → FitAll types qs vs → BoundAll types f h s env xs vs
+pub bound_all : (types : List DataType) (f : Func) (h : ℕ → Bool) (s : State) (env : Locals) (xs : List ℕ) (qs : List Kind) (vs : Values) → LocalsFit types f s env → HaveKinds f xs qs → FitAll types qs vs → BoundAll types f h s env xs vs
 bound_all types f h s env [] [] value.End fit k fits = record { bound = env; is = refl; fits = fit }
 bound_all types f h s env [] [] (value.And v vs) fit k fits = absurd fits
 bound_all types f h s env [] (q ∷ qs) vs fit k fits = absurd cc

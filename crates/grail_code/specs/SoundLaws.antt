@@ -1,7 +1,7 @@
 -- Laws, for the proofs of this crate and of those above it.
 -- Laws of sound code: well-formed code on fitting arguments doesn't get stuck, at whole runs and from each block on. Each is an instance of
 -- the induction over one run.
-use Rattle.std.proofs.Common.{◌≡◌, ℕ, zero, suc, ◌+◌, ◌<◌, ◌≤◌, Bool, true, false, List, [], ◌∷◌, ◌++◌, length, map, Some, refl, sym, ap, subst, arith, inl, inr}
+use Rattle.std.proofs.Common.{◌≡◌, ℕ, zero, suc, ◌+◌, ◌<◌, ◌≤◌, Bool, true, false, List, [], ◌∷◌, ◌++◌, length, map, Some, refl, sym, ap, ◌∙◌, subst, arith, inl, inr}
 use Rattle.std.specs.Prelude.{cond, ◌==◌, ◌||◌, if◌then◌else◌, slice_get, IsSomeAnd, ◌⊎◌}
 use Rattle.std.specs.List.{range_with_len}
 use Rattle.std.proofs.lemmas.Bool.Decides.{nat_tests}
@@ -79,14 +79,17 @@ arguments_fit p f b args entry fit = record { holds = λ x e. hold x (bound_amon
     hold x (inl m) = let less : x < 0 + length f.params = range_below x 0 (length f.params) (subst (λ ps. is_among ps x ≡ true) entry m) in arguments_hold p.types f.params f.locals args x fit (omega (arith, less))
     hold x (inr e) = absurd cc
 
-pub body_safe : (p : Code) (enter : Enter) → CallsSafe p enter → (f : Func) (k w : ℕ) (args : List Value) → FuncFits p f → 1 ≤ length f.blocks → ArgumentsFit p.types f.params args → IsSafe p.types f.result (body_run p.types enter (Some f) k w args)
-body_safe p enter calls f k w args fit some args_fit =
-    subst (λ t. IsSafe p.types f.result (if t then blocks_run p.types enter (map narrow f.blocks) k w (arguments args) else Stuck)) (sym full)
-    (subst (IsSafe p.types f.result) (sym (runs_from_first p.types enter (map narrow f.blocks) k w (arguments args))) (begin f.blocks refl))
+-- A function on fitting arguments runs from its first block on.
+pub body_runs : (p : Code) (enter : Enter) (f : Func) (k w : ℕ) (args : List Value) → ArgumentsFit p.types f.params args
+    → body_run p.types enter (Some f) k w args ≡ from_block p.types enter (map narrow f.blocks) 0 k w (arguments args)
+body_runs p enter f k w args fit = ap (λ t. if t then blocks_run p.types enter (map narrow f.blocks) k w (arguments args) else Stuck) full ∙ runs_from_first p.types enter (map narrow f.blocks) k w (arguments args)
   where
     full : (length args == length f.params) ≡ true
-    full = let same : length args ≡ length f.params = as_many p.types f.params args args_fit in grind (arith, nat_tests, same)
+    full = let same : length args ≡ length f.params = as_many p.types f.params args fit in grind (arith, nat_tests, same)
 
+pub body_safe : (p : Code) (enter : Enter) → CallsSafe p enter → (f : Func) (k w : ℕ) (args : List Value) → FuncFits p f → 1 ≤ length f.blocks → ArgumentsFit p.types f.params args → IsSafe p.types f.result (body_run p.types enter (Some f) k w args)
+body_safe p enter calls f k w args fit some args_fit = subst (IsSafe p.types f.result) (sym (body_runs p enter f k w args args_fit)) (begin f.blocks refl)
+  where
     begin : (bs : List Block) → f.blocks ≡ bs → IsSafe p.types f.result (from_block p.types enter (map narrow f.blocks) 0 k w (arguments args))
     begin [] e = absurd (omega (arith, ap length e, some))
     begin (b ∷ bs) e =
