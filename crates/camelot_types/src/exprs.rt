@@ -29,7 +29,7 @@ fn operator_kind(op: PrimOp) -> Kind
 {
     match op {
         PrimOp::Add | PrimOp::Sub | PrimOp::Mul => Kind::Int,
-        _ => Kind::Flag,
+        PrimOp::Eq | PrimOp::Ne | PrimOp::Lt | PrimOp::Le | PrimOp::Gt | PrimOp::Ge => Kind::Flag,
     }
 }
 

@@ -22,7 +22,7 @@ fn operator_kind(op: PrimCode) -> Kind
 {
     match op {
         PrimCode::Add | PrimCode::Sub | PrimCode::Mul => Kind::Int,
-        _ => Kind::Flag,
+        PrimCode::Eq | PrimCode::Ne | PrimCode::Lt | PrimCode::Le | PrimCode::Gt | PrimCode::Ge => Kind::Flag,
     }
 }
 
