@@ -146,10 +146,25 @@ fn checks_table(rt: &HostRuntime, timed: bool, sizes: &[usize]) -> io::Result<()
         report_checks(rt, timed, "links", &texts::links(alloc, *size)?)?;
     }
     for size in sizes {
-        report_checks(rt, timed, "constructors", &texts::constructors(alloc, *size, false)?)?;
-        report_checks(rt, timed, "chosen constructors", &texts::constructors(alloc, *size, true)?)?;
+        report_checks(
+            rt,
+            timed,
+            "constructors",
+            &texts::constructors(alloc, *size, false)?,
+        )?;
+        report_checks(
+            rt,
+            timed,
+            "chosen constructors",
+            &texts::constructors(alloc, *size, true)?,
+        )?;
         report_checks(rt, timed, "names", &texts::names(alloc, *size, false)?)?;
-        report_checks(rt, timed, "chosen names", &texts::names(alloc, *size, true)?)?;
+        report_checks(
+            rt,
+            timed,
+            "chosen names",
+            &texts::names(alloc, *size, true)?,
+        )?;
     }
     report_checks(rt, timed, "tall", &texts::tall(alloc)?)?;
     report_checks(rt, timed, "typed tall", &texts::typed(alloc)?)

@@ -310,7 +310,12 @@ fn groups_for(names: usize) -> usize {
 }
 
 /// The numbers of so many names: one after the other, or chosen so that a table by hash would look for all of them in one part.
-fn numbers(alloc: Global, letter: u8, count: usize, chosen: bool) -> Result<Vec<usize>, AllocError> {
+fn numbers(
+    alloc: Global,
+    letter: u8,
+    count: usize,
+    chosen: bool,
+) -> Result<Vec<usize>, AllocError> {
     let groups = groups_for(count);
     let mut numbers = Vec::new(alloc);
     let mut next = 0usize;
@@ -325,7 +330,11 @@ fn numbers(alloc: Global, letter: u8, count: usize, chosen: bool) -> Result<Vec<
 }
 
 /// One type of constructors of 10 bytes each, far more than the checks allow, whose names are chosen to collide or not.
-pub(crate) fn constructors(alloc: Global, size: usize, chosen: bool) -> Result<Vec<u8>, AllocError> {
+pub(crate) fn constructors(
+    alloc: Global,
+    size: usize,
+    chosen: bool,
+) -> Result<Vec<u8>, AllocError> {
     let mut text = Vec::from_slice(alloc, b"type t = ")?;
     for number in &numbers(alloc, b'C', size / 10, chosen)? {
         text.extend_from_slice(&name_of(alloc, b'C', *number)?)?;
@@ -335,11 +344,11 @@ pub(crate) fn constructors(alloc: Global, size: usize, chosen: bool) -> Result<V
     Ok(text)
 }
 
-/// A function of `let`s of one name each, of 24 bytes, whose names are chosen to collide or not: chains of a hundred of them, a hundred of
+/// A function of `let`s of one name each, of 25 bytes, whose names are chosen to collide or not: chains of a hundred of them, a hundred of
 /// which are the value of another `let`.
 pub(crate) fn names(alloc: Global, size: usize, chosen: bool) -> Result<Vec<u8>, AllocError> {
     let mut text = Vec::from_slice(alloc, b"let f x = let z = x + (x")?;
-    for (place, number) in numbers(alloc, b'a', size / 24, chosen)?.iter().enumerate() {
+    for (place, number) in numbers(alloc, b'a', size / 25, chosen)?.iter().enumerate() {
         if place % 10_000 == 9_999 {
             text.extend_from_slice(b") in let z = x + (x")?;
         } else if place % 100 == 99 {
