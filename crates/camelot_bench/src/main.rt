@@ -5,7 +5,7 @@
 mod texts;
 
 use camelot_syntax::{Expr, Program, parse};
-use camelot_types::check;
+use camelot_types::check_program;
 use camelot_typing::Typed;
 use linear_use::check_use;
 use std::time::Instant;
@@ -100,9 +100,9 @@ fn report_uses(rt: &HostRuntime, timed: bool, typed: Typed, checking: u128) -> i
 }
 
 /// What the checks answer to a program.
-fn report_types(rt: &HostRuntime, timed: bool, program: &Program) -> io::Result<()> {
+fn report_types(rt: &HostRuntime, timed: bool, program: Program) -> io::Result<()> {
     let start = Instant::now(rt)?;
-    let checked = check(rt.alloc(), program);
+    let checked = check_program(rt.alloc(), program);
     let checking = start.elapsed(rt)?.as_micros();
     match checked {
         Ok(typed) => report_uses(rt, timed, typed, checking),
@@ -122,7 +122,7 @@ fn report_checks(rt: &HostRuntime, timed: bool, family: &str, text: &[u8]) -> io
         return println!(rt; " too long a text | | |");
     }
     match parse(rt.alloc(), text) {
-        Ok(program) => report_types(rt, timed, &program),
+        Ok(program) => report_types(rt, timed, program),
         Err(fault) => println!(rt; " {fault} | | |"),
     }
 }
@@ -140,6 +140,27 @@ fn checks_table(rt: &HostRuntime, timed: bool, sizes: &[usize]) -> io::Result<()
     }
     for size in sizes {
         report_checks(rt, timed, "links", &texts::links(alloc, *size)?)?;
+    }
+    for size in sizes {
+        report_checks(
+            rt,
+            timed,
+            "constructors",
+            &texts::constructors(alloc, *size, false)?,
+        )?;
+        report_checks(
+            rt,
+            timed,
+            "chosen constructors",
+            &texts::constructors(alloc, *size, true)?,
+        )?;
+        report_checks(rt, timed, "names", &texts::names(alloc, *size, false)?)?;
+        report_checks(
+            rt,
+            timed,
+            "chosen names",
+            &texts::names(alloc, *size, true)?,
+        )?;
     }
     report_checks(rt, timed, "tall", &texts::tall(alloc)?)?;
     report_checks(rt, timed, "typed tall", &texts::typed(alloc)?)

@@ -1,6 +1,7 @@
 //! Texts, a family each. All but the tall one are made up to a size in bytes.
 
 use std::alloc::{AllocError, Global};
+use std::hash::{BuildHasher, BuildHasherDefault, FoldHasher};
 
 /// One comment.
 pub(crate) fn comment(alloc: Global, size: usize) -> Result<Vec<u8>, AllocError> {
@@ -261,5 +262,102 @@ pub(crate) fn lets(alloc: Global, size: usize) -> Result<Vec<u8>, AllocError> {
         }
         text.extend_from_slice(b"x\n")?;
     }
+    Ok(text)
+}
+
+/// The index that a table of names by hash, of so many groups, begins to look at for this name: the hash of the kit's maps, whose seed is fixed.
+fn first_group(name: &[u8], groups: usize) -> usize {
+    let hash = BuildHasherDefault::<FoldHasher>::new().hash_one(name);
+    ((hash ^ (hash >> 32)) & 0xFFFF_FFFF) as usize & groups.saturating_sub(1)
+}
+
+/// A letter and a number of six digits to the base 36: 7 bytes.
+fn name_of(alloc: Global, letter: u8, number: usize) -> Result<Vec<u8>, AllocError> {
+    let mut name = Vec::new(alloc);
+    name.push(letter)?;
+    let mut left = number;
+    for _ in 0..6 {
+        let digit = (left % 36) as u8;
+        name.push(if digit < 10 {
+            b'0' + digit
+        } else {
+            b'a' + (digit - 10)
+        })?;
+        left /= 36;
+    }
+    Ok(name)
+}
+
+/// The first number from this one on whose name a table of so many groups looks for in its first sixteenth. About sixteen tries find it.
+fn colliding(alloc: Global, letter: u8, groups: usize, from: usize) -> Result<usize, AllocError> {
+    for number in from..from.saturating_add(1_000) {
+        if first_group(&name_of(alloc, letter, number)?, groups) < groups / 16 {
+            return Ok(number);
+        }
+    }
+    Ok(from)
+}
+
+/// As many groups as a table of so many names by hash has, with 9 names in a group at most.
+fn groups_for(names: usize) -> usize {
+    let mut groups = 16;
+    for _ in 0..24 {
+        if groups * 9 < names && groups < 1 << 24 {
+            groups *= 2;
+        }
+    }
+    groups
+}
+
+/// The numbers of so many names: one after the other, or chosen so that a table by hash would look for all of them in one part.
+fn numbers(
+    alloc: Global,
+    letter: u8,
+    count: usize,
+    chosen: bool,
+) -> Result<Vec<usize>, AllocError> {
+    let groups = groups_for(count);
+    let mut numbers = Vec::new(alloc);
+    let mut next = 0usize;
+    for _ in 0..count {
+        if chosen {
+            next = colliding(alloc, letter, groups, next)?;
+        }
+        numbers.push(next)?;
+        next = next.saturating_add(1);
+    }
+    Ok(numbers)
+}
+
+/// One type of constructors of 10 bytes each, far more than the checks allow, whose names are chosen to collide or not.
+pub(crate) fn constructors(
+    alloc: Global,
+    size: usize,
+    chosen: bool,
+) -> Result<Vec<u8>, AllocError> {
+    let mut text = Vec::from_slice(alloc, b"type t = ")?;
+    for number in &numbers(alloc, b'C', size / 10, chosen)? {
+        text.extend_from_slice(&name_of(alloc, b'C', *number)?)?;
+        text.extend_from_slice(b" | ")?;
+    }
+    text.extend_from_slice(b"Last\nlet f x = x\n")?;
+    Ok(text)
+}
+
+/// A function of `let`s of one name each, of 25 bytes, whose names are chosen to collide or not: chains of a hundred of them, a hundred of
+/// which are the value of another `let`.
+pub(crate) fn names(alloc: Global, size: usize, chosen: bool) -> Result<Vec<u8>, AllocError> {
+    let mut text = Vec::from_slice(alloc, b"let f x = let z = x + (x")?;
+    for (place, number) in numbers(alloc, b'a', size / 25, chosen)?.iter().enumerate() {
+        if place % 10_000 == 9_999 {
+            text.extend_from_slice(b") in let z = x + (x")?;
+        } else if place % 100 == 99 {
+            text.extend_from_slice(b") + (x")?;
+        }
+        text.extend_from_slice(b" + (let ")?;
+        text.extend_from_slice(&name_of(alloc, b'a', *number)?)?;
+        text.extend_from_slice(b" = x in x)")?;
+    }
+    text.extend_from_slice(b") in z\n")?;
     Ok(text)
 }

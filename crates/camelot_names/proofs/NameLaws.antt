@@ -1,5 +1,5 @@
 -- Names in a table, and their places.
-use Rattle.std.proofs.Common.{◌≡◌, ℕ, zero, suc, ◌<◌, Bool, true, false, cond, List, [], ◌∷◌, ◌++◌, map, length, Option, Some, None, IfSome, Result, Ok, Err, is_ok, OnErr, refl, sym, ap, subst, ◌∙◌, Bor, arith}
+use Rattle.std.proofs.Common.{◌≡◌, ℕ, suc, ◌<◌, Bool, true, false, cond, List, [], ◌∷◌, ◌++◌, map, length, Option, Some, None, IfSome, Result, Ok, Err, is_ok, OnErr, refl, sym, ap, subst, ◌∙◌, Bor, arith}
 use Rattle.std.specs.Prelude.{not, ◌||◌, is_some, if◌then◌else◌, IsTrue}
 use Rattle.std.specs.Option.{option_map}
 use Rattle.std.specs.BTreeMap.{BTreeMap, UpdatesBy}

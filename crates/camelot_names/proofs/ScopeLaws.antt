@@ -12,7 +12,7 @@ use Rattle.std.proofs.lemmas.List.{reverse-append, length-drop, drop-drop}
 use Rattle.camelot_names.specs.declared.scopes.Binding.{Binding}
 use Rattle.camelot_values.specs.Names.{Binder, find}
 use Rattle.camelot_values.specs.NameLaws.{name_itself}
-use Rattle.camelot_names.specs.Kept.{at_name, bound, AreUndone, IsKept}
+use Rattle.camelot_names.specs.Kept.{at_name, bound, IsKept}
 
 reverse_push : {X : Type 0} (xs : List X) (x : X) → reverse (xs ++ x ∷ []) ≡ x ∷ reverse xs
 reverse_push xs x = reverse-append xs (x ∷ [])

@@ -1,13 +1,12 @@
 -- Constructors by their numbers, as the code keeps them.
-use Rattle.std.proofs.Common.{◌≡◌, ℕ, zero, suc, ◌+◌, ◌-◌, ◌<◌, ◌≤◌, Bool, true, false, List, [], ◌∷◌, ◌++◌, map, length, get_or, drop, Option, Some, None, IfSome, refl, sym, ap, ◌∙◌, Bor, subst, arith, append_assoc, length-append}
+use Rattle.std.proofs.Common.{◌≡◌, ℕ, zero, suc, ◌-◌, ◌<◌, ◌≤◌, Bool, true, false, List, [], ◌∷◌, ◌++◌, map, length, get_or, Option, Some, None, IfSome, refl, sym, ap, ◌∙◌, Bor, arith}
 use Rattle.std.specs.Prelude.{nat_lt, is_some, slice_get, if◌then◌else◌}
 use Rattle.std.specs.Option.{option_map}
 use Rattle.std.proofs.lemmas.Bool.Decides.{nat_tests}
 use Rattle.std.proofs.lemmas.List.{map-append}
 use Rattle.std.proofs.lemmas.Option.{slice_get-map}
-use Rattle.camelot_values.specs.Kinds.{Constructor, DataType, constructor, constructors, constructor_of, data_type_of, type_from, type_of}
+use Rattle.camelot_values.specs.Kinds.{Constructor, DataType, constructor, constructors, constructor_of, type_from, type_of}
 use Rattle.camelot_values.specs.KindLaws.{slice_get_front, slice_get_behind}
-use Rattle.camelot_values.specs.declared.kinds.TypeDef.{TypeDef}
 use Rattle.camelot_types.specs.declared.facts.ConFact.{ConFact}
 use Rattle.camelot_types.specs.Facts.{Fact, fact_of, fact_at, facts_from}
 

@@ -137,12 +137,7 @@ impl Walker<'_> {
     {
         let fields = fields_of(globals, con);
         check_arity(self.alloc, name, guesses.len(), fields.len())?;
-        check_place(
-            self.alloc,
-            name,
-            is_inline(globals, con),
-            place.is_some(),
-        )?;
+        check_place(self.alloc, name, is_inline(globals, con), place.is_some())?;
         let diamond = self.place(place)?;
         self.same_fields(globals, args, guesses, fields)?;
         self.same_place(globals, place, diamond)

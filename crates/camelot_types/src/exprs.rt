@@ -37,7 +37,11 @@ impl<'a> Walker<'a> {
     /// An expression.
     #[cycle(walk)]
     #[tactic(auto, using(crate::proofs::Looping::unwound_begins, crate::proofs::Looping::leaf_stops, camelot_tree::specs::SpineLaws::none_larger))]
-    pub(crate) fn expr(&mut self, globals: &Globals<'_, '_>, expr: &'a Expr) -> Result<Guess, TypeFault>
+    pub(crate) fn expr(
+        &mut self,
+        globals: &Globals<'_, '_>,
+        expr: &'a Expr,
+    ) -> Result<Guess, TypeFault>
         ensures found { Finds (walk (globals_view globals.now) self.old.scope (work_of self.old) (term_of expr.now)) (work_of self.new) result }
         ensures scope { OnOk result (self.new.scope ≡ self.old.scope) }
     {
@@ -264,14 +268,7 @@ impl<'a> Walker<'a> {
         ensures scope { OnOk result (self.new.scope ≡ self.old.scope) }
     {
         let con = globals.con(self.alloc, &arm.con)?;
-        self.head(
-            globals,
-            &[],
-            con_guess(globals, con),
-            scrutinee,
-            con,
-            arm,
-        )?;
+        self.head(globals, &[], con_guess(globals, con), scrutinee, con, arm)?;
         let guess = self.arm_body(globals, con, arm)?;
         Ok(BodyGuess { con, guess })
     }

@@ -15,7 +15,11 @@ pub(crate) struct ConFact<'t> {
 }
 
 /// The constructors of the type of this number, behind the others.
-fn add_facts<'t>(facts: &mut Vec<ConFact<'t>>, owner: u32, cons: &'t [Con]) -> Result<(), AllocError>
+fn add_facts<'t>(
+    facts: &mut Vec<ConFact<'t>>,
+    owner: u32,
+    cons: &'t [Con],
+) -> Result<(), AllocError>
     ensures { OnOk result (map fact_of facts.new.items ≡ map fact_of facts.old.items ++ map (fact_at owner) (map constructor_of cons.now)) }
 {
     'cons: for con in cons {

@@ -1,5 +1,5 @@
 -- A typed program on fitting arguments doesn't get stuck, and what it comes to is of the function's result kind.
-use Rattle.std.proofs.Common.{◌≡◌, ℕ, zero, suc, ◌+◌, ◌-◌, ◌≤◌, Bool, true, false, List, [], ◌∷◌, ◌++◌, length, map, Option, Some, None, refl, sym, ap, ◌∙◌, subst, arith}
+use Rattle.std.proofs.Common.{◌≡◌, ℕ, zero, suc, ◌+◌, ◌≤◌, Bool, true, false, List, [], ◌∷◌, ◌++◌, length, map, Option, Some, None, refl, sym, ap, ◌∙◌, subst, arith}
 use Rattle.std.specs.Prelude.{cond, ◌&&◌, if◌then◌else◌, slice_get, IsSomeAnd, IsTrue}
 use Rattle.std.specs.List.{list_all}
 use Rattle.std.specs.Option.{option_map, option_map_or}
@@ -10,7 +10,7 @@ use Rattle.camelot_values.specs.Value.{Value, Values, parts}
 use Rattle.camelot_values.specs.Names.{AreDistinct, find}
 use Rattle.camelot_values.specs.Kinds as values
 use Rattle.camelot_values.specs.Kinds.{DataType, constructor, type_of}
-use Rattle.camelot_values.specs.Typing.{Fits, FitAll, ArgumentsFit, IsSafe, operator_kind}
+use Rattle.camelot_values.specs.Typing.{Fits, FitAll, ArgumentsFit, IsSafe}
 use Rattle.camelot_values.specs.Operator.{operate}
 use Rattle.camelot_values.specs.Bounds.{Yields}
 use Rattle.camelot_values.specs.BoundLaws.{yields_after, yields_then}

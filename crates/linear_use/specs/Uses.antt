@@ -13,7 +13,6 @@ use Rattle.camelot_values.specs.declared.kinds.Kind.TheVariants.{Int}
 use Rattle.camelot_tree.specs.declared.tree.Name.{Name}
 use Rattle.camelot_tree.specs.declared.tree.Param.{Param}
 use Rattle.camelot_tree.specs.declared.tree.ArmCell.{ArmCell}
-use Rattle.camelot_tree.specs.declared.tree.ArmCell.TheVariants as cell
 use Rattle.camelot_tree.specs.Tree.{Term, Num, Truth, Var, Prim, If, Let, Match, Build, Call, Terms, NoTerms, AndTerm, Arms, NoArms, AndArm, Function, Source}
 use Rattle.camelot_tree.specs.Cells.{has_cell}
 use Rattle.camelot_typing.specs.Kinds.{Globals, Scope, bind, or_else, constructor_number, is_inline, bound_names, arm_scope, atom_of}
