@@ -7,19 +7,19 @@ use Rattle.text_scan.specs.Reading.{IsSliceOf}
 use Rattle.text_scan.specs.declared.tokens.TokenKind.{TokenKind}
 use Rattle.text_scan.specs.declared.tokens.TokenKind.TheVariants as kind
 use Rattle.text_scan.specs.declared.tokens.Token.{Token}
-use Rattle.camelot_syntax.specs.declared.fault.ParseFault.{ParseFault}
-use Rattle.camelot_syntax.specs.declared.fault.ParseFault.TheVariants as fault
-use Rattle.camelot_syntax.specs.declared.lexeme.Mark.TheVariants as mark
-use Rattle.camelot_syntax.specs.declared.lexeme.Lexeme.{Lexeme}
-use Rattle.camelot_syntax.specs.declared.lexeme.Lexeme.TheVariants.{Lower, Upper, Variable, Number, Greatest, Mark}
+use Rattle.camelot_grammar.specs.declared.fault.ParseFault.{ParseFault}
+use Rattle.camelot_grammar.specs.declared.fault.ParseFault.TheVariants as fault
+use Rattle.camelot_grammar.specs.declared.lexeme.Mark.TheVariants as mark
+use Rattle.camelot_grammar.specs.declared.lexeme.Lexeme.{Lexeme}
+use Rattle.camelot_grammar.specs.declared.lexeme.Lexeme.TheVariants.{Lower, Upper, Variable, Number, Greatest, Mark}
 use Rattle.camelot_syntax.specs.declared.state.Frame.{Frame}
 use Rattle.camelot_syntax.specs.declared.state.State.{State}
 use Rattle.camelot_syntax.specs.declared.state.Decls.{Decls}
-use Rattle.camelot_syntax.specs.Lexemes.{lexeme_of, lexeme_at, lexemes, IsReal}
-use Rattle.camelot_syntax.specs.Parsing.{stop_fault, line_of, first_line}
-use Rattle.camelot_syntax.specs.Machine as mc
-use Rattle.camelot_syntax.specs.Machine.{runs, onward, ending, limited, advance, step, Move, Moves, Stops, Sinks, Stopped, TooDeep, Yes, Result}
-use Rattle.camelot_syntax.specs.States.{IsSmall, FailsAt, FailsWith, IsUnfinished, Reads, Answers, fault_of, state_of, stack_of, decls_of}
+use Rattle.camelot_grammar.specs.Lexemes.{lexeme_of, lexeme_at, lexemes, IsReal}
+use Rattle.camelot_grammar.specs.Parsing.{stop_fault, line_of, first_line}
+use Rattle.camelot_grammar.specs.Machine as mc
+use Rattle.camelot_grammar.specs.Machine.{runs, onward, ending, limited, advance, step, Move, Moves, Stops, Sinks, Stopped, TooDeep, Yes, Result, fault_of}
+use Rattle.camelot_syntax.specs.States.{IsSmall, FailsAt, FailsWith, IsUnfinished, Reads, Answers, state_of, stack_of, decls_of}
 
 pub small_real : (t : Lexeme) → IsReal t → IsSmall t
 small_real (Number n l) h = h

@@ -1,9 +1,3 @@
--- The syntax of Camelot.
-pub mod Lexemes
-pub mod Grammar
-pub mod Program
-pub mod Levels
-pub mod Parsing
-pub mod Machine
+-- The parser of Camelot.
 pub mod States
 pub mod Answers

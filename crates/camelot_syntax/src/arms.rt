@@ -2,26 +2,26 @@
 
 ghost use Rattle.std.specs.Prelude.{[]};
 ghost use Rattle.camelot_tree.specs.declared.tree.ArmCell.TheVariants.{Plain};
-ghost use Rattle.camelot_syntax.specs.Machine.{arm_name_step, arrow_step, arm_end_step, arm_step, FirstArm, WantArm, ArmCon, HaveName, WantCell};
+ghost use Rattle.camelot_grammar.specs.Machine.{arm_name_step, arrow_step, arm_end_step, arm_step, FirstArm, WantArm, ArmCon, HaveName, WantCell};
 ghost use Rattle.camelot_syntax.specs.States.{Does, stack_of, matching_of, arm_head_of, arm_of};
 
-use crate::lexeme::{Lexeme, Mark};
 use crate::operand::reach;
 use crate::parser::Parser;
 use crate::state::{ArmHead, ArmState, ExprState, Frame, Halt, Matching, State};
+use camelot_grammar::{Lexeme, Mark};
 use camelot_tree::{ArmCell, Name};
 
 impl Parser {
     /// Where a field is wanted.
-    #[tactic(auto, unfolding(crate::specs::Machine::arm_name_step))]
+    #[tactic(auto, unfolding(camelot_grammar::specs::Machine::arm_name_step))]
     fn field(
         &mut self,
-        matching: Matching,
+        matching: Box<Matching>,
         con: Name,
         mut fields: Vec<Option<Name>>,
         lexeme: Lexeme,
     ) -> Result<State, Halt>
-        ensures { Does (arm_name_step (matching_of matching) con fields.items lexeme (stack_of self.old.stack.items)) self.new.stack.items result }
+        ensures { Does (arm_name_step (matching_of matching.value) con fields.items lexeme (stack_of self.old.stack.items)) self.new.stack.items result }
     {
         let level = matching.level;
         match lexeme {
@@ -39,9 +39,14 @@ impl Parser {
     }
 
     /// Where the arrow of an arm is wanted.
-    #[tactic(auto, unfolding(crate::specs::Machine::arrow_step), using(crate::proofs::StackLemmas::stack_push))]
-    fn arrow(&mut self, matching: Matching, head: ArmHead, lexeme: Lexeme) -> Result<State, Halt>
-        ensures { Does (arrow_step (matching_of matching) (arm_head_of head) lexeme (stack_of self.old.stack.items)) self.new.stack.items result }
+    #[tactic(auto, unfolding(camelot_grammar::specs::Machine::arrow_step), using(crate::proofs::StackLemmas::stack_push))]
+    fn arrow(
+        &mut self,
+        matching: Box<Matching>,
+        head: Box<ArmHead>,
+        lexeme: Lexeme,
+    ) -> Result<State, Halt>
+        ensures { Does (arrow_step (matching_of matching.value) (arm_head_of head.value) lexeme (stack_of self.old.stack.items)) self.new.stack.items result }
     {
         let level = matching.level;
         match lexeme {
@@ -57,15 +62,15 @@ impl Parser {
     }
 
     /// Behind the fields of an arm.
-    #[tactic(auto, unfolding(crate::specs::Machine::arm_end_step))]
+    #[tactic(auto, unfolding(camelot_grammar::specs::Machine::arm_end_step))]
     fn fields_end(
         &mut self,
-        matching: Matching,
+        matching: Box<Matching>,
         con: Name,
         fields: Vec<Option<Name>>,
         lexeme: Lexeme,
     ) -> Result<State, Halt>
-        ensures { Does (arm_end_step (matching_of matching) con fields.items lexeme (stack_of self.old.stack.items)) self.new.stack.items result }
+        ensures { Does (arm_end_step (matching_of matching.value) con fields.items lexeme (stack_of self.old.stack.items)) self.new.stack.items result }
     {
         let level = matching.level;
         match lexeme {
@@ -75,15 +80,16 @@ impl Parser {
             ),
             lexeme => {
                 let cell = ArmCell::Plain;
-                self.arrow(matching, ArmHead { con, fields, cell }, lexeme)
+                let head = Box::new(self.alloc, ArmHead { con, fields, cell })?;
+                self.arrow(matching, head, lexeme)
             }
         }
     }
 
     /// Where the first arm of a match may begin.
-    #[tactic(auto, unfolding(crate::specs::Machine::arm_step))]
-    fn first_arm(&mut self, matching: Matching, lexeme: Lexeme) -> Result<State, Halt>
-        ensures { Does (arm_step (FirstArm (matching_of matching)) lexeme (stack_of self.old.stack.items)) self.new.stack.items result }
+    #[tactic(auto, unfolding(camelot_grammar::specs::Machine::arm_step))]
+    fn first_arm(&mut self, matching: Box<Matching>, lexeme: Lexeme) -> Result<State, Halt>
+        ensures { Does (arm_step (FirstArm (matching_of matching.value)) lexeme (stack_of self.old.stack.items)) self.new.stack.items result }
     {
         let level = matching.level;
         match lexeme {
@@ -97,9 +103,9 @@ impl Parser {
     }
 
     /// Behind the bar before an arm.
-    #[tactic(auto, unfolding(crate::specs::Machine::arm_step))]
-    fn want_arm(&mut self, matching: Matching, lexeme: Lexeme) -> Result<State, Halt>
-        ensures { Does (arm_step (WantArm (matching_of matching)) lexeme (stack_of self.old.stack.items)) self.new.stack.items result }
+    #[tactic(auto, unfolding(camelot_grammar::specs::Machine::arm_step))]
+    fn want_arm(&mut self, matching: Box<Matching>, lexeme: Lexeme) -> Result<State, Halt>
+        ensures { Does (arm_step (WantArm (matching_of matching.value)) lexeme (stack_of self.old.stack.items)) self.new.stack.items result }
     {
         let level = matching.level;
         match lexeme {
@@ -109,9 +115,9 @@ impl Parser {
     }
 
     /// Behind the constructor of an arm.
-    #[tactic(auto, unfolding(crate::specs::Machine::arm_step))]
-    fn arm_con(&mut self, matching: Matching, con: Name, lexeme: Lexeme) -> Result<State, Halt>
-        ensures { Does (arm_step (ArmCon (matching_of matching) con) lexeme (stack_of self.old.stack.items)) self.new.stack.items result }
+    #[tactic(auto, unfolding(camelot_grammar::specs::Machine::arm_step))]
+    fn arm_con(&mut self, matching: Box<Matching>, con: Name, lexeme: Lexeme) -> Result<State, Halt>
+        ensures { Does (arm_step (ArmCon (matching_of matching.value) con) lexeme (stack_of self.old.stack.items)) self.new.stack.items result }
     {
         let level = matching.level;
         let fields = Vec::new(self.alloc);
@@ -128,15 +134,15 @@ impl Parser {
     }
 
     /// Behind a field.
-    #[tactic(auto, unfolding(crate::specs::Machine::arm_step))]
+    #[tactic(auto, unfolding(camelot_grammar::specs::Machine::arm_step))]
     fn have_field_name(
         &mut self,
-        matching: Matching,
+        matching: Box<Matching>,
         con: Name,
         fields: Vec<Option<Name>>,
         lexeme: Lexeme,
     ) -> Result<State, Halt>
-        ensures { Does (arm_step (HaveName (matching_of matching) con fields.items) lexeme (stack_of self.old.stack.items)) self.new.stack.items result }
+        ensures { Does (arm_step (HaveName (matching_of matching.value) con fields.items) lexeme (stack_of self.old.stack.items)) self.new.stack.items result }
     {
         let level = matching.level;
         match lexeme {
@@ -159,15 +165,15 @@ impl Parser {
     }
 
     /// Behind the `@` of an arm.
-    #[tactic(auto, unfolding(crate::specs::Machine::arm_step))]
+    #[tactic(auto, unfolding(camelot_grammar::specs::Machine::arm_step))]
     fn want_cell(
         &mut self,
-        matching: Matching,
+        matching: Box<Matching>,
         con: Name,
         fields: Vec<Option<Name>>,
         lexeme: Lexeme,
     ) -> Result<State, Halt>
-        ensures { Does (arm_step (WantCell (matching_of matching) con fields.items) lexeme (stack_of self.old.stack.items)) self.new.stack.items result }
+        ensures { Does (arm_step (WantCell (matching_of matching.value) con fields.items) lexeme (stack_of self.old.stack.items)) self.new.stack.items result }
     {
         let level = matching.level;
         let cell = match lexeme {
@@ -178,12 +184,12 @@ impl Parser {
             } => ArmCell::Free,
             _ => return Err(Halt::Stuck),
         };
-        let head = ArmHead { con, fields, cell };
+        let head = Box::new(self.alloc, ArmHead { con, fields, cell })?;
         reach(level, State::InArm(ArmState::WantArrow(matching, head)))
     }
 
     /// One token in the head of an arm.
-    #[tactic(auto, unfolding(crate::specs::Machine::arm_step))]
+    #[tactic(auto, unfolding(camelot_grammar::specs::Machine::arm_step))]
     pub fn arm(&mut self, state: ArmState, lexeme: Lexeme) -> Result<State, Halt>
         ensures { Does (arm_step (arm_of state) lexeme (stack_of self.old.stack.items)) self.new.stack.items result }
     {

@@ -2,12 +2,12 @@
 
 ghost use Rattle.std.specs.Prelude.{◌≡◌, ◌++◌, [], ◌∷◌, MatchResult, MatchOption, Some, None, false};
 ghost use Rattle.camelot_syntax.specs.declared.state.Halt.TheVariants.{Memory};
-ghost use Rattle.camelot_syntax.specs.Machine.{top_step, con_step, type_step, with_con, lexeme_atom, WantCon, InlineCon, BareCon, WantField, HaveField, HaveCon, TypeName, TypeEquals, decl_step};
+ghost use Rattle.camelot_grammar.specs.Machine.{top_step, con_step, type_step, with_con, lexeme_atom, WantCon, InlineCon, BareCon, WantField, HaveField, HaveCon, TypeName, TypeEquals, decl_step};
 ghost use Rattle.camelot_syntax.specs.States.{Does, decls_of, stack_of, type_draft_of, decl_of};
 
-use crate::lexeme::{Lexeme, Mark};
 use crate::parser::Parser;
 use crate::state::{DeclState, Decls, Halt, State, TypeDraft};
+use camelot_grammar::{Lexeme, Mark};
 use camelot_tree::{Atom, ConDecl, Name, TypeDecl};
 
 /// The atom that a token is.
@@ -32,27 +32,30 @@ pub fn atom(lexeme: Lexeme) -> Option<Atom>
     }
 }
 
-impl TypeDraft {
-    /// The declaration with one more constructor.
-    #[tactic(auto, using(std::proofs::lemmas::List::map_push))]
-    fn with_con(mut self, name: Name, inline: bool, fields: Vec<Atom>) -> Result<TypeDraft, Halt>
-        ensures { MatchResult result
-            (λ draft. type_draft_of draft ≡ with_con (type_draft_of self) name inline fields.items) (λ halt. halt ≡ Memory) }
-    {
-        self.cons.push(ConDecl {
-            name,
-            inline,
-            fields,
-        })?;
-        Ok(self)
-    }
+/// The declaration with one more constructor.
+#[tactic(auto, using(std::proofs::lemmas::List::map_push))]
+fn with_con(
+    mut draft: Box<TypeDraft>,
+    name: Name,
+    inline: bool,
+    fields: Vec<Atom>,
+) -> Result<Box<TypeDraft>, Halt>
+    ensures { MatchResult result
+        (λ more. type_draft_of more.value ≡ with_con (type_draft_of draft.value) name inline fields.items) (λ halt. halt ≡ Memory) }
+{
+    draft.cons.push(ConDecl {
+        name,
+        inline,
+        fields,
+    })?;
+    Ok(draft)
 }
 
 impl Parser {
     /// Between declarations.
-    #[tactic(auto, unfolding(crate::specs::Machine::top_step))]
-    pub fn top(&mut self, decls: Decls, lexeme: Lexeme) -> Result<State, Halt>
-        ensures { Does (top_step (decls_of decls) lexeme (stack_of self.old.stack.items)) self.new.stack.items result }
+    #[tactic(auto, unfolding(camelot_grammar::specs::Machine::top_step))]
+    pub fn top(&mut self, decls: Box<Decls>, lexeme: Lexeme) -> Result<State, Halt>
+        ensures { Does (top_step (decls_of decls.value) lexeme (stack_of self.old.stack.items)) self.new.stack.items result }
     {
         match lexeme {
             Lexeme::Mark {
@@ -72,9 +75,9 @@ impl Parser {
     }
 
     /// Behind a constructor of a type's declaration.
-    #[tactic(auto, unfolding(crate::specs::Machine::con_step), using(std::proofs::lemmas::List::map_push))]
-    fn have_con(&mut self, draft: TypeDraft, lexeme: Lexeme) -> Result<State, Halt>
-        ensures { Does (con_step (type_draft_of draft) lexeme (stack_of self.old.stack.items)) self.new.stack.items result }
+    #[tactic(auto, unfolding(camelot_grammar::specs::Machine::con_step), using(std::proofs::lemmas::List::map_push))]
+    fn have_con(&mut self, draft: Box<TypeDraft>, lexeme: Lexeme) -> Result<State, Halt>
+        ensures { Does (con_step (type_draft_of draft.value) lexeme (stack_of self.old.stack.items)) self.new.stack.items result }
     {
         if let Lexeme::Mark {
             mark: Mark::Bar,
@@ -83,17 +86,18 @@ impl Parser {
         {
             return Ok(State::InDecl(DeclState::WantCon(draft)));
         }
-        let mut decls = draft.before;
-        decls.types.push(TypeDecl {
-            name: draft.name,
-            cons: draft.cons,
-        })?;
+        let TypeDraft {
+            before: mut decls,
+            name,
+            cons,
+        } = Box::into_inner(draft);
+        decls.types.push(TypeDecl { name, cons })?;
         self.top(decls, lexeme)
     }
 
-    #[tactic(auto, unfolding(crate::specs::Machine::type_step))]
-    fn type_name(&mut self, decls: Decls, lexeme: Lexeme) -> Result<State, Halt>
-        ensures { Does (type_step (TypeName (decls_of decls)) lexeme (stack_of self.old.stack.items)) self.new.stack.items result }
+    #[tactic(auto, unfolding(camelot_grammar::specs::Machine::type_step))]
+    fn type_name(&mut self, decls: Box<Decls>, lexeme: Lexeme) -> Result<State, Halt>
+        ensures { Does (type_step (TypeName (decls_of decls.value)) lexeme (stack_of self.old.stack.items)) self.new.stack.items result }
     {
         match lexeme {
             Lexeme::Lower(name) => Ok(State::InDecl(DeclState::TypeEquals(decls, name))),
@@ -101,26 +105,30 @@ impl Parser {
         }
     }
 
-    #[tactic(auto, unfolding(crate::specs::Machine::type_step))]
-    fn type_equals(&mut self, decls: Decls, name: Name, lexeme: Lexeme) -> Result<State, Halt>
-        ensures { Does (type_step (TypeEquals (decls_of decls) name) lexeme (stack_of self.old.stack.items)) self.new.stack.items result }
+    #[tactic(auto, unfolding(camelot_grammar::specs::Machine::type_step))]
+    fn type_equals(&mut self, decls: Box<Decls>, name: Name, lexeme: Lexeme) -> Result<State, Halt>
+        ensures { Does (type_step (TypeEquals (decls_of decls.value) name) lexeme (stack_of self.old.stack.items)) self.new.stack.items result }
     {
         match lexeme {
             Lexeme::Mark {
                 mark: Mark::Equal,
                 ..
-            } => Ok(State::InDecl(DeclState::WantCon(TypeDraft {
-                before: decls,
-                name,
-                cons: Vec::new(self.alloc),
-            }))),
+            } => {
+                let draft = TypeDraft {
+                    before: decls,
+                    name,
+                    cons: Vec::new(self.alloc),
+                };
+                let draft = Box::new(self.alloc, draft)?;
+                Ok(State::InDecl(DeclState::WantCon(draft)))
+            }
             _ => Err(Halt::Stuck),
         }
     }
 
-    #[tactic(auto, unfolding(crate::specs::Machine::type_step))]
-    fn want_con(&mut self, draft: TypeDraft, lexeme: Lexeme) -> Result<State, Halt>
-        ensures { Does (type_step (WantCon (type_draft_of draft)) lexeme (stack_of self.old.stack.items)) self.new.stack.items result }
+    #[tactic(auto, unfolding(camelot_grammar::specs::Machine::type_step))]
+    fn want_con(&mut self, draft: Box<TypeDraft>, lexeme: Lexeme) -> Result<State, Halt>
+        ensures { Does (type_step (WantCon (type_draft_of draft.value)) lexeme (stack_of self.old.stack.items)) self.new.stack.items result }
     {
         match lexeme {
             Lexeme::Mark {
@@ -132,22 +140,22 @@ impl Parser {
         }
     }
 
-    #[tactic(auto, unfolding(crate::specs::Machine::type_step))]
-    fn inline_con(&mut self, draft: TypeDraft, lexeme: Lexeme) -> Result<State, Halt>
-        ensures { Does (type_step (InlineCon (type_draft_of draft)) lexeme (stack_of self.old.stack.items)) self.new.stack.items result }
+    #[tactic(auto, unfolding(camelot_grammar::specs::Machine::type_step))]
+    fn inline_con(&mut self, draft: Box<TypeDraft>, lexeme: Lexeme) -> Result<State, Halt>
+        ensures { Does (type_step (InlineCon (type_draft_of draft.value)) lexeme (stack_of self.old.stack.items)) self.new.stack.items result }
     {
         match lexeme {
             Lexeme::Upper(name) => {
-                let draft = draft.with_con(name, true, Vec::new(self.alloc))?;
+                let draft = with_con(draft, name, true, Vec::new(self.alloc))?;
                 Ok(State::InDecl(DeclState::HaveCon(draft)))
             }
             _ => Err(Halt::Stuck),
         }
     }
 
-    #[tactic(auto, unfolding(crate::specs::Machine::type_step))]
-    fn bare_con(&mut self, draft: TypeDraft, name: Name, lexeme: Lexeme) -> Result<State, Halt>
-        ensures { Does (type_step (BareCon (type_draft_of draft) name) lexeme (stack_of self.old.stack.items)) self.new.stack.items result }
+    #[tactic(auto, unfolding(camelot_grammar::specs::Machine::type_step))]
+    fn bare_con(&mut self, draft: Box<TypeDraft>, name: Name, lexeme: Lexeme) -> Result<State, Halt>
+        ensures { Does (type_step (BareCon (type_draft_of draft.value) name) lexeme (stack_of self.old.stack.items)) self.new.stack.items result }
     {
         let none = Vec::new(self.alloc);
         match lexeme {
@@ -155,21 +163,21 @@ impl Parser {
                 draft, name, none,
             ))),
             lexeme => {
-                let draft = draft.with_con(name, false, none)?;
+                let draft = with_con(draft, name, false, none)?;
                 self.have_con(draft, lexeme)
             }
         }
     }
 
-    #[tactic(auto, unfolding(crate::specs::Machine::type_step))]
+    #[tactic(auto, unfolding(camelot_grammar::specs::Machine::type_step))]
     fn want_field(
         &mut self,
-        draft: TypeDraft,
+        draft: Box<TypeDraft>,
         name: Name,
         mut fields: Vec<Atom>,
         lexeme: Lexeme,
     ) -> Result<State, Halt>
-        ensures { Does (type_step (WantField (type_draft_of draft) name fields.items) lexeme (stack_of self.old.stack.items)) self.new.stack.items result }
+        ensures { Does (type_step (WantField (type_draft_of draft.value) name fields.items) lexeme (stack_of self.old.stack.items)) self.new.stack.items result }
     {
         match atom(lexeme) {
             Some(field) => {
@@ -180,15 +188,15 @@ impl Parser {
         }
     }
 
-    #[tactic(auto, unfolding(crate::specs::Machine::type_step))]
+    #[tactic(auto, unfolding(camelot_grammar::specs::Machine::type_step))]
     fn have_field(
         &mut self,
-        draft: TypeDraft,
+        draft: Box<TypeDraft>,
         name: Name,
         fields: Vec<Atom>,
         lexeme: Lexeme,
     ) -> Result<State, Halt>
-        ensures { Does (type_step (HaveField (type_draft_of draft) name fields.items) lexeme (stack_of self.old.stack.items)) self.new.stack.items result }
+        ensures { Does (type_step (HaveField (type_draft_of draft.value) name fields.items) lexeme (stack_of self.old.stack.items)) self.new.stack.items result }
     {
         match lexeme {
             Lexeme::Mark {
@@ -196,14 +204,14 @@ impl Parser {
                 ..
             } => Ok(State::InDecl(DeclState::WantField(draft, name, fields))),
             lexeme => {
-                let draft = draft.with_con(name, false, fields)?;
+                let draft = with_con(draft, name, false, fields)?;
                 self.have_con(draft, lexeme)
             }
         }
     }
 
     /// One token of a declaration.
-    #[tactic(auto, unfolding(crate::specs::Machine::decl_step))]
+    #[tactic(auto, unfolding(camelot_grammar::specs::Machine::decl_step))]
     pub fn decl(&mut self, state: DeclState, lexeme: Lexeme) -> Result<State, Halt>
         ensures { Does (decl_step (decl_of state) lexeme (stack_of self.old.stack.items)) self.new.stack.items result }
     {
@@ -235,9 +243,9 @@ impl Parser {
     }
 
     /// Behind an inline constructor.
-    #[tactic(auto, unfolding(crate::specs::Machine::type_step))]
-    fn end_con(&mut self, draft: TypeDraft, lexeme: Lexeme) -> Result<State, Halt>
-        ensures { Does (type_step (HaveCon (type_draft_of draft)) lexeme (stack_of self.old.stack.items)) self.new.stack.items result }
+    #[tactic(auto, unfolding(camelot_grammar::specs::Machine::type_step))]
+    fn end_con(&mut self, draft: Box<TypeDraft>, lexeme: Lexeme) -> Result<State, Halt>
+        ensures { Does (type_step (HaveCon (type_draft_of draft.value)) lexeme (stack_of self.old.stack.items)) self.new.stack.items result }
     {
         self.have_con(draft, lexeme)
     }

@@ -3,52 +3,60 @@
 ghost use Rattle.std.specs.Prelude.{◌≡◌, ◌∷◌, MatchResult};
 ghost use Rattle.camelot_syntax.specs.declared.state.Halt.TheVariants.{Memory};
 ghost use Rattle.camelot_tree.specs.Tree.{term_of, arms, Match};
-ghost use Rattle.camelot_syntax.specs.Machine.{close, close_in, unwind, with_arm, Body, Paren, Args, LetValue, IfCond, IfThen, MatchOn, ArmBody};
+ghost use Rattle.camelot_grammar.specs.Machine.{close, close_in, unwind, with_arm, Body, Paren, Args, LetValue, IfCond, IfThen, MatchOn, ArmBody};
 ghost use Rattle.camelot_syntax.specs.States.{Does, stack_of, fun_draft_of, spot_of, terms_of, matching_of, arm_head_of, frame_of, unwound_of, Encloses};
 
-use crate::lexeme::{Lexeme, Mark};
 use crate::operand::{if_tree, let_tree, reach};
 use crate::parser::Parser;
 use crate::state::{
     ArmHead, ArmState, Enclosed, ExprState, Frame, FunDraft, Halt, Matching, Operand, Outer, Spot,
     State,
 };
+use crate::units::push_tree;
+use camelot_grammar::{Lexeme, Mark};
 use camelot_tree::{Arm, Atom, Expr, FunDecl, Name};
 use std::alloc::Global;
 
-impl Matching {
-    /// The match with one more arm.
-    #[tactic(auto, using(std::proofs::lemmas::List::map_push))]
-    fn with_arm(mut self, head: ArmHead, body: Expr) -> Result<Matching, Halt>
-        ensures { MatchResult result
-            (λ matching. matching_of matching ≡ with_arm (matching_of self) (arm_head_of head) (term_of body)) (λ halt. halt ≡ Memory) }
-    {
-        self.arms.push(Arm {
-            con: head.con,
-            fields: head.fields,
-            cell: head.cell,
-            body,
-        })?;
-        Ok(self)
-    }
+/// The match with one more arm.
+#[tactic(auto, using(std::proofs::lemmas::List::map_push))]
+fn with_arm(
+    mut matching: Box<Matching>,
+    head: Box<ArmHead>,
+    body: Box<Expr>,
+) -> Result<Box<Matching>, Halt>
+    ensures { MatchResult result
+        (λ more. matching_of more.value ≡ with_arm (matching_of matching.value) (arm_head_of head.value) (term_of body.value)) (λ halt. halt ≡ Memory) }
+{
+    let ArmHead { con, fields, cell } = Box::into_inner(head);
+    let body = Box::into_inner(body);
+    matching.arms.push(Arm {
+        con,
+        fields,
+        cell,
+        body,
+    })?;
+    Ok(matching)
+}
 
-    /// The whole match.
-    fn whole(self, alloc: Global) -> Result<Expr, Halt>
-        ensures { MatchResult result
-            (λ tree. term_of tree ≡ Match (matching_of self).on (arms (matching_of self).arms) self.line) (λ halt. halt ≡ Memory) }
-    {
-        Ok(Expr::Match {
-            on: Box::new(alloc, self.on)?,
-            arms: self.arms,
-            line: self.line,
-        })
-    }
+/// The whole match.
+fn whole_match(alloc: Global, matching: Box<Matching>) -> Result<Box<Expr>, Halt>
+    ensures { MatchResult result
+        (λ tree. term_of tree.value ≡ Match (matching_of matching.value).on (arms (matching_of matching.value).arms) matching.value.line) (λ halt. halt ≡ Memory) }
+{
+    let Matching {
+        level: _,
+        line,
+        on,
+        mut arms,
+    } = Box::into_inner(matching);
+    arms.shrink_to_fit();
+    Ok(Box::new(alloc, Expr::Match { on, arms, line })?)
 }
 
 /// The `let` or `if` that ends with this expression, or else the frame that goes on behind it.
 #[tactic(auto, using(crate::proofs::StackLemmas::stack_push))]
-fn enclose(alloc: Global, frame: Frame, tree: Expr) -> Result<Enclosed, Halt>
-    ensures { MatchResult result (λ found. Encloses (frame_of frame) (term_of tree) found) (λ halt. halt ≡ Memory) }
+fn enclose(alloc: Global, frame: Frame, tree: Box<Expr>) -> Result<Enclosed, Halt>
+    ensures { MatchResult result (λ found. Encloses (frame_of frame) (term_of tree.value) found) (λ halt. halt ≡ Memory) }
 {
     match frame {
         Frame::LetBody { name, value } => Ok(Enclosed::Whole(let_tree(alloc, name, value, tree)?)),
@@ -61,36 +69,42 @@ fn enclose(alloc: Global, frame: Frame, tree: Expr) -> Result<Enclosed, Halt>
 
 impl Parser {
     /// Behind the body of a function.
-    #[tactic(auto, unfolding(crate::specs::Machine::close_in), using(std::proofs::lemmas::List::map_push))]
+    #[tactic(auto, unfolding(camelot_grammar::specs::Machine::close_in), using(std::proofs::lemmas::List::map_push))]
     fn close_body(
         &mut self,
-        draft: FunDraft,
+        draft: Box<FunDraft>,
         result_kind: Option<Atom>,
-        tree: Expr,
+        tree: Box<Expr>,
         lexeme: Lexeme,
     ) -> Result<State, Halt>
-        ensures { Does (close_in (Body (fun_draft_of draft) result_kind) (term_of tree) lexeme (stack_of self.old.stack.items)) self.new.stack.items result }
+        ensures { Does (close_in (Body (fun_draft_of draft.value) result_kind) (term_of tree.value) lexeme (stack_of self.old.stack.items)) self.new.stack.items result }
     {
-        let mut decls = draft.before;
+        let FunDraft {
+            before: mut decls,
+            name,
+            mut params,
+        } = Box::into_inner(draft);
+        params.shrink_to_fit();
+        let body = Box::into_inner(tree);
         decls.funs.push(FunDecl {
-            name: draft.name,
-            params: draft.params,
+            name,
+            params,
             result: result_kind,
-            body: tree,
+            body,
         })?;
         self.top(decls, lexeme)
     }
 
     /// Behind an expression in parentheses.
-    #[tactic(auto, unfolding(crate::specs::Machine::close_in))]
+    #[tactic(auto, unfolding(camelot_grammar::specs::Machine::close_in))]
     fn close_paren(
         &mut self,
-        spot: Spot,
+        spot: Box<Spot>,
         line: u32,
-        tree: Expr,
+        tree: Box<Expr>,
         lexeme: Lexeme,
     ) -> Result<State, Halt>
-        ensures { Does (close_in (Paren (spot_of spot) line) (term_of tree) lexeme (stack_of self.old.stack.items)) self.new.stack.items result }
+        ensures { Does (close_in (Paren (spot_of spot.value) line) (term_of tree.value) lexeme (stack_of self.old.stack.items)) self.new.stack.items result }
     {
         match lexeme {
             Lexeme::Mark {
@@ -102,19 +116,19 @@ impl Parser {
     }
 
     /// Behind an argument of a constructor.
-    #[tactic(auto, unfolding(crate::specs::Machine::close_in), using(crate::proofs::StackLemmas::stack_push, std::proofs::lemmas::List::map_push))]
+    #[tactic(auto, unfolding(camelot_grammar::specs::Machine::close_in), using(crate::proofs::StackLemmas::stack_push))]
     fn close_args(
         &mut self,
-        spot: Spot,
+        spot: Box<Spot>,
         con: Name,
         mut args: Vec<Expr>,
-        tree: Expr,
+        tree: Box<Expr>,
         lexeme: Lexeme,
     ) -> Result<State, Halt>
-        ensures { Does (close_in (Args (spot_of spot) con (terms_of args.items)) (term_of tree) lexeme (stack_of self.old.stack.items)) self.new.stack.items result }
+        ensures { Does (close_in (Args (spot_of spot.value) con (terms_of args.items)) (term_of tree.value) lexeme (stack_of self.old.stack.items)) self.new.stack.items result }
     {
-        let level = spot.slot.level;
-        args.push(tree)?;
+        let level = spot.level;
+        push_tree(&mut args, tree)?;
         match lexeme {
             Lexeme::Mark {
                 mark: Mark::Comma,
@@ -132,15 +146,15 @@ impl Parser {
     }
 
     /// Behind the value of a `let`.
-    #[tactic(auto, unfolding(crate::specs::Machine::close_in), using(crate::proofs::StackLemmas::stack_push))]
+    #[tactic(auto, unfolding(camelot_grammar::specs::Machine::close_in), using(crate::proofs::StackLemmas::stack_push))]
     fn close_value(
         &mut self,
         level: u32,
         name: Name,
-        value: Expr,
+        value: Box<Expr>,
         lexeme: Lexeme,
     ) -> Result<State, Halt>
-        ensures { Does (close_in (LetValue level name) (term_of value) lexeme (stack_of self.old.stack.items)) self.new.stack.items result }
+        ensures { Does (close_in (LetValue level name) (term_of value.value) lexeme (stack_of self.old.stack.items)) self.new.stack.items result }
     {
         match lexeme {
             Lexeme::Mark { mark: Mark::In, .. } => {
@@ -152,15 +166,15 @@ impl Parser {
     }
 
     /// Behind the condition of an `if`.
-    #[tactic(auto, unfolding(crate::specs::Machine::close_in), using(crate::proofs::StackLemmas::stack_push))]
+    #[tactic(auto, unfolding(camelot_grammar::specs::Machine::close_in), using(crate::proofs::StackLemmas::stack_push))]
     fn close_cond(
         &mut self,
         level: u32,
         line: u32,
-        cond: Expr,
+        cond: Box<Expr>,
         lexeme: Lexeme,
     ) -> Result<State, Halt>
-        ensures { Does (close_in (IfCond level line) (term_of cond) lexeme (stack_of self.old.stack.items)) self.new.stack.items result }
+        ensures { Does (close_in (IfCond level line) (term_of cond.value) lexeme (stack_of self.old.stack.items)) self.new.stack.items result }
     {
         match lexeme {
             Lexeme::Mark {
@@ -175,16 +189,16 @@ impl Parser {
     }
 
     /// Behind the first branch of an `if`.
-    #[tactic(auto, unfolding(crate::specs::Machine::close_in), using(crate::proofs::StackLemmas::stack_push))]
+    #[tactic(auto, unfolding(camelot_grammar::specs::Machine::close_in), using(crate::proofs::StackLemmas::stack_push))]
     fn close_then(
         &mut self,
         level: u32,
         line: u32,
-        cond: Expr,
-        yes: Expr,
+        cond: Box<Expr>,
+        yes: Box<Expr>,
         lexeme: Lexeme,
     ) -> Result<State, Halt>
-        ensures { Does (close_in (IfThen level line (term_of cond)) (term_of yes) lexeme (stack_of self.old.stack.items)) self.new.stack.items result }
+        ensures { Does (close_in (IfThen level line (term_of cond.value)) (term_of yes.value) lexeme (stack_of self.old.stack.items)) self.new.stack.items result }
     {
         match lexeme {
             Lexeme::Mark {
@@ -199,15 +213,15 @@ impl Parser {
     }
 
     /// Behind what is matched.
-    #[tactic(auto, unfolding(crate::specs::Machine::close_in))]
+    #[tactic(auto, unfolding(camelot_grammar::specs::Machine::close_in))]
     fn close_scrutinee(
         &mut self,
         level: u32,
         line: u32,
-        on: Expr,
+        on: Box<Expr>,
         lexeme: Lexeme,
     ) -> Result<State, Halt>
-        ensures { Does (close_in (MatchOn level line) (term_of on) lexeme (stack_of self.old.stack.items)) self.new.stack.items result }
+        ensures { Does (close_in (MatchOn level line) (term_of on.value) lexeme (stack_of self.old.stack.items)) self.new.stack.items result }
     {
         match lexeme {
             Lexeme::Mark {
@@ -220,6 +234,7 @@ impl Parser {
                     on,
                     arms: Vec::new(self.alloc),
                 };
+                let matching = Box::new(self.alloc, matching)?;
                 reach(level, State::InArm(ArmState::FirstArm(matching)))
             }
             _ => Err(Halt::Stuck),
@@ -227,15 +242,15 @@ impl Parser {
     }
 
     /// Behind the body of an arm.
-    #[tactic(auto, unfolding(crate::specs::Machine::close_in))]
+    #[tactic(auto, unfolding(camelot_grammar::specs::Machine::close_in))]
     fn close_arm(
         &mut self,
-        matching: Matching,
-        head: ArmHead,
-        body: Expr,
+        matching: Box<Matching>,
+        head: Box<ArmHead>,
+        body: Box<Expr>,
         lexeme: Lexeme,
     ) -> Result<State, Halt>
-        ensures { Does (close_in (ArmBody (matching_of matching) (arm_head_of head)) (term_of body) lexeme (stack_of self.old.stack.items)) self.new.stack.items result }
+        ensures { Does (close_in (ArmBody (matching_of matching.value) (arm_head_of head.value)) (term_of body.value) lexeme (stack_of self.old.stack.items)) self.new.stack.items result }
     {
         let level = matching.level;
         match lexeme {
@@ -243,15 +258,15 @@ impl Parser {
                 mark: Mark::Bar,
                 ..
             } => {
-                let matching = matching.with_arm(head, body)?;
+                let matching = with_arm(matching, head, body)?;
                 reach(level, State::InArm(ArmState::WantArm(matching)))
             }
             Lexeme::Mark {
                 mark: Mark::End,
                 ..
             } => {
-                let matching = matching.with_arm(head, body)?;
-                let tree = matching.whole(self.alloc)?;
+                let matching = with_arm(matching, head, body)?;
+                let tree = whole_match(self.alloc, matching)?;
                 reach(level, State::InExpr(ExprState::Whole(tree)))
             }
             _ => Err(Halt::Stuck),
@@ -261,7 +276,7 @@ impl Parser {
     /// Behind an expression that this frame goes on with.
     #[tactic(auto, using(crate::proofs::StackLemmas::let_stuck, crate::proofs::StackLemmas::else_stuck))]
     fn close_in(&mut self, outer: Outer, lexeme: Lexeme) -> Result<State, Halt>
-        ensures { Does (close_in (frame_of outer.frame) (term_of outer.tree) lexeme (stack_of self.old.stack.items)) self.new.stack.items result }
+        ensures { Does (close_in (frame_of outer.frame) (term_of outer.tree.value) lexeme (stack_of self.old.stack.items)) self.new.stack.items result }
     {
         let tree = outer.tree;
         match outer.frame {
@@ -281,10 +296,10 @@ impl Parser {
     }
 
     /// Ends each `let` and `if` that ends with this expression, up to what goes on behind it.
-    #[tactic(auto, unfolding(crate::specs::Machine::unwind), using(crate::proofs::StackLemmas::stack_push, crate::proofs::StackLemmas::unwind_none))]
-    fn unwind(&mut self, mut tree: Expr) -> Result<Option<Outer>, Halt>
+    #[tactic(auto, unfolding(camelot_grammar::specs::Machine::unwind), using(crate::proofs::StackLemmas::stack_push, crate::proofs::StackLemmas::unwind_none))]
+    fn unwind(&mut self, mut tree: Box<Expr>) -> Result<Option<Outer>, Halt>
         ensures { MatchResult result
-            (λ outer. unwind (stack_of self.old.stack.items) (term_of tree) ≡ unwound_of outer (stack_of self.new.stack.items)) (λ halt. halt ≡ Memory) }
+            (λ outer. unwind (stack_of self.old.stack.items) (term_of tree.value) ≡ unwound_of outer (stack_of self.new.stack.items)) (λ halt. halt ≡ Memory) }
     {
         'frames: while let Some(frame) = self.stack.pop() {
             match enclose(self.alloc, frame, tree)? {
@@ -296,9 +311,9 @@ impl Parser {
     }
 
     /// Behind a whole expression.
-    #[tactic(auto, unfolding(crate::specs::Machine::close))]
-    pub fn close(&mut self, tree: Expr, lexeme: Lexeme) -> Result<State, Halt>
-        ensures { Does (close (stack_of self.old.stack.items) (term_of tree) lexeme) self.new.stack.items result }
+    #[tactic(auto, unfolding(camelot_grammar::specs::Machine::close))]
+    pub fn close(&mut self, tree: Box<Expr>, lexeme: Lexeme) -> Result<State, Halt>
+        ensures { Does (close (stack_of self.old.stack.items) (term_of tree.value) lexeme) self.new.stack.items result }
     {
         match self.unwind(tree)? {
             Some(outer) => self.close_in(outer, lexeme),

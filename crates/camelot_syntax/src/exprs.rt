@@ -1,14 +1,14 @@
 //! Steps at the beginning of an expression, and the choice of a step in expressions.
 
 ghost use Rattle.std.specs.Prelude.{◌≡◌, ◌∷◌, [], suc, None};
-ghost use Rattle.camelot_syntax.specs.Machine.{Goes, InExpr, WantPre, slot_step, pre_step, want_step, negative_step, let_step, expr_step, lefts, begins_pre, LetName, LetEquals};
-ghost use Rattle.camelot_syntax.specs.States.{Does, IsSmall, stack_of, slot_of, lefts_of, nots_of, expr_of};
+ghost use Rattle.camelot_grammar.specs.Machine.{Goes, InExpr, WantPre, slot_step, pre_step, want_step, negative_step, let_step, expr_step, lefts, begins_pre, LetName, LetEquals};
+ghost use Rattle.camelot_syntax.specs.States.{Does, IsSmall, stack_of, slot_of, lefts_of, nots_of, expr_of, open_as};
 
-use crate::lexeme::{Lexeme, Mark};
-use crate::operand::{deeper, reach};
+use crate::operand::{deeper, leaf, reach};
 use crate::parser::Parser;
-use crate::state::{Callee, ExprState, Frame, Halt, Lefts, Operand, Slot, Spot, State};
+use crate::state::{Callee, ExprState, Frame, Halt, Lefts, Spot, State};
 use crate::units::{begins_argument, negative};
+use camelot_grammar::{Lexeme, Mark};
 use camelot_tree::Name;
 
 /// Whether an operand begins with this token.
@@ -27,67 +27,64 @@ fn begins_pre(lexeme: &Lexeme) -> bool
 impl Parser {
     /// At a `not` before an operand.
     #[tactic(auto, using(crate::proofs::StackLemmas::nots_push))]
-    fn not(&mut self, slot: Slot, line: u32) -> Result<State, Halt>
-        ensures { Does (Goes slot.level (InExpr (WantPre (lefts_of slot.lefts) (line ∷ nots_of slot.nots.items) slot.level))
+    fn not(&mut self, mut spot: Box<Spot>, line: u32) -> Result<State, Halt>
+        ensures { Does (Goes spot.value.level (InExpr (WantPre (lefts_of spot.value.lefts) (line ∷ nots_of spot.value.nots.items) spot.value.level))
             (stack_of self.old.stack.items)) self.new.stack.items result }
     {
-        let level = slot.level;
-        let mut nots = slot.nots;
-        nots.push(line)?;
-        reach(
-            level,
-            State::InExpr(ExprState::WantPre(slot.lefts, nots, level)),
-        )
+        let level = spot.level;
+        spot.nots.push(line)?;
+        spot.call = None;
+        reach(level, State::InExpr(ExprState::Open(spot)))
     }
 
     /// At the first token of an operand.
-    #[tactic(auto, unfolding(crate::specs::Machine::slot_step))]
-    fn slot(&mut self, slot: Slot, lexeme: Lexeme) -> Result<State, Halt>
+    #[tactic(auto, unfolding(camelot_grammar::specs::Machine::slot_step))]
+    fn slot(&mut self, mut spot: Box<Spot>, lexeme: Lexeme) -> Result<State, Halt>
         requires { IsSmall lexeme }
-        ensures { Does (slot_step (slot_of slot) lexeme (stack_of self.old.stack.items)) self.new.stack.items result }
+        ensures { Does (slot_step (slot_of spot.value) lexeme (stack_of self.old.stack.items)) self.new.stack.items result }
     {
-        let level = slot.level;
+        let level = spot.level;
         match lexeme {
             Lexeme::Mark {
                 mark: Mark::Not,
                 line,
-            } => self.not(slot, line),
+            } => self.not(spot, line),
             Lexeme::Mark {
                 mark: Mark::Minus,
                 line,
-            } => reach(level, State::InExpr(ExprState::Negative(slot, line))),
+            } => reach(level, State::InExpr(ExprState::Negative(spot, line))),
             Lexeme::Lower(fun) => {
                 let args = Vec::new(self.alloc);
-                let callee = Callee { fun, args };
-                reach(level, State::InExpr(ExprState::Applied(slot, callee)))
+                spot.call = Some(Callee { fun, args });
+                reach(level, State::InExpr(ExprState::Open(spot)))
             }
-            lexeme => self.unit(Spot { slot, call: None }, lexeme),
+            lexeme => {
+                spot.call = None;
+                self.unit(spot, lexeme)
+            }
         }
     }
 
-    /// Where an operand begins.
-    #[tactic(auto, unfolding(crate::specs::Machine::pre_step), using(crate::proofs::LevelLemmas::pre_too_deep))]
-    fn want_pre(
-        &mut self,
-        lefts: Lefts,
-        nots: Vec<u32>,
-        around: u32,
-        lexeme: Lexeme,
-    ) -> Result<State, Halt>
+    /// Where an operand begins, within the level of the place.
+    #[tactic(auto, unfolding(camelot_grammar::specs::Machine::pre_step), using(crate::proofs::LevelLemmas::pre_too_deep))]
+    fn want_pre(&mut self, mut spot: Box<Spot>, lexeme: Lexeme) -> Result<State, Halt>
         requires { IsSmall lexeme }
-        ensures { Does (pre_step (lefts_of lefts) (nots_of nots.items) around lexeme (stack_of self.old.stack.items)) self.new.stack.items result }
+        ensures { Does (pre_step (lefts_of spot.value.lefts) (nots_of spot.value.nots.items) spot.value.level lexeme (stack_of self.old.stack.items)) self.new.stack.items result }
     {
         if !begins_pre(&lexeme) {
             return Err(Halt::Stuck);
         }
-        match deeper(around) {
-            Ok(level) => self.slot(Slot { lefts, nots, level }, lexeme),
+        match deeper(spot.level) {
+            Ok(level) => {
+                spot.level = level;
+                self.slot(spot, lexeme)
+            }
             Err(halt) => Err(halt),
         }
     }
 
     /// Where an expression begins with an operand.
-    #[tactic(auto, unfolding(crate::specs::Machine::pre_step), using(crate::proofs::LevelLemmas::begin_too_deep))]
+    #[tactic(auto, unfolding(camelot_grammar::specs::Machine::pre_step), using(crate::proofs::LevelLemmas::begin_too_deep))]
     fn begin(&mut self, around: u32, lexeme: Lexeme) -> Result<State, Halt>
         requires { IsSmall lexeme }
         ensures { Does (pre_step (lefts (suc around) None None None None None) [] (suc around) lexeme (stack_of self.old.stack.items)) self.new.stack.items result }
@@ -96,20 +93,37 @@ impl Parser {
             return Err(Halt::Stuck);
         }
         let around = deeper(around)?;
-        let lefts = Lefts {
-            around,
-            ors: None,
-            ands: None,
-            cmp: None,
-            sum: None,
-            prod: None,
+        let spot = Spot {
+            lefts: Lefts {
+                around,
+                ors: None,
+                ands: None,
+                cmp: None,
+                sum: None,
+                prod: None,
+            },
+            nots: Vec::new(self.alloc),
+            level: around,
+            call: None,
         };
-        let nots = Vec::new(self.alloc);
-        self.want_pre(lefts, nots, around, lexeme)
+        let spot = Box::new(self.alloc, spot)?;
+        self.want_pre(spot, lexeme)
+    }
+
+    /// Where an operand is wanted, or behind a name and the units behind it so far.
+    #[tactic(auto, unfolding(camelot_grammar::specs::Machine::expr_step))]
+    fn open(&mut self, mut spot: Box<Spot>, lexeme: Lexeme) -> Result<State, Halt>
+        requires { IsSmall lexeme }
+        ensures { Does (expr_step (open_as spot.value.call (slot_of spot.value)) lexeme (stack_of self.old.stack.items)) self.new.stack.items result }
+    {
+        match spot.call.take() {
+            None => self.want_pre(spot, lexeme),
+            Some(callee) => self.applied(spot, callee, lexeme),
+        }
     }
 
     /// Where an expression begins.
-    #[tactic(auto, unfolding(crate::specs::Machine::want_step), using(crate::proofs::StackLemmas::stack_push))]
+    #[tactic(auto, unfolding(camelot_grammar::specs::Machine::want_step), using(crate::proofs::StackLemmas::stack_push))]
     fn want(&mut self, around: u32, lexeme: Lexeme) -> Result<State, Halt>
         requires { IsSmall lexeme }
         ensures { Does (want_step around lexeme (stack_of self.old.stack.items)) self.new.stack.items result }
@@ -143,23 +157,23 @@ impl Parser {
     }
 
     /// Behind a minus sign before a number.
-    #[tactic(auto, unfolding(crate::specs::Machine::negative_step))]
-    fn minus(&mut self, slot: Slot, line: u32, lexeme: Lexeme) -> Result<State, Halt>
+    #[tactic(auto, unfolding(camelot_grammar::specs::Machine::negative_step))]
+    fn minus(&mut self, spot: Box<Spot>, line: u32, lexeme: Lexeme) -> Result<State, Halt>
         requires { IsSmall lexeme }
-        ensures { Does (negative_step (slot_of slot) line lexeme (stack_of self.old.stack.items)) self.new.stack.items result }
+        ensures { Does (negative_step (slot_of spot.value) line lexeme (stack_of self.old.stack.items)) self.new.stack.items result }
     {
-        let level = slot.level;
+        let level = spot.level;
         let tree = match lexeme {
             Lexeme::Number { value, .. } => negative(value, line),
             Lexeme::Greatest { .. } => negative(2_147_483_648, line),
             _ => return Err(Halt::Stuck),
         };
-        let operand = Operand { tree, line };
-        reach(level, State::InExpr(ExprState::Have(slot, operand)))
+        let operand = leaf(self.alloc, tree, line)?;
+        reach(level, State::InExpr(ExprState::Have(spot, operand)))
     }
 
     /// Behind the `let` of an expression.
-    #[tactic(auto, unfolding(crate::specs::Machine::let_step))]
+    #[tactic(auto, unfolding(camelot_grammar::specs::Machine::let_step))]
     fn let_name(&mut self, level: u32, lexeme: Lexeme) -> Result<State, Halt>
         ensures { Does (let_step (LetName level) lexeme (stack_of self.old.stack.items)) self.new.stack.items result }
     {
@@ -170,7 +184,7 @@ impl Parser {
     }
 
     /// Behind the name that a `let` binds.
-    #[tactic(auto, unfolding(crate::specs::Machine::let_step), using(crate::proofs::StackLemmas::stack_push))]
+    #[tactic(auto, unfolding(camelot_grammar::specs::Machine::let_step), using(crate::proofs::StackLemmas::stack_push))]
     fn let_equals(&mut self, level: u32, name: Name, lexeme: Lexeme) -> Result<State, Halt>
         ensures { Does (let_step (LetEquals level name) lexeme (stack_of self.old.stack.items)) self.new.stack.items result }
     {
@@ -187,7 +201,7 @@ impl Parser {
     }
 
     /// One token of an expression.
-    #[tactic(auto, unfolding(crate::specs::Machine::expr_step))]
+    #[tactic(auto, unfolding(camelot_grammar::specs::Machine::expr_step))]
     pub fn expr(&mut self, state: ExprState, lexeme: Lexeme) -> Result<State, Halt>
         requires { IsSmall lexeme }
         ensures { Does (expr_step (expr_of state) lexeme (stack_of self.old.stack.items)) self.new.stack.items result }
@@ -196,10 +210,9 @@ impl Parser {
             ExprState::Want(around) => self.want(around, lexeme),
             ExprState::LetName(level) => self.let_name(level, lexeme),
             ExprState::LetEquals(level, name) => self.let_equals(level, name, lexeme),
-            ExprState::WantPre(lefts, nots, around) => self.want_pre(lefts, nots, around, lexeme),
-            ExprState::Negative(slot, line) => self.minus(slot, line, lexeme),
-            ExprState::Applied(slot, callee) => self.applied(slot, callee, lexeme),
-            ExprState::Have(slot, operand) => self.after_operand(slot, operand, lexeme),
+            ExprState::Open(spot) => self.open(spot, lexeme),
+            ExprState::Negative(spot, line) => self.minus(spot, line, lexeme),
+            ExprState::Have(spot, operand) => self.after_operand(spot, operand, lexeme),
             ExprState::Con(spot, con) => self.con(spot, con, lexeme),
             ExprState::Full(spot, con, args) => self.full(spot, con, args, lexeme),
             ExprState::Placed(spot, con, args) => self.placed(spot, con, args, lexeme),

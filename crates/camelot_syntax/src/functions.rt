@@ -2,29 +2,27 @@
 
 ghost use Rattle.std.specs.Prelude.{◌≡◌, ◌++◌, [], ◌∷◌, MatchResult, Some, None, false};
 ghost use Rattle.camelot_syntax.specs.declared.state.Halt.TheVariants.{Memory};
-ghost use Rattle.camelot_syntax.specs.Machine.{Goes, InExpr, Want, Body, fun_step, param_step, with_param, FunName, FirstParam, NextParam, ResultKind, ResultEquals, OpenParam, ReadParam, ParamName, ParamKind, ParamClose};
+ghost use Rattle.camelot_grammar.specs.Machine.{Goes, InExpr, Want, Body, fun_step, param_step, with_param, FunName, FirstParam, NextParam, ResultKind, ResultEquals, OpenParam, ReadParam, ParamName, ParamKind, ParamClose};
 ghost use Rattle.camelot_syntax.specs.States.{Does, decls_of, stack_of, fun_draft_of};
 
 use crate::decls::atom;
-use crate::lexeme::{Lexeme, Mark};
 use crate::parser::Parser;
 use crate::state::{DeclState, Decls, ExprState, Frame, FunDraft, Halt, State};
+use camelot_grammar::{Lexeme, Mark};
 use camelot_tree::{Atom, Name, Param};
 
-impl FunDraft {
-    /// The declaration with one more parameter.
-    fn with_param(mut self, param: Param) -> Result<FunDraft, Halt>
-        ensures { MatchResult result (λ draft. fun_draft_of draft ≡ with_param (fun_draft_of self) param) (λ halt. halt ≡ Memory) }
-    {
-        self.params.push(param)?;
-        Ok(self)
-    }
+/// The declaration with one more parameter.
+fn with_param(mut draft: Box<FunDraft>, param: Param) -> Result<Box<FunDraft>, Halt>
+    ensures { MatchResult result (λ more. fun_draft_of more.value ≡ with_param (fun_draft_of draft.value) param) (λ halt. halt ≡ Memory) }
+{
+    draft.params.push(param)?;
+    Ok(draft)
 }
 
 impl Parser {
-    #[tactic(auto, unfolding(crate::specs::Machine::fun_step))]
-    pub fn fun_name(&mut self, decls: Decls, lexeme: Lexeme) -> Result<State, Halt>
-        ensures { Does (fun_step (FunName (decls_of decls)) lexeme (stack_of self.old.stack.items)) self.new.stack.items result }
+    #[tactic(auto, unfolding(camelot_grammar::specs::Machine::fun_step))]
+    pub fn fun_name(&mut self, decls: Box<Decls>, lexeme: Lexeme) -> Result<State, Halt>
+        ensures { Does (fun_step (FunName (decls_of decls.value)) lexeme (stack_of self.old.stack.items)) self.new.stack.items result }
     {
         match lexeme {
             Lexeme::Lower(name) => Ok(State::InDecl(DeclState::FirstParam(decls, name))),
@@ -32,22 +30,31 @@ impl Parser {
         }
     }
 
-    #[tactic(auto, unfolding(crate::specs::Machine::fun_step))]
-    pub fn first_param(&mut self, decls: Decls, name: Name, lexeme: Lexeme) -> Result<State, Halt>
-        ensures { Does (fun_step (FirstParam (decls_of decls) name) lexeme (stack_of self.old.stack.items)) self.new.stack.items result }
+    #[tactic(auto, unfolding(camelot_grammar::specs::Machine::fun_step))]
+    pub fn first_param(
+        &mut self,
+        decls: Box<Decls>,
+        name: Name,
+        lexeme: Lexeme,
+    ) -> Result<State, Halt>
+        ensures { Does (fun_step (FirstParam (decls_of decls.value) name) lexeme (stack_of self.old.stack.items)) self.new.stack.items result }
     {
         let draft = FunDraft {
             before: decls,
             name,
             params: Vec::new(self.alloc),
         };
+        let draft = Box::new(self.alloc, draft)?;
         match lexeme {
             Lexeme::Lower(name) => {
-                let draft = draft.with_param(Param {
-                    name,
-                    read: false,
-                    kind: None,
-                })?;
+                let draft = with_param(
+                    draft,
+                    Param {
+                        name,
+                        read: false,
+                        kind: None,
+                    },
+                )?;
                 Ok(State::InDecl(DeclState::NextParam(draft)))
             }
             Lexeme::Mark {
@@ -60,8 +67,8 @@ impl Parser {
 
     /// The body of a function comes next.
     #[tactic(auto, using(crate::proofs::StackLemmas::stack_push))]
-    fn body(&mut self, draft: FunDraft, result_kind: Option<Atom>) -> Result<State, Halt>
-        ensures { Does (Goes 0 (InExpr (Want 0)) (Body (fun_draft_of draft) result_kind ∷ stack_of self.old.stack.items)) self.new.stack.items result }
+    fn body(&mut self, draft: Box<FunDraft>, result_kind: Option<Atom>) -> Result<State, Halt>
+        ensures { Does (Goes 0 (InExpr (Want 0)) (Body (fun_draft_of draft.value) result_kind ∷ stack_of self.old.stack.items)) self.new.stack.items result }
     {
         self.stack.push(Frame::Body {
             draft,
@@ -70,17 +77,20 @@ impl Parser {
         Ok(State::InExpr(ExprState::Want(0)))
     }
 
-    #[tactic(auto, unfolding(crate::specs::Machine::fun_step))]
-    pub fn next_param(&mut self, draft: FunDraft, lexeme: Lexeme) -> Result<State, Halt>
-        ensures { Does (fun_step (NextParam (fun_draft_of draft)) lexeme (stack_of self.old.stack.items)) self.new.stack.items result }
+    #[tactic(auto, unfolding(camelot_grammar::specs::Machine::fun_step))]
+    pub fn next_param(&mut self, draft: Box<FunDraft>, lexeme: Lexeme) -> Result<State, Halt>
+        ensures { Does (fun_step (NextParam (fun_draft_of draft.value)) lexeme (stack_of self.old.stack.items)) self.new.stack.items result }
     {
         match lexeme {
             Lexeme::Lower(name) => {
-                let draft = draft.with_param(Param {
-                    name,
-                    read: false,
-                    kind: None,
-                })?;
+                let draft = with_param(
+                    draft,
+                    Param {
+                        name,
+                        read: false,
+                        kind: None,
+                    },
+                )?;
                 Ok(State::InDecl(DeclState::NextParam(draft)))
             }
             Lexeme::Mark {
@@ -99,9 +109,9 @@ impl Parser {
         }
     }
 
-    #[tactic(auto, unfolding(crate::specs::Machine::fun_step))]
-    pub fn result_kind(&mut self, draft: FunDraft, lexeme: Lexeme) -> Result<State, Halt>
-        ensures { Does (fun_step (ResultKind (fun_draft_of draft)) lexeme (stack_of self.old.stack.items)) self.new.stack.items result }
+    #[tactic(auto, unfolding(camelot_grammar::specs::Machine::fun_step))]
+    pub fn result_kind(&mut self, draft: Box<FunDraft>, lexeme: Lexeme) -> Result<State, Halt>
+        ensures { Does (fun_step (ResultKind (fun_draft_of draft.value)) lexeme (stack_of self.old.stack.items)) self.new.stack.items result }
     {
         match atom(lexeme) {
             Some(kind) => Ok(State::InDecl(DeclState::ResultEquals(draft, kind))),
@@ -109,14 +119,14 @@ impl Parser {
         }
     }
 
-    #[tactic(auto, unfolding(crate::specs::Machine::fun_step))]
+    #[tactic(auto, unfolding(camelot_grammar::specs::Machine::fun_step))]
     pub fn result_equals(
         &mut self,
-        draft: FunDraft,
+        draft: Box<FunDraft>,
         kind: Atom,
         lexeme: Lexeme,
     ) -> Result<State, Halt>
-        ensures { Does (fun_step (ResultEquals (fun_draft_of draft) kind) lexeme (stack_of self.old.stack.items)) self.new.stack.items result }
+        ensures { Does (fun_step (ResultEquals (fun_draft_of draft.value) kind) lexeme (stack_of self.old.stack.items)) self.new.stack.items result }
     {
         match lexeme {
             Lexeme::Mark {
@@ -127,9 +137,9 @@ impl Parser {
         }
     }
 
-    #[tactic(auto, unfolding(crate::specs::Machine::param_step))]
-    pub fn open_param(&mut self, draft: FunDraft, lexeme: Lexeme) -> Result<State, Halt>
-        ensures { Does (param_step (OpenParam (fun_draft_of draft)) lexeme (stack_of self.old.stack.items)) self.new.stack.items result }
+    #[tactic(auto, unfolding(camelot_grammar::specs::Machine::param_step))]
+    pub fn open_param(&mut self, draft: Box<FunDraft>, lexeme: Lexeme) -> Result<State, Halt>
+        ensures { Does (param_step (OpenParam (fun_draft_of draft.value)) lexeme (stack_of self.old.stack.items)) self.new.stack.items result }
     {
         match lexeme {
             Lexeme::Mark {
@@ -141,9 +151,9 @@ impl Parser {
         }
     }
 
-    #[tactic(auto, unfolding(crate::specs::Machine::param_step))]
-    pub fn read_param(&mut self, draft: FunDraft, lexeme: Lexeme) -> Result<State, Halt>
-        ensures { Does (param_step (ReadParam (fun_draft_of draft)) lexeme (stack_of self.old.stack.items)) self.new.stack.items result }
+    #[tactic(auto, unfolding(camelot_grammar::specs::Machine::param_step))]
+    pub fn read_param(&mut self, draft: Box<FunDraft>, lexeme: Lexeme) -> Result<State, Halt>
+        ensures { Does (param_step (ReadParam (fun_draft_of draft.value)) lexeme (stack_of self.old.stack.items)) self.new.stack.items result }
     {
         match lexeme {
             Lexeme::Lower(name) => Ok(State::InDecl(DeclState::ParamName(draft, name, true))),
@@ -151,15 +161,15 @@ impl Parser {
         }
     }
 
-    #[tactic(auto, unfolding(crate::specs::Machine::param_step))]
+    #[tactic(auto, unfolding(camelot_grammar::specs::Machine::param_step))]
     pub fn param_name(
         &mut self,
-        draft: FunDraft,
+        draft: Box<FunDraft>,
         name: Name,
         read: bool,
         lexeme: Lexeme,
     ) -> Result<State, Halt>
-        ensures { Does (param_step (ParamName (fun_draft_of draft) name read) lexeme (stack_of self.old.stack.items)) self.new.stack.items result }
+        ensures { Does (param_step (ParamName (fun_draft_of draft.value) name read) lexeme (stack_of self.old.stack.items)) self.new.stack.items result }
     {
         match lexeme {
             Lexeme::Mark {
@@ -170,55 +180,59 @@ impl Parser {
                 mark: Mark::Close,
                 ..
             } => {
-                let draft = draft.with_param(Param {
-                    name,
-                    read,
-                    kind: None,
-                })?;
+                let draft = with_param(
+                    draft,
+                    Param {
+                        name,
+                        read,
+                        kind: None,
+                    },
+                )?;
                 Ok(State::InDecl(DeclState::NextParam(draft)))
             }
             _ => Err(Halt::Stuck),
         }
     }
 
-    #[tactic(auto, unfolding(crate::specs::Machine::param_step))]
+    #[tactic(auto, unfolding(camelot_grammar::specs::Machine::param_step))]
     pub fn param_kind(
         &mut self,
-        draft: FunDraft,
+        draft: Box<FunDraft>,
         name: Name,
         read: bool,
         lexeme: Lexeme,
     ) -> Result<State, Halt>
-        ensures { Does (param_step (ParamKind (fun_draft_of draft) name read) lexeme (stack_of self.old.stack.items)) self.new.stack.items result }
+        ensures { Does (param_step (ParamKind (fun_draft_of draft.value) name read) lexeme (stack_of self.old.stack.items)) self.new.stack.items result }
     {
         match atom(lexeme) {
-            Some(kind) => Ok(State::InDecl(DeclState::ParamClose(
-                draft,
-                Param {
+            Some(kind) => {
+                let param = Param {
                     name,
                     read,
                     kind: Some(kind),
-                },
-            ))),
+                };
+                let param = Box::new(self.alloc, param)?;
+                Ok(State::InDecl(DeclState::ParamClose(draft, param)))
+            }
             None => Err(Halt::Stuck),
         }
     }
 
-    #[tactic(auto, unfolding(crate::specs::Machine::param_step))]
+    #[tactic(auto, unfolding(camelot_grammar::specs::Machine::param_step))]
     pub fn param_close(
         &mut self,
-        draft: FunDraft,
-        param: Param,
+        draft: Box<FunDraft>,
+        param: Box<Param>,
         lexeme: Lexeme,
     ) -> Result<State, Halt>
-        ensures { Does (param_step (ParamClose (fun_draft_of draft) param) lexeme (stack_of self.old.stack.items)) self.new.stack.items result }
+        ensures { Does (param_step (ParamClose (fun_draft_of draft.value) param.value) lexeme (stack_of self.old.stack.items)) self.new.stack.items result }
     {
         match lexeme {
             Lexeme::Mark {
                 mark: Mark::Close,
                 ..
             } => {
-                let draft = draft.with_param(param)?;
+                let draft = with_param(draft, Box::into_inner(param))?;
                 Ok(State::InDecl(DeclState::NextParam(draft)))
             }
             _ => Err(Halt::Stuck),

@@ -3,15 +3,16 @@
 ghost use Rattle.std.specs.Prelude.{◌≡◌, ◌∷◌, [], List, length, MatchResult};
 ghost use Rattle.std.specs.List.{All};
 ghost use Rattle.text_scan.specs.Reading.{IsSliceOf, line_at};
-ghost use Rattle.camelot_syntax.specs.declared.lexeme.Lexeme.{Lexeme};
-ghost use Rattle.camelot_syntax.specs.Lexemes.{lexeme_at, lexemes, IsReal};
-ghost use Rattle.camelot_syntax.specs.Parsing.{stop_fault, line_of, last_line};
-ghost use Rattle.camelot_syntax.specs.Machine.{step, advance, runs, ending, limited, start, Done};
+ghost use Rattle.camelot_grammar.specs.declared.lexeme.Lexeme.{Lexeme};
+ghost use Rattle.camelot_grammar.specs.Lexemes.{lexeme_at, lexemes, IsReal};
+ghost use Rattle.camelot_grammar.specs.Parsing.{stop_fault, line_of, last_line};
+ghost use Rattle.camelot_grammar.specs.Machine.{step, advance, runs, ending, limited, start, Done};
 ghost use Rattle.camelot_syntax.specs.States.{Does, IsSmall, IsUnfinished, Answers, Reads, stack_of, state_of, decls_of};
 
-use crate::fault::ParseFault;
-use crate::lexeme::{Lexeme, Mark, lexeme_of};
 use crate::state::{DeclState, Decls, Frame, Halt, State};
+use crate::words::lexeme_of;
+use camelot_grammar::laws::tokens_of_a_text;
+use camelot_grammar::{Lexeme, Mark, ParseFault};
 use std::alloc::Global;
 use text_scan::Token;
 
@@ -61,14 +62,14 @@ impl State {
             State::InDecl(_state) => Err(fault),
             State::InExpr(_state) => Err(fault),
             State::InArm(_state) => Err(fault),
-            State::Done(decls) => Ok(decls),
+            State::Done(decls) => Ok(Box::into_inner(decls)),
         }
     }
 }
 
 impl Parser {
     /// One token.
-    #[tactic(auto, unfolding(crate::specs::Machine::step))]
+    #[tactic(auto, unfolding(camelot_grammar::specs::Machine::step))]
     fn step(&mut self, state: State, lexeme: Lexeme) -> Result<State, Halt>
         requires { IsSmall lexeme }
         ensures { Does (step (state_of state) lexeme (stack_of self.old.stack.items)) self.new.stack.items result }
@@ -107,7 +108,7 @@ impl Parser {
     }
 
     /// The token of the text at this place.
-    #[tactic(auto, using(crate::proofs::LexemeLemmas::slice_real, crate::proofs::RunLemmas::line_at_token))]
+    #[tactic(auto, using(crate::proofs::RunLemmas::line_at_token))]
     fn read(
         &mut self,
         state: State,
@@ -119,6 +120,7 @@ impl Parser {
         ensures { Reads (advance (state_of state) (lexeme_at text.now token) (stack_of self.old.stack.items)) (lexeme_at text.now token) at
             self.new.stack.items result }
     {
+        tokens_of_a_text();
         let lexeme = lexeme_of(self.alloc, text, token)?;
         self.read_lexeme(state, lexeme, token.line, at)
     }
@@ -155,10 +157,11 @@ pub fn run(alloc: Global, text: &[u8], tokens: &[Token]) -> Result<Decls, ParseF
         alloc,
         stack: Vec::new(alloc),
     };
-    let mut state = State::InDecl(DeclState::Top(Decls {
+    let decls = Decls {
         types: Vec::new(alloc),
         funs: Vec::new(alloc),
-    }));
+    };
+    let mut state = State::InDecl(DeclState::Top(Box::new(alloc, decls)?));
     'tokens: for (at, token) in tokens.iter().enumerate() {
         match parser.read(state, text, *token, at as u64) {
             Ok(next) => state = next,

@@ -1,6 +1,6 @@
 use Rattle.std.proofs.Common.{◌≡◌, drop, []}
-use Rattle.camelot_syntax.specs.Lexemes.{lexemes}
-use Rattle.camelot_syntax.specs.Machine.{runs, start}
+use Rattle.camelot_grammar.specs.Lexemes.{lexemes}
+use Rattle.camelot_grammar.specs.Machine.{runs, start}
 use Rattle.camelot_syntax.specs.States.{state_of, stack_of}
 use Rattle.camelot_syntax.proofs.parser.run.Given as goal
 
