@@ -8,4 +8,5 @@ pub mod LawLemmas
 pub mod ShapeLemmas
 pub mod AnswerLemmas
 pub mod LexemeLemmas
+pub mod TokenLemmas
 pub mod Place

@@ -8,7 +8,9 @@ ghost use Rattle.camelot_grammar.specs.Grammar.{Decls, spell_decls};
 ghost use Rattle.camelot_grammar.specs.Levels.{levels_decls};
 ghost use Rattle.text_scan.specs.declared.tokens.Token.{Token};
 ghost use Rattle.text_scan.specs.Reading.{IsSliceOf};
+ghost use Rattle.std.specs.List.{AllByRecursion};
 ghost use Rattle.camelot_tree.specs.Shape.{is_whole};
+ghost use Rattle.camelot_tree.specs.Tokens.{is_named, has_ints};
 ghost use Rattle.camelot_grammar.specs.Lexemes.{lexeme_at, IsReal};
 ghost use Rattle.camelot_grammar.specs.Machine.{runs, start, fault_of, Yes};
 ghost use Rattle.camelot_grammar.specs.Parsing.{IsProgram, BeginsProgram, IsFaultAmong, place_of};
@@ -59,8 +61,10 @@ pub fn answers_of_the_machine()
         → IsFaultAmong tokens last fault → fault_of (length tokens) last (runs start [] tokens) ≡ Some fault }
 {}
 
-/// Each type of a program has a constructor, each function a parameter and each match an arm, and an inline constructor has
-/// no fields.
-pub fn programs_are_whole()
-    ensures { (tokens : List Lexeme) (source : Source) → IsProgram tokens source → IsTrue (is_whole source) }
+/// What tokens give of the program that they are. Each type has a constructor, each function a parameter and each match an arm,
+/// and an inline constructor has no fields; names have the forms of their tokens, and literals 32 bits.
+pub fn tokens_give_form()
+    ensures whole { (tokens : List Lexeme) (source : Source) → IsProgram tokens source → IsTrue (is_whole source) }
+    ensures named { (tokens : List Lexeme) (source : Source) → AllByRecursion IsReal tokens → IsProgram tokens source → IsTrue (is_named source) }
+    ensures ints { (tokens : List Lexeme) (source : Source) → AllByRecursion IsReal tokens → IsProgram tokens source → IsTrue (has_ints source) }
 {}

@@ -1,9 +1,10 @@
 -- The answers to a text, from the machine's answer to its tokens and from that of the scanner.
-use Rattle.std.proofs.Common.{◌≡◌, ℕ, suc, ◌⊎◌, inl, inr, List, [], ◌∷◌, map, length, Option, Some, None, Ok, Err, IfOk, IfErr, MatchResult, refl, sym, ap, ◌∙◌, subst}
+use Rattle.std.proofs.Common.{◌≡◌, ℕ, suc, ◌⊎◌, inl, inr, List, [], ◌∷◌, map, length, Option, Some, None, Ok, Err, IfOk, IfErr, MatchResult, refl, sym, ap, ◌∙◌, subst, arith}
+use Rattle.std.specs.List.{All, AllByRecursion}
 use Rattle.text_scan.specs.declared.tokens.Token.{Token}
 use Rattle.text_scan.specs.declared.fault.ScanFault.{ScanFault}
 use Rattle.text_scan.specs.declared.fault.ScanFault.TheVariants as scan
-use Rattle.text_scan.specs.Reading.{AreTokensOf, IsFaultOf}
+use Rattle.text_scan.specs.Reading.{AreTokensOf, IsFaultOf, IsSliceOf}
 use Rattle.text_scan.specs.Reading as reading
 use Rattle.camelot_tree.specs.declared.program.Program.{Program}
 use Rattle.camelot_grammar.specs.declared.fault.ParseFault.{ParseFault}
@@ -11,7 +12,7 @@ use Rattle.camelot_grammar.specs.declared.fault.ParseFault.TheVariants as fault
 use Rattle.camelot_grammar.specs.declared.lexeme.Mark.TheVariants as mark
 use Rattle.camelot_grammar.specs.declared.lexeme.Lexeme.{Lexeme}
 use Rattle.camelot_grammar.specs.declared.lexeme.Lexeme.TheVariants.{Variable, Mark}
-use Rattle.camelot_grammar.specs.Lexemes.{lexemes, lexeme_at}
+use Rattle.camelot_grammar.specs.Lexemes.{lexemes, lexeme_at, IsReal}
 use Rattle.camelot_tree.specs.Tree.{Source}
 use Rattle.camelot_tree.specs.Programs.{program_of}
 use Rattle.camelot_grammar.specs.Parsing.{IsProgram, IsFaultAmong, HasCause, stop_fault, last_line}
@@ -101,6 +102,13 @@ fails_some (fault.Unexpected k l) g h = let e : fault.Unexpected k l ≡ g = cc 
 fails_some (fault.TooDeep k l) g h = let e : fault.TooDeep k l ≡ g = cc in inl e
 fails_some (fault.TypeParameter k l) g h = let e : fault.TypeParameter k l ≡ g = cc in inl e
 fails_some (fault.Division k l) g h = let e : fault.Division k l ≡ g = cc in inl e
+
+-- ---- the tokens of a text are real
+
+pub reals : ((text : List ℕ) (token : Token) → IsSliceOf text token → IsReal (lexeme_at text token))
+    → (text : List ℕ) (tokens : List Token) → All (IsSliceOf text) tokens → AllByRecursion IsReal (lexemes text tokens)
+reals law text [] h = tt
+reals law text (t ∷ ts) h = (law text t (h 0 t (omega arith)), reals law text ts (λ k d i. h (suc k) d (omega (arith, i))))
 
 -- ---- the answers to a text
 

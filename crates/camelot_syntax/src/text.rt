@@ -13,7 +13,7 @@ ghost use Rattle.camelot_syntax.specs.Answers.{scanned_fault, Runs, Parses};
 
 use crate::parser::run;
 use camelot_grammar::ParseFault;
-use camelot_grammar::laws::{answers_of_the_machine, programs_are_whole};
+use camelot_grammar::laws::{answers_of_the_machine, tokens_give_form, tokens_of_a_text};
 use camelot_tree::Program;
 use std::alloc::Global;
 use text_scan::{ScanFault, Token, scan};
@@ -34,7 +34,8 @@ fn parse_tokens(alloc: Global, text: &[u8], tokens: &[Token]) -> Result<Program,
     ensures { Runs text.now tokens.now result }
 {
     answers_of_the_machine();
-    programs_are_whole();
+    tokens_give_form();
+    tokens_of_a_text();
     let decls = run(alloc, text, tokens)?;
     Ok(Program {
         types: decls.types,
