@@ -4,6 +4,7 @@ use Rattle.std.specs.Option.{option_map}
 use Rattle.camelot_tree.specs.declared.tree.Expr.{Expr}
 use Rattle.camelot_tree.specs.declared.tree.Arm.{Arm}
 use Rattle.camelot_grammar.specs.declared.lexeme.Lexeme.{Lexeme}
+use Rattle.camelot_grammar.specs.declared.lexeme.Lexeme.TheVariants as lexeme
 use Rattle.camelot_grammar.specs.declared.lexeme.Lexeme.TheVariants.{Number}
 use Rattle.camelot_syntax.specs.declared.state.Operand.{Operand}
 use Rattle.camelot_syntax.specs.declared.state.Joint.{Joint}
@@ -31,6 +32,9 @@ use Rattle.camelot_syntax.specs.declared.state.ArmState.TheVariants as arm
 use Rattle.camelot_syntax.specs.declared.state.State.{State}
 use Rattle.camelot_syntax.specs.declared.state.State.TheVariants as state
 use Rattle.camelot_syntax.specs.declared.state.Halt.{Halt}
+use Rattle.camelot_syntax.specs.declared.parser.Parser.{Parser}
+use Rattle.camelot_syntax.specs.declared.words.TokenView.{TokenView}
+use Rattle.camelot_syntax.specs.declared.words.TokenView.TheVariants as view
 use Rattle.camelot_syntax.specs.declared.state.Halt.TheVariants.{Stuck, Deep, Memory}
 use Rattle.camelot_tree.specs.Tree.{Term, Branch, Source, operator_of, term_of, branch_of, constructor_of, data_type_of, function_of}
 use Rattle.camelot_grammar.specs.declared.fault.ParseFault.{ParseFault}
@@ -39,6 +43,15 @@ use Rattle.camelot_grammar.specs.Parsing.{stop_fault, line_of}
 use Rattle.camelot_grammar.specs.Program as pr
 use Rattle.camelot_grammar.specs.Machine as mc
 use Rattle.camelot_grammar.specs.Machine.{Step, Move, Moves, Stops, Sinks, limited, fault_of}
+
+-- the token that the parser sees: the bytes of a name stand in the text
+abbrev pub seen : TokenView → Lexeme
+seen (view.Lower w l) = lexeme.Lower (record { word = w.now; line = l })
+seen (view.Upper w l) = lexeme.Upper (record { word = w.now; line = l })
+seen (view.Variable l) = lexeme.Variable l
+seen (view.Number n l) = lexeme.Number n l
+seen (view.Greatest l) = lexeme.Greatest l
+seen (view.Mark m l) = lexeme.Mark m l
 
 abbrev pub terms_of : List Expr → List Term
 terms_of es = map term_of es
@@ -110,11 +123,11 @@ abbrev pub fun_draft_of : FunDraft → mc.FunDraft
 fun_draft_of d = record { before = decls_of d.before.value; name = d.name; params = d.params.items }
 
 abbrev pub frame_of : Frame → mc.Frame
-frame_of (frame.Body d r) = mc.Body (fun_draft_of d.value) r
+frame_of (frame.Body d) = mc.Body (fun_draft_of d.value) d.value.result
 frame_of (frame.Paren s l) = mc.Paren (spot_of s.value) l
-frame_of (frame.Args s c es) = mc.Args (spot_of s.value) c (terms_of es.items)
-frame_of (frame.LetValue k n) = mc.LetValue k n
-frame_of (frame.LetBody n e) = mc.LetBody n (term_of e.value)
+frame_of (frame.Args s b) = mc.Args (spot_of s.value) b.value.con (terms_of b.value.args.items)
+frame_of (frame.LetValue k n) = mc.LetValue k n.value
+frame_of (frame.LetBody n e) = mc.LetBody n.value (term_of e.value)
 frame_of (frame.IfCond k l) = mc.IfCond k l
 frame_of (frame.IfThen k l e) = mc.IfThen k l (term_of e.value)
 frame_of (frame.IfElse l e a) = mc.IfElse l (term_of e.value) (term_of a.value)
@@ -145,8 +158,8 @@ decl_of (decl.TypeEquals d n) = mc.TypeEquals (decls_of d.value) n
 decl_of (decl.WantCon d) = mc.WantCon (type_draft_of d.value)
 decl_of (decl.InlineCon d) = mc.InlineCon (type_draft_of d.value)
 decl_of (decl.BareCon d n) = mc.BareCon (type_draft_of d.value) n
-decl_of (decl.WantField d n as') = mc.WantField (type_draft_of d.value) n as'.items
-decl_of (decl.HaveField d n as') = mc.HaveField (type_draft_of d.value) n as'.items
+decl_of (decl.WantField d c) = mc.WantField (type_draft_of d.value) c.value.name c.value.fields.items
+decl_of (decl.HaveField d c) = mc.HaveField (type_draft_of d.value) c.value.name c.value.fields.items
 decl_of (decl.HaveCon d) = mc.HaveCon (type_draft_of d.value)
 decl_of (decl.FunName d) = mc.FunName (decls_of d.value)
 decl_of (decl.FirstParam d n) = mc.FirstParam (decls_of d.value) n
@@ -162,23 +175,23 @@ decl_of (decl.ResultEquals d a) = mc.ResultEquals (fun_draft_of d.value) a
 abbrev pub expr_of : ExprState → mc.ExprState
 expr_of (expr.Want k) = mc.Want k
 expr_of (expr.LetName k) = mc.LetName k
-expr_of (expr.LetEquals k n) = mc.LetEquals k n
+expr_of (expr.LetEquals k n) = mc.LetEquals k n.value
 expr_of (expr.Open s) = open_as s.value.call (slot_of s.value)
 expr_of (expr.Negative s l) = mc.Negative (slot_of s.value) l
 expr_of (expr.Have s a) = mc.Have (slot_of s.value) (operand_of a)
 expr_of (expr.Con s n) = mc.Con (spot_of s.value) n
-expr_of (expr.Full s n es) = mc.Full (spot_of s.value) n (terms_of es.items)
-expr_of (expr.Placed s n es) = mc.Placed (spot_of s.value) n (terms_of es.items)
+expr_of (expr.Full s b) = mc.Full (spot_of s.value) b.value.con (terms_of b.value.args.items)
+expr_of (expr.Placed s b) = mc.Placed (spot_of s.value) b.value.con (terms_of b.value.args.items)
 expr_of (expr.Whole e) = mc.Whole (term_of e.value)
 
 abbrev pub arm_of : ArmState → mc.ArmState
 arm_of (arm.FirstArm m) = mc.FirstArm (matching_of m.value)
 arm_of (arm.WantArm m) = mc.WantArm (matching_of m.value)
-arm_of (arm.ArmCon m n) = mc.ArmCon (matching_of m.value) n
-arm_of (arm.WantName m n fs) = mc.WantName (matching_of m.value) n fs.items
-arm_of (arm.HaveName m n fs) = mc.HaveName (matching_of m.value) n fs.items
-arm_of (arm.HaveNames m n fs) = mc.HaveNames (matching_of m.value) n fs.items
-arm_of (arm.WantCell m n fs) = mc.WantCell (matching_of m.value) n fs.items
+arm_of (arm.ArmCon m h) = mc.ArmCon (matching_of m.value) h.value.con
+arm_of (arm.WantName m h) = mc.WantName (matching_of m.value) h.value.con h.value.fields.items
+arm_of (arm.HaveName m h) = mc.HaveName (matching_of m.value) h.value.con h.value.fields.items
+arm_of (arm.HaveNames m h) = mc.HaveNames (matching_of m.value) h.value.con h.value.fields.items
+arm_of (arm.WantCell m h) = mc.WantCell (matching_of m.value) h.value.con h.value.fields.items
 arm_of (arm.WantArrow m h) = mc.WantArrow (matching_of m.value) (arm_head_of h.value)
 
 abbrev pub state_of : State → mc.State
@@ -194,9 +207,9 @@ HaltsBy Stuck m = m ≡ Stops
 HaltsBy Deep m = m ≡ Sinks
 HaltsBy Memory m = Unit {0}
 
--- the answer is the machine's step within the limit, unless memory runs out; these frames are left
-pub record Does (step : Step) (frames : List Frame) (result : Result State Halt) : Type 0 where
-  pub does : MatchResult result (λ s. limited step ≡ Moves (state_of s) (stack_of frames)) (λ h. HaltsBy h (limited step))
+-- the parser does the machine's step within the limit, unless memory runs out
+pub record Does (step : Step) (parser : Parser) (result : Result (Unit {0}) Halt) : Type 0 where
+  pub does : MatchResult result (λ u. limited step ≡ Moves (state_of parser.state) (stack_of parser.stack.items)) (λ h. HaltsBy h (limited step))
 
 -- a number token is below the greatest one
 abbrev pub IsSmall : Lexeme → Type 0
@@ -219,8 +232,8 @@ FailsAt t at fault.Memory m = Unit {0}
 FailsAt t at (fault.TooDeep token line) m = (m ≡ Sinks) × (token ≡ at) × (line ≡ line_of t)
 FailsAt t at f m = (m ≡ Stops) × ((rest : List Lexeme) → f ≡ stop_fault (t ∷ rest) at (line_of t))
 
-pub record Reads (step : Step) (t : Lexeme) (at : ℕ) (frames : List Frame) (result : Result State ParseFault) : Type 0 where
-  pub reads : MatchResult result (λ s. limited step ≡ Moves (state_of s) (stack_of frames)) (λ f. FailsAt t at f (limited step))
+pub record Reads (step : Step) (t : Lexeme) (at : ℕ) (parser : Parser) (result : Result (Unit {0}) ParseFault) : Type 0 where
+  pub reads : MatchResult result (λ u. limited step ≡ Moves (state_of parser.state) (stack_of parser.stack.items)) (λ f. FailsAt t at f (limited step))
 
 -- the text can't end in this state
 abbrev pub IsUnfinished : mc.State → Type 0

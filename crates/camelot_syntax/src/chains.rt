@@ -3,26 +3,18 @@
 ghost use Rattle.std.specs.Prelude.{◌≡◌, [], None};
 ghost use Rattle.camelot_tree.specs.Tree.{operator_of};
 ghost use Rattle.camelot_grammar.specs.Program.{Prim};
-ghost use Rattle.camelot_grammar.specs.Machine.{after_and, after_cmp, after_sum, after_prod, after_pre, after_operand, compares, adds, multiplies, sum_level, InExpr, WantPre};
-ghost use Rattle.camelot_syntax.specs.States.{Does, stack_of, some_left, operand_of, joint_of, lefts_of, slot_of, state_of};
+ghost use Rattle.camelot_grammar.specs.Machine.{after_and, after_cmp, after_sum, after_prod, after_pre, after_operand, compares, adds, multiplies, sum_level, Goes, InExpr, WantPre};
+ghost use Rattle.camelot_syntax.specs.States.{Does, seen, stack_of, some_left, operand_of, joint_of, lefts_of, slot_of};
 
 use crate::operand::{behind, finish, negate_all, within};
 use crate::parser::Parser;
 use crate::state::{ExprState, Halt, Joint, Left, Lefts, Operand, Spot, State};
-use camelot_grammar::{Lexeme, Mark};
+use crate::words::TokenView;
+use camelot_grammar::Mark;
 use camelot_tree::PrimOp;
 
-/// Where an operand is wanted behind an operator, within this level.
-fn next_operand(mut spot: Box<Spot>, within: u32) -> State
-    ensures { state_of result ≡ InExpr (WantPre (lefts_of spot.value.lefts) [] within) }
-{
-    spot.nots.clear();
-    spot.level = within;
-    spot.call = None;
-    State::InExpr(ExprState::Open(spot))
-}
-
 /// The level of the next sign in a sum.
+#[inline]
 fn sum_level(lefts: &Lefts) -> u32
     ensures { result ≡ sum_level lefts.now.around (some_left lefts.now.ors) (some_left lefts.now.ands) (some_left lefts.now.cmp) (some_left lefts.now.sum) }
 {
@@ -31,20 +23,30 @@ fn sum_level(lefts: &Lefts) -> u32
 }
 
 impl Parser {
+    /// Behind an operator of this level, whose operand is wanted within that one.
+    fn next_operand(&mut self, mut spot: Box<Spot>, level: u32, within: u32) -> Result<(), Halt>
+        ensures { Does (Goes level (InExpr (WantPre (lefts_of spot.value.lefts) [] within)) (stack_of self.old.stack.items)) self.new result }
+    {
+        spot.nots.clear();
+        spot.level = within;
+        spot.call = None;
+        self.go(level, State::InExpr(ExprState::Open(spot)))
+    }
+
     /// Behind the last operand of a chain of `&&`.
     #[tactic(auto, unfolding(camelot_grammar::specs::Machine::after_and))]
     fn after_and(
         &mut self,
         mut spot: Box<Spot>,
         operand: Operand,
-        lexeme: Lexeme,
-    ) -> Result<State, Halt>
-        ensures { Does (after_and spot.value.lefts.around (some_left spot.value.lefts.ors) (operand_of operand) lexeme (stack_of self.old.stack.items)) self.new.stack.items result }
+        lexeme: &TokenView<'_>,
+    ) -> Result<(), Halt>
+        ensures { Does (after_and spot.value.lefts.around (some_left spot.value.lefts.ors) (operand_of operand) (seen lexeme.now) (stack_of self.old.stack.items)) self.new result }
     {
         let level = within(&spot.lefts.ors, spot.lefts.around);
         let operand = finish(self.alloc, spot.lefts.ors.take(), operand)?;
-        match lexeme {
-            Lexeme::Mark {
+        match *lexeme {
+            TokenView::Mark {
                 mark: Mark::OrOr,
                 line,
             } => {
@@ -59,9 +61,12 @@ impl Parser {
                 spot.lefts.cmp = None;
                 spot.lefts.sum = None;
                 spot.lefts.prod = None;
-                Ok(next_operand(spot, within))
+                self.next_operand(spot, level, within)
             }
-            lexeme => self.close(operand.tree, lexeme),
+            _ => {
+                self.spare = Some(spot);
+                self.close(operand.tree, lexeme)
+            }
         }
     }
 
@@ -71,14 +76,14 @@ impl Parser {
         &mut self,
         mut spot: Box<Spot>,
         operand: Operand,
-        lexeme: Lexeme,
-    ) -> Result<State, Halt>
-        ensures { Does (after_cmp spot.value.lefts.around (some_left spot.value.lefts.ors) (some_left spot.value.lefts.ands) (operand_of operand) lexeme (stack_of self.old.stack.items)) self.new.stack.items result }
+        lexeme: &TokenView<'_>,
+    ) -> Result<(), Halt>
+        ensures { Does (after_cmp spot.value.lefts.around (some_left spot.value.lefts.ors) (some_left spot.value.lefts.ands) (operand_of operand) (seen lexeme.now) (stack_of self.old.stack.items)) self.new result }
     {
         let level = within(&spot.lefts.ands, within(&spot.lefts.ors, spot.lefts.around));
         let operand = finish(self.alloc, spot.lefts.ands.take(), operand)?;
-        match lexeme {
-            Lexeme::Mark {
+        match *lexeme {
+            TokenView::Mark {
                 mark: Mark::AndAnd,
                 line,
             } => {
@@ -92,9 +97,9 @@ impl Parser {
                 spot.lefts.cmp = None;
                 spot.lefts.sum = None;
                 spot.lefts.prod = None;
-                Ok(next_operand(spot, within))
+                self.next_operand(spot, level, within)
             }
-            lexeme => self.after_and(spot, operand, lexeme),
+            _ => self.after_and(spot, operand, lexeme),
         }
     }
 
@@ -105,9 +110,9 @@ impl Parser {
         operand: Operand,
         op: PrimOp,
         line: u32,
-    ) -> Result<State, Halt>
+    ) -> Result<(), Halt>
         ensures { Does (compares spot.value.lefts.around (some_left spot.value.lefts.ors) (some_left spot.value.lefts.ands) (some_left spot.value.lefts.cmp)
-            (operand_of operand) (Prim (operator_of op)) line (stack_of self.old.stack.items)) self.new.stack.items result }
+            (operand_of operand) (Prim (operator_of op)) line (stack_of self.old.stack.items)) self.new result }
     {
         if spot.lefts.cmp.is_some() {
             return Err(Halt::Stuck);
@@ -122,7 +127,7 @@ impl Parser {
         });
         spot.lefts.sum = None;
         spot.lefts.prod = None;
-        Ok(next_operand(spot, within))
+        self.next_operand(spot, level, within)
     }
 
     /// Behind the last operand of a sum.
@@ -131,37 +136,37 @@ impl Parser {
         &mut self,
         mut spot: Box<Spot>,
         operand: Operand,
-        lexeme: Lexeme,
-    ) -> Result<State, Halt>
+        lexeme: &TokenView<'_>,
+    ) -> Result<(), Halt>
         ensures { Does (after_sum spot.value.lefts.around (some_left spot.value.lefts.ors) (some_left spot.value.lefts.ands) (some_left spot.value.lefts.cmp)
-            (operand_of operand) lexeme (stack_of self.old.stack.items)) self.new.stack.items result }
+            (operand_of operand) (seen lexeme.now) (stack_of self.old.stack.items)) self.new result }
     {
-        match lexeme {
-            Lexeme::Mark {
+        match *lexeme {
+            TokenView::Mark {
                 mark: Mark::Equal,
                 line,
             } => self.compare(spot, operand, PrimOp::Eq, line),
-            Lexeme::Mark {
+            TokenView::Mark {
                 mark: Mark::Diamond,
                 line,
             } => self.compare(spot, operand, PrimOp::Ne, line),
-            Lexeme::Mark {
+            TokenView::Mark {
                 mark: Mark::Less,
                 line,
             } => self.compare(spot, operand, PrimOp::Lt, line),
-            Lexeme::Mark {
+            TokenView::Mark {
                 mark: Mark::LessEqual,
                 line,
             } => self.compare(spot, operand, PrimOp::Le, line),
-            Lexeme::Mark {
+            TokenView::Mark {
                 mark: Mark::Greater,
                 line,
             } => self.compare(spot, operand, PrimOp::Gt, line),
-            Lexeme::Mark {
+            TokenView::Mark {
                 mark: Mark::GreaterEqual,
                 line,
             } => self.compare(spot, operand, PrimOp::Ge, line),
-            lexeme => {
+            _ => {
                 let whole = finish(self.alloc, spot.lefts.cmp.take(), operand)?;
                 self.after_cmp(spot, whole, lexeme)
             }
@@ -175,9 +180,9 @@ impl Parser {
         operand: Operand,
         op: PrimOp,
         line: u32,
-    ) -> Result<State, Halt>
+    ) -> Result<(), Halt>
         ensures { Does (adds spot.value.lefts.around (some_left spot.value.lefts.ors) (some_left spot.value.lefts.ands) (some_left spot.value.lefts.cmp) (some_left spot.value.lefts.sum)
-            (operand_of operand) (Prim (operator_of op)) line (stack_of self.old.stack.items)) self.new.stack.items result }
+            (operand_of operand) (Prim (operator_of op)) line (stack_of self.old.stack.items)) self.new result }
     {
         let level = sum_level(&spot.lefts);
         let operand = finish(self.alloc, spot.lefts.sum.take(), operand)?;
@@ -189,7 +194,7 @@ impl Parser {
             within,
         });
         spot.lefts.prod = None;
-        Ok(next_operand(spot, within))
+        self.next_operand(spot, level, within)
     }
 
     /// Behind the last operand of a product.
@@ -198,21 +203,21 @@ impl Parser {
         &mut self,
         mut spot: Box<Spot>,
         operand: Operand,
-        lexeme: Lexeme,
-    ) -> Result<State, Halt>
+        lexeme: &TokenView<'_>,
+    ) -> Result<(), Halt>
         ensures { Does (after_prod spot.value.lefts.around (some_left spot.value.lefts.ors) (some_left spot.value.lefts.ands) (some_left spot.value.lefts.cmp) (some_left spot.value.lefts.sum)
-            (operand_of operand) lexeme (stack_of self.old.stack.items)) self.new.stack.items result }
+            (operand_of operand) (seen lexeme.now) (stack_of self.old.stack.items)) self.new result }
     {
-        match lexeme {
-            Lexeme::Mark {
+        match *lexeme {
+            TokenView::Mark {
                 mark: Mark::Plus,
                 line,
             } => self.add(spot, operand, PrimOp::Add, line),
-            Lexeme::Mark {
+            TokenView::Mark {
                 mark: Mark::Minus,
                 line,
             } => self.add(spot, operand, PrimOp::Sub, line),
-            lexeme => {
+            _ => {
                 let whole = finish(self.alloc, spot.lefts.sum.take(), operand)?;
                 self.after_sum(spot, whole, lexeme)
             }
@@ -220,8 +225,8 @@ impl Parser {
     }
 
     /// At a `*`, behind its first operand.
-    fn multiply(&mut self, mut spot: Box<Spot>, operand: Operand, line: u32) -> Result<State, Halt>
-        ensures { Does (multiplies (lefts_of spot.value.lefts) (operand_of operand) line (stack_of self.old.stack.items)) self.new.stack.items result }
+    fn multiply(&mut self, mut spot: Box<Spot>, operand: Operand, line: u32) -> Result<(), Halt>
+        ensures { Does (multiplies (lefts_of spot.value.lefts) (operand_of operand) line (stack_of self.old.stack.items)) self.new result }
     {
         let level = within(&spot.lefts.prod, sum_level(&spot.lefts));
         let operand = finish(self.alloc, spot.lefts.prod.take(), operand)?;
@@ -232,7 +237,7 @@ impl Parser {
             line,
             within,
         });
-        Ok(next_operand(spot, within))
+        self.next_operand(spot, level, within)
     }
 
     /// Behind an operand, its `not`s included.
@@ -241,16 +246,16 @@ impl Parser {
         &mut self,
         mut spot: Box<Spot>,
         operand: Operand,
-        lexeme: Lexeme,
-    ) -> Result<State, Halt>
-        ensures { Does (after_pre (lefts_of spot.value.lefts) (operand_of operand) lexeme (stack_of self.old.stack.items)) self.new.stack.items result }
+        lexeme: &TokenView<'_>,
+    ) -> Result<(), Halt>
+        ensures { Does (after_pre (lefts_of spot.value.lefts) (operand_of operand) (seen lexeme.now) (stack_of self.old.stack.items)) self.new result }
     {
-        match lexeme {
-            Lexeme::Mark {
+        match *lexeme {
+            TokenView::Mark {
                 mark: Mark::Star,
                 line,
             } => self.multiply(spot, operand, line),
-            lexeme => {
+            _ => {
                 let whole = finish(self.alloc, spot.lefts.prod.take(), operand)?;
                 self.after_prod(spot, whole, lexeme)
             }
@@ -263,9 +268,9 @@ impl Parser {
         &mut self,
         mut spot: Box<Spot>,
         operand: Operand,
-        lexeme: Lexeme,
-    ) -> Result<State, Halt>
-        ensures { Does (after_operand (slot_of spot.value) (operand_of operand) lexeme (stack_of self.old.stack.items)) self.new.stack.items result }
+        lexeme: &TokenView<'_>,
+    ) -> Result<(), Halt>
+        ensures { Does (after_operand (slot_of spot.value) (operand_of operand) (seen lexeme.now) (stack_of self.old.stack.items)) self.new result }
     {
         let operand = negate_all(self.alloc, &mut spot.nots, operand)?;
         self.after_pre(spot, operand, lexeme)

@@ -4,17 +4,18 @@ ghost use Rattle.std.specs.Prelude.{◌≡◌, ◌∷◌, MatchResult};
 ghost use Rattle.camelot_syntax.specs.declared.state.Halt.TheVariants.{Memory};
 ghost use Rattle.camelot_tree.specs.Tree.{term_of, arms, Match};
 ghost use Rattle.camelot_grammar.specs.Machine.{close, close_in, unwind, with_arm, Body, Paren, Args, LetValue, IfCond, IfThen, MatchOn, ArmBody};
-ghost use Rattle.camelot_syntax.specs.States.{Does, stack_of, fun_draft_of, spot_of, terms_of, matching_of, arm_head_of, frame_of, unwound_of, Encloses};
+ghost use Rattle.camelot_syntax.specs.States.{Does, seen, stack_of, fun_draft_of, spot_of, terms_of, matching_of, arm_head_of, frame_of, unwound_of, Encloses};
 
-use crate::operand::{if_tree, let_tree, reach};
+use crate::operand::{if_tree, let_tree};
 use crate::parser::Parser;
 use crate::state::{
-    ArmHead, ArmState, Enclosed, ExprState, Frame, FunDraft, Halt, Matching, Operand, Outer, Spot,
-    State,
+    ArmHead, ArmState, Building, Enclosed, ExprState, Frame, FunDraft, Halt, Matching, Operand,
+    Outer, Spot, State,
 };
 use crate::units::push_tree;
-use camelot_grammar::{Lexeme, Mark};
-use camelot_tree::{Arm, Atom, Expr, FunDecl, Name};
+use crate::words::TokenView;
+use camelot_grammar::Mark;
+use camelot_tree::{Arm, Expr, FunDecl, Name};
 use std::alloc::Global;
 
 /// The match with one more arm.
@@ -59,7 +60,10 @@ fn enclose(alloc: Global, frame: Frame, tree: Box<Expr>) -> Result<Enclosed, Hal
     ensures { MatchResult result (λ found. Encloses (frame_of frame) (term_of tree.value) found) (λ halt. halt ≡ Memory) }
 {
     match frame {
-        Frame::LetBody { name, value } => Ok(Enclosed::Whole(let_tree(alloc, name, value, tree)?)),
+        Frame::LetBody { name, value } => {
+            let name = Box::into_inner(name);
+            Ok(Enclosed::Whole(let_tree(alloc, name, value, tree)?))
+        }
         Frame::IfElse { line, cond, yes } => {
             Ok(Enclosed::Whole(if_tree(alloc, cond, yes, tree, line)?))
         }
@@ -73,23 +77,23 @@ impl Parser {
     fn close_body(
         &mut self,
         draft: Box<FunDraft>,
-        result_kind: Option<Atom>,
         tree: Box<Expr>,
-        lexeme: Lexeme,
-    ) -> Result<State, Halt>
-        ensures { Does (close_in (Body (fun_draft_of draft.value) result_kind) (term_of tree.value) lexeme (stack_of self.old.stack.items)) self.new.stack.items result }
+        lexeme: &TokenView<'_>,
+    ) -> Result<(), Halt>
+        ensures { Does (close_in (Body (fun_draft_of draft.value) draft.value.result) (term_of tree.value) (seen lexeme.now) (stack_of self.old.stack.items)) self.new result }
     {
         let FunDraft {
             before: mut decls,
             name,
             mut params,
+            result,
         } = Box::into_inner(draft);
         params.shrink_to_fit();
         let body = Box::into_inner(tree);
         decls.funs.push(FunDecl {
             name,
             params,
-            result: result_kind,
+            result,
             body,
         })?;
         self.top(decls, lexeme)
@@ -102,12 +106,12 @@ impl Parser {
         spot: Box<Spot>,
         line: u32,
         tree: Box<Expr>,
-        lexeme: Lexeme,
-    ) -> Result<State, Halt>
-        ensures { Does (close_in (Paren (spot_of spot.value) line) (term_of tree.value) lexeme (stack_of self.old.stack.items)) self.new.stack.items result }
+        lexeme: &TokenView<'_>,
+    ) -> Result<(), Halt>
+        ensures { Does (close_in (Paren (spot_of spot.value) line) (term_of tree.value) (seen lexeme.now) (stack_of self.old.stack.items)) self.new result }
     {
-        match lexeme {
-            Lexeme::Mark {
+        match *lexeme {
+            TokenView::Mark {
                 mark: Mark::Close,
                 ..
             } => self.take_unit(spot, Operand { tree, line }),
@@ -120,27 +124,26 @@ impl Parser {
     fn close_args(
         &mut self,
         spot: Box<Spot>,
-        con: Name,
-        mut args: Vec<Expr>,
+        mut build: Box<Building>,
         tree: Box<Expr>,
-        lexeme: Lexeme,
-    ) -> Result<State, Halt>
-        ensures { Does (close_in (Args (spot_of spot.value) con (terms_of args.items)) (term_of tree.value) lexeme (stack_of self.old.stack.items)) self.new.stack.items result }
+        lexeme: &TokenView<'_>,
+    ) -> Result<(), Halt>
+        ensures { Does (close_in (Args (spot_of spot.value) build.value.con (terms_of build.value.args.items)) (term_of tree.value) (seen lexeme.now) (stack_of self.old.stack.items)) self.new result }
     {
         let level = spot.level;
-        push_tree(&mut args, tree)?;
-        match lexeme {
-            Lexeme::Mark {
+        push_tree(&mut build.args, tree)?;
+        match *lexeme {
+            TokenView::Mark {
                 mark: Mark::Comma,
                 ..
             } => {
-                self.stack.push(Frame::Args { spot, con, args })?;
-                reach(level, State::InExpr(ExprState::Want(level)))
+                self.stack.push(Frame::Args { spot, build })?;
+                self.go(level, State::InExpr(ExprState::Want(level)))
             }
-            Lexeme::Mark {
+            TokenView::Mark {
                 mark: Mark::Close,
                 ..
-            } => reach(level, State::InExpr(ExprState::Full(spot, con, args))),
+            } => self.go(level, State::InExpr(ExprState::Full(spot, build))),
             _ => Err(Halt::Stuck),
         }
     }
@@ -150,16 +153,16 @@ impl Parser {
     fn close_value(
         &mut self,
         level: u32,
-        name: Name,
+        name: Box<Name>,
         value: Box<Expr>,
-        lexeme: Lexeme,
-    ) -> Result<State, Halt>
-        ensures { Does (close_in (LetValue level name) (term_of value.value) lexeme (stack_of self.old.stack.items)) self.new.stack.items result }
+        lexeme: &TokenView<'_>,
+    ) -> Result<(), Halt>
+        ensures { Does (close_in (LetValue level name.value) (term_of value.value) (seen lexeme.now) (stack_of self.old.stack.items)) self.new result }
     {
-        match lexeme {
-            Lexeme::Mark { mark: Mark::In, .. } => {
+        match *lexeme {
+            TokenView::Mark { mark: Mark::In, .. } => {
                 self.stack.push(Frame::LetBody { name, value })?;
-                reach(level, State::InExpr(ExprState::Want(level)))
+                self.go(level, State::InExpr(ExprState::Want(level)))
             }
             _ => Err(Halt::Stuck),
         }
@@ -172,17 +175,17 @@ impl Parser {
         level: u32,
         line: u32,
         cond: Box<Expr>,
-        lexeme: Lexeme,
-    ) -> Result<State, Halt>
-        ensures { Does (close_in (IfCond level line) (term_of cond.value) lexeme (stack_of self.old.stack.items)) self.new.stack.items result }
+        lexeme: &TokenView<'_>,
+    ) -> Result<(), Halt>
+        ensures { Does (close_in (IfCond level line) (term_of cond.value) (seen lexeme.now) (stack_of self.old.stack.items)) self.new result }
     {
-        match lexeme {
-            Lexeme::Mark {
+        match *lexeme {
+            TokenView::Mark {
                 mark: Mark::Then,
                 ..
             } => {
                 self.stack.push(Frame::IfThen { level, line, cond })?;
-                reach(level, State::InExpr(ExprState::Want(level)))
+                self.go(level, State::InExpr(ExprState::Want(level)))
             }
             _ => Err(Halt::Stuck),
         }
@@ -196,17 +199,17 @@ impl Parser {
         line: u32,
         cond: Box<Expr>,
         yes: Box<Expr>,
-        lexeme: Lexeme,
-    ) -> Result<State, Halt>
-        ensures { Does (close_in (IfThen level line (term_of cond.value)) (term_of yes.value) lexeme (stack_of self.old.stack.items)) self.new.stack.items result }
+        lexeme: &TokenView<'_>,
+    ) -> Result<(), Halt>
+        ensures { Does (close_in (IfThen level line (term_of cond.value)) (term_of yes.value) (seen lexeme.now) (stack_of self.old.stack.items)) self.new result }
     {
-        match lexeme {
-            Lexeme::Mark {
+        match *lexeme {
+            TokenView::Mark {
                 mark: Mark::Else,
                 ..
             } => {
                 self.stack.push(Frame::IfElse { line, cond, yes })?;
-                reach(level, State::InExpr(ExprState::Want(level)))
+                self.go(level, State::InExpr(ExprState::Want(level)))
             }
             _ => Err(Halt::Stuck),
         }
@@ -219,12 +222,12 @@ impl Parser {
         level: u32,
         line: u32,
         on: Box<Expr>,
-        lexeme: Lexeme,
-    ) -> Result<State, Halt>
-        ensures { Does (close_in (MatchOn level line) (term_of on.value) lexeme (stack_of self.old.stack.items)) self.new.stack.items result }
+        lexeme: &TokenView<'_>,
+    ) -> Result<(), Halt>
+        ensures { Does (close_in (MatchOn level line) (term_of on.value) (seen lexeme.now) (stack_of self.old.stack.items)) self.new result }
     {
-        match lexeme {
-            Lexeme::Mark {
+        match *lexeme {
+            TokenView::Mark {
                 mark: Mark::With,
                 ..
             } => {
@@ -235,7 +238,7 @@ impl Parser {
                     arms: Vec::new(self.alloc),
                 };
                 let matching = Box::new(self.alloc, matching)?;
-                reach(level, State::InArm(ArmState::FirstArm(matching)))
+                self.go(level, State::InArm(ArmState::FirstArm(matching)))
             }
             _ => Err(Halt::Stuck),
         }
@@ -248,26 +251,26 @@ impl Parser {
         matching: Box<Matching>,
         head: Box<ArmHead>,
         body: Box<Expr>,
-        lexeme: Lexeme,
-    ) -> Result<State, Halt>
-        ensures { Does (close_in (ArmBody (matching_of matching.value) (arm_head_of head.value)) (term_of body.value) lexeme (stack_of self.old.stack.items)) self.new.stack.items result }
+        lexeme: &TokenView<'_>,
+    ) -> Result<(), Halt>
+        ensures { Does (close_in (ArmBody (matching_of matching.value) (arm_head_of head.value)) (term_of body.value) (seen lexeme.now) (stack_of self.old.stack.items)) self.new result }
     {
         let level = matching.level;
-        match lexeme {
-            Lexeme::Mark {
+        match *lexeme {
+            TokenView::Mark {
                 mark: Mark::Bar,
                 ..
             } => {
                 let matching = with_arm(matching, head, body)?;
-                reach(level, State::InArm(ArmState::WantArm(matching)))
+                self.go(level, State::InArm(ArmState::WantArm(matching)))
             }
-            Lexeme::Mark {
+            TokenView::Mark {
                 mark: Mark::End,
                 ..
             } => {
                 let matching = with_arm(matching, head, body)?;
                 let tree = whole_match(self.alloc, matching)?;
-                reach(level, State::InExpr(ExprState::Whole(tree)))
+                self.go(level, State::InExpr(ExprState::Whole(tree)))
             }
             _ => Err(Halt::Stuck),
         }
@@ -275,14 +278,14 @@ impl Parser {
 
     /// Behind an expression that this frame goes on with.
     #[tactic(auto, using(crate::proofs::StackLemmas::let_stuck, crate::proofs::StackLemmas::else_stuck))]
-    fn close_in(&mut self, outer: Outer, lexeme: Lexeme) -> Result<State, Halt>
-        ensures { Does (close_in (frame_of outer.frame) (term_of outer.tree.value) lexeme (stack_of self.old.stack.items)) self.new.stack.items result }
+    fn close_in(&mut self, outer: Outer, lexeme: &TokenView<'_>) -> Result<(), Halt>
+        ensures { Does (close_in (frame_of outer.frame) (term_of outer.tree.value) (seen lexeme.now) (stack_of self.old.stack.items)) self.new result }
     {
         let tree = outer.tree;
         match outer.frame {
-            Frame::Body { draft, result } => self.close_body(draft, result, tree, lexeme),
+            Frame::Body { draft } => self.close_body(draft, tree, lexeme),
             Frame::Paren { spot, line } => self.close_paren(spot, line, tree, lexeme),
-            Frame::Args { spot, con, args } => self.close_args(spot, con, args, tree, lexeme),
+            Frame::Args { spot, build } => self.close_args(spot, build, tree, lexeme),
             Frame::LetValue { level, name } => self.close_value(level, name, tree, lexeme),
             Frame::IfCond { level, line } => self.close_cond(level, line, tree, lexeme),
             Frame::IfThen { level, line, cond } => {
@@ -312,8 +315,8 @@ impl Parser {
 
     /// Behind a whole expression.
     #[tactic(auto, unfolding(camelot_grammar::specs::Machine::close))]
-    pub fn close(&mut self, tree: Box<Expr>, lexeme: Lexeme) -> Result<State, Halt>
-        ensures { Does (close (stack_of self.old.stack.items) (term_of tree.value) lexeme) self.new.stack.items result }
+    pub fn close(&mut self, tree: Box<Expr>, lexeme: &TokenView<'_>) -> Result<(), Halt>
+        ensures { Does (close (stack_of self.old.stack.items) (term_of tree.value) (seen lexeme.now)) self.new result }
     {
         match self.unwind(tree)? {
             Some(outer) => self.close_in(outer, lexeme),

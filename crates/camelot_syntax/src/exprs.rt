@@ -1,64 +1,107 @@
 //! Steps at the beginning of an expression, and the choice of a step in expressions.
 
-ghost use Rattle.std.specs.Prelude.{◌≡◌, ◌∷◌, [], suc, None};
+ghost use Rattle.std.specs.Prelude.{◌≡◌, ◌∷◌, [], suc, None, MatchResult};
+ghost use Rattle.camelot_syntax.specs.declared.state.Halt.TheVariants.{Memory};
 ghost use Rattle.camelot_grammar.specs.Machine.{Goes, InExpr, WantPre, slot_step, pre_step, want_step, negative_step, let_step, expr_step, lefts, begins_pre, LetName, LetEquals};
-ghost use Rattle.camelot_syntax.specs.States.{Does, IsSmall, stack_of, slot_of, lefts_of, nots_of, expr_of, open_as};
+ghost use Rattle.camelot_syntax.specs.States.{Does, seen, IsSmall, stack_of, slot_of, lefts_of, nots_of, expr_of, open_as};
 
-use crate::operand::{deeper, leaf, reach};
+use crate::operand::{deeper, leaf};
 use crate::parser::Parser;
 use crate::state::{Callee, ExprState, Frame, Halt, Lefts, Spot, State};
 use crate::units::{begins_argument, negative};
-use camelot_grammar::{Lexeme, Mark};
+use crate::words::{TokenView, to_name};
+use camelot_grammar::Mark;
 use camelot_tree::Name;
 
 /// Whether an operand begins with this token.
-fn begins_pre(lexeme: &Lexeme) -> bool
-    ensures { result ≡ begins_pre lexeme.now }
+fn begins_pre(lexeme: &TokenView<'_>) -> bool
+    ensures { result ≡ begins_pre (seen lexeme.now) }
 {
-    match lexeme {
-        Lexeme::Mark {
+    match *lexeme {
+        TokenView::Mark {
             mark: Mark::Not | Mark::Minus,
             ..
         } => true,
-        lexeme => begins_argument(lexeme),
+        _ => begins_argument(lexeme),
     }
 }
 
 impl Parser {
+    /// The place of the first operand of an expression whose tokens have this level.
+    fn fresh_spot(&mut self, around: u32) -> Result<Box<Spot>, Halt>
+        ensures spot { MatchResult result
+            (λ spot. slot_of spot.value ≡ record { lefts = lefts around None None None None None; nots = []; level = around }) (λ halt. halt ≡ Memory) }
+        ensures stack { self.new.stack ≡ self.old.stack }
+    {
+        match self.spare.take() {
+            Some(mut spot) => {
+                spot.lefts.around = around;
+                spot.lefts.ors = None;
+                spot.lefts.ands = None;
+                spot.lefts.cmp = None;
+                spot.lefts.sum = None;
+                spot.lefts.prod = None;
+                spot.nots.clear();
+                spot.level = around;
+                spot.call = None;
+                Ok(spot)
+            }
+            None => {
+                let lefts = Lefts {
+                    around,
+                    ors: None,
+                    ands: None,
+                    cmp: None,
+                    sum: None,
+                    prod: None,
+                };
+                let nots = Vec::new(self.alloc);
+                let spot = Spot {
+                    lefts,
+                    nots,
+                    level: around,
+                    call: None,
+                };
+                Ok(Box::new(self.alloc, spot)?)
+            }
+        }
+    }
+
     /// At a `not` before an operand.
     #[tactic(auto, using(crate::proofs::StackLemmas::nots_push))]
-    fn not(&mut self, mut spot: Box<Spot>, line: u32) -> Result<State, Halt>
+    fn not(&mut self, mut spot: Box<Spot>, line: u32) -> Result<(), Halt>
         ensures { Does (Goes spot.value.level (InExpr (WantPre (lefts_of spot.value.lefts) (line ∷ nots_of spot.value.nots.items) spot.value.level))
-            (stack_of self.old.stack.items)) self.new.stack.items result }
+            (stack_of self.old.stack.items)) self.new result }
     {
         let level = spot.level;
         spot.nots.push(line)?;
         spot.call = None;
-        reach(level, State::InExpr(ExprState::Open(spot)))
+        self.go(level, State::InExpr(ExprState::Open(spot)))
     }
 
     /// At the first token of an operand.
     #[tactic(auto, unfolding(camelot_grammar::specs::Machine::slot_step))]
-    fn slot(&mut self, mut spot: Box<Spot>, lexeme: Lexeme) -> Result<State, Halt>
-        requires { IsSmall lexeme }
-        ensures { Does (slot_step (slot_of spot.value) lexeme (stack_of self.old.stack.items)) self.new.stack.items result }
+    fn slot(&mut self, mut spot: Box<Spot>, lexeme: &TokenView<'_>) -> Result<(), Halt>
+        requires { IsSmall (seen lexeme.now) }
+        ensures { Does (slot_step (slot_of spot.value) (seen lexeme.now) (stack_of self.old.stack.items)) self.new result }
     {
         let level = spot.level;
-        match lexeme {
-            Lexeme::Mark {
+        match *lexeme {
+            TokenView::Mark {
                 mark: Mark::Not,
                 line,
             } => self.not(spot, line),
-            Lexeme::Mark {
+            TokenView::Mark {
                 mark: Mark::Minus,
                 line,
-            } => reach(level, State::InExpr(ExprState::Negative(spot, line))),
-            Lexeme::Lower(fun) => {
+            } => self.go(level, State::InExpr(ExprState::Negative(spot, line))),
+            TokenView::Lower { word, line } => {
+                let fun = to_name(self.alloc, word, line)?;
                 let args = Vec::new(self.alloc);
                 spot.call = Some(Callee { fun, args });
-                reach(level, State::InExpr(ExprState::Open(spot)))
+                self.go(level, State::InExpr(ExprState::Open(spot)))
             }
-            lexeme => {
+            _ => {
                 spot.call = None;
                 self.unit(spot, lexeme)
             }
@@ -67,11 +110,11 @@ impl Parser {
 
     /// Where an operand begins, within the level of the place.
     #[tactic(auto, unfolding(camelot_grammar::specs::Machine::pre_step), using(crate::proofs::LevelLemmas::pre_too_deep))]
-    fn want_pre(&mut self, mut spot: Box<Spot>, lexeme: Lexeme) -> Result<State, Halt>
-        requires { IsSmall lexeme }
-        ensures { Does (pre_step (lefts_of spot.value.lefts) (nots_of spot.value.nots.items) spot.value.level lexeme (stack_of self.old.stack.items)) self.new.stack.items result }
+    fn want_pre(&mut self, mut spot: Box<Spot>, lexeme: &TokenView<'_>) -> Result<(), Halt>
+        requires { IsSmall (seen lexeme.now) }
+        ensures { Does (pre_step (lefts_of spot.value.lefts) (nots_of spot.value.nots.items) spot.value.level (seen lexeme.now) (stack_of self.old.stack.items)) self.new result }
     {
-        if !begins_pre(&lexeme) {
+        if !begins_pre(lexeme) {
             return Err(Halt::Stuck);
         }
         match deeper(spot.level) {
@@ -85,36 +128,23 @@ impl Parser {
 
     /// Where an expression begins with an operand.
     #[tactic(auto, unfolding(camelot_grammar::specs::Machine::pre_step), using(crate::proofs::LevelLemmas::begin_too_deep))]
-    fn begin(&mut self, around: u32, lexeme: Lexeme) -> Result<State, Halt>
-        requires { IsSmall lexeme }
-        ensures { Does (pre_step (lefts (suc around) None None None None None) [] (suc around) lexeme (stack_of self.old.stack.items)) self.new.stack.items result }
+    fn begin(&mut self, around: u32, lexeme: &TokenView<'_>) -> Result<(), Halt>
+        requires { IsSmall (seen lexeme.now) }
+        ensures { Does (pre_step (lefts (suc around) None None None None None) [] (suc around) (seen lexeme.now) (stack_of self.old.stack.items)) self.new result }
     {
-        if !begins_pre(&lexeme) {
+        if !begins_pre(lexeme) {
             return Err(Halt::Stuck);
         }
         let around = deeper(around)?;
-        let spot = Spot {
-            lefts: Lefts {
-                around,
-                ors: None,
-                ands: None,
-                cmp: None,
-                sum: None,
-                prod: None,
-            },
-            nots: Vec::new(self.alloc),
-            level: around,
-            call: None,
-        };
-        let spot = Box::new(self.alloc, spot)?;
+        let spot = self.fresh_spot(around)?;
         self.want_pre(spot, lexeme)
     }
 
     /// Where an operand is wanted, or behind a name and the units behind it so far.
     #[tactic(auto, unfolding(camelot_grammar::specs::Machine::expr_step))]
-    fn open(&mut self, mut spot: Box<Spot>, lexeme: Lexeme) -> Result<State, Halt>
-        requires { IsSmall lexeme }
-        ensures { Does (expr_step (open_as spot.value.call (slot_of spot.value)) lexeme (stack_of self.old.stack.items)) self.new.stack.items result }
+    fn open(&mut self, mut spot: Box<Spot>, lexeme: &TokenView<'_>) -> Result<(), Halt>
+        requires { IsSmall (seen lexeme.now) }
+        ensures { Does (expr_step (open_as spot.value.call (slot_of spot.value)) (seen lexeme.now) (stack_of self.old.stack.items)) self.new result }
     {
         match spot.call.take() {
             None => self.want_pre(spot, lexeme),
@@ -124,77 +154,86 @@ impl Parser {
 
     /// Where an expression begins.
     #[tactic(auto, unfolding(camelot_grammar::specs::Machine::want_step), using(crate::proofs::StackLemmas::stack_push))]
-    fn want(&mut self, around: u32, lexeme: Lexeme) -> Result<State, Halt>
-        requires { IsSmall lexeme }
-        ensures { Does (want_step around lexeme (stack_of self.old.stack.items)) self.new.stack.items result }
+    fn want(&mut self, around: u32, lexeme: &TokenView<'_>) -> Result<(), Halt>
+        requires { IsSmall (seen lexeme.now) }
+        ensures { Does (want_step around (seen lexeme.now) (stack_of self.old.stack.items)) self.new result }
     {
-        match lexeme {
-            Lexeme::Mark {
+        match *lexeme {
+            TokenView::Mark {
                 mark: Mark::Let,
                 ..
             } => {
                 let level = deeper(around)?;
-                Ok(State::InExpr(ExprState::LetName(level)))
+                self.go(level, State::InExpr(ExprState::LetName(level)))
             }
-            Lexeme::Mark {
+            TokenView::Mark {
                 mark: Mark::If,
                 line,
             } => {
                 let level = deeper(around)?;
                 self.stack.push(Frame::IfCond { level, line })?;
-                Ok(State::InExpr(ExprState::Want(level)))
+                self.go(level, State::InExpr(ExprState::Want(level)))
             }
-            Lexeme::Mark {
+            TokenView::Mark {
                 mark: Mark::Match,
                 line,
             } => {
                 let level = deeper(around)?;
                 self.stack.push(Frame::MatchOn { level, line })?;
-                Ok(State::InExpr(ExprState::Want(level)))
+                self.go(level, State::InExpr(ExprState::Want(level)))
             }
-            lexeme => self.begin(around, lexeme),
+            _ => self.begin(around, lexeme),
         }
     }
 
     /// Behind a minus sign before a number.
     #[tactic(auto, unfolding(camelot_grammar::specs::Machine::negative_step))]
-    fn minus(&mut self, spot: Box<Spot>, line: u32, lexeme: Lexeme) -> Result<State, Halt>
-        requires { IsSmall lexeme }
-        ensures { Does (negative_step (slot_of spot.value) line lexeme (stack_of self.old.stack.items)) self.new.stack.items result }
+    fn minus(&mut self, spot: Box<Spot>, line: u32, lexeme: &TokenView<'_>) -> Result<(), Halt>
+        requires { IsSmall (seen lexeme.now) }
+        ensures { Does (negative_step (slot_of spot.value) line (seen lexeme.now) (stack_of self.old.stack.items)) self.new result }
     {
         let level = spot.level;
-        let tree = match lexeme {
-            Lexeme::Number { value, .. } => negative(value, line),
-            Lexeme::Greatest { .. } => negative(2_147_483_648, line),
+        let tree = match *lexeme {
+            TokenView::Number { value, .. } => negative(value, line),
+            TokenView::Greatest { .. } => negative(2_147_483_648, line),
             _ => return Err(Halt::Stuck),
         };
         let operand = leaf(self.alloc, tree, line)?;
-        reach(level, State::InExpr(ExprState::Have(spot, operand)))
+        self.go(level, State::InExpr(ExprState::Have(spot, operand)))
     }
 
     /// Behind the `let` of an expression.
     #[tactic(auto, unfolding(camelot_grammar::specs::Machine::let_step))]
-    fn let_name(&mut self, level: u32, lexeme: Lexeme) -> Result<State, Halt>
-        ensures { Does (let_step (LetName level) lexeme (stack_of self.old.stack.items)) self.new.stack.items result }
+    fn let_name(&mut self, level: u32, lexeme: &TokenView<'_>) -> Result<(), Halt>
+        ensures { Does (let_step (LetName level) (seen lexeme.now) (stack_of self.old.stack.items)) self.new result }
     {
-        match lexeme {
-            Lexeme::Lower(name) => reach(level, State::InExpr(ExprState::LetEquals(level, name))),
+        match *lexeme {
+            TokenView::Lower { word, line } => {
+                let name = to_name(self.alloc, word, line)?;
+                let name = Box::new(self.alloc, name)?;
+                self.go(level, State::InExpr(ExprState::LetEquals(level, name)))
+            }
             _ => Err(Halt::Stuck),
         }
     }
 
     /// Behind the name that a `let` binds.
     #[tactic(auto, unfolding(camelot_grammar::specs::Machine::let_step), using(crate::proofs::StackLemmas::stack_push))]
-    fn let_equals(&mut self, level: u32, name: Name, lexeme: Lexeme) -> Result<State, Halt>
-        ensures { Does (let_step (LetEquals level name) lexeme (stack_of self.old.stack.items)) self.new.stack.items result }
+    fn let_equals(
+        &mut self,
+        level: u32,
+        name: Box<Name>,
+        lexeme: &TokenView<'_>,
+    ) -> Result<(), Halt>
+        ensures { Does (let_step (LetEquals level name.value) (seen lexeme.now) (stack_of self.old.stack.items)) self.new result }
     {
-        match lexeme {
-            Lexeme::Mark {
+        match *lexeme {
+            TokenView::Mark {
                 mark: Mark::Equal,
                 ..
             } => {
                 self.stack.push(Frame::LetValue { level, name })?;
-                reach(level, State::InExpr(ExprState::Want(level)))
+                self.go(level, State::InExpr(ExprState::Want(level)))
             }
             _ => Err(Halt::Stuck),
         }
@@ -202,9 +241,9 @@ impl Parser {
 
     /// One token of an expression.
     #[tactic(auto, unfolding(camelot_grammar::specs::Machine::expr_step))]
-    pub fn expr(&mut self, state: ExprState, lexeme: Lexeme) -> Result<State, Halt>
-        requires { IsSmall lexeme }
-        ensures { Does (expr_step (expr_of state) lexeme (stack_of self.old.stack.items)) self.new.stack.items result }
+    pub fn expr(&mut self, state: ExprState, lexeme: &TokenView<'_>) -> Result<(), Halt>
+        requires { IsSmall (seen lexeme.now) }
+        ensures { Does (expr_step (expr_of state) (seen lexeme.now) (stack_of self.old.stack.items)) self.new result }
     {
         match state {
             ExprState::Want(around) => self.want(around, lexeme),
@@ -214,8 +253,8 @@ impl Parser {
             ExprState::Negative(spot, line) => self.minus(spot, line, lexeme),
             ExprState::Have(spot, operand) => self.after_operand(spot, operand, lexeme),
             ExprState::Con(spot, con) => self.con(spot, con, lexeme),
-            ExprState::Full(spot, con, args) => self.full(spot, con, args, lexeme),
-            ExprState::Placed(spot, con, args) => self.placed(spot, con, args, lexeme),
+            ExprState::Full(spot, build) => self.full(spot, build, lexeme),
+            ExprState::Placed(spot, build) => self.placed(spot, build, lexeme),
             ExprState::Whole(tree) => self.close(tree, lexeme),
         }
     }

@@ -3,12 +3,13 @@
 ghost use Rattle.std.specs.Prelude.{◌≡◌, ◌++◌, [], ◌∷◌, MatchResult, Some, None, false};
 ghost use Rattle.camelot_syntax.specs.declared.state.Halt.TheVariants.{Memory};
 ghost use Rattle.camelot_grammar.specs.Machine.{Goes, InExpr, Want, Body, fun_step, param_step, with_param, FunName, FirstParam, NextParam, ResultKind, ResultEquals, OpenParam, ReadParam, ParamName, ParamKind, ParamClose};
-ghost use Rattle.camelot_syntax.specs.States.{Does, decls_of, stack_of, fun_draft_of};
+ghost use Rattle.camelot_syntax.specs.States.{Does, seen, decls_of, stack_of, fun_draft_of};
 
 use crate::decls::atom;
 use crate::parser::Parser;
 use crate::state::{DeclState, Decls, ExprState, Frame, FunDraft, Halt, State};
-use camelot_grammar::{Lexeme, Mark};
+use crate::words::{TokenView, to_name};
+use camelot_grammar::Mark;
 use camelot_tree::{Atom, Name, Param};
 
 /// The declaration with one more parameter.
@@ -21,11 +22,14 @@ fn with_param(mut draft: Box<FunDraft>, param: Param) -> Result<Box<FunDraft>, H
 
 impl Parser {
     #[tactic(auto, unfolding(camelot_grammar::specs::Machine::fun_step))]
-    pub fn fun_name(&mut self, decls: Box<Decls>, lexeme: Lexeme) -> Result<State, Halt>
-        ensures { Does (fun_step (FunName (decls_of decls.value)) lexeme (stack_of self.old.stack.items)) self.new.stack.items result }
+    pub fn fun_name(&mut self, decls: Box<Decls>, lexeme: &TokenView<'_>) -> Result<(), Halt>
+        ensures { Does (fun_step (FunName (decls_of decls.value)) (seen lexeme.now) (stack_of self.old.stack.items)) self.new result }
     {
-        match lexeme {
-            Lexeme::Lower(name) => Ok(State::InDecl(DeclState::FirstParam(decls, name))),
+        match *lexeme {
+            TokenView::Lower { word, line } => {
+                let name = to_name(self.alloc, word, line)?;
+                self.go(0, State::InDecl(DeclState::FirstParam(decls, name)))
+            }
             _ => Err(Halt::Stuck),
         }
     }
@@ -35,18 +39,20 @@ impl Parser {
         &mut self,
         decls: Box<Decls>,
         name: Name,
-        lexeme: Lexeme,
-    ) -> Result<State, Halt>
-        ensures { Does (fun_step (FirstParam (decls_of decls.value) name) lexeme (stack_of self.old.stack.items)) self.new.stack.items result }
+        lexeme: &TokenView<'_>,
+    ) -> Result<(), Halt>
+        ensures { Does (fun_step (FirstParam (decls_of decls.value) name) (seen lexeme.now) (stack_of self.old.stack.items)) self.new result }
     {
         let draft = FunDraft {
             before: decls,
             name,
             params: Vec::new(self.alloc),
+            result: None,
         };
         let draft = Box::new(self.alloc, draft)?;
-        match lexeme {
-            Lexeme::Lower(name) => {
+        match *lexeme {
+            TokenView::Lower { word, line } => {
+                let name = to_name(self.alloc, word, line)?;
                 let draft = with_param(
                     draft,
                     Param {
@@ -55,34 +61,33 @@ impl Parser {
                         kind: None,
                     },
                 )?;
-                Ok(State::InDecl(DeclState::NextParam(draft)))
+                self.go(0, State::InDecl(DeclState::NextParam(draft)))
             }
-            Lexeme::Mark {
+            TokenView::Mark {
                 mark: Mark::Open,
                 ..
-            } => Ok(State::InDecl(DeclState::OpenParam(draft))),
+            } => self.go(0, State::InDecl(DeclState::OpenParam(draft))),
             _ => Err(Halt::Stuck),
         }
     }
 
-    /// The body of a function comes next.
+    /// The body of a function comes next, whose result has this type, if one is written.
     #[tactic(auto, using(crate::proofs::StackLemmas::stack_push))]
-    fn body(&mut self, draft: Box<FunDraft>, result_kind: Option<Atom>) -> Result<State, Halt>
-        ensures { Does (Goes 0 (InExpr (Want 0)) (Body (fun_draft_of draft.value) result_kind ∷ stack_of self.old.stack.items)) self.new.stack.items result }
+    fn body(&mut self, mut draft: Box<FunDraft>, result_kind: Option<Atom>) -> Result<(), Halt>
+        ensures { Does (Goes 0 (InExpr (Want 0)) (Body (fun_draft_of draft.value) result_kind ∷ stack_of self.old.stack.items)) self.new result }
     {
-        self.stack.push(Frame::Body {
-            draft,
-            result: result_kind,
-        })?;
-        Ok(State::InExpr(ExprState::Want(0)))
+        draft.result = result_kind;
+        self.stack.push(Frame::Body { draft })?;
+        self.go(0, State::InExpr(ExprState::Want(0)))
     }
 
     #[tactic(auto, unfolding(camelot_grammar::specs::Machine::fun_step))]
-    pub fn next_param(&mut self, draft: Box<FunDraft>, lexeme: Lexeme) -> Result<State, Halt>
-        ensures { Does (fun_step (NextParam (fun_draft_of draft.value)) lexeme (stack_of self.old.stack.items)) self.new.stack.items result }
+    pub fn next_param(&mut self, draft: Box<FunDraft>, lexeme: &TokenView<'_>) -> Result<(), Halt>
+        ensures { Does (fun_step (NextParam (fun_draft_of draft.value)) (seen lexeme.now) (stack_of self.old.stack.items)) self.new result }
     {
-        match lexeme {
-            Lexeme::Lower(name) => {
+        match *lexeme {
+            TokenView::Lower { word, line } => {
+                let name = to_name(self.alloc, word, line)?;
                 let draft = with_param(
                     draft,
                     Param {
@@ -91,17 +96,17 @@ impl Parser {
                         kind: None,
                     },
                 )?;
-                Ok(State::InDecl(DeclState::NextParam(draft)))
+                self.go(0, State::InDecl(DeclState::NextParam(draft)))
             }
-            Lexeme::Mark {
+            TokenView::Mark {
                 mark: Mark::Open,
                 ..
-            } => Ok(State::InDecl(DeclState::OpenParam(draft))),
-            Lexeme::Mark {
+            } => self.go(0, State::InDecl(DeclState::OpenParam(draft))),
+            TokenView::Mark {
                 mark: Mark::Colon,
                 ..
-            } => Ok(State::InDecl(DeclState::ResultKind(draft))),
-            Lexeme::Mark {
+            } => self.go(0, State::InDecl(DeclState::ResultKind(draft))),
+            TokenView::Mark {
                 mark: Mark::Equal,
                 ..
             } => self.body(draft, None),
@@ -110,11 +115,11 @@ impl Parser {
     }
 
     #[tactic(auto, unfolding(camelot_grammar::specs::Machine::fun_step))]
-    pub fn result_kind(&mut self, draft: Box<FunDraft>, lexeme: Lexeme) -> Result<State, Halt>
-        ensures { Does (fun_step (ResultKind (fun_draft_of draft.value)) lexeme (stack_of self.old.stack.items)) self.new.stack.items result }
+    pub fn result_kind(&mut self, draft: Box<FunDraft>, lexeme: &TokenView<'_>) -> Result<(), Halt>
+        ensures { Does (fun_step (ResultKind (fun_draft_of draft.value)) (seen lexeme.now) (stack_of self.old.stack.items)) self.new result }
     {
-        match atom(lexeme) {
-            Some(kind) => Ok(State::InDecl(DeclState::ResultEquals(draft, kind))),
+        match atom(self.alloc, lexeme)? {
+            Some(kind) => self.go(0, State::InDecl(DeclState::ResultEquals(draft, kind))),
             None => Err(Halt::Stuck),
         }
     }
@@ -124,12 +129,12 @@ impl Parser {
         &mut self,
         draft: Box<FunDraft>,
         kind: Atom,
-        lexeme: Lexeme,
-    ) -> Result<State, Halt>
-        ensures { Does (fun_step (ResultEquals (fun_draft_of draft.value) kind) lexeme (stack_of self.old.stack.items)) self.new.stack.items result }
+        lexeme: &TokenView<'_>,
+    ) -> Result<(), Halt>
+        ensures { Does (fun_step (ResultEquals (fun_draft_of draft.value) kind) (seen lexeme.now) (stack_of self.old.stack.items)) self.new result }
     {
-        match lexeme {
-            Lexeme::Mark {
+        match *lexeme {
+            TokenView::Mark {
                 mark: Mark::Equal,
                 ..
             } => self.body(draft, Some(kind)),
@@ -138,25 +143,31 @@ impl Parser {
     }
 
     #[tactic(auto, unfolding(camelot_grammar::specs::Machine::param_step))]
-    pub fn open_param(&mut self, draft: Box<FunDraft>, lexeme: Lexeme) -> Result<State, Halt>
-        ensures { Does (param_step (OpenParam (fun_draft_of draft.value)) lexeme (stack_of self.old.stack.items)) self.new.stack.items result }
+    pub fn open_param(&mut self, draft: Box<FunDraft>, lexeme: &TokenView<'_>) -> Result<(), Halt>
+        ensures { Does (param_step (OpenParam (fun_draft_of draft.value)) (seen lexeme.now) (stack_of self.old.stack.items)) self.new result }
     {
-        match lexeme {
-            Lexeme::Mark {
+        match *lexeme {
+            TokenView::Mark {
                 mark: Mark::Read,
                 ..
-            } => Ok(State::InDecl(DeclState::ReadParam(draft))),
-            Lexeme::Lower(name) => Ok(State::InDecl(DeclState::ParamName(draft, name, false))),
+            } => self.go(0, State::InDecl(DeclState::ReadParam(draft))),
+            TokenView::Lower { word, line } => {
+                let name = to_name(self.alloc, word, line)?;
+                self.go(0, State::InDecl(DeclState::ParamName(draft, name, false)))
+            }
             _ => Err(Halt::Stuck),
         }
     }
 
     #[tactic(auto, unfolding(camelot_grammar::specs::Machine::param_step))]
-    pub fn read_param(&mut self, draft: Box<FunDraft>, lexeme: Lexeme) -> Result<State, Halt>
-        ensures { Does (param_step (ReadParam (fun_draft_of draft.value)) lexeme (stack_of self.old.stack.items)) self.new.stack.items result }
+    pub fn read_param(&mut self, draft: Box<FunDraft>, lexeme: &TokenView<'_>) -> Result<(), Halt>
+        ensures { Does (param_step (ReadParam (fun_draft_of draft.value)) (seen lexeme.now) (stack_of self.old.stack.items)) self.new result }
     {
-        match lexeme {
-            Lexeme::Lower(name) => Ok(State::InDecl(DeclState::ParamName(draft, name, true))),
+        match *lexeme {
+            TokenView::Lower { word, line } => {
+                let name = to_name(self.alloc, word, line)?;
+                self.go(0, State::InDecl(DeclState::ParamName(draft, name, true)))
+            }
             _ => Err(Halt::Stuck),
         }
     }
@@ -167,16 +178,16 @@ impl Parser {
         draft: Box<FunDraft>,
         name: Name,
         read: bool,
-        lexeme: Lexeme,
-    ) -> Result<State, Halt>
-        ensures { Does (param_step (ParamName (fun_draft_of draft.value) name read) lexeme (stack_of self.old.stack.items)) self.new.stack.items result }
+        lexeme: &TokenView<'_>,
+    ) -> Result<(), Halt>
+        ensures { Does (param_step (ParamName (fun_draft_of draft.value) name read) (seen lexeme.now) (stack_of self.old.stack.items)) self.new result }
     {
-        match lexeme {
-            Lexeme::Mark {
+        match *lexeme {
+            TokenView::Mark {
                 mark: Mark::Colon,
                 ..
-            } => Ok(State::InDecl(DeclState::ParamKind(draft, name, read))),
-            Lexeme::Mark {
+            } => self.go(0, State::InDecl(DeclState::ParamKind(draft, name, read))),
+            TokenView::Mark {
                 mark: Mark::Close,
                 ..
             } => {
@@ -188,7 +199,7 @@ impl Parser {
                         kind: None,
                     },
                 )?;
-                Ok(State::InDecl(DeclState::NextParam(draft)))
+                self.go(0, State::InDecl(DeclState::NextParam(draft)))
             }
             _ => Err(Halt::Stuck),
         }
@@ -200,11 +211,11 @@ impl Parser {
         draft: Box<FunDraft>,
         name: Name,
         read: bool,
-        lexeme: Lexeme,
-    ) -> Result<State, Halt>
-        ensures { Does (param_step (ParamKind (fun_draft_of draft.value) name read) lexeme (stack_of self.old.stack.items)) self.new.stack.items result }
+        lexeme: &TokenView<'_>,
+    ) -> Result<(), Halt>
+        ensures { Does (param_step (ParamKind (fun_draft_of draft.value) name read) (seen lexeme.now) (stack_of self.old.stack.items)) self.new result }
     {
-        match atom(lexeme) {
+        match atom(self.alloc, lexeme)? {
             Some(kind) => {
                 let param = Param {
                     name,
@@ -212,7 +223,7 @@ impl Parser {
                     kind: Some(kind),
                 };
                 let param = Box::new(self.alloc, param)?;
-                Ok(State::InDecl(DeclState::ParamClose(draft, param)))
+                self.go(0, State::InDecl(DeclState::ParamClose(draft, param)))
             }
             None => Err(Halt::Stuck),
         }
@@ -223,17 +234,17 @@ impl Parser {
         &mut self,
         draft: Box<FunDraft>,
         param: Box<Param>,
-        lexeme: Lexeme,
-    ) -> Result<State, Halt>
-        ensures { Does (param_step (ParamClose (fun_draft_of draft.value) param.value) lexeme (stack_of self.old.stack.items)) self.new.stack.items result }
+        lexeme: &TokenView<'_>,
+    ) -> Result<(), Halt>
+        ensures { Does (param_step (ParamClose (fun_draft_of draft.value) param.value) (seen lexeme.now) (stack_of self.old.stack.items)) self.new result }
     {
-        match lexeme {
-            Lexeme::Mark {
+        match *lexeme {
+            TokenView::Mark {
                 mark: Mark::Close,
                 ..
             } => {
                 let draft = with_param(draft, Box::into_inner(param))?;
-                Ok(State::InDecl(DeclState::NextParam(draft)))
+                self.go(0, State::InDecl(DeclState::NextParam(draft)))
             }
             _ => Err(Halt::Stuck),
         }

@@ -7,7 +7,7 @@ ghost use Rattle.camelot_grammar.specs.Program.{join, negated};
 ghost use Rattle.camelot_grammar.specs.Machine.{finished, negated_all, within};
 ghost use Rattle.camelot_syntax.specs.States.{operand_of, joint_of, some_left, nots_of};
 
-use crate::state::{Halt, Joint, Left, Operand, State};
+use crate::state::{Halt, Joint, Left, Operand};
 use camelot_tree::{Expr, Name, PrimOp};
 use std::alloc::Global;
 
@@ -15,6 +15,7 @@ use std::alloc::Global;
 pub const LIMIT: u32 = 200;
 
 /// The level of a part that begins within this level.
+#[inline]
 pub fn deeper(around: u32) -> Result<u32, Halt>
     ensures { MatchResult result (λ level. (level ≡ suc around) × (level ≤ 200)) (λ halt. (halt ≡ Deep) × (200 < suc around)) }
 {
@@ -25,6 +26,7 @@ pub fn deeper(around: u32) -> Result<u32, Halt>
 }
 
 /// The level around what follows an operator of this level.
+#[inline]
 pub fn behind(level: u32) -> Result<u32, Halt>
     ensures { MatchResult result (λ inner. (inner ≡ suc level) × (level ≤ 200)) (λ halt. (halt ≡ Deep) × (200 < level)) }
 {
@@ -34,17 +36,8 @@ pub fn behind(level: u32) -> Result<u32, Halt>
     Ok(level + 1)
 }
 
-/// The state behind a token of this level.
-pub fn reach(level: u32, state: State) -> Result<State, Halt>
-    ensures { MatchResult result (λ reached. (reached ≡ state) × (level ≤ 200)) (λ halt. (halt ≡ Deep) × (200 < level)) }
-{
-    if level > LIMIT {
-        return Err(Halt::Deep);
-    }
-    Ok(state)
-}
-
 /// The level of the next operator of a rank.
+#[inline]
 pub fn within(left: &Option<Left>, around: u32) -> u32
     ensures { result ≡ within (some_left left.now) around }
 {
@@ -149,6 +142,7 @@ impl Left {
 }
 
 /// The chain of one rank with its last operand.
+#[inline]
 pub fn finish(alloc: Global, left: Option<Left>, right: Operand) -> Result<Operand, Halt>
     ensures { MatchResult result (λ whole. operand_of whole ≡ finished (some_left left) (operand_of right)) (λ halt. halt ≡ Memory) }
 {

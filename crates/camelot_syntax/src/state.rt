@@ -1,5 +1,5 @@
 //! What the parser holds between two tokens: where it stands, and what is to be finished later. What is large stands in
-//! boxes, since the state goes from hand to hand at each token.
+//! boxes, since states and frames are moved at each token.
 
 ghost use Rattle.std.specs.Prelude.{◌≡◌};
 ghost use Rattle.camelot_syntax.specs.declared.state.Halt.TheVariants.{Memory};
@@ -63,6 +63,13 @@ pub struct Spot {
     pub call: Option<Callee>,
 }
 
+/// A constructor with the arguments so far.
+#[derive(Drop)]
+pub struct Building {
+    pub con: Name,
+    pub args: Vec<Expr>,
+}
+
 /// A match with the arms so far.
 #[derive(Drop)]
 pub struct Matching {
@@ -95,12 +102,21 @@ pub struct TypeDraft {
     pub cons: Vec<ConDecl>,
 }
 
+/// A constructor's declaration with the fields so far.
+#[derive(Drop)]
+pub struct ConDraft {
+    pub name: Name,
+    pub fields: Vec<Atom>,
+}
+
 /// The declaration of a function with the parameters so far.
 #[derive(Drop)]
 pub struct FunDraft {
     pub before: Box<Decls>,
     pub name: Name,
     pub params: Vec<Param>,
+    /// The type of the result, where one is written and read.
+    pub result: Option<Atom>,
 }
 
 /// An expression that is being read, within what goes on behind it.
@@ -108,7 +124,6 @@ pub struct FunDraft {
 pub enum Frame {
     Body {
         draft: Box<FunDraft>,
-        result: Option<Atom>,
     },
     Paren {
         spot: Box<Spot>,
@@ -116,15 +131,14 @@ pub enum Frame {
     },
     Args {
         spot: Box<Spot>,
-        con: Name,
-        args: Vec<Expr>,
+        build: Box<Building>,
     },
     LetValue {
         level: u32,
-        name: Name,
+        name: Box<Name>,
     },
     LetBody {
-        name: Name,
+        name: Box<Name>,
         value: Box<Expr>,
     },
     IfCond {
@@ -174,8 +188,8 @@ pub enum DeclState {
     WantCon(Box<TypeDraft>),
     InlineCon(Box<TypeDraft>),
     BareCon(Box<TypeDraft>, Name),
-    WantField(Box<TypeDraft>, Name, Vec<Atom>),
-    HaveField(Box<TypeDraft>, Name, Vec<Atom>),
+    WantField(Box<TypeDraft>, Box<ConDraft>),
+    HaveField(Box<TypeDraft>, Box<ConDraft>),
     HaveCon(Box<TypeDraft>),
     FunName(Box<Decls>),
     FirstParam(Box<Decls>, Name),
@@ -194,14 +208,14 @@ pub enum DeclState {
 pub enum ExprState {
     Want(u32),
     LetName(u32),
-    LetEquals(u32, Name),
+    LetEquals(u32, Box<Name>),
     /// Where an operand is wanted, or behind a name and the units behind it so far.
     Open(Box<Spot>),
     Negative(Box<Spot>, u32),
     Have(Box<Spot>, Operand),
     Con(Box<Spot>, Name),
-    Full(Box<Spot>, Name, Vec<Expr>),
-    Placed(Box<Spot>, Name, Vec<Expr>),
+    Full(Box<Spot>, Box<Building>),
+    Placed(Box<Spot>, Box<Building>),
     Whole(Box<Expr>),
 }
 
@@ -210,11 +224,11 @@ pub enum ExprState {
 pub enum ArmState {
     FirstArm(Box<Matching>),
     WantArm(Box<Matching>),
-    ArmCon(Box<Matching>, Name),
-    WantName(Box<Matching>, Name, Vec<Option<Name>>),
-    HaveName(Box<Matching>, Name, Vec<Option<Name>>),
-    HaveNames(Box<Matching>, Name, Vec<Option<Name>>),
-    WantCell(Box<Matching>, Name, Vec<Option<Name>>),
+    ArmCon(Box<Matching>, Box<ArmHead>),
+    WantName(Box<Matching>, Box<ArmHead>),
+    HaveName(Box<Matching>, Box<ArmHead>),
+    HaveNames(Box<Matching>, Box<ArmHead>),
+    WantCell(Box<Matching>, Box<ArmHead>),
     WantArrow(Box<Matching>, Box<ArmHead>),
 }
 

@@ -4,33 +4,34 @@ ghost use Rattle.std.specs.Prelude.{◌≡◌, ◌<◌, ◌≤◌, ◌++◌, ◌
 ghost use Rattle.camelot_syntax.specs.declared.state.Halt.TheVariants.{Memory};
 ghost use Rattle.camelot_tree.specs.Tree.{term_of, Num};
 ghost use Rattle.camelot_grammar.specs.Machine.{unit_done, unit_step, argument_step, applied_step, after_unit, con_unit_step, full_step, placed_step, built, applied_operand, begins_unit, begins_argument, Goes, InExpr};
-ghost use Rattle.camelot_syntax.specs.States.{Does, IsSmall, stack_of, terms_of, operand_of, slot_of, spot_of, expr_of};
+ghost use Rattle.camelot_syntax.specs.States.{Does, seen, IsSmall, stack_of, terms_of, operand_of, slot_of, spot_of, expr_of};
 
-use crate::operand::{leaf, reach};
+use crate::operand::leaf;
 use crate::parser::Parser;
-use crate::state::{Callee, ExprState, Frame, Halt, Operand, Spot, State};
-use camelot_grammar::{Lexeme, Mark};
+use crate::state::{Building, Callee, ExprState, Frame, Halt, Operand, Spot, State};
+use crate::words::{TokenView, to_name};
+use camelot_grammar::Mark;
 use camelot_tree::{Expr, Name};
 use std::alloc::Global;
 
 /// Whether a unit that isn't a name begins with this token.
-fn begins_unit(lexeme: &Lexeme) -> bool
-    ensures { result ≡ begins_unit lexeme.now }
+fn begins_unit(lexeme: &TokenView<'_>) -> bool
+    ensures { result ≡ begins_unit (seen lexeme.now) }
 {
-    match lexeme {
-        Lexeme::Number { .. } | Lexeme::Upper(_) => true,
-        Lexeme::Mark { mark, .. } => { matches!(mark, Mark::True | Mark::False | Mark::Open) }
+    match *lexeme {
+        TokenView::Number { .. } | TokenView::Upper { .. } => true,
+        TokenView::Mark { mark, .. } => { matches!(mark, Mark::True | Mark::False | Mark::Open) }
         _ => false,
     }
 }
 
 /// Whether an argument of a call begins with this token.
-pub fn begins_argument(lexeme: &Lexeme) -> bool
-    ensures { result ≡ begins_argument lexeme.now }
+pub fn begins_argument(lexeme: &TokenView<'_>) -> bool
+    ensures { result ≡ begins_argument (seen lexeme.now) }
 {
-    match lexeme {
-        Lexeme::Lower(_) => true,
-        lexeme => begins_unit(lexeme),
+    match *lexeme {
+        TokenView::Lower { .. } => true,
+        _ => begins_unit(lexeme),
     }
 }
 
@@ -58,7 +59,7 @@ pub fn negative(value: u32, line: u32) -> Expr
 }
 
 /// The constructor with its arguments, in the cell of the diamond `place` where one is named.
-fn build(
+fn built(
     alloc: Global,
     con: Name,
     mut args: Vec<Expr>,
@@ -116,32 +117,24 @@ impl Callee {
     }
 }
 
-/// The unit at this place is read.
-fn unit_done(mut spot: Box<Spot>, operand: Operand) -> Result<ExprState, Halt>
-    ensures { MatchResult result (λ state. expr_of state ≡ unit_done (spot_of spot.value) (operand_of operand)) (λ halt. halt ≡ Memory) }
-{
-    match spot.call.take() {
-        None => Ok(ExprState::Have(spot, operand)),
-        Some(callee) => {
-            spot.call = Some(callee.with(operand.tree)?);
-            Ok(ExprState::Open(spot))
-        }
-    }
-}
-
 impl Parser {
     /// The unit here is read.
-    pub fn take_unit(&mut self, spot: Box<Spot>, operand: Operand) -> Result<State, Halt>
-        ensures { Does (Goes spot.value.level (InExpr (unit_done (spot_of spot.value) (operand_of operand))) (stack_of self.old.stack.items)) self.new.stack.items result }
+    pub fn take_unit(&mut self, mut spot: Box<Spot>, operand: Operand) -> Result<(), Halt>
+        ensures { Does (Goes spot.value.level (InExpr (unit_done (spot_of spot.value) (operand_of operand))) (stack_of self.old.stack.items)) self.new result }
     {
         let level = spot.level;
-        let state = unit_done(spot, operand)?;
-        reach(level, State::InExpr(state))
+        match spot.call.take() {
+            None => self.go(level, State::InExpr(ExprState::Have(spot, operand))),
+            Some(callee) => {
+                spot.call = Some(callee.with(operand.tree)?);
+                self.go(level, State::InExpr(ExprState::Open(spot)))
+            }
+        }
     }
 
     /// The unit here is this expression of one token.
-    fn take_leaf(&mut self, spot: Box<Spot>, tree: Expr, line: u32) -> Result<State, Halt>
-        ensures { Does (Goes spot.value.level (InExpr (unit_done (spot_of spot.value) (record { term = term_of tree; line = line }))) (stack_of self.old.stack.items)) self.new.stack.items result }
+    fn take_leaf(&mut self, spot: Box<Spot>, tree: Expr, line: u32) -> Result<(), Halt>
+        ensures { Does (Goes spot.value.level (InExpr (unit_done (spot_of spot.value) (record { term = term_of tree; line = line }))) (stack_of self.old.stack.items)) self.new result }
     {
         let operand = leaf(self.alloc, tree, line)?;
         self.take_unit(spot, operand)
@@ -149,28 +142,31 @@ impl Parser {
 
     /// At a unit that isn't a name.
     #[tactic(auto, unfolding(camelot_grammar::specs::Machine::unit_step), using(crate::proofs::StackLemmas::stack_push))]
-    pub fn unit(&mut self, spot: Box<Spot>, lexeme: Lexeme) -> Result<State, Halt>
-        requires { IsSmall lexeme }
-        ensures { Does (unit_step (spot_of spot.value) lexeme (stack_of self.old.stack.items)) self.new.stack.items result }
+    pub fn unit(&mut self, spot: Box<Spot>, lexeme: &TokenView<'_>) -> Result<(), Halt>
+        requires { IsSmall (seen lexeme.now) }
+        ensures { Does (unit_step (spot_of spot.value) (seen lexeme.now) (stack_of self.old.stack.items)) self.new result }
     {
         let level = spot.level;
-        match lexeme {
-            Lexeme::Number { value, line } => self.take_leaf(spot, number(value, line), line),
-            Lexeme::Mark {
+        match *lexeme {
+            TokenView::Number { value, line } => self.take_leaf(spot, number(value, line), line),
+            TokenView::Mark {
                 mark: Mark::True,
                 line,
             } => self.take_leaf(spot, Expr::Truth { value: true, line }, line),
-            Lexeme::Mark {
+            TokenView::Mark {
                 mark: Mark::False,
                 line,
             } => self.take_leaf(spot, Expr::Truth { value: false, line }, line),
-            Lexeme::Upper(name) => reach(level, State::InExpr(ExprState::Con(spot, name))),
-            Lexeme::Mark {
+            TokenView::Upper { word, line } => {
+                let con = to_name(self.alloc, word, line)?;
+                self.go(level, State::InExpr(ExprState::Con(spot, con)))
+            }
+            TokenView::Mark {
                 mark: Mark::Open,
                 line,
             } => {
                 self.stack.push(Frame::Paren { spot, line })?;
-                reach(level, State::InExpr(ExprState::Want(level)))
+                self.go(level, State::InExpr(ExprState::Want(level)))
             }
             _ => Err(Halt::Stuck),
         }
@@ -182,18 +178,18 @@ impl Parser {
         &mut self,
         mut spot: Box<Spot>,
         callee: Callee,
-        lexeme: Lexeme,
-    ) -> Result<State, Halt>
-        requires { IsSmall lexeme }
-        ensures { Does (argument_step (slot_of spot.value) callee.fun (terms_of callee.args.items) lexeme (stack_of self.old.stack.items)) self.new.stack.items result }
+        lexeme: &TokenView<'_>,
+    ) -> Result<(), Halt>
+        requires { IsSmall (seen lexeme.now) }
+        ensures { Does (argument_step (slot_of spot.value) callee.fun (terms_of callee.args.items) (seen lexeme.now) (stack_of self.old.stack.items)) self.new result }
     {
         spot.call = Some(callee);
-        match lexeme {
-            Lexeme::Lower(name) => {
-                let line = name.line;
+        match *lexeme {
+            TokenView::Lower { word, line } => {
+                let name = to_name(self.alloc, word, line)?;
                 self.take_leaf(spot, Expr::Var(name), line)
             }
-            lexeme => self.unit(spot, lexeme),
+            _ => self.unit(spot, lexeme),
         }
     }
 
@@ -203,10 +199,10 @@ impl Parser {
         &mut self,
         spot: Box<Spot>,
         callee: Callee,
-        lexeme: Lexeme,
-    ) -> Result<State, Halt>
-        requires { IsSmall lexeme }
-        ensures { Does (applied_step (slot_of spot.value) callee.fun (terms_of callee.args.items) lexeme (stack_of self.old.stack.items)) self.new.stack.items result }
+        lexeme: &TokenView<'_>,
+    ) -> Result<(), Halt>
+        requires { IsSmall (seen lexeme.now) }
+        ensures { Does (applied_step (slot_of spot.value) callee.fun (terms_of callee.args.items) (seen lexeme.now) (stack_of self.old.stack.items)) self.new result }
     {
         if begins_argument(&lexeme) {
             self.argument(spot, callee, lexeme)
@@ -222,10 +218,10 @@ impl Parser {
         &mut self,
         mut spot: Box<Spot>,
         operand: Operand,
-        lexeme: Lexeme,
-    ) -> Result<State, Halt>
-        requires { IsSmall lexeme }
-        ensures { Does (after_unit (spot_of spot.value) (operand_of operand) lexeme (stack_of self.old.stack.items)) self.new.stack.items result }
+        lexeme: &TokenView<'_>,
+    ) -> Result<(), Halt>
+        requires { IsSmall (seen lexeme.now) }
+        ensures { Does (after_unit (spot_of spot.value) (operand_of operand) (seen lexeme.now) (stack_of self.old.stack.items)) self.new result }
     {
         match spot.call.take() {
             None => self.after_operand(spot, operand, lexeme),
@@ -238,25 +234,27 @@ impl Parser {
 
     /// Behind a constructor's name.
     #[tactic(auto, unfolding(camelot_grammar::specs::Machine::con_unit_step), using(crate::proofs::StackLemmas::stack_push))]
-    pub fn con(&mut self, spot: Box<Spot>, con: Name, lexeme: Lexeme) -> Result<State, Halt>
-        requires { IsSmall lexeme }
-        ensures { Does (con_unit_step (spot_of spot.value) con lexeme (stack_of self.old.stack.items)) self.new.stack.items result }
+    pub fn con(&mut self, spot: Box<Spot>, con: Name, lexeme: &TokenView<'_>) -> Result<(), Halt>
+        requires { IsSmall (seen lexeme.now) }
+        ensures { Does (con_unit_step (spot_of spot.value) con (seen lexeme.now) (stack_of self.old.stack.items)) self.new result }
     {
         let level = spot.level;
         let args = Vec::new(self.alloc);
-        match lexeme {
-            Lexeme::Mark {
+        match *lexeme {
+            TokenView::Mark {
                 mark: Mark::Open,
                 ..
             } => {
-                self.stack.push(Frame::Args { spot, con, args })?;
-                reach(level, State::InExpr(ExprState::Want(level)))
+                let build = Box::new(self.alloc, Building { con, args })?;
+                self.stack.push(Frame::Args { spot, build })?;
+                self.go(level, State::InExpr(ExprState::Want(level)))
             }
-            Lexeme::Mark { mark: Mark::At, .. } => {
-                reach(level, State::InExpr(ExprState::Placed(spot, con, args)))
+            TokenView::Mark { mark: Mark::At, .. } => {
+                let build = Box::new(self.alloc, Building { con, args })?;
+                self.go(level, State::InExpr(ExprState::Placed(spot, build)))
             }
-            lexeme => {
-                let operand = build(self.alloc, con, args, None)?;
+            _ => {
+                let operand = built(self.alloc, con, args, None)?;
                 self.after_unit(spot, operand, lexeme)
             }
         }
@@ -267,20 +265,20 @@ impl Parser {
     pub fn full(
         &mut self,
         spot: Box<Spot>,
-        con: Name,
-        args: Vec<Expr>,
-        lexeme: Lexeme,
-    ) -> Result<State, Halt>
-        requires { IsSmall lexeme }
-        ensures { Does (full_step (spot_of spot.value) con (terms_of args.items) lexeme (stack_of self.old.stack.items)) self.new.stack.items result }
+        build: Box<Building>,
+        lexeme: &TokenView<'_>,
+    ) -> Result<(), Halt>
+        requires { IsSmall (seen lexeme.now) }
+        ensures { Does (full_step (spot_of spot.value) build.value.con (terms_of build.value.args.items) (seen lexeme.now) (stack_of self.old.stack.items)) self.new result }
     {
-        match lexeme {
-            Lexeme::Mark { mark: Mark::At, .. } => {
+        match *lexeme {
+            TokenView::Mark { mark: Mark::At, .. } => {
                 let level = spot.level;
-                reach(level, State::InExpr(ExprState::Placed(spot, con, args)))
+                self.go(level, State::InExpr(ExprState::Placed(spot, build)))
             }
-            lexeme => {
-                let operand = build(self.alloc, con, args, None)?;
+            _ => {
+                let Building { con, args } = Box::into_inner(build);
+                let operand = built(self.alloc, con, args, None)?;
                 self.after_unit(spot, operand, lexeme)
             }
         }
@@ -291,15 +289,16 @@ impl Parser {
     pub fn placed(
         &mut self,
         spot: Box<Spot>,
-        con: Name,
-        args: Vec<Expr>,
-        lexeme: Lexeme,
-    ) -> Result<State, Halt>
-        ensures { Does (placed_step (spot_of spot.value) con (terms_of args.items) lexeme (stack_of self.old.stack.items)) self.new.stack.items result }
+        build: Box<Building>,
+        lexeme: &TokenView<'_>,
+    ) -> Result<(), Halt>
+        ensures { Does (placed_step (spot_of spot.value) build.value.con (terms_of build.value.args.items) (seen lexeme.now) (stack_of self.old.stack.items)) self.new result }
     {
-        match lexeme {
-            Lexeme::Lower(diamond) => {
-                let operand = build(self.alloc, con, args, Some(diamond))?;
+        match *lexeme {
+            TokenView::Lower { word, line } => {
+                let diamond = to_name(self.alloc, word, line)?;
+                let Building { con, args } = Box::into_inner(build);
+                let operand = built(self.alloc, con, args, Some(diamond))?;
                 self.take_unit(spot, operand)
             }
             _ => Err(Halt::Stuck),

@@ -1,14 +1,31 @@
-ghost use Rattle.std.specs.Prelude.{◌≡◌, ◌≤◌, ◌∷◌, [], IfOk, IsTrue, map};
+ghost use Rattle.std.specs.Prelude.{◌≡◌, ◌≤◌, ◌∷◌, [], MatchResult, IsTrue, map};
 ghost use Rattle.text_scan.specs.Forms.{is_number, number_value};
 ghost use Rattle.text_scan.specs.Reading.{IsSliceOf};
 ghost use Rattle.text_scan.specs.declared.tokens.TokenKind.TheVariants.{Number};
 ghost use Rattle.camelot_grammar.specs.Lexemes.{mark_in, mark_of, lexeme_of, lexeme_at};
+ghost use Rattle.camelot_syntax.specs.declared.state.Halt.TheVariants.{Memory};
+ghost use Rattle.camelot_syntax.specs.States.{seen};
 
-use camelot_grammar::{Lexeme, Mark};
+use crate::state::Halt;
+use camelot_grammar::Mark;
 use camelot_tree::Name;
 use camelot_values::Word;
-use std::alloc::{AllocError, Global};
+use std::alloc::Global;
 use text_scan::{GREATEST_NUMBER, Token, TokenKind, number_value};
+
+/// A token as the parser reads it: the bytes of a name stand in the text.
+#[derive(Clone, Copy)]
+pub enum TokenView<'a> {
+    Lower { word: &'a [u8], line: u32 },
+    Upper { word: &'a [u8], line: u32 },
+    /// A type variable.
+    Variable { line: u32 },
+    /// A number up to 2147483647.
+    Number { value: u32, line: u32 },
+    /// The number 2147483648: the size of the least `int`.
+    Greatest { line: u32 },
+    Mark { mark: Mark, line: u32 },
+}
 
 /// The words and signs with their texts.
 const MARKS: [(&[u8], Mark); 38] = [
@@ -100,44 +117,44 @@ fn lookup(text: &[u8]) -> Mark
     }
 }
 
-/// The name of these bytes.
-fn name(alloc: Global, bytes: &[u8], line: u32) -> Result<Name, AllocError>
-    ensures { IfOk result (λ name. name ≡ record { word = bytes.now; line = line }) }
-{
-    let word = Word::new(Vec::from_slice(alloc, bytes)?);
-    Ok(Name { word, line })
-}
-
 /// The token of these digits.
 #[tactic(auto, unfolding(camelot_grammar::specs::Lexemes::lexeme_of))]
-fn number(digits: &[u8], line: u32) -> Lexeme
+fn number(digits: &[u8], line: u32) -> TokenView<'static>
     requires form { IsTrue (is_number digits.now) }
     requires short { number_value digits.now ≤ 2147483648 }
-    ensures { result ≡ lexeme_of Number digits.now line }
+    ensures { seen result ≡ lexeme_of Number digits.now line }
 {
     match number_value(digits) {
-        Some(GREATEST_NUMBER) => Lexeme::Greatest { line },
-        Some(value) => Lexeme::Number { value, line },
+        Some(GREATEST_NUMBER) => TokenView::Greatest { line },
+        Some(value) => TokenView::Number { value, line },
         None => unreachable!(),
     }
 }
 
-/// The token as the grammar sees it.
+/// The token of the text at this place.
 #[tactic(auto, unfolding(camelot_grammar::specs::Lexemes::lexeme_of), using(crate::proofs::WordLemmas::short_number))]
-pub fn lexeme_of(alloc: Global, text: &[u8], token: Token) -> Result<Lexeme, AllocError>
+pub fn view(text: &[u8], token: Token) -> TokenView<'_>
     requires { IsSliceOf text.now token }
-    ensures { IfOk result (λ lexeme. lexeme ≡ lexeme_at text.now token) }
+    ensures { seen result ≡ lexeme_at text.now token }
 {
     let line = token.line;
-    let bytes = &text[token.start as usize..token.end as usize];
+    let word = &text[token.start as usize..token.end as usize];
     match token.kind {
-        TokenKind::Lower => Ok(Lexeme::Lower(name(alloc, bytes, line)?)),
-        TokenKind::Upper => Ok(Lexeme::Upper(name(alloc, bytes, line)?)),
-        TokenKind::TypeVar => Ok(Lexeme::Variable { line }),
-        TokenKind::Number => Ok(number(bytes, line)),
+        TokenKind::Lower => TokenView::Lower { word, line },
+        TokenKind::Upper => TokenView::Upper { word, line },
+        TokenKind::TypeVar => TokenView::Variable { line },
+        TokenKind::Number => number(word, line),
         TokenKind::Keyword | TokenKind::Symbol => {
-            let mark = lookup(bytes);
-            Ok(Lexeme::Mark { mark, line })
+            let mark = lookup(word);
+            TokenView::Mark { mark, line }
         }
     }
+}
+
+/// The name of these bytes.
+pub fn to_name(alloc: Global, word: &[u8], line: u32) -> Result<Name, Halt>
+    ensures { MatchResult result (λ name. name ≡ record { word = word.now; line = line }) (λ halt. halt ≡ Memory) }
+{
+    let word = Word::new(Vec::from_slice(alloc, word)?);
+    Ok(Name { word, line })
 }

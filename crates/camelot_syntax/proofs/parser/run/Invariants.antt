@@ -6,4 +6,4 @@ use Rattle.camelot_syntax.proofs.parser.run.Given as goal
 
 abbrev pub invariant-tokens : goal.invariant-tokens
 invariant-tokens l =
-    runs start [] (lexemes l.text l.tokens) ≡ runs (state_of l.state) (stack_of l.parser.stack.items) (lexemes l.text (drop l.at l.tokens))
+    runs start [] (lexemes l.text l.tokens) ≡ runs (state_of l.parser.state) (stack_of l.parser.stack.items) (lexemes l.text (drop l.at l.tokens))
