@@ -1,9 +1,8 @@
 -- The machine's answer is that of the definitions.
-use Rattle.std.proofs.Common.{◌≡◌, ℕ, ◌+◌, ◌-◌, ◌⊎◌, inl, inr, List, [], ◌∷◌, ◌++◌, length, Option, Some, None, refl, sym, ap, ◌∙◌, length-append, arith}
+use Rattle.std.proofs.Common.{◌≡◌, ℕ, ◌-◌, inl, inr, List, [], ◌∷◌, ◌++◌, length, Some, refl, sym, ap, ◌∙◌, length-append, arith}
 use Rattle.camelot_grammar.specs.declared.fault.ParseFault.{ParseFault}
 use Rattle.camelot_grammar.specs.declared.fault.ParseFault.TheVariants as fault
 use Rattle.camelot_grammar.specs.declared.lexeme.Lexeme.{Lexeme}
-use Rattle.camelot_tree.specs.Tree.{Source}
 use Rattle.camelot_grammar.specs.Parsing.{IsFaultAmong, stop_fault, first_line, line_of}
 use Rattle.camelot_grammar.specs.Machine.{runs, start, Yes, Stopped, TooDeep, Result, fault_of}
 use Rattle.camelot_grammar.proofs.Place.{stopped_stops, deep_sinks, stops_stopped, sinks_deep}

@@ -1,11 +1,10 @@
 -- What the machine does behind the last token of a tree, and where a tree may begin.
-use Rattle.std.proofs.Common.{◌≡◌, ℕ, suc, Bool, true, false, if◌then◌else◌, List, [], ◌∷◌, ◌++◌, Option, Some, None, refl, sym, ap, ◌∙◌, pos, ◌-ℤ◌}
+use Rattle.std.proofs.Common.{◌≡◌, ℕ, suc, Bool, true, false, if◌then◌else◌, List, [], ◌∷◌, ◌++◌, Option, Some, None, refl, ap, ◌∙◌}
 use Rattle.camelot_values.specs.Operator as operator
 use Rattle.camelot_tree.specs.declared.tree.Name.{Name}
-use Rattle.camelot_tree.specs.declared.tree.ArmCell.TheVariants as cell
 use Rattle.camelot_grammar.specs.declared.lexeme.Mark.TheVariants as mark
 use Rattle.camelot_grammar.specs.declared.lexeme.Lexeme.{Lexeme}
-use Rattle.camelot_grammar.specs.declared.lexeme.Lexeme.TheVariants.{Lower, Upper, Variable, Number, Greatest, Mark}
+use Rattle.camelot_grammar.specs.declared.lexeme.Lexeme.TheVariants.{Lower, Upper, Number, Mark}
 use Rattle.camelot_tree.specs.Tree as tree
 use Rattle.camelot_tree.specs.Tree.{Term, Source, Branch}
 use Rattle.camelot_grammar.specs.Grammar as gr

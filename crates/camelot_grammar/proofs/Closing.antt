@@ -1,19 +1,18 @@
 -- Each state of the machine goes on to a program: some tokens lead to the end.
-use Rattle.std.proofs.Common.{◌≡◌, ℕ, suc, Bool, true, false, List, [], ◌∷◌, ◌++◌, Option, Some, None, refl, sym, ap, ◌∙◌, pos, lit<, lit≤}
+use Rattle.std.proofs.Common.{◌≡◌, ℕ, false, List, [], ◌∷◌, ◌++◌, Option, Some, None, refl, ap, ◌∙◌, lit<, lit≤}
 use Rattle.std.specs.List.{AllByRecursion}
 use Rattle.text_scan.specs.Forms.{token_kind, is_word, is_symbol, words, symbols}
 use Rattle.camelot_tree.specs.declared.tree.Name.{Name}
 use Rattle.camelot_grammar.specs.declared.lexeme.Mark.TheVariants as mark
 use Rattle.camelot_grammar.specs.declared.lexeme.Lexeme.{Lexeme}
-use Rattle.camelot_grammar.specs.declared.lexeme.Lexeme.TheVariants.{Lower, Upper, Variable, Number, Greatest, Mark}
+use Rattle.camelot_grammar.specs.declared.lexeme.Lexeme.TheVariants.{Lower, Upper, Number, Mark}
 use Rattle.camelot_grammar.specs.Lexemes.{IsReal}
 use Rattle.camelot_tree.specs.Tree as tree
 use Rattle.camelot_tree.specs.Tree.{Term, Source}
-use Rattle.camelot_grammar.specs.Program as pr
 use Rattle.camelot_grammar.specs.Program.{Operand}
 use Rattle.camelot_grammar.specs.Machine as mc
 use Rattle.camelot_grammar.specs.Machine.{State, InDecl, InExpr, InArm, Done, ExprState, Frame, Step, Goes, Slot, Spot, Callee, step, advance}
-use Rattle.camelot_grammar.proofs.Behind.{End, Over, ran, raw, EndsPre, EndsProd, EndsSum, EndsCmp, EndsAnd, EndsOr, ends_or, done_then, full_then, con_then, open_then, applied_then, star_past, sign_past, comparison_past, and_past, or_past}
+use Rattle.camelot_grammar.proofs.Behind.{Over, ran, raw, EndsPre, EndsOr, ends_or, done_then, full_then, con_then, open_then, applied_then, star_past, sign_past, comparison_past, and_past, or_past}
 use Rattle.camelot_grammar.proofs.Concrete as co
 
 abbrev x : Name

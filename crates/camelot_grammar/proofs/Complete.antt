@@ -1,20 +1,17 @@
 -- The machine reads what a tree of the grammar spells, with the tree's levels.
-use Rattle.std.proofs.Common.{◌≡◌, ℕ, suc, Bool, true, false, if◌then◌else◌, List, [], ◌∷◌, ◌++◌, Option, Some, None, refl, sym, ap, ◌∙◌, pos, ◌-ℤ◌}
-use Rattle.camelot_values.specs.Operator as operator
+use Rattle.std.proofs.Common.{◌≡◌, ℕ, suc, List, [], ◌∷◌, ◌++◌, Option, None, refl}
 use Rattle.camelot_tree.specs.declared.tree.Name.{Name}
 use Rattle.camelot_tree.specs.declared.tree.ArmCell.TheVariants as cell
 use Rattle.camelot_grammar.specs.declared.lexeme.Mark.TheVariants as mark
 use Rattle.camelot_grammar.specs.declared.lexeme.Lexeme.{Lexeme}
-use Rattle.camelot_grammar.specs.declared.lexeme.Lexeme.TheVariants.{Lower, Upper, Variable, Number, Greatest, Mark}
-use Rattle.camelot_tree.specs.Tree as tree
-use Rattle.camelot_tree.specs.Tree.{Term, Source, Branch}
+use Rattle.camelot_grammar.specs.declared.lexeme.Lexeme.TheVariants.{Lower, Upper, Number, Mark}
+use Rattle.camelot_tree.specs.Tree.{Term}
 use Rattle.camelot_grammar.specs.Grammar as gr
 use Rattle.camelot_grammar.specs.Program as pr
 use Rattle.camelot_grammar.specs.Program.{Operand}
 use Rattle.camelot_grammar.specs.Levels as lv
 use Rattle.camelot_grammar.specs.Machine as mc
-use Rattle.camelot_tree.specs.declared.tree.Param.{Param}
-use Rattle.camelot_grammar.proofs.Behind.{End, Over, Halts, raw, meter, Config, Gives, at, one, go, slot, alone, behind, reach_solid, reach_firm, reach_bare, reach_units, reach_pre, reach_prod, reach_sum, reach_cmp, reach_and, reach_or, reach_expr, reach_exprs, reach_arm, reach_arms, matching, ends_or, expr_then, prod_joins, sum_joins, sum_compares, and_joins, or_joins, AsSolid, AsUnit, AsPre, want_pre_as, want_as, pre_as_unit, unit_as_solid, units_as, bare_as, units_lower, bare_lower, units_upper, bare_upper, exprs_comma, exprs_close, expr_close, expr_in, expr_to_then, expr_to_else, expr_with, arms_bar, arms_end}
+use Rattle.camelot_grammar.proofs.Behind.{End, Gives, at, one, go, slot, alone, behind, reach_solid, reach_firm, reach_bare, reach_units, reach_pre, reach_prod, reach_sum, reach_cmp, reach_and, reach_or, reach_expr, reach_exprs, reach_arm, reach_arms, matching, prod_joins, sum_joins, sum_compares, and_joins, or_joins, AsSolid, AsUnit, AsPre, want_pre_as, want_as, pre_as_unit, unit_as_solid, units_as, bare_as, units_lower, bare_lower, units_upper, bare_upper, exprs_comma, exprs_close, expr_close, expr_in, expr_to_then, expr_to_else, expr_with, arms_bar, arms_end}
 use Rattle.camelot_grammar.specs.Machine.{State, InDecl, InExpr, InArm, Done, ExprState, Frame, Step, Stuck, Goes, Left, Lefts, Slot, Spot, Callee, step, advance}
 
 -- ---- the head of an arm

@@ -1,5 +1,5 @@
 -- A token of a text is one that the grammar may have.
-use Rattle.std.proofs.Common.{◌≡◌, ℕ, ◌<◌, ◌≤◌, ◌+◌, ◌-◌, ◌==◌, nat_eq, Bool, true, false, ◌||◌, if◌then◌else◌, IsTrue, IsFalse, List, [], ◌∷◌, ◌++◌, map, length, slice_range, refl, sym, ap, ◌∙◌, subst, arith}
+use Rattle.std.proofs.Common.{◌≡◌, ℕ, ◌≤◌, ◌==◌, Bool, true, false, ◌||◌, if◌then◌else◌, IsTrue, List, [], ◌∷◌, ◌++◌, slice_range, refl, sym, ap, subst, arith}
 use Rattle.std.specs.List.{list_any}
 use Rattle.std.specs.Str.{bytes_eq}
 use Rattle.text_scan.specs.Forms.{is_word, is_symbol, words, symbols, number_value, is_long_number, is_long_name, HasForm}
@@ -8,7 +8,6 @@ use Rattle.text_scan.specs.declared.tokens.TokenKind.{TokenKind}
 use Rattle.text_scan.specs.declared.tokens.TokenKind.TheVariants as kind
 use Rattle.text_scan.specs.declared.tokens.Token.{Token}
 use Rattle.camelot_grammar.specs.declared.lexeme.Mark.{Mark}
-use Rattle.camelot_grammar.specs.declared.lexeme.Mark.TheVariants as mark
 use Rattle.camelot_grammar.specs.declared.lexeme.Lexeme.TheVariants as lexeme
 use Rattle.camelot_grammar.specs.Lexemes.{Written, word_marks, sign_marks, marks, mark_in, mark_of, lexeme_of, lexeme_at, IsReal}
 

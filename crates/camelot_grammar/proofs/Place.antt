@@ -1,11 +1,9 @@
 -- What the machine answers is what the definitions say: a program, or the place of the first fault.
-use Rattle.std.proofs.Common.{◌≡◌, ℕ, zero, suc, ◌≤◌, ◌<◌, ◌⊎◌, nat_le, Bool, true, false, if◌then◌else◌, List, [], ◌∷◌, ◌++◌, length, take, get_or, Option, Some, None, refl, sym, ap, ◌∙◌, subst, append-nil, append_assoc, arith}
-use Rattle.std.specs.List.{AllByRecursion}
+use Rattle.std.proofs.Common.{◌≡◌, ℕ, zero, suc, ◌≤◌, ◌<◌, nat_le, Bool, true, false, if◌then◌else◌, List, [], ◌∷◌, ◌++◌, length, take, get_or, refl, sym, ap, ◌∙◌, subst, append-nil, arith}
 use Rattle.std.proofs.Math.Seq.{take-append_seam, get_or-append_seam}
 use Rattle.camelot_grammar.specs.declared.lexeme.Mark.TheVariants as mark
 use Rattle.camelot_grammar.specs.declared.lexeme.Lexeme.{Lexeme}
 use Rattle.camelot_grammar.specs.declared.lexeme.Lexeme.TheVariants.{Mark}
-use Rattle.camelot_grammar.specs.Lexemes.{IsReal}
 use Rattle.camelot_tree.specs.Tree.{Source}
 use Rattle.camelot_grammar.specs.Grammar.{Decls, NoDecls, spell_decls}
 use Rattle.camelot_grammar.specs.Program.{source_of}
@@ -13,11 +11,11 @@ use Rattle.camelot_grammar.specs.Levels.{levels_decls}
 use Rattle.camelot_grammar.specs.Parsing.{limit, AreWithin, IsProgram, BeginsProgram, NoneGoesOn, GoesTooDeep}
 use Rattle.camelot_grammar.specs.Machine as mc
 use Rattle.camelot_grammar.specs.Machine.{State, InDecl, InExpr, InArm, Done, Frame, Step, Stuck, Goes, step, advance, runs, limited, onward, ending, start, Yes, Stopped, TooDeep, Result}
-use Rattle.camelot_grammar.proofs.Behind.{End, Over, Halts, ran, raw, metered, meter, Gives}
+use Rattle.camelot_grammar.proofs.Behind.{Over, Halts, ran, raw, metered, meter}
 use Rattle.camelot_grammar.proofs.CompleteDecls.{program_gives}
 use Rattle.camelot_grammar.proofs.Concrete.{Config, InDecls, Top, state_of, stack_of, so_far}
-use Rattle.camelot_grammar.proofs.Sound.{Kept, Ended, IsEnd, Keeps, step_keeps}
-use Rattle.camelot_grammar.proofs.Closing.{Completes, Completed, completed}
+use Rattle.camelot_grammar.proofs.Sound.{Kept, IsEnd, Keeps, step_keeps}
+use Rattle.camelot_grammar.proofs.Closing.{completed}
 
 -- a token of the text isn't its end
 abbrev Moved : (List Lexeme → List Lexeme) → Lexeme → Step → Type 0

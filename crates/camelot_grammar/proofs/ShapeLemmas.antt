@@ -1,5 +1,5 @@
 -- The program that a tree of the grammar stands for is whole.
-use Rattle.std.proofs.Common.{◌≡◌, ℕ, Bool, true, false, not, ◌&&◌, ◌||◌, List, [], ◌∷◌, ◌++◌, refl, sym, ap, ◌∙◌, subst}
+use Rattle.std.proofs.Common.{◌≡◌, ℕ, Bool, true, false, not, ◌&&◌, List, [], ◌∷◌, ◌++◌, refl, ap, subst}
 use Rattle.std.specs.List.{list_all}
 use Rattle.camelot_values.specs.Operator as operator
 use Rattle.camelot_tree.specs.declared.tree.Name.{Name}

@@ -1,11 +1,10 @@
 -- What the machine has read is spelled by trees of the grammar: each step keeps this.
-use Rattle.std.proofs.Common.{◌≡◌, ℕ, suc, Bool, true, false, if◌then◌else◌, List, [], ◌∷◌, ◌++◌, Option, Some, None, refl, sym, ap, ◌∙◌, subst}
+use Rattle.std.proofs.Common.{◌≡◌, ℕ, suc, Bool, true, false, if◌then◌else◌, List, [], ◌∷◌, ◌++◌, None, refl}
 use Rattle.camelot_tree.specs.declared.tree.Name.{Name}
 use Rattle.camelot_grammar.specs.declared.lexeme.Mark.TheVariants as mark
 use Rattle.camelot_grammar.specs.declared.lexeme.Lexeme.{Lexeme}
-use Rattle.camelot_grammar.specs.declared.lexeme.Lexeme.TheVariants.{Lower, Upper, Variable, Number, Greatest, Mark}
-use Rattle.camelot_tree.specs.Tree.{Term, Source}
-use Rattle.camelot_tree.specs.Tree as tree
+use Rattle.camelot_grammar.specs.declared.lexeme.Lexeme.TheVariants.{Lower, Upper, Number, Greatest, Mark}
+use Rattle.camelot_tree.specs.Tree.{Source}
 use Rattle.camelot_grammar.specs.Grammar as gr
 use Rattle.camelot_grammar.specs.Program as pr
 use Rattle.camelot_grammar.specs.Program.{Operand}

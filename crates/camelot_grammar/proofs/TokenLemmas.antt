@@ -1,20 +1,18 @@
 -- The names of a program of real tokens have their forms, and its literals 32 bits. Each lemma goes over the tokens that a tree
 -- spells before a rest: they are real, so what the tree stands for is as its tokens give it, and the rest is real.
-use Rattle.std.proofs.Common.{◌≡◌, ℕ, zero, suc, pos, ◌-ℤ◌, ◌<◌, ◌≤◌, ◌==◌, nat_le, nat_lt, Bool, true, false, not, ◌&&◌, ◌||◌, List, [], ◌∷◌, ◌++◌, length, Option, Some, None, IsTrue, refl, sym, ap, ◌∙◌, subst, arith}
+use Rattle.std.proofs.Common.{◌≡◌, ℕ, zero, suc, pos, ◌-ℤ◌, ◌<◌, ◌≤◌, ◌==◌, nat_le, Bool, true, false, ◌&&◌, ◌||◌, List, [], ◌∷◌, ◌++◌, length, Option, Some, None, refl, sym, subst, arith}
 use Rattle.std.specs.List.{list_all, AllByRecursion}
 use Rattle.std.specs.Char.{is_ascii_lowercase, is_ascii_uppercase, is_ascii_digit}
 use Rattle.text_scan.specs.Forms as form
-use Rattle.text_scan.specs.declared.tokens.TokenKind.TheVariants as kind
 use Rattle.camelot_values.specs.Operator as operator
 use Rattle.camelot_values.specs.Value.{is_int32}
 use Rattle.camelot_values.specs.Names as names
 use Rattle.camelot_tree.specs.declared.tree.Name.{Name}
-use Rattle.camelot_tree.specs.declared.tree.Atom.{Atom}
 use Rattle.camelot_tree.specs.Tree as tree
 use Rattle.camelot_tree.specs.Tree.{Term, Branch, Source}
 use Rattle.camelot_tree.specs.Tokens.{is_lower, is_upper, is_lower_or_none, cell_is_named, term_is_named, terms_are_named, arms_are_named, atom_is_named, written_is_named, con_is_named, type_is_named, param_is_named, fun_is_named, is_named, term_has_ints, terms_have_ints, arms_have_ints, has_ints}
 use Rattle.camelot_grammar.specs.declared.lexeme.Lexeme.{Lexeme}
-use Rattle.camelot_grammar.specs.declared.lexeme.Lexeme.TheVariants.{Lower, Upper, Number, Mark}
+use Rattle.camelot_grammar.specs.declared.lexeme.Lexeme.TheVariants.{Lower, Upper}
 use Rattle.camelot_grammar.specs.Lexemes.{IsReal}
 use Rattle.camelot_grammar.specs.Parsing.{IsProgram}
 use Rattle.camelot_grammar.specs.Grammar as gr

@@ -1,4 +1,4 @@
--- The grammar of Camelot.
+-- Cited by contracts. The grammar of Camelot.
 pub mod Lexemes
 pub mod Grammar
 pub mod Program

@@ -1,6 +1,6 @@
--- The parser as a machine that reads token by token, with a stack of what is unfinished: words for the contracts of
--- private functions. The grammar says what the answers mean, and knows nothing of this.
-use Rattle.std.specs.Prelude.{◌≡◌, ℕ, suc, length, pos, ◌-◌, ◌-ℤ◌, nat_le, if◌then◌else◌, Bool, true, false, List, [], ◌∷◌, ◌++◌, Option, Some, None}
+-- Cited by contracts: of the law `answers_of_the_machine`, and of the parser's private functions. A machine that reads token by
+-- token, with a stack of what is unfinished. The grammar says what the answers mean, and knows nothing of this.
+use Rattle.std.specs.Prelude.{ℕ, suc, length, pos, ◌-◌, ◌-ℤ◌, nat_le, if◌then◌else◌, Bool, true, false, List, [], ◌∷◌, ◌++◌, Option, Some, None}
 use Rattle.camelot_values.specs.Operator as operator
 use Rattle.camelot_tree.specs.declared.tree.Name.{Name}
 use Rattle.camelot_tree.specs.declared.tree.Atom.{Atom}
@@ -10,7 +10,7 @@ use Rattle.camelot_tree.specs.declared.tree.ArmCell.{ArmCell}
 use Rattle.camelot_tree.specs.declared.tree.ArmCell.TheVariants as cell
 use Rattle.camelot_grammar.specs.declared.lexeme.Mark.TheVariants as mark
 use Rattle.camelot_grammar.specs.declared.lexeme.Lexeme.{Lexeme}
-use Rattle.camelot_grammar.specs.declared.lexeme.Lexeme.TheVariants.{Lower, Upper, Variable, Number, Greatest, Mark}
+use Rattle.camelot_grammar.specs.declared.lexeme.Lexeme.TheVariants.{Lower, Upper, Number, Greatest, Mark}
 use Rattle.camelot_grammar.specs.declared.fault.ParseFault.{ParseFault}
 use Rattle.camelot_grammar.specs.declared.fault.ParseFault.TheVariants as fault
 use Rattle.camelot_grammar.specs.Parsing.{limit, stop_fault, first_line}

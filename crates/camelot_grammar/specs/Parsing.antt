@@ -1,14 +1,13 @@
--- Which tokens are a program, and where tokens stop being one: the first token that no program goes on with, or whose
+-- Cited by contracts. Which tokens are a program, and where tokens stop being one: the first token that no program goes on with, or whose
 -- level is above the limit. A program goes on behind some tokens where these and some more are what a tree of the
 -- grammar spells.
-use Rattle.std.specs.Prelude.{◌≡◌, ℕ, ◌+◌, ◌-◌, ◌<◌, ◌≤◌, ◌⊎◌, List, [], ◌∷◌, ◌++◌, length, take, get_or}
+use Rattle.std.specs.Prelude.{◌≡◌, ℕ, ◌-◌, ◌<◌, ◌≤◌, ◌⊎◌, List, [], ◌∷◌, ◌++◌, length, take, get_or}
 use Rattle.std.specs.List.{AllByRecursion}
 use Rattle.text_scan.specs.declared.tokens.Token.{Token}
 use Rattle.text_scan.specs.Reading.{AreTokensOf, IsFaultOf, line_at}
 use Rattle.camelot_grammar.specs.declared.lexeme.Mark.TheVariants as mark
 use Rattle.camelot_grammar.specs.declared.lexeme.Lexeme.{Lexeme}
 use Rattle.camelot_grammar.specs.declared.lexeme.Lexeme.TheVariants as lexeme
-use Rattle.camelot_tree.specs.declared.tree.Name.{Name}
 use Rattle.camelot_grammar.specs.declared.fault.ParseFault.{ParseFault}
 use Rattle.camelot_grammar.specs.declared.fault.ParseFault.TheVariants.{Scan, Unexpected, TooDeep, TypeParameter, Division, Memory}
 use Rattle.camelot_grammar.specs.Lexemes.{lexemes, IsReal}

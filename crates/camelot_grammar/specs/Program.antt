@@ -1,4 +1,4 @@
--- The program that a tree of the grammar stands for: what `&&`, `||`, `not` and a minus sign stand for, and the line of
+-- Cited by contracts. The program that a tree of the grammar stands for: what `&&`, `||`, `not` and a minus sign stand for, and the line of
 -- each expression, which is that of its first token, parentheses around it left out.
 use Rattle.std.specs.Prelude.{ℕ, pos, ◌-ℤ◌, Bool, true, false, List, [], ◌∷◌, ◌++◌, Option, Some, None}
 use Rattle.camelot_values.specs.Operator as operator
@@ -11,7 +11,7 @@ use Rattle.camelot_tree.specs.declared.tree.ArmCell.{ArmCell}
 use Rattle.camelot_tree.specs.declared.tree.ArmCell.TheVariants as cell
 use Rattle.camelot_tree.specs.Tree as tree
 use Rattle.camelot_tree.specs.Tree.{Term, Branch, Constructor, DataType, Function, Source, terms}
-use Rattle.camelot_grammar.specs.Grammar.{Place, NoPlace, At, FirstBar, NoBar, Bar, Field, Named, Blank, FieldList, OneField, MoreFields, Fields, NoFields, InParens, Cell, NoCell, AtField, Sign, Plus, Minus, Comparison, Eq, Ne, Lt, Le, Gt, Ge, Solid, Literal, True, False, Full, Placed, Firm, Is, Paren, Units, NoUnits, AndLower, AndFirm, BareLower, BareSolid, Bare, AndUpper, BareUpper, Pre, Not, Negative, Least, Apply, ApplyBare, Con, Alone, Prod, OnePre, Times, Sum, OneProd, Adds, Cmp, OneSum, Compares, And, OneCmp, Both, Or, OneAnd, Either, Expr, Let, If, Match, Chain, Exprs, OneExpr, MoreExprs, Arms, OneArm, MoreArms, Arm, Case, WrittenAtom, Int, Bool', Dia, Of, AtomList, OneAtom, MoreAtoms, ConDecl, Inline, NoFields', WithFields, Cons, OneCon, MoreCons, Kind, NoKind, OfKind, ReadMark, NoRead, Read, WrittenParam, Simple, Marked, Params, OneParam, MoreParams, Decls, NoDecls, AndType, AndFun}
+use Rattle.camelot_grammar.specs.Grammar.{Place, NoPlace, At, Field, Named, Blank, FieldList, OneField, MoreFields, Fields, NoFields, InParens, Cell, NoCell, AtField, Sign, Plus, Minus, Comparison, Eq, Ne, Lt, Le, Gt, Ge, Solid, Literal, True, False, Full, Placed, Firm, Is, Paren, Units, NoUnits, AndLower, AndFirm, BareLower, BareSolid, Bare, AndUpper, BareUpper, Pre, Not, Negative, Least, Apply, ApplyBare, Con, Alone, Prod, OnePre, Times, Sum, OneProd, Adds, Cmp, OneSum, Compares, And, OneCmp, Both, Or, OneAnd, Either, Expr, Let, If, Match, Chain, Exprs, OneExpr, MoreExprs, Arms, OneArm, MoreArms, Arm, Case, WrittenAtom, Int, Bool', Dia, Of, AtomList, OneAtom, MoreAtoms, ConDecl, Inline, NoFields', WithFields, Cons, OneCon, MoreCons, Kind, NoKind, OfKind, ReadMark, NoRead, Read, WrittenParam, Simple, Marked, Params, OneParam, MoreParams, Decls, NoDecls, AndType, AndFun}
 
 -- what an operator does with its operands
 pub data Joint : Type 0 where

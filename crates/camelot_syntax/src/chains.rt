@@ -64,7 +64,8 @@ impl Parser {
                 self.next_operand(spot, level, within)
             }
             _ => {
-                self.spare = Some(spot);
+                // Without room for it the spot is let go.
+                let _ = self.spares.push(spot);
                 self.close(operand.tree, lexeme)
             }
         }

@@ -33,7 +33,7 @@ impl Parser {
             (λ spot. slot_of spot.value ≡ record { lefts = lefts around None None None None None; nots = []; level = around }) (λ halt. halt ≡ Memory) }
         ensures stack { self.new.stack ≡ self.old.stack }
     {
-        match self.spare.take() {
+        match self.spares.pop() {
             Some(mut spot) => {
                 spot.lefts.around = around;
                 spot.lefts.ors = None;

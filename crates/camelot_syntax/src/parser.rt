@@ -24,8 +24,8 @@ pub struct Parser {
     pub alloc: Global,
     pub state: State,
     pub stack: Vec<Frame>,
-    /// Room for the next expression that begins.
-    pub spare: Option<Box<Spot>>,
+    /// Room for expressions that begin, from those that have ended.
+    pub spares: Vec<Box<Spot>>,
 }
 
 /// The line of a token.
@@ -194,7 +194,7 @@ pub fn run(alloc: Global, text: &[u8], tokens: &[Token]) -> Result<Decls, ParseF
         alloc,
         state: State::InDecl(DeclState::Top(decls)),
         stack: Vec::new(alloc),
-        spare: None,
+        spares: Vec::new(alloc),
     };
     'tokens: for (at, token) in tokens.iter().enumerate() {
         match parser.read(text, *token, at as u64) {
