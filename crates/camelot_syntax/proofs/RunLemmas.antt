@@ -2,22 +2,19 @@
 use Rattle.std.proofs.Common.{◌≡◌, ℕ, zero, suc, ◌+◌, ◌-◌, ◌<◌, ◌≤◌, ◌==◌, Bool, true, false, if◌then◌else◌, slice_range, List, [], ◌∷◌, map, length, drop, get_or, Option, Some, None, Ok, Err, refl, sym, ap, ◌∙◌, subst, drop-cons, add-one, length-drop, drop_of_length-le, arith}
 use Rattle.std.specs.List.{All}
 use Rattle.std.proofs.lemmas.List.Elements.{All-get_or}
-use Rattle.text_scan.specs.Forms.{number_value}
 use Rattle.text_scan.specs.Reading.{IsSliceOf}
-use Rattle.text_scan.specs.declared.tokens.TokenKind.{TokenKind}
-use Rattle.text_scan.specs.declared.tokens.TokenKind.TheVariants as kind
 use Rattle.text_scan.specs.declared.tokens.Token.{Token}
 use Rattle.camelot_grammar.specs.declared.fault.ParseFault.{ParseFault}
 use Rattle.camelot_grammar.specs.declared.fault.ParseFault.TheVariants as fault
 use Rattle.camelot_grammar.specs.declared.lexeme.Mark.TheVariants as mark
 use Rattle.camelot_grammar.specs.declared.lexeme.Lexeme.{Lexeme}
-use Rattle.camelot_grammar.specs.declared.lexeme.Lexeme.TheVariants.{Lower, Upper, Variable, Number, Greatest, Mark}
+use Rattle.camelot_grammar.specs.declared.lexeme.Lexeme.TheVariants.{Variable, Number, Mark}
 use Rattle.camelot_syntax.specs.declared.state.Frame.{Frame}
 use Rattle.camelot_syntax.specs.declared.state.State.{State}
 use Rattle.camelot_syntax.specs.declared.parser.Parser.{Parser}
 use Rattle.camelot_syntax.specs.declared.state.Decls.{Decls}
-use Rattle.camelot_grammar.specs.Lexemes.{lexeme_of, lexeme_at, lexemes, IsReal}
-use Rattle.camelot_grammar.specs.Parsing.{stop_fault, line_of, first_line}
+use Rattle.camelot_grammar.specs.Lexemes.{lexeme_at, lexemes, IsReal}
+use Rattle.camelot_grammar.specs.Parsing.{stop_fault, line_of}
 use Rattle.camelot_grammar.specs.Machine as mc
 use Rattle.camelot_grammar.specs.Machine.{runs, onward, ending, limited, advance, step, Move, Moves, Stops, Sinks, Stopped, TooDeep, Yes, Result, fault_of}
 use Rattle.camelot_syntax.specs.States.{IsSmall, FailsAt, FailsWith, IsUnfinished, Reads, Answers, state_of, stack_of, decls_of}

@@ -1,8 +1,6 @@
 -- Private: words for functions of this crate. The states of the code as those of the machine.
-use Rattle.std.specs.Prelude.{◌≡◌, ℕ, ◌<◌, ◌-◌, length, List, [], ◌∷◌, map, Option, Some, None, Result, MatchResult}
-use Rattle.std.specs.Option.{option_map}
+use Rattle.std.specs.Prelude.{◌≡◌, ℕ, ◌<◌, List, [], ◌∷◌, map, Option, Some, None, Result, MatchResult}
 use Rattle.camelot_tree.specs.declared.tree.Expr.{Expr}
-use Rattle.camelot_tree.specs.declared.tree.Arm.{Arm}
 use Rattle.camelot_grammar.specs.declared.lexeme.Lexeme.{Lexeme}
 use Rattle.camelot_grammar.specs.declared.lexeme.Lexeme.TheVariants as lexeme
 use Rattle.camelot_grammar.specs.declared.lexeme.Lexeme.TheVariants.{Number}
@@ -36,7 +34,7 @@ use Rattle.camelot_syntax.specs.declared.parser.Parser.{Parser}
 use Rattle.camelot_syntax.specs.declared.words.TokenView.{TokenView}
 use Rattle.camelot_syntax.specs.declared.words.TokenView.TheVariants as view
 use Rattle.camelot_syntax.specs.declared.state.Halt.TheVariants.{Stuck, Deep, Memory}
-use Rattle.camelot_tree.specs.Tree.{Term, Branch, Source, operator_of, term_of, branch_of, constructor_of, data_type_of, function_of}
+use Rattle.camelot_tree.specs.Tree.{Term, Source, operator_of, term_of, branch_of, constructor_of, data_type_of, function_of}
 use Rattle.camelot_grammar.specs.declared.fault.ParseFault.{ParseFault}
 use Rattle.camelot_grammar.specs.declared.fault.ParseFault.TheVariants as fault
 use Rattle.camelot_grammar.specs.Parsing.{stop_fault, line_of}
