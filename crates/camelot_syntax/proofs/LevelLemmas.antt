@@ -1,10 +1,10 @@
 -- An operand that is too deep sinks at its first token.
-use Rattle.std.proofs.Common.{◌≡◌, ℕ, suc, ◌<◌, nat_le, Bool, true, false, if◌then◌else◌, List, [], ◌∷◌, None, refl, ap, ◌∙◌, arith}
-use Rattle.camelot_syntax.specs.declared.lexeme.Mark.TheVariants as mark
-use Rattle.camelot_syntax.specs.declared.lexeme.Lexeme.{Lexeme}
-use Rattle.camelot_syntax.specs.declared.lexeme.Lexeme.TheVariants.{Lower, Upper, Number, Mark}
-use Rattle.camelot_syntax.specs.Machine as mc
-use Rattle.camelot_syntax.specs.Machine.{State, Frame, Step, Stuck, Goes, limited, Sinks, Lefts, Slot}
+use Rattle.std.proofs.Common.{◌≡◌, ℕ, suc, ◌<◌, nat_le, true, false, if◌then◌else◌, List, [], None, ap, ◌∙◌, arith}
+use Rattle.camelot_grammar.specs.declared.lexeme.Mark.TheVariants as mark
+use Rattle.camelot_grammar.specs.declared.lexeme.Lexeme.{Lexeme}
+use Rattle.camelot_grammar.specs.declared.lexeme.Lexeme.TheVariants.{Lower, Upper, Number, Mark}
+use Rattle.camelot_grammar.specs.Machine as mc
+use Rattle.camelot_grammar.specs.Machine.{State, Frame, Step, Stuck, Goes, limited, Sinks, Lefts, Slot}
 
 sinks : (k : ℕ) (s : State) (st : List Frame) → 200 < k → limited (Goes k s st) ≡ Sinks
 sinks k s st h = let e : nat_le k 200 ≡ false = grind (arith, h) in ap (λ b. if b then mc.Moves s st else Sinks) e

@@ -1,15 +1,5 @@
-pub mod Behind
-pub mod Complete
-pub mod CompleteDecls
-pub mod Concrete
-pub mod Sound
-pub mod Closing
 pub mod StackLemmas
-pub mod LawLemmas
-pub mod ShapeLemmas
 pub mod ParseLemmas
 pub mod RunLemmas
-pub mod MarkLemmas
-pub mod LexemeLemmas
+pub mod WordLemmas
 pub mod LevelLemmas
-pub mod Place

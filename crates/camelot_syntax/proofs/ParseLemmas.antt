@@ -1,61 +1,35 @@
--- The machine's answer is that of the definitions.
-use Rattle.std.proofs.Common.{◌≡◌, ℕ, suc, ◌+◌, ◌-◌, ◌<◌, ◌≤◌, ◌⊎◌, inl, inr, List, [], ◌∷◌, ◌++◌, map, length, Option, Some, None, Ok, Err, IfOk, IfErr, MatchResult, true, refl, sym, ap, ◌∙◌, subst, length-append, arith}
+-- The answers to a text, from the machine's answer to its tokens and from that of the scanner.
+use Rattle.std.proofs.Common.{◌≡◌, ℕ, suc, ◌⊎◌, inl, inr, List, [], ◌∷◌, map, length, Option, Some, None, Ok, Err, IfOk, IfErr, MatchResult, refl, sym, ap, ◌∙◌, subst, arith}
+use Rattle.std.specs.List.{All, AllByRecursion}
 use Rattle.text_scan.specs.declared.tokens.Token.{Token}
 use Rattle.text_scan.specs.declared.fault.ScanFault.{ScanFault}
 use Rattle.text_scan.specs.declared.fault.ScanFault.TheVariants as scan
-use Rattle.text_scan.specs.Reading.{AreTokensOf, IsFaultOf}
+use Rattle.text_scan.specs.Reading.{AreTokensOf, IsFaultOf, IsSliceOf}
 use Rattle.text_scan.specs.Reading as reading
 use Rattle.camelot_tree.specs.declared.program.Program.{Program}
-use Rattle.camelot_syntax.specs.declared.fault.ParseFault.{ParseFault}
-use Rattle.camelot_syntax.specs.declared.fault.ParseFault.TheVariants as fault
-use Rattle.camelot_syntax.specs.declared.lexeme.Mark.TheVariants as mark
-use Rattle.camelot_syntax.specs.declared.lexeme.Lexeme.{Lexeme}
-use Rattle.camelot_syntax.specs.declared.lexeme.Lexeme.TheVariants.{Variable, Mark}
-use Rattle.camelot_syntax.specs.Lexemes.{lexemes, lexeme_at}
+use Rattle.camelot_grammar.specs.declared.fault.ParseFault.{ParseFault}
+use Rattle.camelot_grammar.specs.declared.fault.ParseFault.TheVariants as fault
+use Rattle.camelot_grammar.specs.declared.lexeme.Mark.TheVariants as mark
+use Rattle.camelot_grammar.specs.declared.lexeme.Lexeme.{Lexeme}
+use Rattle.camelot_grammar.specs.declared.lexeme.Lexeme.TheVariants.{Variable, Mark}
+use Rattle.camelot_grammar.specs.Lexemes.{lexemes, lexeme_at, IsReal}
 use Rattle.camelot_tree.specs.Tree.{Source}
 use Rattle.camelot_tree.specs.Programs.{program_of}
-use Rattle.camelot_tree.specs.Shape.{is_whole}
-use Rattle.camelot_syntax.specs.Parsing.{IsProgram, BeginsProgram, NoneGoesOn, GoesTooDeep, Stops, Sinks, IsFaultAmong, HasFault, HasProgram, HasCause, stop_fault, first_line, line_of, last_line}
-use Rattle.camelot_syntax.specs.Machine as mc
-use Rattle.camelot_syntax.specs.Machine.{runs, start, Yes, Stopped, TooDeep, Result}
-use Rattle.camelot_syntax.specs.States.{FailsWith, fault_of}
+use Rattle.camelot_grammar.specs.Parsing.{IsProgram, IsFaultAmong, HasCause, stop_fault, last_line}
+use Rattle.camelot_grammar.specs.Machine.{runs, start, Yes, fault_of}
+use Rattle.camelot_syntax.specs.States.{FailsWith}
 use Rattle.camelot_syntax.specs.Answers.{scanned_fault, Runs, Parses}
-use Rattle.camelot_syntax.proofs.ShapeLemmas.{decls_whole}
-use Rattle.camelot_syntax.proofs.Place.{yes_is_program, stopped_stops, deep_sinks, stops_stopped, sinks_deep, program_yes}
 
-pub yes_whole : (ts : List Lexeme) (p : Source) → runs start [] ts ≡ Yes p → is_whole p ≡ true
-yes_whole ts p e = let h = yes_is_program ts p e in subst (λ q. is_whole q ≡ true) h.is (decls_whole h.decls)
+-- what the machine's answers mean: the law `answers_of_the_machine`
+pub record Meaning : Type 0 where
+  pub program : (tokens : List Lexeme) (source : Source) → runs start [] tokens ≡ Yes source → IsProgram tokens source
+  pub takes : (tokens : List Lexeme) (source : Source) → IsProgram tokens source → runs start [] tokens ≡ Yes source
+  pub fault : (tokens : List Lexeme) (last : ℕ) (fault : ParseFault) → fault_of (length tokens) last (runs start [] tokens) ≡ Some fault → IsFaultAmong tokens last fault
+  pub refuses : (tokens : List Lexeme) (last : ℕ) (fault : ParseFault) → IsFaultAmong tokens last fault → fault_of (length tokens) last (runs start [] tokens) ≡ Some fault
 
 lexemes_length : (text : List ℕ) (tokens : List Token) → length (lexemes text tokens) ≡ length tokens
 lexemes_length text [] = refl
 lexemes_length text (t ∷ ts) = ap (λ n. suc n) (lexemes_length text ts)
-
--- the place of a fault is the number of tokens before it
-place_is : (n : ℕ) (before rest : List Lexeme) → length (before ++ rest) ≡ n → n - length rest ≡ length before
-place_is n before rest h = omega (arith, length-append before rest)
-
--- ---- from an answer of the machine to its meaning
-
-pub fault_among : (ts : List Lexeme) (n last : ℕ) (f : ParseFault) (r : Result) → length ts ≡ n → runs start [] ts ≡ r → fault_of n last r ≡ Some f → IsFaultAmong ts last f
-fault_among ts n last f (Yes p) c e h = absurd cc
-fault_among ts n last f (Stopped rest) c e h =
-    let k = stopped_stops ts rest e in
-    let place = place_is n k.0 rest (ap length k.1 ∙ c) in
-    let is : stop_fault rest (n - length rest) (first_line rest last) ≡ f = cc in
-    inl (record { before = k.0; rest = rest; parts = k.1; begins = k.2; none = k.3; is = sym is ∙ ap (λ m. stop_fault rest m (first_line rest last)) place })
-fault_among ts n last f (TooDeep rest) c e h =
-    let k = deep_sinks ts rest e in
-    let place = place_is n k.0 (k.1 ∷ k.2) (ap length k.4 ∙ c) in
-    let is : fault.TooDeep (n - length rest) (first_line rest last) ≡ f = cc in
-    inr (record {
-      before = k.0;
-      token = k.1;
-      rest = k.2;
-      parts = k.4;
-      begins = k.5;
-      deep = k.6;
-      is = sym is ∙ ap (λ xs. fault.TooDeep (n - length xs) (first_line xs last)) k.3 ∙ ap (λ m. fault.TooDeep m (line_of k.1)) place;
-    })
 
 -- a fault at a token is none of the scanner, or of memory
 IsOrdinary : ParseFault → Type 0
@@ -89,24 +63,29 @@ cause_of text tokens (fault.Division k l) a h i = record { tokens = tokens; are 
 told : (text : List ℕ) (tokens : List Token) (f : ParseFault) → AreTokensOf text tokens → IsFaultAmong (lexemes text tokens) (last_line text) f → HasCause text f
 told text tokens f a h = cause_of text tokens f a h (among_ordinary (lexemes text tokens) (last_line text) f h)
 
-fails_cause : (text : List ℕ) (tokens : List Token) (f : ParseFault) → AreTokensOf text tokens
+counted : (text : List ℕ) (tokens : List Token) (last : ℕ) (f : ParseFault)
+    → fault_of (length tokens) last (runs start [] (lexemes text tokens)) ≡ Some f → fault_of (length (lexemes text tokens)) last (runs start [] (lexemes text tokens)) ≡ Some f
+counted text tokens last f h = ap (λ n. fault_of n last (runs start [] (lexemes text tokens))) (lexemes_length text tokens) ∙ h
+
+fault_told : Meaning → (text : List ℕ) (tokens : List Token) (f : ParseFault) → AreTokensOf text tokens
+    → fault_of (length tokens) (last_line text) (runs start [] (lexemes text tokens)) ≡ Some f → HasCause text f
+fault_told law text tokens f a h = told text tokens f a (law.fault (lexemes text tokens) (last_line text) f (counted text tokens (last_line text) f h))
+
+fails_cause : Meaning → (text : List ℕ) (tokens : List Token) (f : ParseFault) → AreTokensOf text tokens
     → FailsWith f (fault_of (length tokens) (last_line text) (runs start [] (lexemes text tokens))) → HasCause text f
-fails_cause text tokens fault.Memory a h = tt
-fails_cause text tokens (fault.Scan g) a h = told text tokens (fault.Scan g) a (fault_among _ _ _ _ _ (lexemes_length text tokens) refl h)
-fails_cause text tokens (fault.Unexpected k l) a h = told text tokens (fault.Unexpected k l) a (fault_among _ _ _ _ _ (lexemes_length text tokens) refl h)
-fails_cause text tokens (fault.TooDeep k l) a h = told text tokens (fault.TooDeep k l) a (fault_among _ _ _ _ _ (lexemes_length text tokens) refl h)
-fails_cause text tokens (fault.TypeParameter k l) a h = told text tokens (fault.TypeParameter k l) a (fault_among _ _ _ _ _ (lexemes_length text tokens) refl h)
-fails_cause text tokens (fault.Division k l) a h = told text tokens (fault.Division k l) a (fault_among _ _ _ _ _ (lexemes_length text tokens) refl h)
+fails_cause law text tokens fault.Memory a h = tt
+fails_cause law text tokens (fault.Scan g) a h = fault_told law text tokens (fault.Scan g) a h
+fails_cause law text tokens (fault.Unexpected k l) a h = fault_told law text tokens (fault.Unexpected k l) a h
+fails_cause law text tokens (fault.TooDeep k l) a h = fault_told law text tokens (fault.TooDeep k l) a h
+fails_cause law text tokens (fault.TypeParameter k l) a h = fault_told law text tokens (fault.TypeParameter k l) a h
+fails_cause law text tokens (fault.Division k l) a h = fault_told law text tokens (fault.Division k l) a h
 
 -- ---- from a meaning to the answer
 
-pub among_fault : (ts : List Lexeme) (n last : ℕ) (f : ParseFault) → length ts ≡ n → IsFaultAmong ts last f → fault_of n last (runs start [] ts) ≡ Some f
-among_fault ts n last f c (inl s) =
-    ap (fault_of n last) (stops_stopped ts s.before s.rest s.parts s.begins s.none)
-    ∙ ap (λ m. Some (stop_fault s.rest m (first_line s.rest last))) (place_is n s.before s.rest (ap length s.parts ∙ c)) ∙ ap Some (sym s.is)
-among_fault ts n last f c (inr s) =
-    ap (fault_of n last) (sinks_deep ts s.before s.token s.rest s.parts s.begins s.deep)
-    ∙ ap (λ m. Some (fault.TooDeep m (line_of s.token))) (place_is n s.before (s.token ∷ s.rest) (ap length s.parts ∙ c)) ∙ ap Some (sym s.is)
+among_fault : Meaning → (text : List ℕ) (tokens : List Token) (last : ℕ) (f : ParseFault) → IsFaultAmong (lexemes text tokens) last f
+    → fault_of (length tokens) last (runs start [] (lexemes text tokens)) ≡ Some f
+among_fault law text tokens last f h =
+    ap (λ n. fault_of n last (runs start [] (lexemes text tokens))) (sym (lexemes_length text tokens)) ∙ law.refuses (lexemes text tokens) last f h
 
 fails_none : (f : ParseFault) → FailsWith f None → f ≡ fault.Memory
 fails_none fault.Memory h = refl
@@ -124,6 +103,13 @@ fails_some (fault.TooDeep k l) g h = let e : fault.TooDeep k l ≡ g = cc in inl
 fails_some (fault.TypeParameter k l) g h = let e : fault.TypeParameter k l ≡ g = cc in inl e
 fails_some (fault.Division k l) g h = let e : fault.Division k l ≡ g = cc in inl e
 
+-- ---- the tokens of a text are real
+
+pub reals : ((text : List ℕ) (token : Token) → IsSliceOf text token → IsReal (lexeme_at text token))
+    → (text : List ℕ) (tokens : List Token) → All (IsSliceOf text) tokens → AllByRecursion IsReal (lexemes text tokens)
+reals law text [] h = tt
+reals law text (t ∷ ts) h = (law text t (h 0 t (omega arith)), reals law text ts (λ k d i. h (suc k) d (omega (arith, i))))
+
 -- ---- the answers to a text
 
 yes_same : (p q : Source) → Yes p ≡ Yes q → p ≡ q
@@ -133,27 +119,27 @@ no_fault : (n last : ℕ) (f : ParseFault) (p : Source) → {o : Option ParseFau
 no_fault n last f p e h = absurd cc
 
 -- the tokens of the text were read
-pub parses_tokens : (text : List ℕ) (tokens : List Token) (r : Rattle.std.proofs.Common.Result Program ParseFault) → AreTokensOf text tokens
+pub parses_tokens : Meaning → (text : List ℕ) (tokens : List Token) (r : Rattle.std.proofs.Common.Result Program ParseFault) → AreTokensOf text tokens
     → ((others : List Token) → AreTokensOf text others → tokens ≡ others) → ((f : ScanFault) → IsFaultOf text f → ⊥) → Runs text tokens r → Parses text r
-parses_tokens text tokens (Ok p) a one none h = record {
-  program = record { tokens = tokens; are = a; program = yes_is_program (lexemes text tokens) (program_of p) h.runs };
+parses_tokens law text tokens (Ok p) a one none h = record {
+  program = record { tokens = tokens; are = a; program = law.program (lexemes text tokens) (program_of p) h.runs };
   cause = tt;
   takes = λ others source b q. yes_same (program_of p) source
-      (sym h.runs ∙ ap (λ ts. runs start [] (lexemes text ts)) (one others b) ∙ program_yes (lexemes text others) source q);
+      (sym h.runs ∙ ap (λ ts. runs start [] (lexemes text ts)) (one others b) ∙ law.takes (lexemes text others) source q);
   refuses = λ others f b q. no_fault (length others) (last_line text) f (program_of p)
       (ap (fault_of (length others) (last_line text)) (sym (ap (λ ts. runs start [] (lexemes text ts)) (one others b)) ∙ h.runs))
-      (among_fault (lexemes text others) (length others) (last_line text) f (lexemes_length text others) q);
+      (among_fault law text others (last_line text) f q);
   scans = λ f q. none f q;
 }
-parses_tokens text tokens (Err g) a one none h = record {
+parses_tokens law text tokens (Err g) a one none h = record {
   program = tt;
-  cause = fails_cause text tokens g a h.runs;
+  cause = fails_cause law text tokens g a h.runs;
   takes = λ others source b q. fails_none g
       (subst (λ o. FailsWith g o) (ap (λ r. fault_of (length tokens) (last_line text) r)
-      (ap (λ ts. runs start [] (lexemes text ts)) (one others b) ∙ program_yes (lexemes text others) source q)) h.runs);
+      (ap (λ ts. runs start [] (lexemes text ts)) (one others b) ∙ law.takes (lexemes text others) source q)) h.runs);
   refuses = λ others f b q. fails_some g f
       (subst (λ o. FailsWith g o) (ap (λ ts. fault_of (length ts) (last_line text) (runs start [] (lexemes text ts))) (one others b)
-      ∙ among_fault (lexemes text others) (length others) (last_line text) f (lexemes_length text others) q) h.runs);
+      ∙ among_fault law text others (last_line text) f q) h.runs);
   scans = λ f q. absurd (none f q);
 }
 

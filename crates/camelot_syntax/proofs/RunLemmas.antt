@@ -2,24 +2,22 @@
 use Rattle.std.proofs.Common.{◌≡◌, ℕ, zero, suc, ◌+◌, ◌-◌, ◌<◌, ◌≤◌, ◌==◌, Bool, true, false, if◌then◌else◌, slice_range, List, [], ◌∷◌, map, length, drop, get_or, Option, Some, None, Ok, Err, refl, sym, ap, ◌∙◌, subst, drop-cons, add-one, length-drop, drop_of_length-le, arith}
 use Rattle.std.specs.List.{All}
 use Rattle.std.proofs.lemmas.List.Elements.{All-get_or}
-use Rattle.text_scan.specs.Forms.{number_value}
 use Rattle.text_scan.specs.Reading.{IsSliceOf}
-use Rattle.text_scan.specs.declared.tokens.TokenKind.{TokenKind}
-use Rattle.text_scan.specs.declared.tokens.TokenKind.TheVariants as kind
 use Rattle.text_scan.specs.declared.tokens.Token.{Token}
-use Rattle.camelot_syntax.specs.declared.fault.ParseFault.{ParseFault}
-use Rattle.camelot_syntax.specs.declared.fault.ParseFault.TheVariants as fault
-use Rattle.camelot_syntax.specs.declared.lexeme.Mark.TheVariants as mark
-use Rattle.camelot_syntax.specs.declared.lexeme.Lexeme.{Lexeme}
-use Rattle.camelot_syntax.specs.declared.lexeme.Lexeme.TheVariants.{Lower, Upper, Variable, Number, Greatest, Mark}
+use Rattle.camelot_grammar.specs.declared.fault.ParseFault.{ParseFault}
+use Rattle.camelot_grammar.specs.declared.fault.ParseFault.TheVariants as fault
+use Rattle.camelot_grammar.specs.declared.lexeme.Mark.TheVariants as mark
+use Rattle.camelot_grammar.specs.declared.lexeme.Lexeme.{Lexeme}
+use Rattle.camelot_grammar.specs.declared.lexeme.Lexeme.TheVariants.{Variable, Number, Mark}
 use Rattle.camelot_syntax.specs.declared.state.Frame.{Frame}
 use Rattle.camelot_syntax.specs.declared.state.State.{State}
+use Rattle.camelot_syntax.specs.declared.parser.Parser.{Parser}
 use Rattle.camelot_syntax.specs.declared.state.Decls.{Decls}
-use Rattle.camelot_syntax.specs.Lexemes.{lexeme_of, lexeme_at, lexemes, IsReal}
-use Rattle.camelot_syntax.specs.Parsing.{stop_fault, line_of, first_line}
-use Rattle.camelot_syntax.specs.Machine as mc
-use Rattle.camelot_syntax.specs.Machine.{runs, onward, ending, limited, advance, step, Move, Moves, Stops, Sinks, Stopped, TooDeep, Yes, Result}
-use Rattle.camelot_syntax.specs.States.{IsSmall, FailsAt, FailsWith, IsUnfinished, Reads, Answers, fault_of, state_of, stack_of, decls_of}
+use Rattle.camelot_grammar.specs.Lexemes.{lexeme_at, lexemes, IsReal}
+use Rattle.camelot_grammar.specs.Parsing.{stop_fault, line_of}
+use Rattle.camelot_grammar.specs.Machine as mc
+use Rattle.camelot_grammar.specs.Machine.{runs, onward, ending, limited, advance, step, Move, Moves, Stops, Sinks, Stopped, TooDeep, Yes, Result, fault_of}
+use Rattle.camelot_syntax.specs.States.{IsSmall, FailsAt, FailsWith, IsUnfinished, Reads, Answers, state_of, stack_of, decls_of}
 
 pub small_real : (t : Lexeme) → IsReal t → IsSmall t
 small_real (Number n l) h = h
@@ -29,22 +27,6 @@ pub advance_real : (s : mc.State) (t : Lexeme) (st : List mc.Frame) → IsReal t
 unfolding advance
 advance_real s (Mark mark.EndOfText l) st h = absurd h
 advance_real s t st h = refl
-
-number_line : (b : Bool) (n l : ℕ) → l ≡ line_of (if b then Greatest l else Number n l)
-number_line true n l = refl
-number_line false n l = refl
-
-line_is : (k : TokenKind) (bytes : List ℕ) (l : ℕ) → l ≡ line_of (lexeme_of k bytes l)
-unfolding lexeme_of
-line_is kind.Lower bytes l = refl
-line_is kind.Upper bytes l = refl
-line_is kind.TypeVar bytes l = refl
-line_is kind.Number bytes l = number_line (number_value bytes == 2147483648) (number_value bytes) l
-line_is kind.Keyword bytes l = refl
-line_is kind.Symbol bytes l = refl
-
-pub line_at_token : (text : List ℕ) (token : Token) → token.line ≡ line_of (lexeme_at text token)
-line_at_token text token = line_is token.kind (slice_range text token.start token.end) token.line
 
 -- no fault of a token that may not stand here is one of the level, or of memory
 stop_not_deep : (t : Lexeme) (rest : List Lexeme) (at l token line : ℕ) → fault.TooDeep token line ≡ stop_fault (t ∷ rest) at l → ⊥
@@ -94,12 +76,12 @@ rest_at : (text : List ℕ) (tokens : List Token) (i : ℕ) (d : Token) → i < 
     → lexemes text (drop i tokens) ≡ lexeme_at text (get_or tokens i d) ∷ lexemes text (drop (i + 1) tokens)
 rest_at text tokens i d h = ap (λ ts. lexemes text ts) (drop-cons tokens i d h) ∙ ap (λ n. lexeme_at text (get_or tokens i d) ∷ lexemes text (drop n tokens)) (sym (add-one i))
 
-pub run_more : (whole : Result) (text : List ℕ) (tokens : List Token) (i : ℕ) (d : Token) (s s2 : State) (fs fs2 : List Frame) (at : ℕ) → i < length tokens
-    → whole ≡ runs (state_of s) (stack_of fs) (lexemes text (drop i tokens))
-    → Reads (advance (state_of s) (lexeme_at text (get_or tokens i d)) (stack_of fs)) (lexeme_at text (get_or tokens i d)) at fs2 (Ok s2)
-    → whole ≡ runs (state_of s2) (stack_of fs2) (lexemes text (drop (i + 1) tokens))
-run_more whole text tokens i d s s2 fs fs2 at h e r =
-    e ∙ ap (λ ts. runs (state_of s) (stack_of fs) ts) (rest_at text tokens i d h)
+pub run_more : (whole : Result) (text : List ℕ) (tokens : List Token) (i : ℕ) (d : Token) (p q : Parser) (at : ℕ) (u : Unit {0}) → i < length tokens
+    → whole ≡ runs (state_of p.state) (stack_of p.stack.items) (lexemes text (drop i tokens))
+    → Reads (advance (state_of p.state) (lexeme_at text (get_or tokens i d)) (stack_of p.stack.items)) (lexeme_at text (get_or tokens i d)) at q (Ok u)
+    → whole ≡ runs (state_of q.state) (stack_of q.stack.items) (lexemes text (drop (i + 1) tokens))
+run_more whole text tokens i d p q at u h e r =
+    e ∙ ap (λ ts. runs (state_of p.state) (stack_of p.stack.items) ts) (rest_at text tokens i d h)
     ∙ ap (λ m. onward m (λ s3 st3. runs s3 st3 (lexemes text (drop (i + 1) tokens))) (lexeme_at text (get_or tokens i d) ∷ lexemes text (drop (i + 1) tokens))) r.reads
 
 lexemes_length : (text : List ℕ) (tokens : List Token) → length (lexemes text tokens) ≡ length tokens
@@ -123,14 +105,14 @@ fails_whole count last at t rest next (fault.TypeParameter k l) m e h =
 fails_whole count last at t rest next (fault.Division k l) m e h =
     ap (λ n. fault_of count last (onward n next (t ∷ rest))) h.0 ∙ ap (λ n. Some (stop_fault (t ∷ rest) n (line_of t))) e ∙ ap Some (sym (h.1 rest))
 
-pub run_fails : (whole : Result) (last : ℕ) (text : List ℕ) (tokens : List Token) (i : ℕ) (d : Token) (s : State) (fs fs2 : List Frame) (f : ParseFault) → i < length tokens
-    → whole ≡ runs (state_of s) (stack_of fs) (lexemes text (drop i tokens))
-    → Reads (advance (state_of s) (lexeme_at text (get_or tokens i d)) (stack_of fs)) (lexeme_at text (get_or tokens i d)) i fs2 (Err f)
+pub run_fails : (whole : Result) (last : ℕ) (text : List ℕ) (tokens : List Token) (i : ℕ) (d : Token) (p q : Parser) (f : ParseFault) → i < length tokens
+    → whole ≡ runs (state_of p.state) (stack_of p.stack.items) (lexemes text (drop i tokens))
+    → Reads (advance (state_of p.state) (lexeme_at text (get_or tokens i d)) (stack_of p.stack.items)) (lexeme_at text (get_or tokens i d)) i q (Err f)
     → Answers (length tokens) last whole (Err f)
-run_fails whole last text tokens i d s fs fs2 f h e r =
-    let all : whole ≡ onward (limited (advance (state_of s) (lexeme_at text (get_or tokens i d)) (stack_of fs))) (λ s3 st3. runs s3 st3 (lexemes text (drop (i + 1) tokens)))
+run_fails whole last text tokens i d p q f h e r =
+    let all : whole ≡ onward (limited (advance (state_of p.state) (lexeme_at text (get_or tokens i d)) (stack_of p.stack.items))) (λ s3 st3. runs s3 st3 (lexemes text (drop (i + 1) tokens)))
     (lexeme_at text (get_or tokens i d) ∷ lexemes text (drop (i + 1) tokens)) =
-    e ∙ ap (λ ts. runs (state_of s) (stack_of fs) ts) (rest_at text tokens i d h) in
+    e ∙ ap (λ ts. runs (state_of p.state) (stack_of p.stack.items) ts) (rest_at text tokens i d h) in
     record {
       answers = subst (λ w. FailsWith f (fault_of (length tokens) last w)) (sym all)
           (fails_whole (length tokens) last i (lexeme_at text (get_or tokens i d)) (lexemes text (drop (i + 1) tokens)) _ f _ (place_is text tokens i h) r.reads);
@@ -140,11 +122,11 @@ pub run_first : (text : List ℕ) (tokens : List Token) → runs mc.start [] (le
 unfolding stack_of
 run_first text tokens = refl
 
-pub run_ends : (whole : Result) (last count : ℕ) (text : List ℕ) (tokens : List Token) (i : ℕ) (s : State) (fs : List Frame) (r : Rattle.std.proofs.Common.Result Decls ParseFault) → length tokens ≤ i
-    → whole ≡ runs (state_of s) (stack_of fs) (lexemes text (drop i tokens))
-    → Answers count last (ending (limited (step (state_of s) (Mark mark.EndOfText 0) (stack_of fs)))) r → Answers count last whole r
-run_ends whole last count text tokens i s fs r h e a =
-    subst (λ w. Answers count last w r) (sym (e ∙ ap (λ ts. runs (state_of s) (stack_of fs) (lexemes text ts)) (drop_of_length-le tokens {i = i} h))) a
+pub run_ends : (whole : Result) (last count : ℕ) (text : List ℕ) (tokens : List Token) (i : ℕ) (p : Parser) (r : Rattle.std.proofs.Common.Result Decls ParseFault) → length tokens ≤ i
+    → whole ≡ runs (state_of p.state) (stack_of p.stack.items) (lexemes text (drop i tokens))
+    → Answers count last (ending (limited (step (state_of p.state) (Mark mark.EndOfText 0) (stack_of p.stack.items)))) r → Answers count last whole r
+run_ends whole last count text tokens i p r h e a =
+    subst (λ w. Answers count last w r) (sym (e ∙ ap (λ ts. runs (state_of p.state) (stack_of p.stack.items) (lexemes text ts)) (drop_of_length-le tokens {i = i} h))) a
 
 pub slice_at : (text : List ℕ) (tokens : List Token) (i : ℕ) (d : Token) → All (IsSliceOf text) tokens → i < length tokens → IsSliceOf text (get_or tokens i d)
 slice_at text tokens i d h k = All-get_or (IsSliceOf text) tokens i d k h

@@ -1,10 +1,10 @@
 -- The code's stack grows at its end, and the machine's at its head.
 use Rattle.std.proofs.Common.{◌≡◌, ℕ, List, [], ◌∷◌, ◌++◌, refl, ap}
 use Rattle.camelot_tree.specs.declared.tree.Name.{Name}
-use Rattle.camelot_syntax.specs.declared.lexeme.Lexeme.{Lexeme}
+use Rattle.camelot_grammar.specs.declared.lexeme.Lexeme.{Lexeme}
 use Rattle.camelot_tree.specs.Tree.{Term}
 use Rattle.camelot_syntax.specs.declared.state.Frame.{Frame}
-use Rattle.camelot_syntax.specs.Machine as mc
+use Rattle.camelot_grammar.specs.Machine as mc
 use Rattle.camelot_syntax.specs.States.{frame_of, stacked, stack_of, upside, nots_of}
 
 stacked_push : (fs : List Frame) (f : Frame) (below : List mc.Frame) → stacked (fs ++ f ∷ []) below ≡ frame_of f ∷ stacked fs below

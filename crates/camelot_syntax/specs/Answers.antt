@@ -1,18 +1,18 @@
--- What the parser answers.
+-- Private: words for functions of this crate. What the parser answers.
 use Rattle.std.specs.Prelude.{◌≡◌, ℕ, ◌⊎◌, List, [], length, Result, MatchResult, IfOk, IfErr}
 use Rattle.text_scan.specs.declared.tokens.Token.{Token}
 use Rattle.text_scan.specs.declared.fault.ScanFault.{ScanFault}
 use Rattle.text_scan.specs.declared.fault.ScanFault.TheVariants as scan
 use Rattle.text_scan.specs.Reading.{AreTokensOf, IsFaultOf}
 use Rattle.camelot_tree.specs.declared.program.Program.{Program}
-use Rattle.camelot_syntax.specs.declared.fault.ParseFault.{ParseFault}
-use Rattle.camelot_syntax.specs.declared.fault.ParseFault.TheVariants.{Scan, Memory}
-use Rattle.camelot_syntax.specs.Lexemes.{lexemes}
+use Rattle.camelot_grammar.specs.declared.fault.ParseFault.{ParseFault}
+use Rattle.camelot_grammar.specs.declared.fault.ParseFault.TheVariants.{Scan, Memory}
+use Rattle.camelot_grammar.specs.Lexemes.{lexemes}
 use Rattle.camelot_tree.specs.Tree.{Source}
 use Rattle.camelot_tree.specs.Programs.{program_of}
-use Rattle.camelot_syntax.specs.Parsing.{IsProgram, IsFaultAmong, HasProgram, HasCause, last_line}
-use Rattle.camelot_syntax.specs.Machine as mc
-use Rattle.camelot_syntax.specs.States.{FailsWith, fault_of}
+use Rattle.camelot_grammar.specs.Parsing.{IsProgram, IsFaultAmong, HasProgram, HasCause, last_line}
+use Rattle.camelot_grammar.specs.Machine as mc
+use Rattle.camelot_syntax.specs.States.{FailsWith}
 
 abbrev pub scanned_fault : ScanFault → ParseFault
 scanned_fault scan.Memory = Memory
@@ -21,7 +21,7 @@ scanned_fault f = Scan f
 -- the answer to the tokens of a text is the machine's
 pub record Runs (text : List ℕ) (tokens : List Token) (result : Result Program ParseFault) : Type 0 where
   pub runs : MatchResult result (λ p. mc.runs mc.start [] (lexemes text tokens) ≡ mc.Yes (program_of p))
-      (λ f. FailsWith f (fault_of (length tokens) (last_line text) (mc.runs mc.start [] (lexemes text tokens))))
+      (λ f. FailsWith f (mc.fault_of (length tokens) (last_line text) (mc.runs mc.start [] (lexemes text tokens))))
 
 -- the answer to a text, with its cause, and both ways
 pub record Parses (text : List ℕ) (result : Result Program ParseFault) : Type 0 where

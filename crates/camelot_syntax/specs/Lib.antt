@@ -1,9 +1,3 @@
--- The syntax of Camelot.
-pub mod Lexemes
-pub mod Grammar
-pub mod Program
-pub mod Levels
-pub mod Parsing
-pub mod Machine
+-- Private: words for functions of this crate. What the contract of `parse` cites is in `camelot_grammar`.
 pub mod States
 pub mod Answers

@@ -3,55 +3,67 @@
 ghost use Rattle.std.specs.Prelude.{◌≡◌, ◌∷◌, MatchResult};
 ghost use Rattle.camelot_syntax.specs.declared.state.Halt.TheVariants.{Memory};
 ghost use Rattle.camelot_tree.specs.Tree.{term_of, arms, Match};
-ghost use Rattle.camelot_syntax.specs.Machine.{close, close_in, unwind, with_arm, Body, Paren, Args, LetValue, IfCond, IfThen, MatchOn, ArmBody};
-ghost use Rattle.camelot_syntax.specs.States.{Does, stack_of, fun_draft_of, spot_of, terms_of, matching_of, arm_head_of, frame_of, unwound_of, Encloses};
+ghost use Rattle.camelot_grammar.specs.Machine.{close, close_in, unwind, with_arm, Body, Paren, Args, LetValue, IfCond, IfThen, MatchOn, ArmBody};
+ghost use Rattle.camelot_syntax.specs.States.{Does, seen, stack_of, fun_draft_of, spot_of, terms_of, matching_of, arm_head_of, frame_of, unwound_of, Encloses};
 
-use crate::lexeme::{Lexeme, Mark};
-use crate::operand::{if_tree, let_tree, reach};
+use crate::operand::{if_tree, let_tree};
 use crate::parser::Parser;
 use crate::state::{
-    ArmHead, ArmState, Enclosed, ExprState, Frame, FunDraft, Halt, Matching, Operand, Outer, Spot,
-    State,
+    ArmHead, ArmState, Building, Enclosed, ExprState, Frame, FunDraft, Halt, Matching, Operand,
+    Outer, Spot, State,
 };
-use camelot_tree::{Arm, Atom, Expr, FunDecl, Name};
+use crate::units::push_tree;
+use crate::words::TokenView;
+use camelot_grammar::Mark;
+use camelot_tree::{Arm, Expr, FunDecl, Name};
 use std::alloc::Global;
 
-impl Matching {
-    /// The match with one more arm.
-    #[tactic(auto, using(std::proofs::lemmas::List::map_push))]
-    fn with_arm(mut self, head: ArmHead, body: Expr) -> Result<Matching, Halt>
-        ensures { MatchResult result
-            (λ matching. matching_of matching ≡ with_arm (matching_of self) (arm_head_of head) (term_of body)) (λ halt. halt ≡ Memory) }
-    {
-        self.arms.push(Arm {
-            con: head.con,
-            fields: head.fields,
-            cell: head.cell,
-            body,
-        })?;
-        Ok(self)
-    }
+/// The match with one more arm.
+#[tactic(auto, using(std::proofs::lemmas::List::map_push))]
+fn with_arm(
+    mut matching: Box<Matching>,
+    head: Box<ArmHead>,
+    body: Box<Expr>,
+) -> Result<Box<Matching>, Halt>
+    ensures { MatchResult result
+        (λ more. matching_of more.value ≡ with_arm (matching_of matching.value) (arm_head_of head.value) (term_of body.value)) (λ halt. halt ≡ Memory) }
+{
+    let ArmHead { con, fields, cell } = Box::into_inner(head);
+    let body = Box::into_inner(body);
+    matching.arms.push(Arm {
+        con,
+        fields,
+        cell,
+        body,
+    })?;
+    Ok(matching)
+}
 
-    /// The whole match.
-    fn whole(self, alloc: Global) -> Result<Expr, Halt>
-        ensures { MatchResult result
-            (λ tree. term_of tree ≡ Match (matching_of self).on (arms (matching_of self).arms) self.line) (λ halt. halt ≡ Memory) }
-    {
-        Ok(Expr::Match {
-            on: Box::new(alloc, self.on)?,
-            arms: self.arms,
-            line: self.line,
-        })
-    }
+/// The whole match.
+fn whole_match(alloc: Global, matching: Box<Matching>) -> Result<Box<Expr>, Halt>
+    ensures { MatchResult result
+        (λ tree. term_of tree.value ≡ Match (matching_of matching.value).on (arms (matching_of matching.value).arms) matching.value.line) (λ halt. halt ≡ Memory) }
+{
+    let Matching {
+        level: _,
+        line,
+        on,
+        mut arms,
+    } = Box::into_inner(matching);
+    arms.shrink_to_fit();
+    Ok(Box::new(alloc, Expr::Match { on, arms, line })?)
 }
 
 /// The `let` or `if` that ends with this expression, or else the frame that goes on behind it.
 #[tactic(auto, using(crate::proofs::StackLemmas::stack_push))]
-fn enclose(alloc: Global, frame: Frame, tree: Expr) -> Result<Enclosed, Halt>
-    ensures { MatchResult result (λ found. Encloses (frame_of frame) (term_of tree) found) (λ halt. halt ≡ Memory) }
+fn enclose(alloc: Global, frame: Frame, tree: Box<Expr>) -> Result<Enclosed, Halt>
+    ensures { MatchResult result (λ found. Encloses (frame_of frame) (term_of tree.value) found) (λ halt. halt ≡ Memory) }
 {
     match frame {
-        Frame::LetBody { name, value } => Ok(Enclosed::Whole(let_tree(alloc, name, value, tree)?)),
+        Frame::LetBody { name, value } => {
+            let name = Box::into_inner(name);
+            Ok(Enclosed::Whole(let_tree(alloc, name, value, tree)?))
+        }
         Frame::IfElse { line, cond, yes } => {
             Ok(Enclosed::Whole(if_tree(alloc, cond, yes, tree, line)?))
         }
@@ -61,39 +73,45 @@ fn enclose(alloc: Global, frame: Frame, tree: Expr) -> Result<Enclosed, Halt>
 
 impl Parser {
     /// Behind the body of a function.
-    #[tactic(auto, unfolding(crate::specs::Machine::close_in), using(std::proofs::lemmas::List::map_push))]
+    #[tactic(auto, unfolding(camelot_grammar::specs::Machine::close_in), using(std::proofs::lemmas::List::map_push))]
     fn close_body(
         &mut self,
-        draft: FunDraft,
-        result_kind: Option<Atom>,
-        tree: Expr,
-        lexeme: Lexeme,
-    ) -> Result<State, Halt>
-        ensures { Does (close_in (Body (fun_draft_of draft) result_kind) (term_of tree) lexeme (stack_of self.old.stack.items)) self.new.stack.items result }
+        draft: Box<FunDraft>,
+        tree: Box<Expr>,
+        lexeme: &TokenView<'_>,
+    ) -> Result<(), Halt>
+        ensures { Does (close_in (Body (fun_draft_of draft.value) draft.value.result) (term_of tree.value) (seen lexeme.now) (stack_of self.old.stack.items)) self.new result }
     {
-        let mut decls = draft.before;
+        let FunDraft {
+            before: mut decls,
+            name,
+            mut params,
+            result,
+        } = Box::into_inner(draft);
+        params.shrink_to_fit();
+        let body = Box::into_inner(tree);
         decls.funs.push(FunDecl {
-            name: draft.name,
-            params: draft.params,
-            result: result_kind,
-            body: tree,
+            name,
+            params,
+            result,
+            body,
         })?;
         self.top(decls, lexeme)
     }
 
     /// Behind an expression in parentheses.
-    #[tactic(auto, unfolding(crate::specs::Machine::close_in))]
+    #[tactic(auto, unfolding(camelot_grammar::specs::Machine::close_in))]
     fn close_paren(
         &mut self,
-        spot: Spot,
+        spot: Box<Spot>,
         line: u32,
-        tree: Expr,
-        lexeme: Lexeme,
-    ) -> Result<State, Halt>
-        ensures { Does (close_in (Paren (spot_of spot) line) (term_of tree) lexeme (stack_of self.old.stack.items)) self.new.stack.items result }
+        tree: Box<Expr>,
+        lexeme: &TokenView<'_>,
+    ) -> Result<(), Halt>
+        ensures { Does (close_in (Paren (spot_of spot.value) line) (term_of tree.value) (seen lexeme.now) (stack_of self.old.stack.items)) self.new result }
     {
-        match lexeme {
-            Lexeme::Mark {
+        match *lexeme {
+            TokenView::Mark {
                 mark: Mark::Close,
                 ..
             } => self.take_unit(spot, Operand { tree, line }),
@@ -102,115 +120,114 @@ impl Parser {
     }
 
     /// Behind an argument of a constructor.
-    #[tactic(auto, unfolding(crate::specs::Machine::close_in), using(crate::proofs::StackLemmas::stack_push, std::proofs::lemmas::List::map_push))]
+    #[tactic(auto, unfolding(camelot_grammar::specs::Machine::close_in), using(crate::proofs::StackLemmas::stack_push))]
     fn close_args(
         &mut self,
-        spot: Spot,
-        con: Name,
-        mut args: Vec<Expr>,
-        tree: Expr,
-        lexeme: Lexeme,
-    ) -> Result<State, Halt>
-        ensures { Does (close_in (Args (spot_of spot) con (terms_of args.items)) (term_of tree) lexeme (stack_of self.old.stack.items)) self.new.stack.items result }
+        spot: Box<Spot>,
+        mut build: Box<Building>,
+        tree: Box<Expr>,
+        lexeme: &TokenView<'_>,
+    ) -> Result<(), Halt>
+        ensures { Does (close_in (Args (spot_of spot.value) build.value.con (terms_of build.value.args.items)) (term_of tree.value) (seen lexeme.now) (stack_of self.old.stack.items)) self.new result }
     {
-        let level = spot.slot.level;
-        args.push(tree)?;
-        match lexeme {
-            Lexeme::Mark {
+        let level = spot.level;
+        push_tree(&mut build.args, tree)?;
+        match *lexeme {
+            TokenView::Mark {
                 mark: Mark::Comma,
                 ..
             } => {
-                self.stack.push(Frame::Args { spot, con, args })?;
-                reach(level, State::InExpr(ExprState::Want(level)))
+                self.stack.push(Frame::Args { spot, build })?;
+                self.go(level, State::InExpr(ExprState::Want(level)))
             }
-            Lexeme::Mark {
+            TokenView::Mark {
                 mark: Mark::Close,
                 ..
-            } => reach(level, State::InExpr(ExprState::Full(spot, con, args))),
+            } => self.go(level, State::InExpr(ExprState::Full(spot, build))),
             _ => Err(Halt::Stuck),
         }
     }
 
     /// Behind the value of a `let`.
-    #[tactic(auto, unfolding(crate::specs::Machine::close_in), using(crate::proofs::StackLemmas::stack_push))]
+    #[tactic(auto, unfolding(camelot_grammar::specs::Machine::close_in), using(crate::proofs::StackLemmas::stack_push))]
     fn close_value(
         &mut self,
         level: u32,
-        name: Name,
-        value: Expr,
-        lexeme: Lexeme,
-    ) -> Result<State, Halt>
-        ensures { Does (close_in (LetValue level name) (term_of value) lexeme (stack_of self.old.stack.items)) self.new.stack.items result }
+        name: Box<Name>,
+        value: Box<Expr>,
+        lexeme: &TokenView<'_>,
+    ) -> Result<(), Halt>
+        ensures { Does (close_in (LetValue level name.value) (term_of value.value) (seen lexeme.now) (stack_of self.old.stack.items)) self.new result }
     {
-        match lexeme {
-            Lexeme::Mark { mark: Mark::In, .. } => {
+        match *lexeme {
+            TokenView::Mark { mark: Mark::In, .. } => {
                 self.stack.push(Frame::LetBody { name, value })?;
-                reach(level, State::InExpr(ExprState::Want(level)))
+                self.go(level, State::InExpr(ExprState::Want(level)))
             }
             _ => Err(Halt::Stuck),
         }
     }
 
     /// Behind the condition of an `if`.
-    #[tactic(auto, unfolding(crate::specs::Machine::close_in), using(crate::proofs::StackLemmas::stack_push))]
+    #[tactic(auto, unfolding(camelot_grammar::specs::Machine::close_in), using(crate::proofs::StackLemmas::stack_push))]
     fn close_cond(
         &mut self,
         level: u32,
         line: u32,
-        cond: Expr,
-        lexeme: Lexeme,
-    ) -> Result<State, Halt>
-        ensures { Does (close_in (IfCond level line) (term_of cond) lexeme (stack_of self.old.stack.items)) self.new.stack.items result }
+        cond: Box<Expr>,
+        lexeme: &TokenView<'_>,
+    ) -> Result<(), Halt>
+        ensures { Does (close_in (IfCond level line) (term_of cond.value) (seen lexeme.now) (stack_of self.old.stack.items)) self.new result }
     {
-        match lexeme {
-            Lexeme::Mark {
+        match *lexeme {
+            TokenView::Mark {
                 mark: Mark::Then,
                 ..
             } => {
                 self.stack.push(Frame::IfThen { level, line, cond })?;
-                reach(level, State::InExpr(ExprState::Want(level)))
+                self.go(level, State::InExpr(ExprState::Want(level)))
             }
             _ => Err(Halt::Stuck),
         }
     }
 
     /// Behind the first branch of an `if`.
-    #[tactic(auto, unfolding(crate::specs::Machine::close_in), using(crate::proofs::StackLemmas::stack_push))]
+    #[tactic(auto, unfolding(camelot_grammar::specs::Machine::close_in), using(crate::proofs::StackLemmas::stack_push))]
     fn close_then(
         &mut self,
         level: u32,
         line: u32,
-        cond: Expr,
-        yes: Expr,
-        lexeme: Lexeme,
-    ) -> Result<State, Halt>
-        ensures { Does (close_in (IfThen level line (term_of cond)) (term_of yes) lexeme (stack_of self.old.stack.items)) self.new.stack.items result }
+        cond: Box<Expr>,
+        yes: Box<Expr>,
+        lexeme: &TokenView<'_>,
+    ) -> Result<(), Halt>
+        ensures { Does (close_in (IfThen level line (term_of cond.value)) (term_of yes.value) (seen lexeme.now) (stack_of self.old.stack.items)) self.new result }
     {
-        match lexeme {
-            Lexeme::Mark {
+        match *lexeme {
+            TokenView::Mark {
                 mark: Mark::Else,
                 ..
             } => {
                 self.stack.push(Frame::IfElse { line, cond, yes })?;
-                reach(level, State::InExpr(ExprState::Want(level)))
+                self.go(level, State::InExpr(ExprState::Want(level)))
             }
             _ => Err(Halt::Stuck),
         }
     }
 
     /// Behind what is matched.
-    #[tactic(auto, unfolding(crate::specs::Machine::close_in))]
+    #[tactic(auto, unfolding(camelot_grammar::specs::Machine::close_in))]
     fn close_scrutinee(
         &mut self,
         level: u32,
         line: u32,
-        on: Expr,
-        lexeme: Lexeme,
-    ) -> Result<State, Halt>
-        ensures { Does (close_in (MatchOn level line) (term_of on) lexeme (stack_of self.old.stack.items)) self.new.stack.items result }
+        on: Box<Expr>,
+        lexeme: &TokenView<'_>,
+    ) -> Result<(), Halt>
+        ensures { Does (close_in (MatchOn level line) (term_of on.value) (seen lexeme.now) (stack_of self.old.stack.items)) self.new result }
     {
-        match lexeme {
-            Lexeme::Mark {
+        match *lexeme {
+            TokenView::Mark {
                 mark: Mark::With,
                 ..
             } => {
@@ -220,39 +237,40 @@ impl Parser {
                     on,
                     arms: Vec::new(self.alloc),
                 };
-                reach(level, State::InArm(ArmState::FirstArm(matching)))
+                let matching = Box::new(self.alloc, matching)?;
+                self.go(level, State::InArm(ArmState::FirstArm(matching)))
             }
             _ => Err(Halt::Stuck),
         }
     }
 
     /// Behind the body of an arm.
-    #[tactic(auto, unfolding(crate::specs::Machine::close_in))]
+    #[tactic(auto, unfolding(camelot_grammar::specs::Machine::close_in))]
     fn close_arm(
         &mut self,
-        matching: Matching,
-        head: ArmHead,
-        body: Expr,
-        lexeme: Lexeme,
-    ) -> Result<State, Halt>
-        ensures { Does (close_in (ArmBody (matching_of matching) (arm_head_of head)) (term_of body) lexeme (stack_of self.old.stack.items)) self.new.stack.items result }
+        matching: Box<Matching>,
+        head: Box<ArmHead>,
+        body: Box<Expr>,
+        lexeme: &TokenView<'_>,
+    ) -> Result<(), Halt>
+        ensures { Does (close_in (ArmBody (matching_of matching.value) (arm_head_of head.value)) (term_of body.value) (seen lexeme.now) (stack_of self.old.stack.items)) self.new result }
     {
         let level = matching.level;
-        match lexeme {
-            Lexeme::Mark {
+        match *lexeme {
+            TokenView::Mark {
                 mark: Mark::Bar,
                 ..
             } => {
-                let matching = matching.with_arm(head, body)?;
-                reach(level, State::InArm(ArmState::WantArm(matching)))
+                let matching = with_arm(matching, head, body)?;
+                self.go(level, State::InArm(ArmState::WantArm(matching)))
             }
-            Lexeme::Mark {
+            TokenView::Mark {
                 mark: Mark::End,
                 ..
             } => {
-                let matching = matching.with_arm(head, body)?;
-                let tree = matching.whole(self.alloc)?;
-                reach(level, State::InExpr(ExprState::Whole(tree)))
+                let matching = with_arm(matching, head, body)?;
+                let tree = whole_match(self.alloc, matching)?;
+                self.go(level, State::InExpr(ExprState::Whole(tree)))
             }
             _ => Err(Halt::Stuck),
         }
@@ -260,14 +278,14 @@ impl Parser {
 
     /// Behind an expression that this frame goes on with.
     #[tactic(auto, using(crate::proofs::StackLemmas::let_stuck, crate::proofs::StackLemmas::else_stuck))]
-    fn close_in(&mut self, outer: Outer, lexeme: Lexeme) -> Result<State, Halt>
-        ensures { Does (close_in (frame_of outer.frame) (term_of outer.tree) lexeme (stack_of self.old.stack.items)) self.new.stack.items result }
+    fn close_in(&mut self, outer: Outer, lexeme: &TokenView<'_>) -> Result<(), Halt>
+        ensures { Does (close_in (frame_of outer.frame) (term_of outer.tree.value) (seen lexeme.now) (stack_of self.old.stack.items)) self.new result }
     {
         let tree = outer.tree;
         match outer.frame {
-            Frame::Body { draft, result } => self.close_body(draft, result, tree, lexeme),
+            Frame::Body { draft } => self.close_body(draft, tree, lexeme),
             Frame::Paren { spot, line } => self.close_paren(spot, line, tree, lexeme),
-            Frame::Args { spot, con, args } => self.close_args(spot, con, args, tree, lexeme),
+            Frame::Args { spot, build } => self.close_args(spot, build, tree, lexeme),
             Frame::LetValue { level, name } => self.close_value(level, name, tree, lexeme),
             Frame::IfCond { level, line } => self.close_cond(level, line, tree, lexeme),
             Frame::IfThen { level, line, cond } => {
@@ -281,10 +299,10 @@ impl Parser {
     }
 
     /// Ends each `let` and `if` that ends with this expression, up to what goes on behind it.
-    #[tactic(auto, unfolding(crate::specs::Machine::unwind), using(crate::proofs::StackLemmas::stack_push, crate::proofs::StackLemmas::unwind_none))]
-    fn unwind(&mut self, mut tree: Expr) -> Result<Option<Outer>, Halt>
+    #[tactic(auto, unfolding(camelot_grammar::specs::Machine::unwind), using(crate::proofs::StackLemmas::stack_push, crate::proofs::StackLemmas::unwind_none))]
+    fn unwind(&mut self, mut tree: Box<Expr>) -> Result<Option<Outer>, Halt>
         ensures { MatchResult result
-            (λ outer. unwind (stack_of self.old.stack.items) (term_of tree) ≡ unwound_of outer (stack_of self.new.stack.items)) (λ halt. halt ≡ Memory) }
+            (λ outer. unwind (stack_of self.old.stack.items) (term_of tree.value) ≡ unwound_of outer (stack_of self.new.stack.items)) (λ halt. halt ≡ Memory) }
     {
         'frames: while let Some(frame) = self.stack.pop() {
             match enclose(self.alloc, frame, tree)? {
@@ -296,9 +314,9 @@ impl Parser {
     }
 
     /// Behind a whole expression.
-    #[tactic(auto, unfolding(crate::specs::Machine::close))]
-    pub fn close(&mut self, tree: Expr, lexeme: Lexeme) -> Result<State, Halt>
-        ensures { Does (close (stack_of self.old.stack.items) (term_of tree) lexeme) self.new.stack.items result }
+    #[tactic(auto, unfolding(camelot_grammar::specs::Machine::close))]
+    pub fn close(&mut self, tree: Box<Expr>, lexeme: &TokenView<'_>) -> Result<(), Halt>
+        ensures { Does (close (stack_of self.old.stack.items) (term_of tree.value) (seen lexeme.now)) self.new result }
     {
         match self.unwind(tree)? {
             Some(outer) => self.close_in(outer, lexeme),

@@ -2,12 +2,12 @@
 
 ghost use Rattle.std.specs.Prelude.{◌≡◌, ◌≤◌, ◌<◌, suc, MatchResult};
 ghost use Rattle.camelot_syntax.specs.declared.state.Halt.TheVariants.{Memory, Deep};
-ghost use Rattle.camelot_tree.specs.Tree.{term_of, operator_of, Prim, If, Let};
-ghost use Rattle.camelot_syntax.specs.Program.{join, negated};
-ghost use Rattle.camelot_syntax.specs.Machine.{finished, negated_all, within};
+ghost use Rattle.camelot_tree.specs.Tree.{term_of, operator_of, Truth, Prim, If, Let};
+ghost use Rattle.camelot_grammar.specs.Program.{join, negated};
+ghost use Rattle.camelot_grammar.specs.Machine.{finished, negated_all, within};
 ghost use Rattle.camelot_syntax.specs.States.{operand_of, joint_of, some_left, nots_of};
 
-use crate::state::{Halt, Joint, Left, Operand, State};
+use crate::state::{Halt, Joint, Left, Operand};
 use camelot_tree::{Expr, Name, PrimOp};
 use std::alloc::Global;
 
@@ -15,6 +15,7 @@ use std::alloc::Global;
 pub const LIMIT: u32 = 200;
 
 /// The level of a part that begins within this level.
+#[inline]
 pub fn deeper(around: u32) -> Result<u32, Halt>
     ensures { MatchResult result (λ level. (level ≡ suc around) × (level ≤ 200)) (λ halt. (halt ≡ Deep) × (200 < suc around)) }
 {
@@ -25,6 +26,7 @@ pub fn deeper(around: u32) -> Result<u32, Halt>
 }
 
 /// The level around what follows an operator of this level.
+#[inline]
 pub fn behind(level: u32) -> Result<u32, Halt>
     ensures { MatchResult result (λ inner. (inner ≡ suc level) × (level ≤ 200)) (λ halt. (halt ≡ Deep) × (200 < level)) }
 {
@@ -34,17 +36,8 @@ pub fn behind(level: u32) -> Result<u32, Halt>
     Ok(level + 1)
 }
 
-/// The state behind a token of this level.
-pub fn reach(level: u32, state: State) -> Result<State, Halt>
-    ensures { MatchResult result (λ reached. (reached ≡ state) × (level ≤ 200)) (λ halt. (halt ≡ Deep) × (200 < level)) }
-{
-    if level > LIMIT {
-        return Err(Halt::Deep);
-    }
-    Ok(state)
-}
-
 /// The level of the next operator of a rank.
+#[inline]
 pub fn within(left: &Option<Left>, around: u32) -> u32
     ensures { result ≡ within (some_left left.now) around }
 {
@@ -54,36 +47,70 @@ pub fn within(left: &Option<Left>, around: u32) -> u32
     }
 }
 
-pub fn prim(alloc: Global, op: PrimOp, left: Expr, right: Expr, line: u32) -> Result<Expr, Halt>
-    ensures { MatchResult result (λ tree. term_of tree ≡ Prim (operator_of op) (term_of left) (term_of right) line) (λ halt. halt ≡ Memory) }
+pub fn prim(
+    alloc: Global,
+    op: PrimOp,
+    left: Box<Expr>,
+    right: Box<Expr>,
+    line: u32,
+) -> Result<Box<Expr>, Halt>
+    ensures { MatchResult result (λ tree. term_of tree.value ≡ Prim (operator_of op) (term_of left.value) (term_of right.value) line) (λ halt. halt ≡ Memory) }
 {
-    Ok(Expr::Prim {
-        op,
-        left: Box::new(alloc, left)?,
-        right: Box::new(alloc, right)?,
-        line,
-    })
+    Ok(Box::new(
+        alloc,
+        Expr::Prim {
+            op,
+            left,
+            right,
+            line,
+        },
+    )?)
 }
 
-pub fn if_tree(alloc: Global, cond: Expr, yes: Expr, no: Expr, line: u32) -> Result<Expr, Halt>
-    ensures { MatchResult result (λ tree. term_of tree ≡ If (term_of cond) (term_of yes) (term_of no) line) (λ halt. halt ≡ Memory) }
+pub fn if_tree(
+    alloc: Global,
+    cond: Box<Expr>,
+    yes: Box<Expr>,
+    no: Box<Expr>,
+    line: u32,
+) -> Result<Box<Expr>, Halt>
+    ensures { MatchResult result (λ tree. term_of tree.value ≡ If (term_of cond.value) (term_of yes.value) (term_of no.value) line) (λ halt. halt ≡ Memory) }
 {
-    Ok(Expr::If {
-        cond: Box::new(alloc, cond)?,
-        yes: Box::new(alloc, yes)?,
-        no: Box::new(alloc, no)?,
-        line,
-    })
+    Ok(Box::new(
+        alloc,
+        Expr::If {
+            cond,
+            yes,
+            no,
+            line,
+        },
+    )?)
 }
 
-pub fn let_tree(alloc: Global, name: Name, value: Expr, body: Expr) -> Result<Expr, Halt>
-    ensures { MatchResult result (λ tree. term_of tree ≡ Let name (term_of value) (term_of body)) (λ halt. halt ≡ Memory) }
+pub fn let_tree(
+    alloc: Global,
+    name: Name,
+    value: Box<Expr>,
+    body: Box<Expr>,
+) -> Result<Box<Expr>, Halt>
+    ensures { MatchResult result (λ tree. term_of tree.value ≡ Let name (term_of value.value) (term_of body.value)) (λ halt. halt ≡ Memory) }
 {
-    Ok(Expr::Let {
-        name,
-        value: Box::new(alloc, value)?,
-        body: Box::new(alloc, body)?,
-    })
+    Ok(Box::new(alloc, Expr::Let { name, value, body })?)
+}
+
+/// A truth value in this line.
+fn truth(alloc: Global, value: bool, line: u32) -> Result<Box<Expr>, Halt>
+    ensures { MatchResult result (λ tree. term_of tree.value ≡ Truth value line) (λ halt. halt ≡ Memory) }
+{
+    Ok(Box::new(alloc, Expr::Truth { value, line })?)
+}
+
+/// The operand that is this tree.
+pub fn leaf(alloc: Global, tree: Expr, line: u32) -> Result<Operand, Halt>
+    ensures { MatchResult result (λ operand. operand_of operand ≡ record { term = term_of tree; line = line }) (λ halt. halt ≡ Memory) }
+{
+    let tree = Box::new(alloc, tree)?;
+    Ok(Operand { tree, line })
 }
 
 impl Left {
@@ -102,11 +129,11 @@ impl Left {
         let tree = match joint {
             Joint::Prim(op) => prim(alloc, op, operand.tree, right.tree, first)?,
             Joint::AndThen => {
-                let no = Expr::Truth { value: false, line };
+                let no = truth(alloc, false, line)?;
                 if_tree(alloc, operand.tree, right.tree, no, first)?
             }
             Joint::OrElse => {
-                let yes = Expr::Truth { value: true, line };
+                let yes = truth(alloc, true, line)?;
                 if_tree(alloc, operand.tree, yes, right.tree, first)?
             }
         };
@@ -115,6 +142,7 @@ impl Left {
 }
 
 /// The chain of one rank with its last operand.
+#[inline]
 pub fn finish(alloc: Global, left: Option<Left>, right: Operand) -> Result<Operand, Halt>
     ensures { MatchResult result (λ whole. operand_of whole ≡ finished (some_left left) (operand_of right)) (λ halt. halt ≡ Memory) }
 {
@@ -128,16 +156,16 @@ pub fn finish(alloc: Global, left: Option<Left>, right: Operand) -> Result<Opera
 fn negation(alloc: Global, line: u32, operand: Operand) -> Result<Operand, Halt>
     ensures { MatchResult result (λ whole. operand_of whole ≡ negated line (operand_of operand)) (λ halt. halt ≡ Memory) }
 {
-    let yes = Expr::Truth { value: false, line };
-    let no = Expr::Truth { value: true, line };
+    let yes = truth(alloc, false, line)?;
+    let no = truth(alloc, true, line)?;
     let tree = if_tree(alloc, operand.tree, yes, no, line)?;
     Ok(Operand { tree, line })
 }
 
-/// An operand with all the `not`s before it, whose lines these are.
+/// An operand with all the `not`s before it, whose lines these are. They are taken.
 #[tactic(auto, using(crate::proofs::StackLemmas::nots_push))]
-pub fn negate_all(alloc: Global, mut nots: Vec<u32>, mut operand: Operand) -> Result<Operand, Halt>
-    ensures { MatchResult result (λ whole. operand_of whole ≡ negated_all (nots_of nots.items) (operand_of operand)) (λ halt. halt ≡ Memory) }
+pub fn negate_all(alloc: Global, nots: &mut Vec<u32>, mut operand: Operand) -> Result<Operand, Halt>
+    ensures { MatchResult result (λ whole. operand_of whole ≡ negated_all (nots_of nots.old.items) (operand_of operand)) (λ halt. halt ≡ Memory) }
 {
     'nots: while let Some(line) = nots.pop() {
         operand = negation(alloc, line, operand)?;

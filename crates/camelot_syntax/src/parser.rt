@@ -3,42 +3,69 @@
 ghost use Rattle.std.specs.Prelude.{◌≡◌, ◌∷◌, [], List, length, MatchResult};
 ghost use Rattle.std.specs.List.{All};
 ghost use Rattle.text_scan.specs.Reading.{IsSliceOf, line_at};
-ghost use Rattle.camelot_syntax.specs.declared.lexeme.Lexeme.{Lexeme};
-ghost use Rattle.camelot_syntax.specs.Lexemes.{lexeme_at, lexemes, IsReal};
-ghost use Rattle.camelot_syntax.specs.Parsing.{stop_fault, line_of, last_line};
-ghost use Rattle.camelot_syntax.specs.Machine.{step, advance, runs, ending, limited, start, Done};
-ghost use Rattle.camelot_syntax.specs.States.{Does, IsSmall, IsUnfinished, Answers, Reads, stack_of, state_of, decls_of};
+ghost use Rattle.camelot_grammar.specs.declared.lexeme.Lexeme.{Lexeme};
+ghost use Rattle.camelot_grammar.specs.Lexemes.{lexeme_at, lexemes, IsReal};
+ghost use Rattle.camelot_grammar.specs.Parsing.{stop_fault, line_of, last_line};
+ghost use Rattle.camelot_grammar.specs.Machine.{step, advance, runs, ending, limited, start, Done, Goes};
+ghost use Rattle.camelot_syntax.specs.States.{Does, IsSmall, IsUnfinished, Answers, Reads, seen, stack_of, state_of, decls_of};
 
-use crate::fault::ParseFault;
-use crate::lexeme::{Lexeme, Mark, lexeme_of};
-use crate::state::{DeclState, Decls, Frame, Halt, State};
+use crate::operand::LIMIT;
+use crate::state::{DeclState, Decls, ExprState, Frame, Halt, Spot, State};
+use crate::words::{TokenView, view};
+use camelot_grammar::laws::tokens_of_a_text;
+use camelot_grammar::{Mark, ParseFault};
 use std::alloc::Global;
+use std::mem;
 use text_scan::Token;
 
-/// The parser between two tokens: the expressions that are unfinished, the innermost last.
+/// The parser between two tokens: where it stands, and the expressions that are unfinished, the innermost last.
 #[derive(Drop)]
 pub struct Parser {
     pub alloc: Global,
+    pub state: State,
     pub stack: Vec<Frame>,
+    /// Room for expressions that begin, from those that have ended.
+    pub spares: Vec<Box<Spot>>,
+}
+
+/// The line of a token.
+fn line_of(lexeme: &TokenView<'_>) -> u32
+    ensures { result ≡ line_of (seen lexeme.now) }
+{
+    match *lexeme {
+        TokenView::Lower { line, .. } | TokenView::Upper { line, .. } => line,
+        TokenView::Variable { line } | TokenView::Greatest { line } => line,
+        TokenView::Number { line, .. } | TokenView::Mark { line, .. } => line,
+    }
 }
 
 /// The fault at a token with which no program goes on, at this place.
-fn stop_fault(lexeme: &Lexeme, token: u64, line: u32) -> ParseFault
-    requires { line ≡ line_of lexeme.now }
-    ensures { (rest : List Lexeme) → result ≡ stop_fault (lexeme.now ∷ rest) token (line_of lexeme.now) }
+fn stop_fault(lexeme: &TokenView<'_>, token: u64) -> ParseFault
+    ensures { (rest : List Lexeme) → result ≡ stop_fault (seen lexeme.now ∷ rest) token (line_of (seen lexeme.now)) }
 {
-    let line = u64::from(line);
-    match lexeme {
-        Lexeme::Variable { .. } => ParseFault::TypeParameter { token, line },
-        Lexeme::Mark {
+    match *lexeme {
+        TokenView::Variable { line } => ParseFault::TypeParameter {
+            token,
+            line: u64::from(line),
+        },
+        TokenView::Mark {
             mark: Mark::Slash,
-            ..
-        } => ParseFault::Division { token, line },
-        Lexeme::Mark {
+            line,
+        } => ParseFault::Division {
+            token,
+            line: u64::from(line),
+        },
+        TokenView::Mark {
             mark: Mark::Mod,
-            ..
-        } => ParseFault::Division { token, line },
-        _ => ParseFault::Unexpected { token, line },
+            line,
+        } => ParseFault::Division {
+            token,
+            line: u64::from(line),
+        },
+        _ => ParseFault::Unexpected {
+            token,
+            line: u64::from(line_of(lexeme)),
+        },
     }
 }
 
@@ -61,19 +88,40 @@ impl State {
             State::InDecl(_state) => Err(fault),
             State::InExpr(_state) => Err(fault),
             State::InArm(_state) => Err(fault),
-            State::Done(decls) => Ok(decls),
+            State::Done(decls) => Ok(Box::into_inner(decls)),
         }
     }
 }
 
 impl Parser {
-    /// One token.
-    #[tactic(auto, unfolding(crate::specs::Machine::step))]
-    fn step(&mut self, state: State, lexeme: Lexeme) -> Result<State, Halt>
-        requires { IsSmall lexeme }
-        ensures { Does (step (state_of state) lexeme (stack_of self.old.stack.items)) self.new.stack.items result }
+    /// Behind a token of this level, in this state.
+    #[inline]
+    pub fn go(&mut self, level: u32, state: State) -> Result<(), Halt>
+        ensures { Does (Goes level (state_of state) (stack_of self.old.stack.items)) self.new result }
     {
-        match state {
+        if level > LIMIT {
+            return Err(Halt::Deep);
+        }
+        self.state = state;
+        Ok(())
+    }
+
+    /// Where the parser stands, to go on from there.
+    #[inline]
+    fn take_state(&mut self) -> State
+        ensures state { result ≡ self.old.state }
+        ensures stack { self.new.stack ≡ self.old.stack }
+    {
+        mem::replace(&mut self.state, State::InExpr(ExprState::Want(0)))
+    }
+
+    /// One token.
+    #[tactic(auto, unfolding(camelot_grammar::specs::Machine::step))]
+    fn step(&mut self, lexeme: &TokenView<'_>) -> Result<(), Halt>
+        requires { IsSmall (seen lexeme.now) }
+        ensures { Does (step (state_of self.old.state) (seen lexeme.now) (stack_of self.old.stack.items)) self.new result }
+    {
+        match self.take_state() {
             State::InDecl(state) => self.decl(state, lexeme),
             State::InExpr(state) => self.expr(state, lexeme),
             State::InArm(state) => self.arm(state, lexeme),
@@ -83,61 +131,47 @@ impl Parser {
 
     /// One token of the text, whose place among the tokens is `at`.
     #[tactic(auto, using(crate::proofs::RunLemmas::small_real, crate::proofs::RunLemmas::advance_real, crate::proofs::RunLemmas::fails_stop))]
-    fn read_lexeme(
-        &mut self,
-        state: State,
-        lexeme: Lexeme,
-        line: u32,
-        at: u64,
-    ) -> Result<State, ParseFault>
-        requires real { IsReal lexeme }
-        requires line { line ≡ line_of lexeme }
-        ensures { Reads (advance (state_of state) lexeme (stack_of self.old.stack.items)) lexeme at self.new.stack.items result }
+    fn read_token(&mut self, lexeme: &TokenView<'_>, at: u64) -> Result<(), ParseFault>
+        requires real { IsReal (seen lexeme.now) }
+        ensures { Reads (advance (state_of self.old.state) (seen lexeme.now) (stack_of self.old.stack.items)) (seen lexeme.now) at self.new result }
     {
-        let fault = stop_fault(&lexeme, at, line);
-        match self.step(state, lexeme) {
-            Ok(state) => Ok(state),
-            Err(Halt::Stuck) => Err(fault),
+        match self.step(lexeme) {
+            Ok(()) => Ok(()),
+            Err(Halt::Stuck) => Err(stop_fault(lexeme, at)),
             Err(Halt::Deep) => Err(ParseFault::TooDeep {
                 token: at,
-                line: u64::from(line),
+                line: u64::from(line_of(lexeme)),
             }),
             Err(Halt::Memory) => Err(ParseFault::Memory),
         }
     }
 
     /// The token of the text at this place.
-    #[tactic(auto, using(crate::proofs::LexemeLemmas::slice_real, crate::proofs::RunLemmas::line_at_token))]
-    fn read(
-        &mut self,
-        state: State,
-        text: &[u8],
-        token: Token,
-        at: u64,
-    ) -> Result<State, ParseFault>
+    fn read(&mut self, text: &[u8], token: Token, at: u64) -> Result<(), ParseFault>
         requires { IsSliceOf text.now token }
-        ensures { Reads (advance (state_of state) (lexeme_at text.now token) (stack_of self.old.stack.items)) (lexeme_at text.now token) at
-            self.new.stack.items result }
+        ensures { Reads (advance (state_of self.old.state) (lexeme_at text.now token) (stack_of self.old.stack.items)) (lexeme_at text.now token) at
+            self.new result }
     {
-        let lexeme = lexeme_of(self.alloc, text, token)?;
-        self.read_lexeme(state, lexeme, token.line, at)
+        tokens_of_a_text();
+        let lexeme = view(text, token);
+        self.read_token(&lexeme, at)
     }
 
     /// The end of a text of so many tokens.
     #[tactic(auto, using(crate::proofs::RunLemmas::ends_whole, crate::proofs::RunLemmas::ends_early, crate::proofs::RunLemmas::ends_stuck, crate::proofs::RunLemmas::ends_deep))]
-    fn finish(&mut self, state: State, text: &[u8], count: usize) -> Result<Decls, ParseFault>
-        ensures { Answers count (last_line text.now) (ending (limited (step (state_of state) (Lexeme.Mark Mark.EndOfText 0) (stack_of self.old.stack.items)))) result }
+    fn finish(&mut self, text: &[u8], count: usize) -> Result<Decls, ParseFault>
+        ensures { Answers count (last_line text.now) (ending (limited (step (state_of self.old.state) (Lexeme.Mark Mark.EndOfText 0) (stack_of self.old.stack.items)))) result }
     {
         let fault = ParseFault::Unexpected {
             token: count as u64,
             line: last_line(text),
         };
-        let end = Lexeme::Mark {
+        let end = TokenView::Mark {
             mark: Mark::EndOfText,
             line: 0,
         };
-        match self.step(state, end) {
-            Ok(state) => state.whole(fault),
+        match self.step(&end) {
+            Ok(()) => self.take_state().whole(fault),
             Err(Halt::Memory) => Err(ParseFault::Memory),
             Err(Halt::Stuck) => Err(fault),
             Err(Halt::Deep) => Err(fault),
@@ -151,19 +185,22 @@ pub fn run(alloc: Global, text: &[u8], tokens: &[Token]) -> Result<Decls, ParseF
     requires { All (IsSliceOf text.now) tokens.now }
     ensures { Answers (length tokens.now) (last_line text.now) (runs start [] (lexemes text.now tokens.now)) result }
 {
-    let mut parser = Parser {
-        alloc,
-        stack: Vec::new(alloc),
-    };
-    let mut state = State::InDecl(DeclState::Top(Decls {
+    let decls = Decls {
         types: Vec::new(alloc),
         funs: Vec::new(alloc),
-    }));
+    };
+    let decls = Box::new(alloc, decls)?;
+    let mut parser = Parser {
+        alloc,
+        state: State::InDecl(DeclState::Top(decls)),
+        stack: Vec::new(alloc),
+        spares: Vec::new(alloc),
+    };
     'tokens: for (at, token) in tokens.iter().enumerate() {
-        match parser.read(state, text, *token, at as u64) {
-            Ok(next) => state = next,
+        match parser.read(text, *token, at as u64) {
+            Ok(()) => {}
             Err(fault) => return Err(fault),
         }
     }
-    parser.finish(state, text, tokens.len())
+    parser.finish(text, tokens.len())
 }

@@ -1,15 +1,16 @@
-//! What the parser holds between two tokens: where it stands, and what is to be finished later.
+//! What the parser holds between two tokens: where it stands, and what is to be finished later. What is large stands in
+//! boxes, since states and frames are moved at each token.
 
 ghost use Rattle.std.specs.Prelude.{◌≡◌};
 ghost use Rattle.camelot_syntax.specs.declared.state.Halt.TheVariants.{Memory};
 
 use camelot_tree::{Arm, ArmCell, Atom, ConDecl, Expr, FunDecl, Name, Param, PrimOp, TypeDecl};
-use std::alloc::AllocFailed;
+use std::alloc::{AllocError, AllocFailed};
 
 /// An operand, with the line of its first token.
 #[derive(Drop)]
 pub struct Operand {
-    pub tree: Expr,
+    pub tree: Box<Expr>,
     pub line: u32,
 }
 
@@ -44,16 +45,6 @@ pub struct Lefts {
     pub prod: Option<Left>,
 }
 
-/// The place of an operand.
-#[derive(Drop)]
-pub struct Slot {
-    pub lefts: Lefts,
-    /// The lines of the `not`s before it.
-    pub nots: Vec<u32>,
-    /// The level of the operand's own tokens.
-    pub level: u32,
-}
-
 /// A name with the units that stand behind it so far.
 #[derive(Drop)]
 pub struct Callee {
@@ -61,11 +52,22 @@ pub struct Callee {
     pub args: Vec<Expr>,
 }
 
-/// The place of a unit: an operand, or an argument of a call.
+/// The place of an operand in an expression, and of a unit in that operand: alone, or behind a name.
 #[derive(Drop)]
 pub struct Spot {
-    pub slot: Slot,
+    pub lefts: Lefts,
+    /// The lines of the `not`s before the operand.
+    pub nots: Vec<u32>,
+    /// The level of the operand's own tokens. Where none is read yet, the level around the operand.
+    pub level: u32,
     pub call: Option<Callee>,
+}
+
+/// A constructor with the arguments so far.
+#[derive(Drop)]
+pub struct Building {
+    pub con: Name,
+    pub args: Vec<Expr>,
 }
 
 /// A match with the arms so far.
@@ -73,7 +75,7 @@ pub struct Spot {
 pub struct Matching {
     pub level: u32,
     pub line: u32,
-    pub on: Expr,
+    pub on: Box<Expr>,
     pub arms: Vec<Arm>,
 }
 
@@ -95,42 +97,49 @@ pub struct Decls {
 /// The declaration of a type with the constructors so far.
 #[derive(Drop)]
 pub struct TypeDraft {
-    pub before: Decls,
+    pub before: Box<Decls>,
     pub name: Name,
     pub cons: Vec<ConDecl>,
+}
+
+/// A constructor's declaration with the fields so far.
+#[derive(Drop)]
+pub struct ConDraft {
+    pub name: Name,
+    pub fields: Vec<Atom>,
 }
 
 /// The declaration of a function with the parameters so far.
 #[derive(Drop)]
 pub struct FunDraft {
-    pub before: Decls,
+    pub before: Box<Decls>,
     pub name: Name,
     pub params: Vec<Param>,
+    /// The type of the result, where one is written and read.
+    pub result: Option<Atom>,
 }
 
 /// An expression that is being read, within what goes on behind it.
 #[derive(Drop)]
 pub enum Frame {
     Body {
-        draft: FunDraft,
-        result: Option<Atom>,
+        draft: Box<FunDraft>,
     },
     Paren {
-        spot: Spot,
+        spot: Box<Spot>,
         line: u32,
     },
     Args {
-        spot: Spot,
-        con: Name,
-        args: Vec<Expr>,
+        spot: Box<Spot>,
+        build: Box<Building>,
     },
     LetValue {
         level: u32,
-        name: Name,
+        name: Box<Name>,
     },
     LetBody {
-        name: Name,
-        value: Expr,
+        name: Box<Name>,
+        value: Box<Expr>,
     },
     IfCond {
         level: u32,
@@ -139,20 +148,20 @@ pub enum Frame {
     IfThen {
         level: u32,
         line: u32,
-        cond: Expr,
+        cond: Box<Expr>,
     },
     IfElse {
         line: u32,
-        cond: Expr,
-        yes: Expr,
+        cond: Box<Expr>,
+        yes: Box<Expr>,
     },
     MatchOn {
         level: u32,
         line: u32,
     },
     ArmBody {
-        matching: Matching,
-        head: ArmHead,
+        matching: Box<Matching>,
+        head: Box<ArmHead>,
     },
 }
 
@@ -160,38 +169,38 @@ pub enum Frame {
 #[derive(Drop)]
 pub struct Outer {
     pub frame: Frame,
-    pub tree: Expr,
+    pub tree: Box<Expr>,
 }
 
 /// What an expression ends: a whole `let` or `if`, or else nothing.
 #[derive(Drop)]
 pub enum Enclosed {
-    Whole(Expr),
+    Whole(Box<Expr>),
     Outer(Outer),
 }
 
 /// Where the parser stands in declarations: what it wants next, or has.
 #[derive(Drop)]
 pub enum DeclState {
-    Top(Decls),
-    TypeName(Decls),
-    TypeEquals(Decls, Name),
-    WantCon(TypeDraft),
-    InlineCon(TypeDraft),
-    BareCon(TypeDraft, Name),
-    WantField(TypeDraft, Name, Vec<Atom>),
-    HaveField(TypeDraft, Name, Vec<Atom>),
-    HaveCon(TypeDraft),
-    FunName(Decls),
-    FirstParam(Decls, Name),
-    NextParam(FunDraft),
-    OpenParam(FunDraft),
-    ReadParam(FunDraft),
-    ParamName(FunDraft, Name, bool),
-    ParamKind(FunDraft, Name, bool),
-    ParamClose(FunDraft, Param),
-    ResultKind(FunDraft),
-    ResultEquals(FunDraft, Atom),
+    Top(Box<Decls>),
+    TypeName(Box<Decls>),
+    TypeEquals(Box<Decls>, Name),
+    WantCon(Box<TypeDraft>),
+    InlineCon(Box<TypeDraft>),
+    BareCon(Box<TypeDraft>, Name),
+    WantField(Box<TypeDraft>, Box<ConDraft>),
+    HaveField(Box<TypeDraft>, Box<ConDraft>),
+    HaveCon(Box<TypeDraft>),
+    FunName(Box<Decls>),
+    FirstParam(Box<Decls>, Name),
+    NextParam(Box<FunDraft>),
+    OpenParam(Box<FunDraft>),
+    ReadParam(Box<FunDraft>),
+    ParamName(Box<FunDraft>, Name, bool),
+    ParamKind(Box<FunDraft>, Name, bool),
+    ParamClose(Box<FunDraft>, Box<Param>),
+    ResultKind(Box<FunDraft>),
+    ResultEquals(Box<FunDraft>, Atom),
 }
 
 /// Where the parser stands in expressions.
@@ -199,28 +208,28 @@ pub enum DeclState {
 pub enum ExprState {
     Want(u32),
     LetName(u32),
-    LetEquals(u32, Name),
-    WantPre(Lefts, Vec<u32>, u32),
-    Negative(Slot, u32),
-    Applied(Slot, Callee),
-    Have(Slot, Operand),
-    Con(Spot, Name),
-    Full(Spot, Name, Vec<Expr>),
-    Placed(Spot, Name, Vec<Expr>),
-    Whole(Expr),
+    LetEquals(u32, Box<Name>),
+    /// Where an operand is wanted, or behind a name and the units behind it so far.
+    Open(Box<Spot>),
+    Negative(Box<Spot>, u32),
+    Have(Box<Spot>, Operand),
+    Con(Box<Spot>, Name),
+    Full(Box<Spot>, Box<Building>),
+    Placed(Box<Spot>, Box<Building>),
+    Whole(Box<Expr>),
 }
 
 /// Where the parser stands in the head of an arm.
 #[derive(Drop)]
 pub enum ArmState {
-    FirstArm(Matching),
-    WantArm(Matching),
-    ArmCon(Matching, Name),
-    WantName(Matching, Name, Vec<Option<Name>>),
-    HaveName(Matching, Name, Vec<Option<Name>>),
-    HaveNames(Matching, Name, Vec<Option<Name>>),
-    WantCell(Matching, Name, Vec<Option<Name>>),
-    WantArrow(Matching, ArmHead),
+    FirstArm(Box<Matching>),
+    WantArm(Box<Matching>),
+    ArmCon(Box<Matching>, Box<ArmHead>),
+    WantName(Box<Matching>, Box<ArmHead>),
+    HaveName(Box<Matching>, Box<ArmHead>),
+    HaveNames(Box<Matching>, Box<ArmHead>),
+    WantCell(Box<Matching>, Box<ArmHead>),
+    WantArrow(Box<Matching>, Box<ArmHead>),
 }
 
 #[derive(Drop)]
@@ -228,7 +237,7 @@ pub enum State {
     InDecl(DeclState),
     InExpr(ExprState),
     InArm(ArmState),
-    Done(Decls),
+    Done(Box<Decls>),
 }
 
 /// Why the parser goes no further at a token.
@@ -246,6 +255,14 @@ impl<T: Drop> From<AllocFailed<T>> for Halt {
     ghost from_gives = { λ _ halt. halt ≡ Memory };
 
     fn from(_failed: AllocFailed<T>) -> Halt {
+        Halt::Memory
+    }
+}
+
+impl From<AllocError> for Halt {
+    ghost from_gives = { λ _ halt. halt ≡ Memory };
+
+    fn from(_failed: AllocError) -> Halt {
         Halt::Memory
     }
 }

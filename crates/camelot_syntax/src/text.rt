@@ -3,16 +3,17 @@ ghost use Rattle.std.specs.List.{All};
 ghost use Rattle.text_scan.specs.declared.tokens.Token.{Token};
 ghost use Rattle.text_scan.specs.declared.fault.ScanFault.{ScanFault};
 ghost use Rattle.text_scan.specs.Reading.{AreTokensOf, IsFaultOf, IsSliceOf};
-ghost use Rattle.camelot_syntax.specs.declared.fault.ParseFault.{ParseFault};
-ghost use Rattle.camelot_syntax.specs.declared.fault.ParseFault.TheVariants.{Scan, Memory};
-ghost use Rattle.camelot_syntax.specs.Lexemes.{lexemes};
+ghost use Rattle.camelot_grammar.specs.declared.fault.ParseFault.{ParseFault};
+ghost use Rattle.camelot_grammar.specs.declared.fault.ParseFault.TheVariants.{Scan, Memory};
+ghost use Rattle.camelot_grammar.specs.Lexemes.{lexemes};
 ghost use Rattle.camelot_tree.specs.Tree.{Source};
 ghost use Rattle.camelot_tree.specs.Programs.{program_of};
-ghost use Rattle.camelot_syntax.specs.Parsing.{IsProgram, IsFaultAmong, HasProgram, HasCause, last_line};
+ghost use Rattle.camelot_grammar.specs.Parsing.{IsProgram, IsFaultAmong, HasProgram, HasCause, last_line};
 ghost use Rattle.camelot_syntax.specs.Answers.{scanned_fault, Runs, Parses};
 
-use crate::fault::ParseFault;
 use crate::parser::run;
+use camelot_grammar::ParseFault;
+use camelot_grammar::laws::{answers_of_the_machine, tokens_give_form, tokens_of_a_text};
 use camelot_tree::Program;
 use std::alloc::Global;
 use text_scan::{ScanFault, Token, scan};
@@ -32,6 +33,9 @@ fn parse_tokens(alloc: Global, text: &[u8], tokens: &[Token]) -> Result<Program,
     requires { All (IsSliceOf text.now) tokens.now }
     ensures { Runs text.now tokens.now result }
 {
+    answers_of_the_machine();
+    tokens_give_form();
+    tokens_of_a_text();
     let decls = run(alloc, text, tokens)?;
     Ok(Program {
         types: decls.types,
@@ -44,6 +48,7 @@ fn parse_text(alloc: Global, text: &[u8]) -> Result<Program, ParseFault>
     requires { length text.now < 2 ^ 32 }
     ensures { Parses text.now result }
 {
+    answers_of_the_machine();
     match scan(alloc, text) {
         Ok(tokens) => parse_tokens(alloc, text, &tokens),
         Err(fault) => Err(scan_fault(fault)),

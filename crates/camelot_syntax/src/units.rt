@@ -1,35 +1,37 @@
 //! Steps at and behind a unit.
 
-ghost use Rattle.std.specs.Prelude.{◌≡◌, ◌<◌, ◌≤◌, ◌++◌, ◌∷◌, [], Some, None, IfOk, IfErr, MatchResult, pos, ◌-ℤ◌};
+ghost use Rattle.std.specs.Prelude.{◌≡◌, ◌<◌, ◌≤◌, ◌++◌, ◌∷◌, [], Some, None, IfOk, IfErr, OnOk, MatchResult, pos, ◌-ℤ◌};
 ghost use Rattle.camelot_syntax.specs.declared.state.Halt.TheVariants.{Memory};
 ghost use Rattle.camelot_tree.specs.Tree.{term_of, Num};
-ghost use Rattle.camelot_syntax.specs.Machine.{unit_done, unit_step, argument_step, applied_step, after_unit, con_unit_step, full_step, placed_step, built, applied_operand, begins_unit, begins_argument, Goes, InExpr};
-ghost use Rattle.camelot_syntax.specs.States.{Does, IsSmall, stack_of, terms_of, operand_of, slot_of, spot_of, expr_of};
+ghost use Rattle.camelot_grammar.specs.Machine.{unit_done, unit_step, argument_step, applied_step, after_unit, con_unit_step, full_step, placed_step, built, applied_operand, begins_unit, begins_argument, Goes, InExpr};
+ghost use Rattle.camelot_syntax.specs.States.{Does, seen, IsSmall, stack_of, terms_of, operand_of, slot_of, spot_of, expr_of};
 
-use crate::lexeme::{Lexeme, Mark};
-use crate::operand::reach;
+use crate::operand::leaf;
 use crate::parser::Parser;
-use crate::state::{Callee, ExprState, Frame, Halt, Operand, Slot, Spot, State};
+use crate::state::{Building, Callee, ExprState, Frame, Halt, Operand, Spot, State};
+use crate::words::{TokenView, to_name};
+use camelot_grammar::Mark;
 use camelot_tree::{Expr, Name};
+use std::alloc::Global;
 
 /// Whether a unit that isn't a name begins with this token.
-fn begins_unit(lexeme: &Lexeme) -> bool
-    ensures { result ≡ begins_unit lexeme.now }
+fn begins_unit(lexeme: &TokenView<'_>) -> bool
+    ensures { result ≡ begins_unit (seen lexeme.now) }
 {
-    match lexeme {
-        Lexeme::Number { .. } | Lexeme::Upper(_) => true,
-        Lexeme::Mark { mark, .. } => { matches!(mark, Mark::True | Mark::False | Mark::Open) }
+    match *lexeme {
+        TokenView::Number { .. } | TokenView::Upper { .. } => true,
+        TokenView::Mark { mark, .. } => { matches!(mark, Mark::True | Mark::False | Mark::Open) }
         _ => false,
     }
 }
 
 /// Whether an argument of a call begins with this token.
-pub fn begins_argument(lexeme: &Lexeme) -> bool
-    ensures { result ≡ begins_argument lexeme.now }
+pub fn begins_argument(lexeme: &TokenView<'_>) -> bool
+    ensures { result ≡ begins_argument (seen lexeme.now) }
 {
-    match lexeme {
-        Lexeme::Lower(_) => true,
-        lexeme => begins_unit(lexeme),
+    match *lexeme {
+        TokenView::Lower { .. } => true,
+        _ => begins_unit(lexeme),
     }
 }
 
@@ -57,212 +59,248 @@ pub fn negative(value: u32, line: u32) -> Expr
 }
 
 /// The constructor with its arguments, in the cell of the diamond `place` where one is named.
-fn build(con: Name, args: Vec<Expr>, place: Option<Name>) -> Operand
-    ensures { operand_of result ≡ built con (terms_of args.items) place }
+fn built(
+    alloc: Global,
+    con: Name,
+    mut args: Vec<Expr>,
+    place: Option<Name>,
+) -> Result<Operand, Halt>
+    ensures { MatchResult result (λ operand. operand_of operand ≡ built con (terms_of args.items) place) (λ halt. halt ≡ Memory) }
 {
+    args.shrink_to_fit();
     let line = con.line;
-    Operand {
-        tree: Expr::Build { con, args, place },
-        line,
+    leaf(alloc, Expr::Build { con, args, place }, line)
+}
+
+/// One more of these expressions.
+#[tactic(auto, using(std::proofs::lemmas::List::map_push))]
+pub fn push_tree(args: &mut Vec<Expr>, tree: Box<Expr>) -> Result<(), Halt>
+    ensures ok { OnOk result (terms_of args.new.items ≡ terms_of args.old.items ++ term_of tree.value ∷ []) }
+    ensures err { IfErr result (λ halt. halt ≡ Memory) }
+{
+    // A list of one expression takes no more room than that.
+    if args.is_empty() {
+        args.reserve_exact(1)?;
     }
+    args.push(Box::into_inner(tree))?;
+    Ok(())
 }
 
 impl Callee {
     /// The name with one more unit behind it.
-    #[tactic(auto, using(std::proofs::lemmas::List::map_push))]
-    fn with(mut self, arg: Expr) -> Result<Callee, Halt>
+    fn with(mut self, arg: Box<Expr>) -> Result<Callee, Halt>
         ensures name { IfOk result (λ callee. callee.fun ≡ self.fun) }
-        ensures units { IfOk result (λ callee. terms_of callee.args.items ≡ terms_of self.args.items ++ term_of arg ∷ []) }
+        ensures units { IfOk result (λ callee. terms_of callee.args.items ≡ terms_of self.args.items ++ term_of arg.value ∷ []) }
         ensures err { IfErr result (λ halt. halt ≡ Memory) }
     {
-        self.args.push(arg)?;
+        push_tree(&mut self.args, arg)?;
         Ok(self)
     }
 
     /// A name alone is a variable; with units behind it, it is a call.
-    fn applied(self) -> Operand
-        ensures { operand_of result ≡ applied_operand self.fun (terms_of self.args.items) }
+    fn applied(mut self, alloc: Global) -> Result<Operand, Halt>
+        ensures { MatchResult result (λ operand. operand_of operand ≡ applied_operand self.fun (terms_of self.args.items)) (λ halt. halt ≡ Memory) }
     {
         let line = self.fun.line;
-        let tree = if self.args.is_empty() {
-            Expr::Var(self.fun)
-        } else {
+        if self.args.is_empty() {
+            return leaf(alloc, Expr::Var(self.fun), line);
+        }
+        self.args.shrink_to_fit();
+        leaf(
+            alloc,
             Expr::Call {
                 fun: self.fun,
                 args: self.args,
-            }
-        };
-        Operand { tree, line }
-    }
-}
-
-impl Spot {
-    /// The unit is read.
-    pub fn done(self, operand: Operand) -> Result<ExprState, Halt>
-        ensures { MatchResult result (λ state. expr_of state ≡ unit_done (spot_of self) (operand_of operand)) (λ halt. halt ≡ Memory) }
-    {
-        let Spot { slot, call } = self;
-        match call {
-            None => Ok(ExprState::Have(slot, operand)),
-            Some(callee) => Ok(ExprState::Applied(slot, callee.with(operand.tree)?)),
-        }
+            },
+            line,
+        )
     }
 }
 
 impl Parser {
     /// The unit here is read.
-    pub fn take_unit(&mut self, spot: Spot, operand: Operand) -> Result<State, Halt>
-        ensures { Does (Goes spot.slot.level (InExpr (unit_done (spot_of spot) (operand_of operand))) (stack_of self.old.stack.items)) self.new.stack.items result }
+    pub fn take_unit(&mut self, mut spot: Box<Spot>, operand: Operand) -> Result<(), Halt>
+        ensures { Does (Goes spot.value.level (InExpr (unit_done (spot_of spot.value) (operand_of operand))) (stack_of self.old.stack.items)) self.new result }
     {
-        let level = spot.slot.level;
-        let state = spot.done(operand)?;
-        reach(level, State::InExpr(state))
+        let level = spot.level;
+        match spot.call.take() {
+            None => self.go(level, State::InExpr(ExprState::Have(spot, operand))),
+            Some(callee) => {
+                spot.call = Some(callee.with(operand.tree)?);
+                self.go(level, State::InExpr(ExprState::Open(spot)))
+            }
+        }
+    }
+
+    /// The unit here is this expression of one token.
+    fn take_leaf(&mut self, spot: Box<Spot>, tree: Expr, line: u32) -> Result<(), Halt>
+        ensures { Does (Goes spot.value.level (InExpr (unit_done (spot_of spot.value) (record { term = term_of tree; line = line }))) (stack_of self.old.stack.items)) self.new result }
+    {
+        let operand = leaf(self.alloc, tree, line)?;
+        self.take_unit(spot, operand)
     }
 
     /// At a unit that isn't a name.
-    #[tactic(auto, unfolding(crate::specs::Machine::unit_step), using(crate::proofs::StackLemmas::stack_push))]
-    pub fn unit(&mut self, spot: Spot, lexeme: Lexeme) -> Result<State, Halt>
-        requires { IsSmall lexeme }
-        ensures { Does (unit_step (spot_of spot) lexeme (stack_of self.old.stack.items)) self.new.stack.items result }
+    #[tactic(auto, unfolding(camelot_grammar::specs::Machine::unit_step), using(crate::proofs::StackLemmas::stack_push))]
+    pub fn unit(&mut self, spot: Box<Spot>, lexeme: &TokenView<'_>) -> Result<(), Halt>
+        requires { IsSmall (seen lexeme.now) }
+        ensures { Does (unit_step (spot_of spot.value) (seen lexeme.now) (stack_of self.old.stack.items)) self.new result }
     {
-        let level = spot.slot.level;
-        match lexeme {
-            Lexeme::Number { value, line } => {
-                let tree = number(value, line);
-                self.take_unit(spot, Operand { tree, line })
-            }
-            Lexeme::Mark {
+        let level = spot.level;
+        match *lexeme {
+            TokenView::Number { value, line } => self.take_leaf(spot, number(value, line), line),
+            TokenView::Mark {
                 mark: Mark::True,
                 line,
-            } => {
-                let tree = Expr::Truth { value: true, line };
-                self.take_unit(spot, Operand { tree, line })
-            }
-            Lexeme::Mark {
+            } => self.take_leaf(spot, Expr::Truth { value: true, line }, line),
+            TokenView::Mark {
                 mark: Mark::False,
                 line,
-            } => {
-                let tree = Expr::Truth { value: false, line };
-                self.take_unit(spot, Operand { tree, line })
+            } => self.take_leaf(spot, Expr::Truth { value: false, line }, line),
+            TokenView::Upper { word, line } => {
+                let con = to_name(self.alloc, word, line)?;
+                self.go(level, State::InExpr(ExprState::Con(spot, con)))
             }
-            Lexeme::Upper(name) => { reach(level, State::InExpr(ExprState::Con(spot, name))) }
-            Lexeme::Mark {
+            TokenView::Mark {
                 mark: Mark::Open,
                 line,
             } => {
                 self.stack.push(Frame::Paren { spot, line })?;
-                reach(level, State::InExpr(ExprState::Want(level)))
+                self.go(level, State::InExpr(ExprState::Want(level)))
             }
             _ => Err(Halt::Stuck),
         }
     }
 
     /// At one more unit behind a name.
-    #[tactic(auto, unfolding(crate::specs::Machine::argument_step))]
-    fn argument(&mut self, slot: Slot, callee: Callee, lexeme: Lexeme) -> Result<State, Halt>
-        requires { IsSmall lexeme }
-        ensures { Does (argument_step (slot_of slot) callee.fun (terms_of callee.args.items) lexeme (stack_of self.old.stack.items)) self.new.stack.items result }
+    #[tactic(auto, unfolding(camelot_grammar::specs::Machine::argument_step))]
+    fn argument(
+        &mut self,
+        mut spot: Box<Spot>,
+        callee: Callee,
+        lexeme: &TokenView<'_>,
+    ) -> Result<(), Halt>
+        requires { IsSmall (seen lexeme.now) }
+        ensures { Does (argument_step (slot_of spot.value) callee.fun (terms_of callee.args.items) (seen lexeme.now) (stack_of self.old.stack.items)) self.new result }
     {
-        match lexeme {
-            Lexeme::Lower(name) => {
-                let line = name.line;
-                let tree = Expr::Var(name);
-                let call = Some(callee);
-                self.take_unit(Spot { slot, call }, Operand { tree, line })
+        spot.call = Some(callee);
+        match *lexeme {
+            TokenView::Lower { word, line } => {
+                let name = to_name(self.alloc, word, line)?;
+                self.take_leaf(spot, Expr::Var(name), line)
             }
-            lexeme => {
-                let call = Some(callee);
-                self.unit(Spot { slot, call }, lexeme)
-            }
+            _ => self.unit(spot, lexeme),
         }
     }
 
     /// Behind a name and the units behind it so far.
-    #[tactic(auto, unfolding(crate::specs::Machine::applied_step))]
-    pub fn applied(&mut self, slot: Slot, callee: Callee, lexeme: Lexeme) -> Result<State, Halt>
-        requires { IsSmall lexeme }
-        ensures { Does (applied_step (slot_of slot) callee.fun (terms_of callee.args.items) lexeme (stack_of self.old.stack.items)) self.new.stack.items result }
+    #[tactic(auto, unfolding(camelot_grammar::specs::Machine::applied_step))]
+    pub fn applied(
+        &mut self,
+        spot: Box<Spot>,
+        callee: Callee,
+        lexeme: &TokenView<'_>,
+    ) -> Result<(), Halt>
+        requires { IsSmall (seen lexeme.now) }
+        ensures { Does (applied_step (slot_of spot.value) callee.fun (terms_of callee.args.items) (seen lexeme.now) (stack_of self.old.stack.items)) self.new result }
     {
         if begins_argument(&lexeme) {
-            self.argument(slot, callee, lexeme)
+            self.argument(spot, callee, lexeme)
         } else {
-            self.after_operand(slot, callee.applied(), lexeme)
+            let operand = callee.applied(self.alloc)?;
+            self.after_operand(spot, operand, lexeme)
         }
     }
 
     /// Behind a unit.
-    #[tactic(auto, unfolding(crate::specs::Machine::after_unit))]
-    fn after_unit(&mut self, spot: Spot, operand: Operand, lexeme: Lexeme) -> Result<State, Halt>
-        requires { IsSmall lexeme }
-        ensures { Does (after_unit (spot_of spot) (operand_of operand) lexeme (stack_of self.old.stack.items)) self.new.stack.items result }
+    #[tactic(auto, unfolding(camelot_grammar::specs::Machine::after_unit))]
+    fn after_unit(
+        &mut self,
+        mut spot: Box<Spot>,
+        operand: Operand,
+        lexeme: &TokenView<'_>,
+    ) -> Result<(), Halt>
+        requires { IsSmall (seen lexeme.now) }
+        ensures { Does (after_unit (spot_of spot.value) (operand_of operand) (seen lexeme.now) (stack_of self.old.stack.items)) self.new result }
     {
-        let Spot { slot, call } = spot;
-        match call {
-            None => self.after_operand(slot, operand, lexeme),
+        match spot.call.take() {
+            None => self.after_operand(spot, operand, lexeme),
             Some(callee) => {
                 let callee = callee.with(operand.tree)?;
-                self.applied(slot, callee, lexeme)
+                self.applied(spot, callee, lexeme)
             }
         }
     }
 
     /// Behind a constructor's name.
-    #[tactic(auto, unfolding(crate::specs::Machine::con_unit_step), using(crate::proofs::StackLemmas::stack_push))]
-    pub fn con(&mut self, spot: Spot, con: Name, lexeme: Lexeme) -> Result<State, Halt>
-        requires { IsSmall lexeme }
-        ensures { Does (con_unit_step (spot_of spot) con lexeme (stack_of self.old.stack.items)) self.new.stack.items result }
+    #[tactic(auto, unfolding(camelot_grammar::specs::Machine::con_unit_step), using(crate::proofs::StackLemmas::stack_push))]
+    pub fn con(&mut self, spot: Box<Spot>, con: Name, lexeme: &TokenView<'_>) -> Result<(), Halt>
+        requires { IsSmall (seen lexeme.now) }
+        ensures { Does (con_unit_step (spot_of spot.value) con (seen lexeme.now) (stack_of self.old.stack.items)) self.new result }
     {
-        let level = spot.slot.level;
+        let level = spot.level;
         let args = Vec::new(self.alloc);
-        match lexeme {
-            Lexeme::Mark {
+        match *lexeme {
+            TokenView::Mark {
                 mark: Mark::Open,
                 ..
             } => {
-                self.stack.push(Frame::Args { spot, con, args })?;
-                reach(level, State::InExpr(ExprState::Want(level)))
+                let build = Box::new(self.alloc, Building { con, args })?;
+                self.stack.push(Frame::Args { spot, build })?;
+                self.go(level, State::InExpr(ExprState::Want(level)))
             }
-            Lexeme::Mark { mark: Mark::At, .. } => {
-                reach(level, State::InExpr(ExprState::Placed(spot, con, args)))
+            TokenView::Mark { mark: Mark::At, .. } => {
+                let build = Box::new(self.alloc, Building { con, args })?;
+                self.go(level, State::InExpr(ExprState::Placed(spot, build)))
             }
-            lexeme => self.after_unit(spot, build(con, args, None), lexeme),
+            _ => {
+                let operand = built(self.alloc, con, args, None)?;
+                self.after_unit(spot, operand, lexeme)
+            }
         }
     }
 
     /// Behind a constructor's arguments.
-    #[tactic(auto, unfolding(crate::specs::Machine::full_step))]
+    #[tactic(auto, unfolding(camelot_grammar::specs::Machine::full_step))]
     pub fn full(
         &mut self,
-        spot: Spot,
-        con: Name,
-        args: Vec<Expr>,
-        lexeme: Lexeme,
-    ) -> Result<State, Halt>
-        requires { IsSmall lexeme }
-        ensures { Does (full_step (spot_of spot) con (terms_of args.items) lexeme (stack_of self.old.stack.items)) self.new.stack.items result }
+        spot: Box<Spot>,
+        build: Box<Building>,
+        lexeme: &TokenView<'_>,
+    ) -> Result<(), Halt>
+        requires { IsSmall (seen lexeme.now) }
+        ensures { Does (full_step (spot_of spot.value) build.value.con (terms_of build.value.args.items) (seen lexeme.now) (stack_of self.old.stack.items)) self.new result }
     {
-        match lexeme {
-            Lexeme::Mark { mark: Mark::At, .. } => {
-                let level = spot.slot.level;
-                reach(level, State::InExpr(ExprState::Placed(spot, con, args)))
+        match *lexeme {
+            TokenView::Mark { mark: Mark::At, .. } => {
+                let level = spot.level;
+                self.go(level, State::InExpr(ExprState::Placed(spot, build)))
             }
-            lexeme => self.after_unit(spot, build(con, args, None), lexeme),
+            _ => {
+                let Building { con, args } = Box::into_inner(build);
+                let operand = built(self.alloc, con, args, None)?;
+                self.after_unit(spot, operand, lexeme)
+            }
         }
     }
 
     /// Behind the `@` of a build.
-    #[tactic(auto, unfolding(crate::specs::Machine::placed_step))]
+    #[tactic(auto, unfolding(camelot_grammar::specs::Machine::placed_step))]
     pub fn placed(
         &mut self,
-        spot: Spot,
-        con: Name,
-        args: Vec<Expr>,
-        lexeme: Lexeme,
-    ) -> Result<State, Halt>
-        ensures { Does (placed_step (spot_of spot) con (terms_of args.items) lexeme (stack_of self.old.stack.items)) self.new.stack.items result }
+        spot: Box<Spot>,
+        build: Box<Building>,
+        lexeme: &TokenView<'_>,
+    ) -> Result<(), Halt>
+        ensures { Does (placed_step (spot_of spot.value) build.value.con (terms_of build.value.args.items) (seen lexeme.now) (stack_of self.old.stack.items)) self.new result }
     {
-        match lexeme {
-            Lexeme::Lower(diamond) => self.take_unit(spot, build(con, args, Some(diamond))),
+        match *lexeme {
+            TokenView::Lower { word, line } => {
+                let diamond = to_name(self.alloc, word, line)?;
+                let Building { con, args } = Box::into_inner(build);
+                let operand = built(self.alloc, con, args, Some(diamond))?;
+                self.take_unit(spot, operand)
+            }
             _ => Err(Halt::Stuck),
         }
     }

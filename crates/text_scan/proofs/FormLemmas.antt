@@ -1,6 +1,6 @@
 -- Which kind of token bytes are, by their first byte, and which front of some bytes is the longest token.
 use Rattle.std.proofs.Common.{◌≡◌, ℕ, suc, zero, ◌+◌, ◌-◌, ◌<◌, ◌≤◌, Bool, true, false, cond, not, List, [], ◌∷◌, ◌++◌, length, get_or, take, drop, Some, None, sym, refl, ap, ◌∙◌, subst, ⊎_elim, arith, length-append}
-use Rattle.std.specs.Prelude.{◌&&◌, ◌||◌, ◌==◌}
+use Rattle.std.specs.Prelude.{◌&&◌, ◌||◌, ◌==◌, nat_le}
 use Rattle.std.specs.List.{list_any, list_all, prefix_len}
 use Rattle.std.specs.Char.{is_ascii_lowercase, is_ascii_uppercase, is_ascii_digit}
 use Rattle.std.specs.Str.{bytes_eq}
@@ -26,6 +26,29 @@ among test (x ∷ table) bytes all any =
 pub word_is_name : (bytes : List ℕ) → is_word bytes ≡ true → is_name is_ascii_lowercase bytes ≡ true
 unfolding is_word words
 word_is_name bytes word = among (is_name is_ascii_lowercase) words bytes refl word
+
+-- words have two bytes to five
+word_length : (bytes : List ℕ) → is_word bytes ≡ true → (nat_le 2 (length bytes) && nat_le (length bytes) 5) ≡ true
+unfolding is_word words
+word_length bytes word = among (λ b. nat_le 2 (length b) && nat_le (length b) 5) words bytes refl word
+
+pub no_short_word : (bytes : List ℕ) → length bytes < 2 → is_word bytes ≡ false
+no_short_word bytes h = false_from_ne_true _ (λ word. let i : nat_le 2 (length bytes) ≡ true = (and_parts _ _ (word_length bytes word)).0 in grind (arith, h, i))
+
+pub no_long_word : (bytes : List ℕ) → 5 < length bytes → is_word bytes ≡ false
+no_long_word bytes h = false_from_ne_true _ (λ word. let i : nat_le (length bytes) 5 ≡ true = (and_parts (nat_le 2 (length bytes)) _ (word_length bytes word)).1 in grind (arith, h, i))
+
+-- the second byte of a sign that has two
+abbrev ends_pair : List ℕ → Bool
+ends_pair (a ∷ b ∷ []) = b == 61 || b == 62 || b == 38 || b == 124
+ends_pair bytes = true
+
+pair_ends : (bytes : List ℕ) → is_symbol bytes ≡ true → ends_pair bytes ≡ true
+unfolding is_symbol symbols
+pair_ends bytes symbol = among ends_pair symbols bytes refl symbol
+
+pub no_pair : (a b : ℕ) → ¬ (b ≡ 61) → ¬ (b ≡ 62) → ¬ (b ≡ 38) → ¬ (b ≡ 124) → is_symbol (a ∷ b ∷ []) ≡ false
+no_pair a b h i j k = false_from_ne_true _ (λ symbol. let e = pair_ends (a ∷ b ∷ []) symbol in grind (arith, h, i, j, k, e))
 
 -- the first byte of some other token, or white space
 abbrev is_taken : ℕ → Bool

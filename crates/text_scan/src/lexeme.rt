@@ -1,4 +1,4 @@
-ghost use Rattle.std.specs.Prelude.{◌≡◌, ◌≢◌, ◌+◌, ◌<◌, ◌≤◌, MatchOption, IsTrue, IsFalse, drop, length, slice_index};
+ghost use Rattle.std.specs.Prelude.{◌∷◌, [], ◌≡◌, ◌≢◌, ◌+◌, ◌<◌, ◌≤◌, MatchOption, IsTrue, IsFalse, drop, length, slice_index};
 ghost use Rattle.std.specs.Char.{is_ascii_digit, is_ascii_lowercase, is_ascii_uppercase};
 ghost use Rattle.std.specs.Str.{byte};
 ghost use Rattle.text_scan.specs.Forms.{is_word, is_symbol, is_name_part};
@@ -20,20 +20,73 @@ const SYMBOLS: [&[u8]; 21] = [
     b"/", b"&&", b"||", b"|", b"!", b"->",
 ];
 
-/// Whether a name is one of the grammar's words.
-#[tactic(auto, using(crate::proofs::Tables::in_words))]
+/// Whether a name is one of the grammar's words, which have two to five bytes.
+#[tactic(auto, using(crate::proofs::Tables::in_words, crate::proofs::FormLemmas::no_short_word, crate::proofs::FormLemmas::no_long_word))]
 fn is_word(name: &[u8]) -> bool
     ensures { result ≡ is_word name.now }
 {
+    if name.len() < 2 {
+        return false;
+    }
+    if name.len() > 5 {
+        return false;
+    }
     WORDS.contains(&name)
 }
 
-/// Whether the bytes are one of the grammar's signs.
+/// Whether the bytes are in the table of the grammar's signs.
 #[tactic(auto, using(crate::proofs::Tables::in_symbols))]
-fn is_symbol(bytes: &[u8]) -> bool
+fn is_listed(bytes: &[u8]) -> bool
     ensures { result ≡ is_symbol bytes.now }
 {
     SYMBOLS.contains(&bytes)
+}
+
+/// Whether the byte is one of the grammar's signs.
+#[tactic(auto, unfolding(crate::specs::Forms::is_symbol, crate::specs::Forms::symbols))]
+fn is_sign(byte: u8) -> bool
+    ensures { result ≡ is_symbol (byte ∷ []) }
+{
+    match byte {
+        b'('
+        | b')'
+        | b','
+        | b':'
+        | b'@'
+        | b'_'
+        | b'='
+        | b'<'
+        | b'>'
+        | b'+'
+        | b'-'
+        | b'*'
+        | b'/'
+        | b'|'
+        | b'!' => true,
+        _ => is_listed(&[byte]),
+    }
+}
+
+/// Whether the two bytes are one of the grammar's signs.
+#[tactic(auto, using(crate::proofs::FormLemmas::no_pair))]
+fn is_pair(first: u8, second: u8) -> bool
+    ensures { result ≡ is_symbol (first ∷ second ∷ []) }
+{
+    match second {
+        b'=' | b'>' | b'&' | b'|' => is_listed(&[first, second]),
+        _ => false,
+    }
+}
+
+/// Whether the bytes are one of the grammar's signs. Most are found without a look into the table.
+fn is_symbol(bytes: &[u8]) -> bool
+    ensures { result ≡ is_symbol bytes.now }
+{
+    match bytes {
+        [byte] => is_sign(*byte),
+        [first, second] => is_pair(*first, *second),
+        _ => is_listed(bytes),
+    }
 }
 
 /// Whether the byte may stand in a name.

@@ -1,5 +1,5 @@
 use Rattle.std.proofs.Common.{◌≡◌, vec_len}
-use Rattle.camelot_syntax.specs.Machine.{negated_all}
+use Rattle.camelot_grammar.specs.Machine.{negated_all}
 use Rattle.camelot_syntax.specs.States.{operand_of, nots_of}
 use Rattle.camelot_syntax.proofs.operand.negate_all.Given as goal
 

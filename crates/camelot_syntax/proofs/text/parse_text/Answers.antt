@@ -5,7 +5,14 @@ use Rattle.camelot_syntax.proofs.ParseLemmas.{parses_tokens, parses_nothing}
 use Rattle.camelot_syntax.proofs.text.parse_text.Goals as goal
 
 pub returns-in-Ok : goal.returns-in-Ok
-returns-in-Ok c = parses_tokens c.args.text.now c.in-Ok.tokens.items c.parse_tokens.result c.in-Ok.ensures.tokens
+returns-in-Ok c = parses_tokens
+    (record {
+      program = c.answers_of_the_machine.ensures.program;
+      takes = c.answers_of_the_machine.ensures.takes;
+      fault = c.answers_of_the_machine.ensures.fault;
+      refuses = c.answers_of_the_machine.ensures.refuses;
+    })
+    c.args.text.now c.in-Ok.tokens.items c.parse_tokens.result c.in-Ok.ensures.tokens
     (λ others are. c.in-Ok.ensures.takes others are) (λ fault is. c.in-Ok.ensures.refuses fault is)
     (subst (λ tokens. Runs c.args.text.now tokens c.parse_tokens.result) c.deref.ensures.value c.parse_tokens.ensures)
 
