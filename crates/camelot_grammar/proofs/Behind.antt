@@ -98,7 +98,7 @@ reach_pre (gr.Alone u) c nots k = reach_firm u (alone (slot c nots k))
 
 abbrev pub reach_prod : gr.Prod → ℕ → (ors ands cmp sum : Option Left) → ExprState
 reach_prod (gr.OnePre x) k o a c s = reach_pre x (mc.lefts k o a c s None) [] (mc.sum_level k o a c s)
-reach_prod (gr.Times y l x) k o a c s =
+reach_prod (gr.Times y gr.Star l x) k o a c s =
     reach_pre x (mc.lefts k o a c s (mc.left (pr.prod_operand y) (pr.Prim operator.Mul) l (lv.in_prod y (mc.sum_level k o a c s)))) [] (suc (lv.in_prod y (mc.sum_level k o a c s)))
 
 abbrev pub sum_left : gr.Sum → ℕ → Option Left
@@ -274,7 +274,7 @@ star_past c x t st h = refl
 pub prod_then : (y : gr.Prod) (k : ℕ) (o a c s : Option Left) (t : Lexeme) (st : List Frame) → EndsProd t
     → mc.expr_step (reach_prod y k o a c s) t st ≡ mc.after_prod k o a c s (pr.prod_operand y) t st
 prod_then (gr.OnePre x) k o a c s t st h = pre_then x _ [] _ t st h.ends ∙ star_past (mc.lefts k o a c s None) (pr.pre_operand x) t st h.no_star
-prod_then (gr.Times y l x) k o a c s t st h =
+prod_then (gr.Times y gr.Star l x) k o a c s t st h =
     pre_then x _ [] _ t st h.ends
     ∙ star_past (mc.lefts k o a c s (mc.left (pr.prod_operand y) (pr.Prim operator.Mul) l (lv.in_prod y (mc.sum_level k o a c s)))) (pr.pre_operand x) t st h.no_star
 
@@ -355,7 +355,7 @@ pub prod_joins : (y : gr.Prod) (k : ℕ) (o a c s : Option Left) (l : ℕ) (st :
     ≡ mc.operator_read (lv.in_prod y (mc.sum_level k o a c s)) (mc.lefts k o a c s (mc.left (pr.prod_operand y) (pr.Prim operator.Mul) l (lv.in_prod y (mc.sum_level k o a c s)))) st
 unfolding mc.after_pre
 prod_joins (gr.OnePre x) k o a c s l st = pre_then x _ [] _ (Mark mark.Star l) st (record { no_unit = refl; no_at = tt })
-prod_joins (gr.Times y i x) k o a c s l st = pre_then x _ [] _ (Mark mark.Star l) st (record { no_unit = refl; no_at = tt })
+prod_joins (gr.Times y gr.Star i x) k o a c s l st = pre_then x _ [] _ (Mark mark.Star l) st (record { no_unit = refl; no_at = tt })
 
 ends_prod : (t : Lexeme) → mc.begins_argument t ≡ false → NotAt t → NotStar t → EndsProd t
 ends_prod t a b c = record { ends = record { no_unit = a; no_at = b }; no_star = c }

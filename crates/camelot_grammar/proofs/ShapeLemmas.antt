@@ -92,7 +92,7 @@ mutual
 
   prod_has : (y : gr.Prod) → has_arms (pr.prod_operand y).term ≡ true
   prod_has (gr.OnePre x) = pre_has x
-  prod_has (gr.Times y l x) = join_has (pr.Prim operator.Mul) l (pr.prod_operand y) (pr.pre_operand x) (prod_has y) (pre_has x)
+  prod_has (gr.Times y gr.Star l x) = join_has (pr.Prim operator.Mul) l (pr.prod_operand y) (pr.pre_operand x) (prod_has y) (pre_has x)
 
   sum_has : (y : gr.Sum) → has_arms (pr.sum_operand y).term ≡ true
   sum_has (gr.OneProd x) = prod_has x

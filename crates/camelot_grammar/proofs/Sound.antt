@@ -266,9 +266,9 @@ pre_keeps : (c : Chains) (x : gr.Pre) (st : Stack) (t : Lexeme)
     → Keeps (λ r. stack_before st (co.chains_before c (gr.spell_pre x r))) t (mc.after_pre (co.chains_lefts c) (pr.pre_operand x) t (frames st))
 unfolding mc.after_pre
 pre_keeps (MkChains k o a c s co.NoProd) x st (Mark mark.Star l) = keep (InExprs (co.WantPre (MkChains k o a c s (co.ProdStar (gr.OnePre x) l)) []) st) (λ r. refl)
-pre_keeps (MkChains k o a c s (co.ProdStar y i)) x st (Mark mark.Star l) = keep (InExprs (co.WantPre (MkChains k o a c s (co.ProdStar (gr.Times y i x) l)) []) st) (λ r. refl)
+pre_keeps (MkChains k o a c s (co.ProdStar y i)) x st (Mark mark.Star l) = keep (InExprs (co.WantPre (MkChains k o a c s (co.ProdStar (gr.Times y gr.Star i x) l)) []) st) (λ r. refl)
 pre_keeps (MkChains k o a c s co.NoProd) x st t = prod_keeps k o a c s (gr.OnePre x) st t
-pre_keeps (MkChains k o a c s (co.ProdStar y i)) x st t = prod_keeps k o a c s (gr.Times y i x) st t
+pre_keeps (MkChains k o a c s (co.ProdStar y i)) x st t = prod_keeps k o a c s (gr.Times y gr.Star i x) st t
 
 -- the `not`s before it are read too
 operand_keeps : (c : Chains) (nots : List ℕ) (x : gr.Pre) (st : Stack) (t : Lexeme)

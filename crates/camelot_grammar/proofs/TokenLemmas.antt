@@ -219,7 +219,7 @@ mutual
 
   prod_real : (y : gr.Prod) (r : List Lexeme) → Real (gr.spell_prod y r) → Good (pr.prod_operand y).term × Real r
   prod_real (gr.OnePre x) r h = pre_real x r h
-  prod_real (gr.Times y l x) r h =
+  prod_real (gr.Times y gr.Star l x) r h =
       let i = prod_real y _ h in
       let j = pre_real x r i.1.1 in
       (good_join (pr.Prim operator.Mul) l (pr.prod_operand y) (pr.pre_operand x) i.0 j.0, j.1)

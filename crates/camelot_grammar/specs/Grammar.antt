@@ -40,6 +40,10 @@ pub data Cell : Type 0 where
   NoCell : Cell
   AtField : ℕ → Field → Cell
 
+-- "*"
+pub data ProductSign : Type 0 where
+  Star : ProductSign
+
 -- "+" | "-"
 pub data Sign : Type 0 where
   Plus : Sign
@@ -95,7 +99,7 @@ mutual
   -- pre { "*" pre }
   pub data Prod : Type 0 where
     OnePre : Pre → Prod
-    Times : Prod → ℕ → Pre → Prod
+    Times : Prod → ProductSign → ℕ → Pre → Prod
 
   -- prod { ( "+" | "-" ) prod }
   pub data Sum : Type 0 where
@@ -190,6 +194,9 @@ pub data Decls : Type 0 where
 
 -- ---- what they spell
 
+abbrev pub product_mark : ProductSign → ℕ → Lexeme
+product_mark Star l = Mark mark.Star l
+
 abbrev pub sign_mark : Sign → ℕ → Lexeme
 sign_mark Plus l = Mark mark.Plus l
 sign_mark Minus l = Mark mark.Minus l
@@ -260,7 +267,7 @@ abbrev mutual
 
   pub spell_prod : Prod → List Lexeme → List Lexeme
   spell_prod (OnePre p) r = spell_pre p r
-  spell_prod (Times x l p) r = spell_prod x (Mark mark.Star l ∷ spell_pre p r)
+  spell_prod (Times x o l p) r = spell_prod x (product_mark o l ∷ spell_pre p r)
 
   pub spell_sum : Sum → List Lexeme → List Lexeme
   spell_sum (OneProd x) r = spell_prod x r

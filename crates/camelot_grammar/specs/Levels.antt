@@ -7,7 +7,7 @@ use Rattle.camelot_grammar.specs.Grammar.{Place, NoPlace, At, FirstBar, NoBar, B
 -- k, and one more for each operator of the chain
 abbrev pub in_prod : Prod → ℕ → ℕ
 in_prod (OnePre p) k = k
-in_prod (Times x l p) k = suc (in_prod x k)
+in_prod (Times x o l p) k = suc (in_prod x k)
 
 abbrev pub in_sum : Sum → ℕ → ℕ
 in_sum (OneProd x) k = k
@@ -76,7 +76,7 @@ abbrev mutual
 
   pub levels_prod : Prod → ℕ → List ℕ → List ℕ
   levels_prod (OnePre p) k r = levels_pre p k r
-  levels_prod (Times x l p) k r = levels_prod x k (in_prod x k ∷ levels_pre p (suc (in_prod x k)) r)
+  levels_prod (Times x o l p) k r = levels_prod x k (in_prod x k ∷ levels_pre p (suc (in_prod x k)) r)
 
   pub levels_sum : Sum → ℕ → List ℕ → List ℕ
   levels_sum (OneProd x) k r = levels_prod x k r
