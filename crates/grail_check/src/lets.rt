@@ -22,7 +22,8 @@ fn operator_kind(op: PrimCode) -> Kind
 {
     match op {
         PrimCode::Add | PrimCode::Sub | PrimCode::Mul => Kind::Int,
-        PrimCode::Eq | PrimCode::Ne | PrimCode::Lt | PrimCode::Le | PrimCode::Gt | PrimCode::Ge => Kind::Flag,
+        PrimCode::Eq | PrimCode::Ne | PrimCode::Lt | PrimCode::Le | PrimCode::Gt | PrimCode::Ge =>
+            Kind::Flag,
     }
 }
 
