@@ -4,7 +4,7 @@ use Rattle.std.specs.Prelude.{ℤ}
 use Rattle.camelot_values.specs.Value as value
 use Rattle.camelot_values.specs.Value.{Value, parts}
 use Rattle.camelot_values.specs.Operator.{Operator, on_ints}
-use Rattle.camelot_values.specs.Outcome.{Outcome, Done, Stuck, at_once, known, given}
+use Rattle.camelot_values.specs.Outcome.{Outcome, Done, Stuck, at_once, given}
 use Rattle.camelot_values.specs.OutcomeLaws.{done_is}
 use Rattle.camelot_values.specs.Runs.{on_diamond}
 use Rattle.grail_code.specs.Meaning.{Locals, operands, built}
