@@ -197,9 +197,9 @@ pub new_is_distinct : (seen xs : List (List ℕ)) → AreNew seen xs → AreDist
 new_is_distinct seen [] h = distinct_none
 new_is_distinct seen (x ∷ xs) h = distinct_more x xs
     (λ m.
-      let missed : is_among (seen ++ (x ∷ [])) x ≡ false = new_misses (seen ++ (x ∷ [])) xs x h.1 m in
-      let found : is_among (seen ++ (x ∷ [])) x ≡ true = among-append seen (x ∷ []) x ∙ or_later (is_among seen x) (is_among (x ∷ []) x) (or_first (bytes_eq x x) false (bytes_same x)) in
-      absurd cc)
+    let missed : is_among (seen ++ (x ∷ [])) x ≡ false = new_misses (seen ++ (x ∷ [])) xs x h.1 m in
+    let found : is_among (seen ++ (x ∷ [])) x ≡ true = among-append seen (x ∷ []) x ∙ or_later (is_among seen x) (is_among (x ∷ []) x) (or_first (bytes_eq x x) false (bytes_same x)) in
+    absurd cc)
     (new_is_distinct (seen ++ (x ∷ [])) xs h.1)
 
 differ : (x y : List ℕ) (t : Bool) → bytes_eq x y ≡ t → (x ≡ y → ⊥) → t ≡ false
