@@ -1,6 +1,6 @@
 -- The evaluator's lets, blocks and calls are those of the meaning of code, behind all that was used before.
-use Rattle.std.proofs.Common.{◌≡◌, ℕ, suc, ◌+◌, ◌-◌, ◌<◌, ◌≤◌, Bool, true, false, List, [], ◌∷◌, length, get_or, drop, map, Option, Some, None, refl, sym, ap, ◌∙◌, subst, arith, inl, inr, add-one, drop-cons, drop_of_length-le}
-use Rattle.std.specs.Prelude.{◌==◌, ◌⊎◌, ⊤, not, cond, if◌then◌else◌, slice_get}
+use Rattle.std.proofs.Common.{◌≡◌, ℕ, suc, ◌+◌, ◌-◌, ◌<◌, ◌≤◌, Bool, true, false, List, ◌∷◌, length, get_or, drop, map, Option, Some, None, refl, sym, ap, ◌∙◌, subst, arith, inl, inr, add-one, drop-cons, drop_of_length-le}
+use Rattle.std.specs.Prelude.{◌==◌, ◌⊎◌, ⊤, cond, if◌then◌else◌, slice_get}
 use Rattle.std.specs.Option.{option_map}
 use Rattle.std.proofs.lemmas.Option.{slice_get-map, slice_get-get_or, slice_get_past}
 use Rattle.std.proofs.lemmas.List.{length-map}
@@ -11,7 +11,7 @@ use Rattle.camelot_values.specs.Value.{Value, parts}
 use Rattle.camelot_values.specs.Kinds.{DataType, place_of}
 use Rattle.camelot_values.specs.Outcome.{Outcome, Done, Fuel, Deep, Stuck, after, first_then, given, entered}
 use Rattle.camelot_values.specs.OutcomeLaws.{after_both, after_nothing}
-use Rattle.camelot_values.specs.Runs.{Enter, is_too_deep, entering}
+use Rattle.camelot_values.specs.Runs.{Enter, is_too_deep}
 use Rattle.camelot_values.specs.RunLaws.{unfolds}
 use Rattle.grail_blocks.specs.RunningLaws.{later_is_block, back_is_stuck, runs_from_first}
 use Rattle.grail_blocks.specs.declared.blocks.Let.{Let}

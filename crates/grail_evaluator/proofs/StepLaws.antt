@@ -4,12 +4,13 @@ use Rattle.std.specs.Prelude.{ℤ}
 use Rattle.camelot_values.specs.Value as value
 use Rattle.camelot_values.specs.Value.{Value, parts}
 use Rattle.camelot_values.specs.Operator.{Operator, on_ints}
-use Rattle.camelot_values.specs.Outcome.{Outcome, Done, Stuck, at_once, known, given}
+use Rattle.camelot_values.specs.Outcome.{Outcome, Done, Stuck, at_once, given}
 use Rattle.camelot_values.specs.OutcomeLaws.{done_is}
 use Rattle.camelot_values.specs.Runs.{on_diamond}
 use Rattle.grail_code.specs.Meaning.{Locals, operands, built}
 use Rattle.grail_blocks.specs.declared.blocks.Place.TheVariants as place
-use Rattle.grail_evaluator.specs.Ends.{onto, int_at}
+use Rattle.grail_evaluator.specs.Locals.{int_at}
+use Rattle.grail_evaluator.specs.Ends.{onto}
 use Rattle.grail_evaluator.specs.declared.counts.Counts.{Counts}
 
 pub onto_once : (s : Counts) (v : Value) → Done v s.calls s.peak s.low ≡ onto s (at_once v)

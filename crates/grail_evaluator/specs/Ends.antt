@@ -1,7 +1,6 @@
 -- Private: words for functions of this crate.
 -- What parts of a run come to and how they go on, with all that was used until then.
-use Rattle.std.specs.Prelude.{◌≡◌, ℕ, ◌+◌, ◌*◌, ◌-◌, ◌≤◌, Bool, true, false, List, map, Option, Some, None, ℤ, ⊤}
-use Rattle.camelot_values.specs.Value as value
+use Rattle.std.specs.Prelude.{◌≡◌, ℕ, ◌+◌, ◌*◌, ◌-◌, ◌≤◌, true, List, map, ⊤}
 use Rattle.camelot_values.specs.Value.{Value}
 use Rattle.camelot_values.specs.Kinds.{DataType}
 use Rattle.camelot_values.specs.Outcome as meaning
@@ -55,12 +54,12 @@ onward types enter later term waits = λ left last. term_run types enter later t
 
 -- ---- what is used
 
--- a bound of all counts of cells
+-- a bound of all counts of cells, since a run has less than 2 ^ 64 calls
 abbrev pub most_cells : ℕ
 most_cells = 2000000000000000000000000
 
--- so many times a function takes or gives back a cell at most, besides what its calls do: once for each let and once at the end, in each
--- block
+-- So many times a function takes or gives back a cell at most, besides what its calls do: in each of 256 blocks once for each of 256 lets,
+-- and once at the end.
 abbrev pub cells_a_call : ℕ
 cells_a_call = 65792
 
@@ -88,24 +87,3 @@ OnEnding P (ending.Tail s func args) = P s
 abbrev pub OnEnd : (Counts → Type 0) → BlockEnd → Type 0
 OnEnd P (end.Leaves e) = OnEnding P e
 OnEnd P (end.Jumps s target env) = P s
-
--- ---- what locals hold
-
--- the int, the truth value, if it is one
-abbrev pub int_at : Option Value → Option ℤ
-int_at (Some (value.Int z)) = Some z
-int_at o = None
-
-abbrev pub flag_at : Option Value → Option Bool
-flag_at (Some (value.Flag b)) = Some b
-flag_at o = None
-
--- whether it is a diamond
-abbrev pub IsDiamond : Bool → Option Value → Type 0
-IsDiamond true o = o ≡ Some value.Dia
-IsDiamond false o = o ≡ Some value.Dia → ⊥
-
--- it is no constructor
-abbrev pub IsNoCon : Option Value → Type 0
-IsNoCon (Some (value.Con c vs)) = ⊥
-IsNoCon o = ⊤

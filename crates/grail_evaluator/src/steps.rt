@@ -7,8 +7,8 @@ ghost use Rattle.camelot_values.specs.Outcome.{at_once, known};
 ghost use Rattle.grail_code.specs.Code.{arm_of, operator_of};
 ghost use Rattle.grail_code.specs.Meaning.{arm_at, built, operands};
 ghost use Rattle.grail_evaluator.specs.Trees.{plain, plain_all};
-ghost use Rattle.grail_evaluator.specs.Locals.{env_of};
-ghost use Rattle.grail_evaluator.specs.Ends.{reached_of, onto, most_cells, Stepped, OnReached, int_at, flag_at, IsDiamond, IsNoCon};
+ghost use Rattle.grail_evaluator.specs.Locals.{env_of, int_at, flag_at, IsDiamond, IsNoCon};
+ghost use Rattle.grail_evaluator.specs.Ends.{reached_of, onto, most_cells, Stepped, OnReached};
 
 use super::counts::Counts;
 use super::locals::{Bound, value_of};

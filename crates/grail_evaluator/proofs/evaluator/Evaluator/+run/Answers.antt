@@ -1,11 +1,11 @@
 use Rattle.std.proofs.Common.{◌≡◌, ◌-◌, ◌<◌, ◌≤◌, arith, length, ap, ◌∙◌, subst}
-use Rattle.std.specs.Prelude.{IfOk, slice_get}
-use Rattle.grail_code.specs.Code.{func_of, let_of, term_of}
-use Rattle.grail_code.specs.Meaning.{jumps_from, from_block, body_run}
+use Rattle.std.specs.Prelude.{IfOk}
+use Rattle.grail_code.specs.Code.{term_of}
+use Rattle.grail_code.specs.Meaning.{jumps_from, body_run}
 use Rattle.grail_evaluator.specs.Trees.{plain, plain_all}
 use Rattle.grail_evaluator.specs.Locals.{env_of}
 use Rattle.grail_evaluator.specs.Ends.{reached_of, onto, calls_in, bodies_of, onward, ending_run, end_run, Used}
-use Rattle.grail_evaluator.proofs.CallLaws.{is_over, over_uses, lets_more, lets_over, lets_end, from_is, jump_is, jump_stuck, body_is, no_body, function_is, other_count, entered_is}
+use Rattle.grail_evaluator.proofs.CallLaws.{is_over, over_uses, lets_more, lets_over, lets_end, from_is, jump_is, jump_stuck, body_is, no_body, function_is, entered_is}
 use Rattle.grail_evaluator.proofs.evaluator.Evaluator.+run.Goals as goal
 
 -- ---- a block

@@ -1,4 +1,4 @@
-use Rattle.std.proofs.Common.{◌≡◌, ◌-◌, ap, map, true}
+use Rattle.std.proofs.Common.{◌-◌, ap, true}
 use Rattle.camelot_values.specs.Outcome.{given}
 use Rattle.grail_evaluator.specs.Ends.{onto}
 use Rattle.grail_evaluator.proofs.evaluator.Evaluator.exit.Goals as goal
