@@ -48,7 +48,10 @@ pub enum Op {
         place: Place,
     },
     /// Uses one local for each parameter of the function; gives its result. It takes one unit of fuel, and waits while the function runs.
-    Call { func: u32, args: Vec<u32> },
+    Call {
+        func: u32,
+        args: Vec<u32>,
+    },
 }
 
 /// One let: a local and what it is bound to. The local is bound anew, also where it was bound or spent before.
