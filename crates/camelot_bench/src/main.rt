@@ -71,6 +71,15 @@ fn table(rt: &HostRuntime, timed: bool, sizes: &[usize]) -> io::Result<()> {
         report(rt, timed, "chains", &texts::chains(alloc, *size)?)?;
     }
     for size in sizes {
+        report(rt, timed, "dense", &texts::dense(alloc, *size)?)?;
+    }
+    for size in sizes {
+        report(rt, timed, "arguments", &texts::arguments(alloc, *size)?)?;
+    }
+    for size in sizes {
+        report(rt, timed, "builds", &texts::builds(alloc, *size)?)?;
+    }
+    for size in sizes {
         report(rt, timed, "functions", &texts::functions(alloc, *size)?)?;
     }
     for size in sizes {

@@ -52,6 +52,46 @@ pub(crate) fn chains(alloc: Global, size: usize) -> Result<Vec<u8>, AllocError> 
     Ok(text)
 }
 
+/// Functions of 414 bytes, each one chain of 99 sums of products without white space.
+pub(crate) fn dense(alloc: Global, size: usize) -> Result<Vec<u8>, AllocError> {
+    let mut text = Vec::new(alloc);
+    for number in 0..size / 414 {
+        head(&mut text, number)?;
+        for _ in 0..99 {
+            text.extend_from_slice(b"+x*x")?;
+        }
+        text.push(b'\n')?;
+    }
+    Ok(text)
+}
+
+/// A function whose body is one build with arguments of one byte.
+pub(crate) fn arguments(alloc: Global, size: usize) -> Result<Vec<u8>, AllocError> {
+    let mut text = Vec::from_slice(alloc, b"let f x = C(1")?;
+    for _ in 0..size.saturating_sub(15) / 2 {
+        text.extend_from_slice(b",1")?;
+    }
+    text.extend_from_slice(b")\n")?;
+    Ok(text)
+}
+
+/// Functions of 306 bytes, each with 98 builds, one the argument of the next.
+pub(crate) fn builds(alloc: Global, size: usize) -> Result<Vec<u8>, AllocError> {
+    let mut text = Vec::new(alloc);
+    for _ in 0..size / 306 {
+        text.extend_from_slice(b"let f x = ")?;
+        for _ in 0..98 {
+            text.extend_from_slice(b"C(")?;
+        }
+        text.push(b'x')?;
+        for _ in 0..98 {
+            text.push(b')')?;
+        }
+        text.push(b'\n')?;
+    }
+    Ok(text)
+}
+
 /// A function in which the last of 201 nested conditions has level 201.
 fn sink(text: &mut Vec<u8>) -> Result<(), AllocError> {
     text.extend_from_slice(b"let deep x = ")?;
