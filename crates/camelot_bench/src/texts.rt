@@ -340,10 +340,10 @@ fn colliding(alloc: Global, letter: u8, groups: usize, from: usize) -> Result<us
 
 /// As many groups as a table of so many names by hash has, with 9 names in a group at most.
 fn groups_for(names: usize) -> usize {
-    let mut groups = 16;
+    let mut groups = 16usize;
     for _ in 0..24 {
-        if groups * 9 < names && groups < 1 << 24 {
-            groups *= 2;
+        if groups <= names / 9 {
+            groups = groups.saturating_mul(2);
         }
     }
     groups
