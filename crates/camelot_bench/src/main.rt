@@ -6,7 +6,7 @@ mod texts;
 
 use camelot_syntax::{Expr, Program, parse};
 use camelot_types::check_program;
-use camelot_typing::Typed;
+use typing_rules::Typed;
 use linear_use::check_use;
 use std::time::Instant;
 use std::{env, io};

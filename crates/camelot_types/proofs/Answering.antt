@@ -2,15 +2,15 @@
 use Rattle.std.proofs.Common.{◌≡◌, ℕ, List, [], ◌∷◌, map, refl, ap, ◌∙◌}
 use Rattle.camelot_values.specs.declared.kinds.Kind.TheVariants as kind
 use Rattle.camelot_tree.specs.Tree.{Function, Source}
-use Rattle.camelot_typing.specs.Kinds.{Head, Globals, Scope, atoms_of}
-use Rattle.camelot_typing.specs.Typing.{known_kind, params_scope, globals_of}
-use Rattle.camelot_typing.specs.Typed.{FunctionKinds, function_kinds, functions_kinds}
+use Rattle.typing_rules.specs.Kinds.{Head, Globals, Scope, atoms_of}
+use Rattle.typing_rules.specs.Typing.{known_kind, params_scope, globals_of}
+use Rattle.typing_rules.specs.Typed.{FunctionKinds, function_kinds, functions_kinds}
 use Rattle.camelot_types.specs.declared.guess.Guess.{Guess}
 use Rattle.camelot_types.specs.declared.guess.Guess.TheVariants.{Known, Unknown}
 use Rattle.camelot_types.specs.Walk.{Choice, under, head_guesses, guesses_of}
 use Rattle.camelot_types.proofs.Choosing.{head_under, globals_under, params_under, atoms_under}
 use Rattle.camelot_types.proofs.Programs.{signatures_under}
-use Rattle.camelot_typing.specs.Settled.{SameButInts, KindsSettled}
+use Rattle.typing_rules.specs.Settled.{SameButInts, KindsSettled}
 
 -- function by function, for its head
 abbrev pub answered : Choice → Globals Guess → List Function → List (Head Guess) → List FunctionKinds

@@ -6,9 +6,9 @@ use Rattle.camelot_values.specs.Kinds.{DataType}
 use Rattle.camelot_values.specs.declared.kinds.Kind.{Kind}
 use Rattle.camelot_tree.specs.Tree.{Function, Source}
 use Rattle.camelot_tree.specs.Tokens.{has_ints}
-use Rattle.camelot_typing.specs.Kinds.{Head, Globals, Scope, atoms_of, types_of}
-use Rattle.camelot_typing.specs.Typing.{Signature, IsDeclared, params_scope, globals_of, IsTyped, IsWithinLimits}
-use Rattle.camelot_typing.specs.Typed.{FunctionKinds, signatures_of, functions_kinds, typing, typing_kinds, IsTyping}
+use Rattle.typing_rules.specs.Kinds.{Head, Globals, Scope, atoms_of, types_of}
+use Rattle.typing_rules.specs.Typing.{Signature, IsDeclared, params_scope, globals_of, IsTyped, IsWithinLimits}
+use Rattle.typing_rules.specs.Typed.{FunctionKinds, signatures_of, functions_kinds, typing, typing_kinds, IsTyping}
 use Rattle.camelot_types.specs.declared.fault.TypeFault.{TypeFault}
 use Rattle.camelot_types.specs.declared.fault.TypeFault.TheVariants.{UnknownName, UnknownType, Duplicate, Arity, Clash, MissingArm, RepeatedArm, TooManyFields, PlaceOnInline, TooMany, Memory}
 use Rattle.camelot_types.specs.declared.guess.Guess.{Guess}
@@ -16,7 +16,7 @@ use Rattle.camelot_types.specs.declared.guess.Guess.TheVariants.{Known, Unknown}
 use Rattle.camelot_types.specs.Walk.{Step, Same, Choice, under, HasFault, few, types_steps, headers_steps, head_guess, head_guesses, guesses_of, line_of, guess, body_steps, bodies_steps, program_steps}
 use Rattle.camelot_types.specs.Solving.{Walked, Goes, Stops, and_then, looked_up, made_same, run, Work, body_walked, Bodies, bodies_on, closed, settled, settled_funs, fresh, unknowns}
 use Rattle.camelot_types.specs.Declaring.{types_checked, headers_checked}
-use Rattle.camelot_typing.specs.Settled.{KindsSettled}
+use Rattle.typing_rules.specs.Settled.{KindsSettled}
 use Rattle.camelot_types.specs.Checked.{bodies_walked, program_walked, KindsLeft}
 use Rattle.camelot_types.specs.Walk.{HasCause}
 use Rattle.camelot_types.specs.Doing.{StopsWith}

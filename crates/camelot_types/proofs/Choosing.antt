@@ -12,8 +12,8 @@ use Rattle.camelot_tree.specs.declared.tree.Param.{Param}
 use Rattle.camelot_tree.specs.declared.tree.ArmCell.{ArmCell}
 use Rattle.camelot_tree.specs.declared.tree.ArmCell.TheVariants as cell
 use Rattle.camelot_tree.specs.Tree.{Term, Num, Truth, Var, Prim, If, Let, Match, Build, Call, Terms, NoTerms, AndTerm, Arms, NoArms, AndArm}
-use Rattle.camelot_typing.specs.Kinds.{Head, Globals, Scope, bind, or_else, constructor_number, fields_of, head_of, bind_fields, bind_cell, arm_scope, atom_of, arms_atom, atoms_of, all_atoms, arms_atoms}
-use Rattle.camelot_typing.specs.Typing.{Signature, known_kind, params_scope}
+use Rattle.typing_rules.specs.Kinds.{Head, Globals, Scope, bind, or_else, constructor_number, fields_of, head_of, bind_fields, bind_cell, arm_scope, atom_of, arms_atom, atoms_of, all_atoms, arms_atoms}
+use Rattle.typing_rules.specs.Typing.{Signature, known_kind, params_scope}
 use Rattle.camelot_types.specs.declared.guess.Guess.{Guess}
 use Rattle.camelot_types.specs.declared.guess.Guess.TheVariants.{Known}
 use Rattle.camelot_types.specs.Walk.{Choice, under}

@@ -13,7 +13,7 @@ use Rattle.camelot_tree.specs.declared.tree.Atom.TheVariants as atom
 use Rattle.camelot_tree.specs.declared.tree.Param.{Param}
 use Rattle.camelot_tree.specs.Tree.{Constructor, DataType, Function, Source}
 use Rattle.camelot_tree.specs.Shape.{is_nothing, con_is_whole, type_is_whole, fun_is_whole, is_whole}
-use Rattle.camelot_typing.specs.Kinds.{kind_of_atom, field_kind, constructor_kinds, data_kinds, types_of}
+use Rattle.typing_rules.specs.Kinds.{kind_of_atom, field_kind, constructor_kinds, data_kinds, types_of}
 use Rattle.camelot_tree.specs.Meaning.{declared_constructors}
 use Rattle.camelot_types.specs.declared.fault.TypeFault.{TypeFault}
 use Rattle.camelot_types.specs.declared.fault.TypeFault.TheVariants.{UnknownType, TooManyFields, TooMany}

@@ -10,7 +10,7 @@ use Rattle.camelot_tree.specs.declared.tree.Atom.{Atom}
 use Rattle.camelot_tree.specs.declared.tree.Atom.TheVariants as atom
 use Rattle.camelot_tree.specs.declared.tree.Param.{Param}
 use Rattle.camelot_tree.specs.Tree.{Constructor, DataType, Function, Source}
-use Rattle.camelot_typing.specs.Typing.{IsDeclaredAtom, ConstructorFits}
+use Rattle.typing_rules.specs.Typing.{IsDeclaredAtom, ConstructorFits}
 use Rattle.camelot_types.specs.Walk.{Step, Choice, AllHold, new_names, words, few, atom_step, fields_step, con_names, types_steps, param_names, kind_step, headers_steps}
 use Rattle.camelot_types.proofs.Unifying.{all_both, all_front, all_back}
 use Rattle.camelot_types.proofs.Judging.{new_hold, hold_new}

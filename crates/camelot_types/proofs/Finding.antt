@@ -5,7 +5,7 @@ use Rattle.std.specs.Option.{option_map}
 use Rattle.std.specs.Str.{bytes_eq}
 use Rattle.std.proofs.lemmas.Bool.{lt-ltb}
 use Rattle.camelot_values.specs.Names.{place_among}
-use Rattle.camelot_typing.specs.Kinds.{head_of}
+use Rattle.typing_rules.specs.Kinds.{head_of}
 use Rattle.camelot_types.specs.declared.globals.FunHead.{FunHead}
 use Rattle.camelot_tree.specs.Tree.{Function, Source}
 use Rattle.camelot_types.specs.Tables.{head_view}

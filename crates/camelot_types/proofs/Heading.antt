@@ -2,7 +2,7 @@
 use Rattle.std.proofs.Common.{◌≡◌, ℕ, zero, suc, ◌+◌, ◌≤◌, ◌<◌, List, [], ◌∷◌, ◌++◌, map, length, get_or, drop, subst, sym, ap, ◌∙◌, refl, arith, append_assoc}
 use Rattle.std.specs.List.{AllByRecursion}
 use Rattle.camelot_tree.specs.Tree.{Function, Source}
-use Rattle.camelot_typing.specs.Kinds.{Head}
+use Rattle.typing_rules.specs.Kinds.{Head}
 use Rattle.camelot_types.specs.declared.guess.Guess.{Guess}
 use Rattle.camelot_types.specs.Walk.{head_guess, head_guesses}
 use Rattle.camelot_types.specs.Solving.{unknowns}

@@ -15,9 +15,9 @@ use Rattle.camelot_tree.specs.declared.tree.ArmCell.{ArmCell}
 use Rattle.camelot_tree.specs.declared.tree.ArmCell.TheVariants as cell
 use Rattle.camelot_tree.specs.Tree.{Term, Num, Truth, Var, Prim, If, Let, Match, Build, Call, Terms, NoTerms, AndTerm, Arms, NoArms, AndArm}
 use Rattle.camelot_tree.specs.Meaning.{is_that}
-use Rattle.camelot_typing.specs.Kinds.{Head, Globals, Scope, bind, or_else, constructor_number, fields_of, is_inline, built_kind, numbers_of, head_of, bound_names, arm_scope}
-use Rattle.camelot_typing.specs.Typing.{Signature, PlaceFits, CellFits, arms_with, Covers, HeadFits, HasKind, HaveKinds, ArmsHaveKind}
-use Rattle.camelot_typing.specs.NumberLaws.{among_numbers}
+use Rattle.typing_rules.specs.Kinds.{Head, Globals, Scope, bind, or_else, constructor_number, fields_of, is_inline, built_kind, numbers_of, head_of, bound_names, arm_scope}
+use Rattle.typing_rules.specs.Typing.{Signature, PlaceFits, CellFits, arms_with, Covers, HeadFits, HasKind, HaveKinds, ArmsHaveKind}
+use Rattle.typing_rules.specs.NumberLaws.{among_numbers}
 use Rattle.camelot_types.specs.declared.guess.Guess.{Guess}
 use Rattle.camelot_types.specs.declared.guess.Guess.TheVariants.{Known}
 use Rattle.camelot_types.specs.Walk.{Step, Same, Choice, under, Holds, AllHold, new_names, words, line_of, argument_count, guess, same_steps, place_known, place_same, build_steps, call_steps, con_guess, head_steps, arm_numbers, missing_steps, cons_of_type, first_number, steps, all_steps, arms_steps}

@@ -9,7 +9,7 @@ use Rattle.camelot_tree.specs.declared.tree.ArmCell.{ArmCell}
 use Rattle.camelot_tree.specs.declared.tree.ArmCell.TheVariants as cell
 use Rattle.camelot_tree.specs.Tree.{Function, Term, Branch, terms, arms, Match, Terms, NoTerms, AndTerm, Arms, NoArms, AndArm}
 use Rattle.camelot_tree.specs.Spine.{spine_of, leaf_of}
-use Rattle.camelot_typing.specs.Kinds.{Head, Globals, Scope, bind, or_else, fields_of, constructor_number, bind_fields, bind_cell, arm_scope, all_atoms}
+use Rattle.typing_rules.specs.Kinds.{Head, Globals, Scope, bind, or_else, fields_of, constructor_number, bind_fields, bind_cell, arm_scope, all_atoms}
 use Rattle.camelot_types.specs.declared.fault.TypeFault.{TypeFault}
 use Rattle.camelot_types.specs.declared.fault.TypeFault.TheVariants.{UnknownName, UnknownType, Duplicate, Arity, Clash, MissingArm, RepeatedArm, TooManyFields, PlaceOnInline, TooMany, Memory}
 use Rattle.camelot_types.specs.declared.guess.Guess.{Guess}

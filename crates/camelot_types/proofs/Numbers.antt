@@ -8,7 +8,7 @@ use Rattle.std.proofs.lemmas.Bool.{eqb-true}
 use Rattle.std.proofs.lemmas.Bool.Decides.{nat_tests}
 use Rattle.camelot_values.specs.Names.{place_among}
 use Rattle.camelot_values.specs.Kinds.{DataType, constructors, type_from, type_of}
-use Rattle.camelot_typing.specs.Kinds.{constructor_number}
+use Rattle.typing_rules.specs.Kinds.{constructor_number}
 
 not_below : (c n : ℕ) → nat_lt c n ≡ false → n ≤ c
 not_below c n h = grind (arith, nat_tests)

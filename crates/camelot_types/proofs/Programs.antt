@@ -9,8 +9,8 @@ use Rattle.camelot_tree.specs.declared.tree.Atom.{Atom}
 use Rattle.camelot_tree.specs.declared.tree.Param.{Param}
 use Rattle.camelot_tree.specs.Tree.{Function, Source}
 use Rattle.camelot_tree.specs.Tokens.{has_ints}
-use Rattle.camelot_typing.specs.Kinds.{Head, Globals, Scope, or_else, kind_of_atom, types_of}
-use Rattle.camelot_typing.specs.Typing.{Signature, HasKind, IsDeclared, Stands, ParamsStand, params_scope, FunctionsFit, globals_of, IsTyped, IsWithinLimits}
+use Rattle.typing_rules.specs.Kinds.{Head, Globals, Scope, or_else, kind_of_atom, types_of}
+use Rattle.typing_rules.specs.Typing.{Signature, HasKind, IsDeclared, Stands, ParamsStand, params_scope, FunctionsFit, globals_of, IsTyped, IsWithinLimits}
 use Rattle.camelot_tree.specs.Meaning.{declared_constructors}
 use Rattle.camelot_types.specs.declared.guess.Guess.{Guess}
 use Rattle.camelot_types.specs.Walk.{Step, Same, Choice, under, AllHold, few, types_steps, headers_steps, guess_of, param_guesses, head_guess, head_guesses, guesses_of, line_of, guess, steps, body_steps, bodies_steps, program_steps}

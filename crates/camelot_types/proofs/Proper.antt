@@ -15,8 +15,8 @@ use Rattle.camelot_tree.specs.declared.tree.Name.{Name}
 use Rattle.camelot_tree.specs.declared.tree.ArmCell.{ArmCell}
 use Rattle.camelot_tree.specs.declared.tree.ArmCell.TheVariants as cell
 use Rattle.camelot_tree.specs.Tree.{Term, Num, Truth, Var, Prim, If, Let, Match, Build, Call, Terms, NoTerms, AndTerm, Arms, NoArms, AndArm}
-use Rattle.camelot_typing.specs.Kinds.{Head, Globals, Scope, bind, or_else, constructor_number, fields_of, head_of, bound_names, bind_fields, bind_cell, arm_scope, arms_atom}
-use Rattle.camelot_typing.specs.Typing.{IsDeclared}
+use Rattle.typing_rules.specs.Kinds.{Head, Globals, Scope, bind, or_else, constructor_number, fields_of, head_of, bound_names, bind_fields, bind_cell, arm_scope, arms_atom}
+use Rattle.typing_rules.specs.Typing.{IsDeclared}
 use Rattle.camelot_types.specs.declared.guess.Guess.{Guess}
 use Rattle.camelot_types.specs.declared.guess.Guess.TheVariants.{Known}
 use Rattle.camelot_types.specs.Walk.{Step, Same, new_names, line_of, guess, same_steps, place_known, place_same, build_steps, call_steps, con_guess, head_steps, arm_numbers, missing_steps, cons_of_type, first_number, steps, all_steps, arms_steps}

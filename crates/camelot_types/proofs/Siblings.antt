@@ -4,7 +4,7 @@ use Rattle.std.specs.Prelude.{nat_lt}
 use Rattle.std.specs.Option.{option_map_or}
 use Rattle.std.proofs.lemmas.Bool.{ltb-true, lt-ltb}
 use Rattle.camelot_values.specs.Kinds.{DataType, type_of}
-use Rattle.camelot_typing.specs.Kinds.{numbers_from, numbers_of}
+use Rattle.typing_rules.specs.Kinds.{numbers_from, numbers_of}
 use Rattle.camelot_types.specs.Facts.{numbers_from_type}
 use Rattle.camelot_types.specs.Walk.{cons_of_type}
 

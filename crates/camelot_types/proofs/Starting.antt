@@ -12,8 +12,8 @@ use Rattle.camelot_tree.specs.declared.tree.Atom.TheVariants as atom
 use Rattle.camelot_tree.specs.declared.tree.Param.{Param}
 use Rattle.camelot_tree.specs.Tree as tree
 use Rattle.camelot_tree.specs.Tree.{Constructor, Function, Source}
-use Rattle.camelot_typing.specs.Kinds.{Head, Globals, Scope, or_else, type_number, field_kind, constructor_kinds, data_kinds, types_of}
-use Rattle.camelot_typing.specs.Typing.{IsDeclared, params_scope}
+use Rattle.typing_rules.specs.Kinds.{Head, Globals, Scope, or_else, type_number, field_kind, constructor_kinds, data_kinds, types_of}
+use Rattle.typing_rules.specs.Typing.{IsDeclared, params_scope}
 use Rattle.camelot_types.specs.declared.guess.Guess.{Guess}
 use Rattle.camelot_types.specs.declared.guess.Guess.TheVariants.{Unknown}
 use Rattle.camelot_types.specs.Walk.{Step, Same, under, new_names, line_of, guess, steps, fields_step, atom_step, con_names, words, types_steps, kind_step, param_names, headers_steps, guess_of, param_guesses, head_guesses, guesses_of, body_steps, bodies_steps, program_steps}

@@ -7,7 +7,7 @@ use Rattle.std.proofs.lemmas.Bool.Decides.{nat_tests}
 use Rattle.camelot_values.specs.Kinds.{DataType, same_kind}
 use Rattle.camelot_values.specs.declared.kinds.Kind.{Kind}
 use Rattle.camelot_values.specs.declared.kinds.Kind.TheVariants as kind
-use Rattle.camelot_typing.specs.Typing.{IsDeclared}
+use Rattle.typing_rules.specs.Typing.{IsDeclared}
 use Rattle.camelot_types.specs.declared.fault.TypeFault.{TypeFault}
 use Rattle.camelot_types.specs.declared.fault.TypeFault.TheVariants.{Clash}
 use Rattle.camelot_types.specs.declared.guess.Guess.{Guess}

@@ -11,7 +11,7 @@ use Rattle.camelot_tree.specs.declared.tree.Name.{Name}
 use Rattle.camelot_tree.specs.declared.tree.ArmCell.{ArmCell}
 use Rattle.camelot_tree.specs.Tree.{Term, Num, Truth, Var, Prim, If, Let, Match, Build, Call, Terms, NoTerms, AndTerm, Arms, NoArms, AndArm}
 use Rattle.camelot_tree.specs.Spine.{spine_of, leaf_of}
-use Rattle.camelot_typing.specs.Kinds.{Head, Globals, Scope, bind, or_else, constructor_number, fields_of, is_inline, head_of, bound_names, arm_scope, atoms_of, all_atoms, arms_atoms}
+use Rattle.typing_rules.specs.Kinds.{Head, Globals, Scope, bind, or_else, constructor_number, fields_of, is_inline, head_of, bound_names, arm_scope, atoms_of, all_atoms, arms_atoms}
 use Rattle.camelot_types.specs.declared.fault.TypeFault.{TypeFault}
 use Rattle.camelot_types.specs.declared.fault.TypeFault.TheVariants.{UnknownName, Duplicate, MissingArm}
 use Rattle.camelot_types.specs.declared.guess.Guess.{Guess}

@@ -2,9 +2,9 @@
 -- What the check answers, in its parts.
 use Rattle.std.specs.Prelude.{◌≡◌, List, [], map, Result, Ok, Err}
 use Rattle.camelot_tree.specs.Tree.{Source}
-use Rattle.camelot_typing.specs.Kinds.{types_of}
-use Rattle.camelot_typing.specs.declared.kinds.FunKinds.{FunKinds}
-use Rattle.camelot_typing.specs.Typed.{FunctionKinds, kinds_of}
+use Rattle.typing_rules.specs.Kinds.{types_of}
+use Rattle.typing_rules.specs.declared.kinds.FunKinds.{FunKinds}
+use Rattle.typing_rules.specs.Typed.{FunctionKinds, kinds_of}
 use Rattle.camelot_types.specs.declared.fault.TypeFault.{TypeFault}
 use Rattle.camelot_types.specs.declared.program.Parts.{Parts}
 use Rattle.camelot_types.specs.Walk.{guesses_of, head_guesses}

@@ -13,9 +13,9 @@ use Rattle.camelot_tree.specs.declared.tree.Name.{Name}
 use Rattle.camelot_tree.specs.declared.tree.ArmCell.{ArmCell}
 use Rattle.camelot_tree.specs.Tree.{Function, Term, Num, Truth, Var, Prim, If, Let, Match, Build, Call, Terms, NoTerms, AndTerm, Arms, NoArms, AndArm}
 use Rattle.camelot_values.specs.Names.{find}
-use Rattle.camelot_typing.specs.Kinds.{Head, Globals, Scope, bind, constructor_number, fields_of, is_inline, head_of, bound_names, arm_scope}
-use Rattle.camelot_typing.specs.Typing.{params_scope}
-use Rattle.camelot_typing.specs.Typed.{FunctionKinds}
+use Rattle.typing_rules.specs.Kinds.{Head, Globals, Scope, bind, constructor_number, fields_of, is_inline, head_of, bound_names, arm_scope}
+use Rattle.typing_rules.specs.Typing.{params_scope}
+use Rattle.typing_rules.specs.Typed.{FunctionKinds}
 use Rattle.camelot_types.specs.Walk.{Step, Must, Same, kind_name, line_of, con_guess, cons_of_type}
 use Rattle.camelot_tree.specs.Cells.{has_cell}
 use Rattle.camelot_types.specs.declared.fault.TypeFault.{TypeFault}

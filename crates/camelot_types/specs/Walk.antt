@@ -18,8 +18,8 @@ use Rattle.camelot_tree.specs.declared.tree.ArmCell.{ArmCell}
 use Rattle.camelot_tree.specs.Tree.{Term, Num, Truth, Var, Prim, If, Let, Match, Build, Call, Terms, NoTerms, AndTerm, Arms, NoArms, AndArm, Constructor, Function, Source}
 use Rattle.camelot_tree.specs.Tree as tree
 use Rattle.camelot_values.specs.Names.{find}
-use Rattle.camelot_typing.specs.Kinds.{Head, Globals, Scope, bind, or_else, kind_of_atom, types_of, constructor_number, fields_of, is_inline, built_kind, numbers_of, head_of, bound_names, arm_scope, atom_of}
-use Rattle.camelot_typing.specs.Typing.{params_scope}
+use Rattle.typing_rules.specs.Kinds.{Head, Globals, Scope, bind, or_else, kind_of_atom, types_of, constructor_number, fields_of, is_inline, built_kind, numbers_of, head_of, bound_names, arm_scope, atom_of}
+use Rattle.typing_rules.specs.Typing.{params_scope}
 use Rattle.camelot_tree.specs.Cells.{has_cell}
 use Rattle.camelot_types.specs.declared.fault.TypeFault.{TypeFault}
 use Rattle.camelot_types.specs.declared.fault.TypeFault.TheVariants.{UnknownName, UnknownType, Duplicate, Arity, Clash, MissingArm, RepeatedArm, TooManyFields, PlaceOnInline, TooMany, Memory}

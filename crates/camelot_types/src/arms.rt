@@ -1,7 +1,7 @@
 //! What stands before the body of an arm, and arms that are missing.
 
 ghost use Rattle.std.specs.Prelude.{◌≡◌, ◌++◌, map, OnOk, IfOk, IfErr, Some};
-ghost use Rattle.camelot_typing.specs.Kinds.{field_names, cell_names, bound_names, bind_fields, bind_cell, arm_scope, constructor_number};
+ghost use Rattle.typing_rules.specs.Kinds.{field_names, cell_names, bound_names, bind_fields, bind_cell, arm_scope, constructor_number};
 ghost use Rattle.camelot_types.specs.Tables.{globals_view};
 ghost use Rattle.camelot_types.specs.Walk.{cons_of_type};
 ghost use Rattle.camelot_tree.specs.Cells.{has_cell};

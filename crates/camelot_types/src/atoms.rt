@@ -4,7 +4,7 @@ ghost use Rattle.std.specs.Prelude.{◌≡◌, ◌≤◌, map, length};
 ghost use Rattle.camelot_values.specs.Names.{place_among};
 ghost use Rattle.camelot_tree.specs.Tree.{data_type_of};
 ghost use Rattle.camelot_tree.specs.Programs.{program_of};
-ghost use Rattle.camelot_typing.specs.Kinds.{kind_of_atom};
+ghost use Rattle.typing_rules.specs.Kinds.{kind_of_atom};
 ghost use Rattle.camelot_types.specs.declared.fault.TypeFault.TheVariants.{UnknownType, TooMany};
 ghost use Rattle.camelot_types.specs.Solving.{Stops};
 ghost use Rattle.camelot_types.specs.Declaring.{atom_checked, atoms_checked, kind_written};

@@ -2,7 +2,7 @@
 
 ghost use Rattle.std.specs.Prelude.{◌≡◌, ◌++◌, [], OnOk, IfErr, map};
 ghost use Rattle.camelot_tree.specs.Tree.{function_of};
-ghost use Rattle.camelot_typing.specs.Typing.{params_scope};
+ghost use Rattle.typing_rules.specs.Typing.{params_scope};
 ghost use Rattle.camelot_types.specs.Tables.{globals_view, head_view};
 ghost use Rattle.camelot_types.specs.Solving.{body_walked, bodies_on};
 ghost use Rattle.camelot_types.specs.Ending.{FindsBody, FindsBodies};

@@ -5,7 +5,7 @@ ghost use Rattle.camelot_values.specs.Kinds.{AreTypes};
 ghost use Rattle.camelot_values.specs.Kinds as values;
 ghost use Rattle.camelot_tree.specs.Tree as tree;
 ghost use Rattle.camelot_tree.specs.Programs.{program_of};
-ghost use Rattle.camelot_typing.specs.Kinds.{field_kind, constructor_kinds, data_kinds, types_of, numbered};
+ghost use Rattle.typing_rules.specs.Kinds.{field_kind, constructor_kinds, data_kinds, types_of, numbered};
 ghost use Rattle.camelot_types.specs.Facts.{numbers_from_type};
 
 use crate::atoms::kind_of_atom;

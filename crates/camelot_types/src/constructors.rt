@@ -2,7 +2,7 @@
 
 ghost use Rattle.std.specs.Prelude.{◌≡◌, ◌<◌, ◌^◌, IfOk};
 ghost use Rattle.camelot_values.specs.Kinds.{constructor_of, constructor, type_of};
-ghost use Rattle.camelot_typing.specs.Kinds.{constructor_number, fields_of, is_inline, head_of};
+ghost use Rattle.typing_rules.specs.Kinds.{constructor_number, fields_of, is_inline, head_of};
 ghost use Rattle.camelot_types.specs.Walk.{con_guess, cons_of_type};
 ghost use Rattle.camelot_types.specs.Tables.{globals_view, head_view};
 ghost use Rattle.camelot_types.specs.Solving.{con_found};

@@ -5,7 +5,7 @@ ghost use Rattle.camelot_tree.specs.Tree.{term_of, terms, branch_of, operator_of
 ghost use Rattle.camelot_tree.specs.Tree as tree;
 ghost use Rattle.camelot_tree.specs.Spine.{IsLeaf};
 ghost use Rattle.camelot_values.specs.Typing.{operator_kind};
-ghost use Rattle.camelot_typing.specs.Kinds.{arm_scope, constructor_number};
+ghost use Rattle.typing_rules.specs.Kinds.{arm_scope, constructor_number};
 ghost use Rattle.camelot_types.specs.Tables.{globals_view};
 ghost use Rattle.camelot_types.specs.Working.{work_of};
 ghost use Rattle.camelot_types.specs.Solving.{walk, walk_all, walk_arms, rest_of, lines_of, first_arm, next_arm, match_walk};

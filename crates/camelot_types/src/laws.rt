@@ -2,7 +2,7 @@
 ghost use Rattle.std.specs.Prelude.{◌≡◌, ◌⊎◌, List, IsTrue};
 ghost use Rattle.camelot_tree.specs.Tree.{Source};
 ghost use Rattle.camelot_tree.specs.Tokens.{has_ints};
-ghost use Rattle.camelot_typing.specs.Typing.{Signature, IsTyped, IsWithinLimits};
+ghost use Rattle.typing_rules.specs.Typing.{Signature, IsTyped, IsWithinLimits};
 ghost use Rattle.camelot_types.specs.Walk.{HasFault};
 ghost use Rattle.camelot_types.specs.declared.fault.TypeFault.{TypeFault};
 

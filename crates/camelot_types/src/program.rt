@@ -2,11 +2,11 @@ ghost use Rattle.std.specs.Prelude.{◌≡◌, ◌≤◌, ◌⊎◌, List, lengt
 ghost use Rattle.std.specs.List.{AllByRecursion};
 ghost use Rattle.camelot_values.specs.Kinds.{constructors};
 ghost use Rattle.camelot_tree.specs.Programs.{program_of};
-ghost use Rattle.camelot_typing.specs.Kinds.{types_of};
-ghost use Rattle.camelot_typing.specs.Typing.{Signature, IsTyped, IsWithinLimits, globals_of};
-ghost use Rattle.camelot_typing.specs.Typed.{typing_kinds, functions_kinds};
-ghost use Rattle.camelot_typing.specs.TypedPrograms.{typing_of};
-ghost use Rattle.camelot_typing.specs.Settled.{KindsSettled};
+ghost use Rattle.typing_rules.specs.Kinds.{types_of};
+ghost use Rattle.typing_rules.specs.Typing.{Signature, IsTyped, IsWithinLimits, globals_of};
+ghost use Rattle.typing_rules.specs.Typed.{typing_kinds, functions_kinds};
+ghost use Rattle.typing_rules.specs.TypedPrograms.{typing_of};
+ghost use Rattle.typing_rules.specs.Settled.{KindsSettled};
 ghost use Rattle.camelot_types.specs.Walk.{HasFault};
 ghost use Rattle.camelot_types.specs.Checked.{BodiesChecked, Checks};
 ghost use Rattle.camelot_types.specs.Walk.{HasCause};
@@ -24,7 +24,7 @@ use crate::settle::{fresh, settled_funs};
 use crate::types::check_types;
 use camelot_names::Names;
 use camelot_tree::Program;
-use camelot_typing::{FunKinds, Typed};
+use typing_rules::{FunKinds, Typed};
 use camelot_values::Types;
 use std::alloc::Global;
 

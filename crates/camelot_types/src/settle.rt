@@ -1,14 +1,14 @@
 //! The kinds that the walk leaves for guesses.
 
 ghost use Rattle.std.specs.Prelude.{◌≡◌, map, IfOk};
-ghost use Rattle.camelot_typing.specs.Typed.{kinds_of};
+ghost use Rattle.typing_rules.specs.Typed.{kinds_of};
 ghost use Rattle.camelot_types.specs.Tables.{head_view};
 ghost use Rattle.camelot_types.specs.Solving.{closed, settled, settled_funs, fresh};
 
 use crate::globals::FunHead;
 use crate::guess::Guess;
 use crate::table::looked_up;
-use camelot_typing::FunKinds;
+use typing_rules::FunKinds;
 use camelot_values::Kind;
 use std::alloc::{AllocError, Global};
 

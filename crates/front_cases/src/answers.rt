@@ -4,7 +4,7 @@ use crate::cases::Case;
 use crate::tree::show_program;
 use camelot_syntax::parse;
 use camelot_types::check;
-use camelot_typing::Typed;
+use typing_rules::Typed;
 use camelot_values::{Kind, Types};
 use linear_use::check_use;
 use std::alloc::AllocError;

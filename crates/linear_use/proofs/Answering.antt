@@ -3,8 +3,8 @@ use Rattle.std.proofs.Common.{◌≡◌, false, List, [], ◌∷◌, Some, None,
 use Rattle.std.specs.Prelude.{◌↔◌, Result, Ok, Err, IsErrAnd}
 use Rattle.std.proofs.Math.Logic.{∥∥₁_elim}
 use Rattle.std.proofs.lemmas.Grind.{merely}
-use Rattle.camelot_typing.specs.Typing.{IsTyped}
-use Rattle.camelot_typing.specs.Typed.{Typing, IsTyping}
+use Rattle.typing_rules.specs.Typing.{IsTyped}
+use Rattle.typing_rules.specs.Typed.{Typing, IsTyping}
 use Rattle.linear_use.specs.declared.fault.UseFault.{UseFault}
 use Rattle.linear_use.specs.declared.fault.UseFault.TheVariants.{Twice, ReadMatch, Memory}
 use Rattle.linear_use.specs.Walk.{is_memory}

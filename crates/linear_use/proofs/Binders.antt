@@ -12,7 +12,7 @@ use Rattle.camelot_values.specs.NameLaws.{same_name, name_itself}
 use Rattle.camelot_tree.specs.declared.tree.Name.{Name}
 use Rattle.camelot_tree.specs.declared.tree.ArmCell.{ArmCell}
 use Rattle.camelot_tree.specs.declared.tree.ArmCell.TheVariants as cell
-use Rattle.camelot_typing.specs.Kinds.{Scope, bind, field_names, cell_names}
+use Rattle.typing_rules.specs.Kinds.{Scope, bind, field_names, cell_names}
 use Rattle.linear_use.specs.declared.variable.Variable.{Variable}
 use Rattle.linear_use.specs.Uses.{is_bound, use_of}
 use Rattle.linear_use.specs.Flow.{Nothing, Use, name_flow, use_flow, fields_count, cell_count, number_fields, number_cell}

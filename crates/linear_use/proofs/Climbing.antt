@@ -4,8 +4,8 @@ use Rattle.camelot_values.specs.declared.kinds.Kind.{Kind}
 use Rattle.camelot_tree.specs.Tree.{Term, Num, Truth, Var, Prim, If, Let, Match, Build, Call}
 use Rattle.camelot_tree.specs.Spine.{spine_of, leaf_of, size}
 use Rattle.camelot_tree.specs.SpineLaws.{NoLarger, spine_no_larger, no_larger_front, no_larger_last}
-use Rattle.camelot_typing.specs.Kinds.{Globals, Scope, atom_of, atoms_of}
-use Rattle.camelot_typing.specs.Typing.{known_kind}
+use Rattle.typing_rules.specs.Kinds.{Globals, Scope, atom_of, atoms_of}
+use Rattle.typing_rules.specs.Typing.{known_kind}
 use Rattle.linear_use.specs.declared.fault.UseFault.{UseFault}
 use Rattle.linear_use.specs.declared.variable.Variable.{Variable}
 use Rattle.linear_use.specs.declared.state.State.{State}

@@ -7,8 +7,8 @@ use Rattle.camelot_values.specs.declared.kinds.Kind.{Kind}
 use Rattle.camelot_tree.specs.declared.tree.Name.{Name}
 use Rattle.camelot_tree.specs.declared.tree.ArmCell.{ArmCell}
 use Rattle.camelot_tree.specs.Tree.{Term, Num, Truth, Var, Prim, If, Let, Match, Build, Call, Terms, NoTerms, AndTerm, Arms, NoArms, AndArm}
-use Rattle.camelot_typing.specs.Kinds.{Globals, Scope, bind, or_else, constructor_number, is_inline, atom_of, bound_names}
-use Rattle.camelot_typing.specs.Typing.{known_kind}
+use Rattle.typing_rules.specs.Kinds.{Globals, Scope, bind, or_else, constructor_number, is_inline, atom_of, bound_names}
+use Rattle.typing_rules.specs.Typing.{known_kind}
 use Rattle.linear_use.specs.declared.variable.Variable.{Variable}
 use Rattle.linear_use.specs.declared.fault.UseFault.TheVariants.{ReadMatch}
 use Rattle.linear_use.specs.Uses.{is_bound, place_use, uses, all_uses, arms_uses}

@@ -11,8 +11,8 @@ use Rattle.camelot_values.specs.NameLaws.{name_itself}
 use Rattle.camelot_tree.specs.declared.tree.Name.{Name}
 use Rattle.camelot_tree.specs.declared.tree.ArmCell.{ArmCell}
 use Rattle.camelot_tree.specs.declared.tree.ArmCell.TheVariants as cell
-use Rattle.camelot_typing.specs.Kinds.{Scope, bind, field_names, cell_names, bind_fields, bind_cell}
-use Rattle.camelot_typing.specs.Typing.{known_kind}
+use Rattle.typing_rules.specs.Kinds.{Scope, bind, field_names, cell_names, bind_fields, bind_cell}
+use Rattle.typing_rules.specs.Typing.{known_kind}
 use Rattle.linear_use.specs.declared.variable.Variable.{Variable}
 use Rattle.linear_use.specs.Uses.{is_bound}
 use Rattle.linear_use.specs.Flow.{kinds_in, fields_count, cell_count, number_fields, number_cell}

@@ -6,11 +6,11 @@ use Rattle.camelot_values.specs.Kinds.{DataType}
 use Rattle.camelot_values.specs.declared.kinds.Kind.{Kind}
 use Rattle.camelot_tree.specs.declared.tree.Param.{Param}
 use Rattle.camelot_tree.specs.Tree.{Term, Function}
-use Rattle.camelot_typing.specs.Kinds.{Globals, Scope, atoms_of}
-use Rattle.camelot_typing.specs.Typing.{known_kind, params_scope}
-use Rattle.camelot_typing.specs.Typed.{FunctionKinds, signature_of, signatures_of, functions_kinds, typing_globals}
-use Rattle.camelot_typing.specs.TypedPrograms.{typing_of}
-use Rattle.camelot_typing.specs.declared.typed.Typed.{Typed}
+use Rattle.typing_rules.specs.Kinds.{Globals, Scope, atoms_of}
+use Rattle.typing_rules.specs.Typing.{known_kind, params_scope}
+use Rattle.typing_rules.specs.Typed.{FunctionKinds, signature_of, signatures_of, functions_kinds, typing_globals}
+use Rattle.typing_rules.specs.TypedPrograms.{typing_of}
+use Rattle.typing_rules.specs.declared.typed.Typed.{Typed}
 use Rattle.linear_use.specs.declared.fault.UseFault.{UseFault}
 use Rattle.linear_use.specs.declared.fault.UseFault.TheVariants.{Twice, ReadMatch}
 use Rattle.linear_use.specs.declared.variable.Variable.{Variable}

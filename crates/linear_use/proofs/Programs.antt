@@ -10,8 +10,8 @@ use Rattle.camelot_values.specs.NameLaws.{same_name, name_itself}
 use Rattle.camelot_tree.specs.declared.tree.Name.{Name}
 use Rattle.camelot_tree.specs.declared.tree.Param.{Param}
 use Rattle.camelot_tree.specs.Tree.{Term, Function, Source}
-use Rattle.camelot_typing.specs.Kinds.{Globals, Scope, bind}
-use Rattle.camelot_typing.specs.Typing.{Signature, ParamsStand, FunctionFits, FunctionsFit, IsTyped, params_scope, globals_of}
+use Rattle.typing_rules.specs.Kinds.{Globals, Scope, bind}
+use Rattle.typing_rules.specs.Typing.{Signature, ParamsStand, FunctionFits, FunctionsFit, IsTyped, params_scope, globals_of}
 use Rattle.linear_use.specs.declared.variable.Variable.{Variable}
 use Rattle.linear_use.specs.declared.fault.UseFault.TheVariants.{ReadMatch}
 use Rattle.linear_use.specs.Uses.{is_bound, uses, IsLinear, ParamsUsedOnce, FunctionIsLinear, FunctionsAreLinear, KeepsRule}

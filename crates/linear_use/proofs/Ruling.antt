@@ -10,8 +10,8 @@ use Rattle.camelot_tree.specs.declared.tree.Name.{Name}
 use Rattle.camelot_tree.specs.declared.tree.ArmCell.{ArmCell}
 use Rattle.camelot_tree.specs.declared.tree.ArmCell.TheVariants as cell
 use Rattle.camelot_tree.specs.Tree.{Term, Num, Truth, Var, Prim, If, Let, Match, Build, Call, Terms, NoTerms, AndTerm, Arms, NoArms, AndArm}
-use Rattle.camelot_typing.specs.Kinds.{Globals, Scope, bind, or_else, constructor_number, is_inline, atom_of, field_names, cell_names, bound_names, arm_scope}
-use Rattle.camelot_typing.specs.Typing.{known_kind}
+use Rattle.typing_rules.specs.Kinds.{Globals, Scope, bind, or_else, constructor_number, is_inline, atom_of, field_names, cell_names, bound_names, arm_scope}
+use Rattle.typing_rules.specs.Typing.{known_kind}
 use Rattle.linear_use.specs.declared.variable.Variable.{Variable}
 use Rattle.linear_use.specs.declared.fault.UseFault.TheVariants.{ReadMatch}
 use Rattle.linear_use.specs.Uses.{uses, UsedOnce, EachUsedOnce, CellTaken, IsLinear, AllAreLinear, ArmsAreLinear}

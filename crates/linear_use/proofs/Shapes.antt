@@ -9,8 +9,8 @@ use Rattle.camelot_values.specs.NameLaws.{same_name}
 use Rattle.camelot_tree.specs.declared.tree.Name.{Name}
 use Rattle.camelot_tree.specs.declared.tree.ArmCell.{ArmCell}
 use Rattle.camelot_tree.specs.Tree.{Term, Num, Truth, Var, Prim, If, Let, Match, Build, Call, Terms, NoTerms, AndTerm, Arms, NoArms, AndArm}
-use Rattle.camelot_typing.specs.Kinds.{Globals, Scope, bind, or_else, fields_of, bound_names, arm_scope}
-use Rattle.camelot_typing.specs.Typing.{HasKind, HaveKinds, ArmsHaveKind, HeadFits, known_kind}
+use Rattle.typing_rules.specs.Kinds.{Globals, Scope, bind, or_else, fields_of, bound_names, arm_scope}
+use Rattle.typing_rules.specs.Typing.{HasKind, HaveKinds, ArmsHaveKind, HeadFits, known_kind}
 use Rattle.linear_use.specs.Uses.{is_bound}
 use Rattle.linear_use.specs.Flow.{con_fields}
 

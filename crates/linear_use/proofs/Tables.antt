@@ -13,9 +13,9 @@ use Rattle.camelot_tree.specs.Tree as tree
 use Rattle.camelot_tree.specs.Tree.{Source}
 use Rattle.linear_use.specs.Tables.{with_names}
 use Rattle.linear_use.proofs.Flows.{nothing_behind}
-use Rattle.camelot_typing.specs.Kinds.{types_of, data_kinds, constructor_kinds}
+use Rattle.typing_rules.specs.Kinds.{types_of, data_kinds, constructor_kinds}
 use Rattle.camelot_tree.specs.Meaning.{declared_constructors}
-use Rattle.camelot_typing.specs.Typed.{Typing, IsTyping}
+use Rattle.typing_rules.specs.Typed.{Typing, IsTyping}
 
 abbrev pub con_words : List DataType → List (List ℕ)
 con_words types = map (λ c. c.name) (constructors types)

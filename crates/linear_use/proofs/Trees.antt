@@ -11,8 +11,8 @@ use Rattle.camelot_tree.specs.declared.tree.Expr.TheFolds.{the_lemmas}
 use Rattle.camelot_tree.specs.declared.tree.Arm.{Arm}
 use Rattle.camelot_tree.specs.Tree.{Term, Prim, If, Match, Build, Terms, Arms, term_of, branch_of, operator_of, terms, arms}
 use Rattle.camelot_tree.specs.Spine.{size, arms_size}
-use Rattle.camelot_typing.specs.Kinds.{Globals, atom_of, arms_atoms}
-use Rattle.camelot_typing.specs.Typing.{known_kind}
+use Rattle.typing_rules.specs.Kinds.{Globals, atom_of, arms_atoms}
+use Rattle.typing_rules.specs.Typing.{known_kind}
 use Rattle.linear_use.specs.declared.fault.UseFault.{UseFault}
 use Rattle.linear_use.specs.declared.state.State.{State}
 use Rattle.linear_use.specs.Flow.{Either, kinds_in, place_flow, next_of, all_next, arms_next, flow, all_flow, arms_flow}

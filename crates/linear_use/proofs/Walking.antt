@@ -5,8 +5,8 @@ use Rattle.std.specs.Option.{option_or}
 use Rattle.camelot_values.specs.declared.kinds.Kind.{Kind}
 use Rattle.camelot_values.specs.declared.kinds.Kind.TheVariants as kind
 use Rattle.camelot_tree.specs.Tree.{Term, Num, Truth, Var, Prim, If, Let, Match, Build, Call}
-use Rattle.camelot_typing.specs.Kinds.{Globals, Scope, bind, or_else, atom_of, atoms_of, arms_atoms}
-use Rattle.camelot_typing.specs.Typing.{known_kind}
+use Rattle.typing_rules.specs.Kinds.{Globals, Scope, bind, or_else, atom_of, atoms_of, arms_atoms}
+use Rattle.typing_rules.specs.Typing.{known_kind}
 use Rattle.linear_use.specs.declared.fault.UseFault.{UseFault}
 use Rattle.linear_use.specs.declared.variable.Variable.{Variable}
 use Rattle.linear_use.specs.declared.state.State.{State}

@@ -1,7 +1,7 @@
 -- Cited by contracts.
 -- What the check answers.
 use Rattle.std.specs.Prelude.{◌≡◌, Option, Some, None, Result, Ok, Err, List, [], ◌∷◌, ⊤}
-use Rattle.camelot_typing.specs.Typed.{Typing}
+use Rattle.typing_rules.specs.Typed.{Typing}
 use Rattle.linear_use.specs.declared.fault.UseFault.{UseFault}
 use Rattle.linear_use.specs.declared.fault.UseFault.TheVariants.{Memory}
 use Rattle.linear_use.specs.Uses as rule

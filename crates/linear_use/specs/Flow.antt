@@ -14,8 +14,8 @@ use Rattle.camelot_tree.specs.declared.tree.Param.{Param}
 use Rattle.camelot_tree.specs.declared.tree.ArmCell.{ArmCell}
 use Rattle.camelot_tree.specs.declared.tree.ArmCell.TheVariants as cell
 use Rattle.camelot_tree.specs.Tree.{Term, Num, Truth, Var, Prim, If, Let, Match, Build, Call, Terms, NoTerms, AndTerm, Arms, NoArms, AndArm, Function, Source}
-use Rattle.camelot_typing.specs.Kinds.{Globals, Scope, bind, or_else, constructor_number, fields_of, is_inline, atom_of}
-use Rattle.camelot_typing.specs.Typing.{Signature, known_kind, globals_of}
+use Rattle.typing_rules.specs.Kinds.{Globals, Scope, bind, or_else, constructor_number, fields_of, is_inline, atom_of}
+use Rattle.typing_rules.specs.Typing.{Signature, known_kind, globals_of}
 use Rattle.camelot_tree.specs.Cells.{has_cell}
 use Rattle.linear_use.specs.declared.variable.Variable.{Variable}
 use Rattle.linear_use.specs.declared.fault.UseFault.{UseFault}

@@ -15,8 +15,8 @@ use Rattle.camelot_tree.specs.declared.tree.Param.{Param}
 use Rattle.camelot_tree.specs.declared.tree.ArmCell.{ArmCell}
 use Rattle.camelot_tree.specs.Tree.{Term, Num, Truth, Var, Prim, If, Let, Match, Build, Call, Terms, NoTerms, AndTerm, Arms, NoArms, AndArm, Function, Source}
 use Rattle.camelot_tree.specs.Cells.{has_cell}
-use Rattle.camelot_typing.specs.Kinds.{Globals, Scope, bind, or_else, constructor_number, is_inline, bound_names, arm_scope, atom_of}
-use Rattle.camelot_typing.specs.Typing.{Signature, known_kind, params_scope, globals_of}
+use Rattle.typing_rules.specs.Kinds.{Globals, Scope, bind, or_else, constructor_number, is_inline, bound_names, arm_scope, atom_of}
+use Rattle.typing_rules.specs.Typing.{Signature, known_kind, params_scope, globals_of}
 
 -- the name is one of these
 abbrev pub is_bound : List ℕ → List Name → Bool

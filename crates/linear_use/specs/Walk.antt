@@ -7,10 +7,10 @@ use Rattle.camelot_values.specs.Kinds.{DataType}
 use Rattle.camelot_values.specs.declared.kinds.Kind.{Kind}
 use Rattle.camelot_tree.specs.Tree.{Term, Num, Truth, Var, Prim, If, Let, Match, Build, Call, Terms, Arms, Branch}
 use Rattle.camelot_tree.specs.Programs.{program_of}
-use Rattle.camelot_typing.specs.Kinds.{Globals, Scope, bind, arm_scope, atom_of, atoms_of, all_atoms, arms_atoms}
-use Rattle.camelot_typing.specs.Typing.{known_kind}
-use Rattle.camelot_typing.specs.Typed.{kinds_of, signatures_of}
-use Rattle.camelot_typing.specs.declared.typed.Typed.{Typed}
+use Rattle.typing_rules.specs.Kinds.{Globals, Scope, bind, arm_scope, atom_of, atoms_of, all_atoms, arms_atoms}
+use Rattle.typing_rules.specs.Typing.{known_kind}
+use Rattle.typing_rules.specs.Typed.{kinds_of, signatures_of}
+use Rattle.typing_rules.specs.declared.typed.Typed.{Typed}
 use Rattle.linear_use.specs.declared.fault.UseFault.{UseFault}
 use Rattle.linear_use.specs.declared.fault.UseFault.TheVariants.{Twice, Memory}
 use Rattle.linear_use.specs.declared.variable.Variable.{Variable}

@@ -1,12 +1,12 @@
 ghost use Rattle.std.specs.Prelude.{◌≡◌, Some, IfOk, IfErr};
-ghost use Rattle.camelot_typing.specs.TypedPrograms.{typing_of};
+ghost use Rattle.typing_rules.specs.TypedPrograms.{typing_of};
 ghost use Rattle.linear_use.specs.declared.fault.UseFault.{UseFault};
 ghost use Rattle.linear_use.specs.Answers.{first};
 ghost use Rattle.linear_use.specs.Answers.{KeepsRule, faults_of, IsFirst, Takes, Refuses};
 
 use crate::fault::UseFault;
 use crate::functions::first_fault;
-use camelot_typing::Typed;
+use typing_rules::Typed;
 use std::alloc::Global;
 
 /// A typed program that keeps the rule of use: every variable of a heap kind is used at most once on each path through its scope,

@@ -2,10 +2,10 @@
 ghost use Rattle.std.specs.Prelude.{◌≡◌, ◌≤◌, [], map, length, Some, IfOk};
 ghost use Rattle.camelot_values.specs.Kinds.{constructors};
 ghost use Rattle.camelot_tree.specs.Tree.{term_of, function_of};
-ghost use Rattle.camelot_typing.specs.Kinds.{atoms_of};
-ghost use Rattle.camelot_typing.specs.Typing.{known_kind, params_scope};
-ghost use Rattle.camelot_typing.specs.Typed.{kinds_of, signature_of};
-ghost use Rattle.camelot_typing.specs.TypedPrograms.{typing_of};
+ghost use Rattle.typing_rules.specs.Kinds.{atoms_of};
+ghost use Rattle.typing_rules.specs.Typing.{known_kind, params_scope};
+ghost use Rattle.typing_rules.specs.Typed.{kinds_of, signature_of};
+ghost use Rattle.typing_rules.specs.TypedPrograms.{typing_of};
 ghost use Rattle.linear_use.specs.Flow.{param_variables, read_flow, function_flow};
 ghost use Rattle.linear_use.specs.Walk.{Finds, first_of, globals_in};
 ghost use Rattle.linear_use.specs.Answers.{first};
@@ -20,7 +20,7 @@ use crate::variable::Variable;
 use crate::walk::walk;
 use camelot_names::{Names, Scope};
 use camelot_tree::{FunDecl, Param};
-use camelot_typing::{FunKinds, Typed};
+use typing_rules::{FunKinds, Typed};
 use camelot_values::Kind;
 use std::alloc::{AllocError, Global};
 

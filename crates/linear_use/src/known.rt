@@ -2,7 +2,7 @@ ghost use Rattle.std.specs.Prelude.{◌≡◌, ◌≤◌, map, length};
 ghost use Rattle.camelot_values.specs.Kinds.{constructors};
 
 use camelot_names::Names;
-use camelot_typing::Typed;
+use typing_rules::Typed;
 use camelot_values::Kind;
 use std::alloc::Global;
 

@@ -1,7 +1,7 @@
 //! What the faults of the walk say of the rule.
 ghost use Rattle.std.specs.Prelude.{◌≡◌, ◌↔◌, []};
-ghost use Rattle.camelot_typing.specs.Typing.{IsTyped};
-ghost use Rattle.camelot_typing.specs.Typed.{Typing};
+ghost use Rattle.typing_rules.specs.Typing.{IsTyped};
+ghost use Rattle.typing_rules.specs.Typed.{Typing};
 ghost use Rattle.linear_use.specs.Answers.{KeepsRule, faults_of};
 
 /// The law of the rule of use: a typed program keeps it exactly where the walk finds no fault. The rule counts the uses of names, and

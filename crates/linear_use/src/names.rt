@@ -4,7 +4,7 @@ ghost use Rattle.camelot_values.specs.Kinds.{constructor_of, constructors};
 ghost use Rattle.linear_use.specs.Tables.{with_names};
 
 use camelot_names::Names;
-use camelot_typing::Typed;
+use typing_rules::Typed;
 use camelot_values::Con;
 use std::alloc::{AllocError, Global};
 

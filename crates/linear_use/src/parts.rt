@@ -4,7 +4,7 @@ ghost use Rattle.std.specs.Option.{option_map, option_map_or};
 ghost use Rattle.camelot_values.specs.Kinds.{constructor, constructor_of};
 ghost use Rattle.camelot_values.specs.declared.kinds.Kind.TheVariants.{Int};
 ghost use Rattle.camelot_tree.specs.Tree.{branch_of};
-ghost use Rattle.camelot_typing.specs.Kinds.{or_else, constructor_number, is_inline};
+ghost use Rattle.typing_rules.specs.Kinds.{or_else, constructor_number, is_inline};
 ghost use Rattle.camelot_tree.specs.Cells.{has_cell};
 ghost use Rattle.linear_use.specs.Flow.{name_flow, place_flow, con_fields, cell_flow, number_fields, number_cell, fields_count, cell_count, arm_variables, arm_count};
 ghost use Rattle.linear_use.specs.Walk.{Walks, Finds, first_of};

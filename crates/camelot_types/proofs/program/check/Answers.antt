@@ -1,10 +1,10 @@
 use Rattle.std.proofs.Common.{◌≡◌, List, subst}
 use Rattle.std.specs.Prelude.{IfOk, IfErr, MatchResult, ◌⊎◌, ⊤}
 use Rattle.camelot_tree.specs.Tree.{Source}
-use Rattle.camelot_typing.specs.Typing.{Signature, IsTyped, IsWithinLimits, globals_of}
-use Rattle.camelot_typing.specs.Typed.{functions_kinds, typing_kinds}
-use Rattle.camelot_typing.specs.TypedPrograms.{typing_of}
-use Rattle.camelot_typing.specs.Settled.{KindsSettled}
+use Rattle.typing_rules.specs.Typing.{Signature, IsTyped, IsWithinLimits, globals_of}
+use Rattle.typing_rules.specs.Typed.{functions_kinds, typing_kinds}
+use Rattle.typing_rules.specs.TypedPrograms.{typing_of}
+use Rattle.typing_rules.specs.Settled.{KindsSettled}
 use Rattle.camelot_types.specs.Walk.{HasFault}
 use Rattle.camelot_types.specs.Walk.{HasCause}
 use Rattle.camelot_types.specs.declared.fault.TypeFault.{TypeFault}

@@ -1,6 +1,6 @@
 use Rattle.std.proofs.Common.{map}
 use Rattle.camelot_tree.specs.Programs.{program_of}
-use Rattle.camelot_typing.specs.Typed.{kinds_of}
+use Rattle.typing_rules.specs.Typed.{kinds_of}
 use Rattle.camelot_types.proofs.Checking.{refused, taken_of}
 use Rattle.camelot_types.proofs.program.check_program.Goals as goal
 

@@ -4,8 +4,8 @@ use Rattle.std.specs.Option.{option_map_or}
 use Rattle.camelot_values.specs.declared.kinds.Kind.{Kind}
 use Rattle.camelot_values.specs.declared.kinds.Kind.TheVariants as kind
 use Rattle.camelot_tree.specs.Tree.{Term, Num, Truth, Var, Prim, If, Let, Match, Build, Call, NoArms, AndArm}
-use Rattle.camelot_typing.specs.Kinds.{Globals, Scope, bind, or_else, built_kind, arm_scope, atom_of}
-use Rattle.camelot_typing.specs.Typing.{known_kind, HasKind}
+use Rattle.typing_rules.specs.Kinds.{Globals, Scope, bind, or_else, built_kind, arm_scope, atom_of}
+use Rattle.typing_rules.specs.Typing.{known_kind, HasKind}
 
 pub kind_is_atom : (g : Globals Kind) (s : Scope Kind) (e : Term) (k : Kind) → HasKind g s e k → k ≡ atom_of known_kind g s e
 kind_is_atom g s (Num z l) k h = h

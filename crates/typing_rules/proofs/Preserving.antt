@@ -29,9 +29,9 @@ use Rattle.camelot_tree.specs.Tree.{Term, Num, Truth, Var, Prim, If, Let, Match,
 use Rattle.camelot_tree.specs.Meaning as meaning
 use Rattle.camelot_tree.specs.Meaning.{Environment, put, put_field, put_fields, put_params, in_cell, placed, cell_run, is_that, on_constructor, eval, eval_all, arms_run, function_number, body_run, bodies, run_of}
 use Rattle.camelot_tree.specs.Tokens.{term_has_ints, terms_have_ints, arms_have_ints, has_ints}
-use Rattle.camelot_typing.specs.Kinds.{Scope, bind, bind_fields, bind_cell, arm_scope, or_else, types_of, constructor_number, fields_of, is_inline, built_kind}
-use Rattle.camelot_typing.specs.Typing.{Signature, known_kind, PlaceFits, arms_with, HeadFits, HasKind, HaveKinds, ArmsHaveKind, ParamsStand, params_scope, FunctionFits, FunctionsFit, globals_of, IsTyped}
-use Rattle.camelot_typing.specs.NumberLaws.{number_same, At, numbered_constructor, written_constructor, head_number, signature_function, among_numbers}
+use Rattle.typing_rules.specs.Kinds.{Scope, bind, bind_fields, bind_cell, arm_scope, or_else, types_of, constructor_number, fields_of, is_inline, built_kind}
+use Rattle.typing_rules.specs.Typing.{Signature, known_kind, PlaceFits, arms_with, HeadFits, HasKind, HaveKinds, ArmsHaveKind, ParamsStand, params_scope, FunctionFits, FunctionsFit, globals_of, IsTyped}
+use Rattle.typing_rules.specs.NumberLaws.{number_same, At, numbered_constructor, written_constructor, head_number, signature_function, among_numbers}
 
 -- ---- outcomes
 

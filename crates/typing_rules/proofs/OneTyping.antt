@@ -3,10 +3,10 @@ use Rattle.std.proofs.Common.{◌≡◌, List, [], ◌∷◌, refl, sym, ap, ◌
 use Rattle.camelot_values.specs.declared.kinds.Kind.{Kind}
 use Rattle.camelot_values.specs.declared.kinds.Kind.TheVariants as kind
 use Rattle.camelot_tree.specs.Tree.{Function, Source}
-use Rattle.camelot_typing.specs.Kinds.{Globals}
-use Rattle.camelot_typing.specs.Typing.{Signature, FunctionsFit, globals_of}
-use Rattle.camelot_typing.specs.Typed.{FunctionKinds, functions_kinds, Typing, typing_kinds, IsTyping}
-use Rattle.camelot_typing.specs.Settled.{SameButInts, IsSettledBy, KindsSettled, IsSettled}
+use Rattle.typing_rules.specs.Kinds.{Globals}
+use Rattle.typing_rules.specs.Typing.{Signature, FunctionsFit, globals_of}
+use Rattle.typing_rules.specs.Typed.{FunctionKinds, functions_kinds, Typing, typing_kinds, IsTyping}
+use Rattle.typing_rules.specs.Settled.{SameButInts, IsSettledBy, KindsSettled, IsSettled}
 
 one_kind : (k q : Kind) → ((k ≡ kind.Int → ⊥) → q ≡ k) → ((q ≡ kind.Int → ⊥) → k ≡ q) → k ≡ q
 one_kind kind.Int kind.Int h g = refl

@@ -17,8 +17,8 @@ use Rattle.camelot_tree.specs.declared.tree.Name.{Name}
 use Rattle.camelot_tree.specs.Tree as tree
 use Rattle.camelot_tree.specs.Tree.{Constructor, Function, Source}
 use Rattle.camelot_tree.specs.Meaning as meaning
-use Rattle.camelot_typing.specs.Kinds.{Globals, data_kinds, constructor_kinds, types_of, constructor_number, numbered, numbers_from, numbers_of, head_of}
-use Rattle.camelot_typing.specs.Typing.{Signature, FunctionFits, FunctionsFit}
+use Rattle.typing_rules.specs.Kinds.{Globals, data_kinds, constructor_kinds, types_of, constructor_number, numbered, numbers_from, numbers_of, head_of}
+use Rattle.typing_rules.specs.Typing.{Signature, FunctionFits, FunctionsFit}
 
 -- ---- constructors by name
 

@@ -1,8 +1,8 @@
 ghost use Rattle.std.specs.Prelude.{◌≡◌, map};
 ghost use Rattle.camelot_tree.specs.Programs.{program_of};
-ghost use Rattle.camelot_typing.specs.Kinds.{types_of};
-ghost use Rattle.camelot_typing.specs.Typed.{typing, typing_kinds, kinds_of, IsTyping};
-ghost use Rattle.camelot_typing.specs.Settled.{IsSettled};
+ghost use Rattle.typing_rules.specs.Kinds.{types_of};
+ghost use Rattle.typing_rules.specs.Typed.{typing, typing_kinds, kinds_of, IsTyping};
+ghost use Rattle.typing_rules.specs.Settled.{IsSettled};
 
 use crate::kinds::FunKinds;
 use camelot_tree::Program;

@@ -3,9 +3,9 @@
 use Rattle.std.specs.Prelude.{List, [], ◌∷◌}
 use Rattle.camelot_values.specs.declared.kinds.Kind.{Kind}
 use Rattle.camelot_tree.specs.Tree.{Function, Source}
-use Rattle.camelot_typing.specs.Kinds.{Globals, atoms_of}
-use Rattle.camelot_typing.specs.Typing.{Signature, known_kind, params_scope, globals_of, IsTyped, IsWithinLimits}
-use Rattle.camelot_typing.specs.declared.kinds.FunKinds.{FunKinds}
+use Rattle.typing_rules.specs.Kinds.{Globals, atoms_of}
+use Rattle.typing_rules.specs.Typing.{Signature, known_kind, params_scope, globals_of, IsTyped, IsWithinLimits}
+use Rattle.typing_rules.specs.declared.kinds.FunKinds.{FunKinds}
 
 -- the kinds of a function's parameters, of its result, and of the expressions of its body, each behind those that are evaluated before
 -- it

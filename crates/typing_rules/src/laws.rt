@@ -9,10 +9,10 @@ ghost use Rattle.camelot_tree.specs.declared.tree.Name.{Name};
 ghost use Rattle.camelot_tree.specs.Tree.{Term, Source};
 ghost use Rattle.camelot_tree.specs.Meaning.{run_of};
 ghost use Rattle.camelot_tree.specs.Meaning as meaning;
-ghost use Rattle.camelot_typing.specs.Kinds.{Globals, Scope, atom_of, types_of, constructor_number, numbers_of};
-ghost use Rattle.camelot_typing.specs.Typing.{HasKind, IsTyped, Signature, known_kind};
-ghost use Rattle.camelot_typing.specs.Typed.{Typing, typing_kinds, IsTyping};
-ghost use Rattle.camelot_typing.specs.Settled.{IsSettled};
+ghost use Rattle.typing_rules.specs.Kinds.{Globals, Scope, atom_of, types_of, constructor_number, numbers_of};
+ghost use Rattle.typing_rules.specs.Typing.{HasKind, IsTyped, Signature, known_kind};
+ghost use Rattle.typing_rules.specs.Typed.{Typing, typing_kinds, IsTyping};
+ghost use Rattle.typing_rules.specs.Settled.{IsSettled};
 
 /// A typed program on fitting arguments is never stuck, whatever the fuel and the limit of waiting calls: a run comes to a
 /// value of the function's result kind, or stops on fuel or depth. So every name that is read has a value of its kind, each

@@ -18,7 +18,7 @@ use Rattle.camelot_tree.specs.Tree.{Term, Num, Truth, Var, Prim, If, Let, Match,
 use Rattle.camelot_values.specs.Names.{find}
 use Rattle.camelot_tree.specs.Meaning.{is_that, declared_constructors}
 use Rattle.camelot_tree.specs.Tokens.{has_ints}
-use Rattle.camelot_typing.specs.Kinds.{Head, Globals, Scope, bind, kind_of_atom, types_of, constructor_number, built_kind, fields_of, is_inline, numbers_of, head_of, bound_names, arm_scope}
+use Rattle.typing_rules.specs.Kinds.{Head, Globals, Scope, bind, kind_of_atom, types_of, constructor_number, built_kind, fields_of, is_inline, numbers_of, head_of, bound_names, arm_scope}
 
 -- what is known of a program whose functions have these kinds
 abbrev pub Signature : Type 0

@@ -3,8 +3,8 @@
 use Rattle.std.specs.Prelude.{◌≡◌, List, [], ◌∷◌}
 use Rattle.camelot_values.specs.declared.kinds.Kind.{Kind}
 use Rattle.camelot_values.specs.declared.kinds.Kind.TheVariants as kind
-use Rattle.camelot_typing.specs.Typing.{Signature, IsTyped, globals_of}
-use Rattle.camelot_typing.specs.Typed.{FunctionKinds, Typing, typing_kinds, functions_kinds}
+use Rattle.typing_rules.specs.Typing.{Signature, IsTyped, globals_of}
+use Rattle.typing_rules.specs.Typed.{FunctionKinds, Typing, typing_kinds, functions_kinds}
 
 -- what isn't `int` among the first kinds is the same among the others
 abbrev pub SameButInts : List Kind → List Kind → Type 0

@@ -1,5 +1,0 @@
-use Rattle.camelot_typing.proofs.Preserving.{never_stuck}
-use Rattle.camelot_typing.proofs.laws.law_of_typing.Goals as goal
-
-pub returns : goal.returns
-returns c = never_stuck

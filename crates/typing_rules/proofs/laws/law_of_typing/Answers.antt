@@ -1,0 +1,5 @@
+use Rattle.typing_rules.proofs.Preserving.{never_stuck}
+use Rattle.typing_rules.proofs.laws.law_of_typing.Goals as goal
+
+pub returns : goal.returns
+returns c = never_stuck
