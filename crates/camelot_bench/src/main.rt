@@ -6,10 +6,10 @@ mod texts;
 
 use camelot_syntax::{Expr, Program, parse};
 use camelot_types::check_program;
-use typing_rules::Typed;
 use linear_use::check_use;
 use std::time::Instant;
 use std::{env, io};
+use typing_rules::Typed;
 
 /// How many levels a tree has along its left end.
 fn height(expr: &Expr) -> u32 {

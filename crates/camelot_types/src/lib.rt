@@ -23,6 +23,6 @@ mod table;
 mod types;
 mod walker;
 
-pub use typing_rules::{FunKinds, Typed};
 pub use fault::TypeFault;
 pub use program::{check, check_program};
+pub use typing_rules::{FunKinds, Typed};

@@ -24,9 +24,9 @@ use crate::settle::{fresh, settled_funs};
 use crate::types::check_types;
 use camelot_names::Names;
 use camelot_tree::Program;
-use typing_rules::{FunKinds, Typed};
 use camelot_values::Types;
 use std::alloc::Global;
+use typing_rules::{FunKinds, Typed};
 
 /// The kinds of all functions, whose declarations and headers are checked.
 fn check_bodies<'p>(

@@ -8,9 +8,9 @@ ghost use Rattle.camelot_types.specs.Solving.{closed, settled, settled_funs, fre
 use crate::globals::FunHead;
 use crate::guess::Guess;
 use crate::table::looked_up;
-use typing_rules::FunKinds;
 use camelot_values::Kind;
 use std::alloc::{AllocError, Global};
+use typing_rules::FunKinds;
 
 /// The kind that the table leaves for a guess: `int` where nothing fixes it.
 fn settled(table: &[Guess], guess: Guess) -> Kind

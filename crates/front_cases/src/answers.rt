@@ -4,13 +4,13 @@ use crate::cases::Case;
 use crate::tree::show_program;
 use camelot_syntax::parse;
 use camelot_types::check;
-use typing_rules::Typed;
 use camelot_values::{Kind, Types};
 use linear_use::check_use;
 use std::alloc::AllocError;
 use std::fmt::Write;
 use std::io;
 use text_scan::scan;
+use typing_rules::Typed;
 
 /// Prints the name of the case and what is answered to it. What stands before the first case has no head, and no answer.
 pub(crate) fn answer(rt: &HostRuntime, case: &Case) -> io::Result<()> {

@@ -6,8 +6,8 @@ ghost use Rattle.linear_use.specs.Answers.{KeepsRule, faults_of, IsFirst, Takes,
 
 use crate::fault::UseFault;
 use crate::functions::first_fault;
-use typing_rules::Typed;
 use std::alloc::Global;
+use typing_rules::Typed;
 
 /// A typed program that keeps the rule of use: every variable of a heap kind is used at most once on each path through its scope,
 /// every arm of a boxed constructor has an `@`, and no parameter is marked `read` (`specs/Uses.antt`; LFPL, Hofmann 2000).

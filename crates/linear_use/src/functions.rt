@@ -20,9 +20,9 @@ use crate::variable::Variable;
 use crate::walk::walk;
 use camelot_names::{Names, Scope};
 use camelot_tree::{FunDecl, Param};
-use typing_rules::{FunKinds, Typed};
 use camelot_values::Kind;
 use std::alloc::{AllocError, Global};
+use typing_rules::{FunKinds, Typed};
 
 // Refuses a parameter that is marked `read`.
 fn check_read(alloc: Global, params: &[Param]) -> Result<(), UseFault>

@@ -4,9 +4,9 @@ ghost use Rattle.camelot_values.specs.Kinds.{constructor_of, constructors};
 ghost use Rattle.linear_use.specs.Tables.{with_names};
 
 use camelot_names::Names;
-use typing_rules::Typed;
 use camelot_values::Con;
 use std::alloc::{AllocError, Global};
+use typing_rules::Typed;
 
 // Adds the names of a type's constructors.
 fn add_names<'a>(names: &mut Names<'a>, cons: &'a [Con]) -> Result<(), AllocError>
