@@ -384,20 +384,22 @@ pub(crate) fn constructors(
     Ok(text)
 }
 
-/// A function of `let`s of one name each, of 25 bytes, whose names are chosen to collide or not: chains of a hundred of them, a hundred of
-/// which are the value of another `let`.
+/// A function of `let`s of one name each, of 25 bytes, whose names are chosen to collide or not. They stand in chains of forty, forty
+/// of which are in a chain, forty of which are in one that is the value of another `let`, so that the levels allow 8 MiB.
 pub(crate) fn names(alloc: Global, size: usize, chosen: bool) -> Result<Vec<u8>, AllocError> {
-    let mut text = Vec::from_slice(alloc, b"let f x = let z = x + (x")?;
+    let mut text = Vec::from_slice(alloc, b"let f x = let z = x + (x + (x")?;
     for (place, number) in numbers(alloc, b'a', size / 25, chosen)?.iter().enumerate() {
-        if place % 10_000 == 9_999 {
-            text.extend_from_slice(b") in let z = x + (x")?;
-        } else if place % 100 == 99 {
+        if place % 64_000 == 63_999 {
+            text.extend_from_slice(b")) in let z = x + (x + (x")?;
+        } else if place % 1_600 == 1_599 {
+            text.extend_from_slice(b")) + (x + (x")?;
+        } else if place % 40 == 39 {
             text.extend_from_slice(b") + (x")?;
         }
         text.extend_from_slice(b" + (let ")?;
         text.extend_from_slice(&name_of(alloc, b'a', *number)?)?;
         text.extend_from_slice(b" = x in x)")?;
     }
-    text.extend_from_slice(b") in z\n")?;
+    text.extend_from_slice(b")) in z\n")?;
     Ok(text)
 }
