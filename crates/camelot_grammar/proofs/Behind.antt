@@ -6,13 +6,13 @@ use Rattle.camelot_grammar.specs.declared.lexeme.Mark.TheVariants as mark
 use Rattle.camelot_grammar.specs.declared.lexeme.Lexeme.{Lexeme}
 use Rattle.camelot_grammar.specs.declared.lexeme.Lexeme.TheVariants.{Lower, Upper, Number, Mark}
 use Rattle.camelot_tree.specs.Tree as tree
-use Rattle.camelot_tree.specs.Tree.{Term, Source, Branch}
+use Rattle.camelot_tree.specs.Tree.{Expression, Source, Branch}
 use Rattle.camelot_grammar.specs.Grammar as gr
 use Rattle.camelot_grammar.specs.Program as pr
 use Rattle.camelot_grammar.specs.Program.{Operand}
 use Rattle.camelot_grammar.specs.Levels as lv
 use Rattle.camelot_grammar.specs.Machine as mc
-use Rattle.camelot_grammar.specs.Machine.{State, InDecl, InExpr, InArm, Done, ExprState, Frame, Step, Stuck, Goes, Left, Lefts, Slot, Spot, Callee, step, advance}
+use Rattle.camelot_grammar.specs.Machine.{State, InDecl, InExpr, InArm, Finished, ExprState, Frame, Step, Stuck, Goes, Left, Lefts, Slot, Spot, Callee, step, advance}
 
 -- ---- a run without a limit
 
@@ -67,11 +67,11 @@ slot c nots k = record { lefts = c; nots = nots; level = suc k }
 abbrev pub alone : Slot → Spot
 alone s = record { slot = s; call = None }
 
-abbrev pub behind : Slot → Name → List Term → Spot
+abbrev pub behind : Slot → Name → List Expression → Spot
 behind s f es = record { slot = s; call = Some (record { fun = f; args = es }) }
 
 abbrev pub reach_solid : gr.Solid → Spot → ExprState
-reach_solid (gr.Full c l es m gr.NoPlace) s = mc.Full s c (pr.expr_terms es)
+reach_solid (gr.Full c l es m gr.NoPlace) s = mc.Full s c (pr.expr_trees es)
 reach_solid u s = mc.unit_done s (pr.solid_operand u)
 
 abbrev pub reach_firm : gr.Firm → Spot → ExprState
@@ -79,13 +79,13 @@ reach_firm (gr.Is u) s = reach_solid u s
 reach_firm (gr.Paren l e m) s = mc.unit_done s (pr.firm_operand (gr.Paren l e m))
 
 abbrev pub reach_bare : gr.Bare → Slot → Name → ExprState
-reach_bare (gr.AndUpper us n) s f = mc.Con (behind s f (pr.unit_terms us)) n
-reach_bare (gr.BareUpper bs n) s f = mc.Con (behind s f (pr.bare_terms bs)) n
+reach_bare (gr.AndUpper us n) s f = mc.Con (behind s f (pr.unit_expressions us)) n
+reach_bare (gr.BareUpper bs n) s f = mc.Con (behind s f (pr.bare_expressions bs)) n
 
 abbrev pub reach_units : gr.Units → Slot → Name → ExprState
-reach_units (gr.AndFirm us u) s f = reach_firm u (behind s f (pr.unit_terms us))
-reach_units (gr.BareSolid bs u) s f = reach_solid u (behind s f (pr.bare_terms bs))
-reach_units us s f = mc.Applied s f (pr.unit_terms us)
+reach_units (gr.AndFirm us u) s f = reach_firm u (behind s f (pr.unit_expressions us))
+reach_units (gr.BareSolid bs u) s f = reach_solid u (behind s f (pr.bare_expressions bs))
+reach_units us s f = mc.Applied s f (pr.unit_expressions us)
 
 abbrev pub reach_pre : gr.Pre → Lefts → List ℕ → ℕ → ExprState
 reach_pre (gr.Not l x) c nots k = reach_pre x c (l ∷ nots) (suc k)
@@ -125,9 +125,9 @@ reach_or (gr.OneAnd a) k = reach_and a k None
 reach_or (gr.Either o l a) k = reach_and a k (mc.left (pr.or_operand o) pr.OrElse l (lv.in_or o k))
 
 abbrev pub reach_expr : gr.Expr → ℕ → List Frame → Config
-reach_expr (gr.Let l n m v i b) k st = reach_expr b (suc k) (mc.LetBody n (pr.expr_term v) ∷ st)
-reach_expr (gr.If l c m a n b) k st = reach_expr b (suc k) (mc.IfElse l (pr.expr_term c) (pr.expr_term a) ∷ st)
-reach_expr (gr.Match l e m bar as' n) k st = at (mc.Whole (pr.expr_term (gr.Match l e m bar as' n))) st
+reach_expr (gr.Let l n m v i b) k st = reach_expr b (suc k) (mc.LetBody n (pr.expr_tree v) ∷ st)
+reach_expr (gr.If l c m a n b) k st = reach_expr b (suc k) (mc.IfElse l (pr.expr_tree c) (pr.expr_tree a) ∷ st)
+reach_expr (gr.Match l e m bar as' n) k st = at (mc.Whole (pr.expr_tree (gr.Match l e m bar as' n))) st
 reach_expr (gr.Chain o) k st = at (reach_or o (suc k)) st
 
 -- ---- what stands behind a tree
@@ -201,7 +201,7 @@ pub done_then : (s : Spot) (x : Operand) (t : Lexeme) (st : List Frame)
 unfolding mc.after_unit
 done_then s x t st = done_of s.call s.slot x t st
 
-pub full_then : (s : Spot) (c : Name) (es : List Term) (t : Lexeme) (st : List Frame) → NotAt t
+pub full_then : (s : Spot) (c : Name) (es : List Expression) (t : Lexeme) (st : List Frame) → NotAt t
     → mc.expr_step (mc.Full s c es) t st ≡ mc.after_unit s (mc.built c es None) t st
 unfolding mc.expr_step mc.full_step
 full_then s c es (Mark mark.At l) st h = absurd h
@@ -212,7 +212,7 @@ pub solid_then : (u : gr.Solid) (s : Spot) (t : Lexeme) (st : List Frame) → No
 solid_then (gr.Literal n l) s t st h = done_then s _ t st
 solid_then (gr.True l) s t st h = done_then s _ t st
 solid_then (gr.False l) s t st h = done_then s _ t st
-solid_then (gr.Full c l es m gr.NoPlace) s t st h = full_then s c (pr.expr_terms es) t st h
+solid_then (gr.Full c l es m gr.NoPlace) s t st h = full_then s c (pr.expr_trees es) t st h
 solid_then (gr.Full c l es m (gr.At i d)) s t st h = done_then s _ t st
 solid_then (gr.Placed c l d) s t st h = done_then s _ t st
 
@@ -229,22 +229,22 @@ con_then s c (Mark mark.Open l) st h i = absurd i
 con_then s c t st h i = refl
 
 pub units_then : (us : gr.Units) (s : Slot) (f : Name) (t : Lexeme) (st : List Frame) → NotAt t
-    → mc.expr_step (reach_units us s f) t st ≡ mc.applied_step s f (pr.unit_terms us) t st
+    → mc.expr_step (reach_units us s f) t st ≡ mc.applied_step s f (pr.unit_expressions us) t st
 unfolding mc.expr_step mc.after_unit
 units_then gr.NoUnits s f t st h = refl
 units_then (gr.AndLower us n) s f t st h = refl
-units_then (gr.AndFirm us u) s f t st h = firm_then u (behind s f (pr.unit_terms us)) t st h
+units_then (gr.AndFirm us u) s f t st h = firm_then u (behind s f (pr.unit_expressions us)) t st h
 units_then (gr.BareLower bs n) s f t st h = refl
-units_then (gr.BareSolid bs u) s f t st h = solid_then u (behind s f (pr.bare_terms bs)) t st h
+units_then (gr.BareSolid bs u) s f t st h = solid_then u (behind s f (pr.bare_expressions bs)) t st h
 
 pub bare_then : (bs : gr.Bare) (s : Slot) (f : Name) (t : Lexeme) (st : List Frame) → NotAt t → NotOpen t
-    → mc.expr_step (reach_bare bs s f) t st ≡ mc.applied_step s f (pr.bare_terms bs) t st
+    → mc.expr_step (reach_bare bs s f) t st ≡ mc.applied_step s f (pr.bare_expressions bs) t st
 unfolding mc.after_unit
-bare_then (gr.AndUpper us n) s f t st h i = con_then (behind s f (pr.unit_terms us)) n t st h i
-bare_then (gr.BareUpper bs n) s f t st h i = con_then (behind s f (pr.bare_terms bs)) n t st h i
+bare_then (gr.AndUpper us n) s f t st h i = con_then (behind s f (pr.unit_expressions us)) n t st h i
+bare_then (gr.BareUpper bs n) s f t st h i = con_then (behind s f (pr.bare_expressions bs)) n t st h i
 
 -- what begins no argument ends a call
-pub applied_then : (s : Slot) (f : Name) (es : List Term) (t : Lexeme) (st : List Frame) → mc.begins_argument t ≡ false
+pub applied_then : (s : Slot) (f : Name) (es : List Expression) (t : Lexeme) (st : List Frame) → mc.begins_argument t ≡ false
     → mc.applied_step s f es t st ≡ mc.after_operand s (mc.applied_operand f es) t st
 unfolding mc.applied_step
 applied_then s f es t st h = ap (λ b. if b then mc.argument_step s f es t st else mc.after_operand s (mc.applied_operand f es) t st) h
@@ -259,9 +259,9 @@ unfolding mc.expr_step mc.after_operand mc.after_unit
 pre_then (gr.Not l x) c nots k t st h = pre_then x c (l ∷ nots) (suc k) t st h
 pre_then (gr.Negative l n m) c nots k t st h = refl
 pre_then (gr.Least l m) c nots k t st h = refl
-pre_then (gr.Apply f us) c nots k t st h = units_then us (slot c nots k) f t st h.no_at ∙ applied_then (slot c nots k) f (pr.unit_terms us) t st h.no_unit
+pre_then (gr.Apply f us) c nots k t st h = units_then us (slot c nots k) f t st h.no_at ∙ applied_then (slot c nots k) f (pr.unit_expressions us) t st h.no_unit
 pre_then (gr.ApplyBare f bs) c nots k t st h =
-    bare_then bs (slot c nots k) f t st h.no_at (open_then t h.no_unit) ∙ applied_then (slot c nots k) f (pr.bare_terms bs) t st h.no_unit
+    bare_then bs (slot c nots k) f t st h.no_at (open_then t h.no_unit) ∙ applied_then (slot c nots k) f (pr.bare_expressions bs) t st h.no_unit
 pre_then (gr.Con n) c nots k t st h = con_then (alone (slot c nots k)) n t st h.no_at (open_then t h.no_unit)
 pre_then (gr.Alone u) c nots k t st h = firm_then u (alone (slot c nots k)) t st h.no_at
 
@@ -326,22 +326,22 @@ and_then (gr.Both a l c) k o t st h =
     cmp_then c k o _ t st h.ends ∙ and_past k o (mc.left (pr.and_operand a) pr.AndThen l (lv.in_and a (mc.within o k))) (pr.cmp_operand c) t st h.no_and
 
 pub or_past : (k : ℕ) (o : Option Left) (x : Operand) (t : Lexeme) (st : List Frame) → NotOrOr t
-    → mc.after_and k o x t st ≡ mc.close st (mc.finished o x).term t
+    → mc.after_and k o x t st ≡ mc.close st (mc.finished o x).expression t
 unfolding mc.after_and
 or_past k o x (Mark mark.OrOr l) st h = absurd h
 or_past k o x t st h = refl
 
 pub or_then : (x : gr.Or) (k : ℕ) (t : Lexeme) (st : List Frame) → EndsOr t
-    → mc.expr_step (reach_or x k) t st ≡ mc.close st (pr.or_operand x).term t
+    → mc.expr_step (reach_or x k) t st ≡ mc.close st (pr.or_operand x).expression t
 or_then (gr.OneAnd a) k t st h = and_then a k None t st h.ends ∙ or_past k None (pr.and_operand a) t st h.no_or
 or_then (gr.Either o l a) k t st h =
     and_then a k _ t st h.ends ∙ or_past k (mc.left (pr.or_operand o) pr.OrElse l (lv.in_or o k)) (pr.and_operand a) t st h.no_or
 
 pub expr_then : (e : gr.Expr) (k : ℕ) (st : List Frame) (t : Lexeme) → EndsOr t
-    → step (reach_expr e k st).state t (reach_expr e k st).stack ≡ mc.close st (pr.expr_term e) t
+    → step (reach_expr e k st).state t (reach_expr e k st).stack ≡ mc.close st (pr.expr_tree e) t
 unfolding step mc.expr_step mc.close mc.unwind
-expr_then (gr.Let l n m v i b) k st t h = expr_then b (suc k) (mc.LetBody n (pr.expr_term v) ∷ st) t h
-expr_then (gr.If l c m a n b) k st t h = expr_then b (suc k) (mc.IfElse l (pr.expr_term c) (pr.expr_term a) ∷ st) t h
+expr_then (gr.Let l n m v i b) k st t h = expr_then b (suc k) (mc.LetBody n (pr.expr_tree v) ∷ st) t h
+expr_then (gr.If l c m a n b) k st t h = expr_then b (suc k) (mc.IfElse l (pr.expr_tree c) (pr.expr_tree a) ∷ st) t h
 expr_then (gr.Match l e m bar as' n) k st t h = refl
 expr_then (gr.Chain o) k st t h = or_then o (suc k) t st h
 
@@ -450,7 +450,7 @@ slot_unit s (Mark mark.False l) st h = refl
 slot_unit s (Mark mark.Open l) st h = refl
 slot_unit s t st h = absurd cc
 
-argument_unit : (s : Slot) (f : Name) (es : List Term) (t : Lexeme) (st : List Frame) → mc.begins_unit t ≡ true
+argument_unit : (s : Slot) (f : Name) (es : List Expression) (t : Lexeme) (st : List Frame) → mc.begins_unit t ≡ true
     → mc.argument_step s f es t st ≡ mc.unit_step (behind s f es) t st
 unfolding mc.argument_step
 argument_unit s f es (Number n l) st h = refl
@@ -498,42 +498,42 @@ not_open : (t : Lexeme) → begins_solid t ≡ true → NotOpen t
 not_open (Mark mark.Open l) h = absurd cc
 not_open t h = tt
 
-applied_unit : (s : Slot) (f : Name) (es : List Term) (t : Lexeme) (st : List Frame) → mc.begins_unit t ≡ true
+applied_unit : (s : Slot) (f : Name) (es : List Expression) (t : Lexeme) (st : List Frame) → mc.begins_unit t ≡ true
     → mc.applied_step s f es t st ≡ mc.unit_step (behind s f es) t st
 unfolding mc.applied_step
 applied_unit s f es t st h =
     ap (λ b. if b then mc.argument_step s f es t st else mc.after_operand s (mc.applied_operand f es) t st) (unit_is_argument t h) ∙ argument_unit s f es t st h
 
-pub units_as : (us : gr.Units) (s : Slot) (f : Name) (st : List Frame) → AsUnit (reach_units us s f) st (behind s f (pr.unit_terms us))
+pub units_as : (us : gr.Units) (s : Slot) (f : Name) (st : List Frame) → AsUnit (reach_units us s f) st (behind s f (pr.unit_expressions us))
 units_as us s f st = record {
   on = λ t h.
-      inside (reach_units us s f) t st (unit_is_pre t h) ∙ units_then us s f t st (not_at t h) ∙ applied_unit s f (pr.unit_terms us) t st h;
+      inside (reach_units us s f) t st (unit_is_pre t h) ∙ units_then us s f t st (not_at t h) ∙ applied_unit s f (pr.unit_expressions us) t st h;
 }
 
-pub bare_as : (bs : gr.Bare) (s : Slot) (f : Name) (st : List Frame) → AsSolid (reach_bare bs s f) st (behind s f (pr.bare_terms bs))
+pub bare_as : (bs : gr.Bare) (s : Slot) (f : Name) (st : List Frame) → AsSolid (reach_bare bs s f) st (behind s f (pr.bare_expressions bs))
 bare_as bs s f st = record {
   on = λ t h.
       inside (reach_bare bs s f) t st (unit_is_pre t (solid_is_unit t h)) ∙ bare_then bs s f t st (not_at t (solid_is_unit t h)) (not_open t h)
-      ∙ applied_unit s f (pr.bare_terms bs) t st (solid_is_unit t h);
+      ∙ applied_unit s f (pr.bare_expressions bs) t st (solid_is_unit t h);
 }
 
 pub units_lower : (us : gr.Units) (s : Slot) (f n : Name) (st : List Frame)
-    → advance (InExpr (reach_units us s f)) (Lower n) st ≡ Goes s.level (InExpr (mc.Applied s f (pr.unit_terms us ++ tree.Var n ∷ []))) st
+    → advance (InExpr (reach_units us s f)) (Lower n) st ≡ Goes s.level (InExpr (mc.Applied s f (pr.unit_expressions us ++ tree.Var n ∷ []))) st
 unfolding advance step mc.applied_step mc.argument_step
 units_lower us s f n st = units_then us s f (Lower n) st tt
 
 pub bare_lower : (bs : gr.Bare) (s : Slot) (f n : Name) (st : List Frame)
-    → advance (InExpr (reach_bare bs s f)) (Lower n) st ≡ Goes s.level (InExpr (mc.Applied s f (pr.bare_terms bs ++ tree.Var n ∷ []))) st
+    → advance (InExpr (reach_bare bs s f)) (Lower n) st ≡ Goes s.level (InExpr (mc.Applied s f (pr.bare_expressions bs ++ tree.Var n ∷ []))) st
 unfolding advance step mc.applied_step mc.argument_step
 bare_lower bs s f n st = bare_then bs s f (Lower n) st tt tt
 
 pub units_upper : (us : gr.Units) (s : Slot) (f n : Name) (st : List Frame)
-    → advance (InExpr (reach_units us s f)) (Upper n) st ≡ Goes s.level (InExpr (mc.Con (behind s f (pr.unit_terms us)) n)) st
+    → advance (InExpr (reach_units us s f)) (Upper n) st ≡ Goes s.level (InExpr (mc.Con (behind s f (pr.unit_expressions us)) n)) st
 unfolding advance step mc.applied_step mc.argument_step mc.unit_step
 units_upper us s f n st = units_then us s f (Upper n) st tt
 
 pub bare_upper : (bs : gr.Bare) (s : Slot) (f n : Name) (st : List Frame)
-    → advance (InExpr (reach_bare bs s f)) (Upper n) st ≡ Goes s.level (InExpr (mc.Con (behind s f (pr.bare_terms bs)) n)) st
+    → advance (InExpr (reach_bare bs s f)) (Upper n) st ≡ Goes s.level (InExpr (mc.Con (behind s f (pr.bare_expressions bs)) n)) st
 unfolding advance step mc.applied_step mc.argument_step mc.unit_step
 bare_upper bs s f n st = bare_then bs s f (Upper n) st tt tt
 
@@ -541,81 +541,81 @@ bare_upper bs s f n st = bare_then bs s f (Upper n) st tt tt
 
 abbrev pub reach_exprs : gr.Exprs → Spot → Name → List Frame → Config
 reach_exprs (gr.OneExpr e) s c st = reach_expr e s.slot.level (mc.Args s c [] ∷ st)
-reach_exprs (gr.MoreExprs es l e) s c st = reach_expr e s.slot.level (mc.Args s c (pr.expr_terms es) ∷ st)
+reach_exprs (gr.MoreExprs es l e) s c st = reach_expr e s.slot.level (mc.Args s c (pr.expr_trees es) ∷ st)
 
 pub exprs_comma : (es : gr.Exprs) (s : Spot) (c : Name) (l : ℕ) (st : List Frame)
     → advance (reach_exprs es s c st).state (Mark mark.Comma l) (reach_exprs es s c st).stack
-    ≡ Goes s.slot.level (InExpr (mc.Want s.slot.level)) (mc.Args s c (pr.expr_terms es) ∷ st)
+    ≡ Goes s.slot.level (InExpr (mc.Want s.slot.level)) (mc.Args s c (pr.expr_trees es) ∷ st)
 unfolding advance mc.close mc.unwind mc.close_in
 exprs_comma (gr.OneExpr e) s c l st = expr_then e _ _ (Mark mark.Comma l) (ends_or (Mark mark.Comma l) refl tt tt tt tt tt tt)
 exprs_comma (gr.MoreExprs es i e) s c l st = expr_then e _ _ (Mark mark.Comma l) (ends_or (Mark mark.Comma l) refl tt tt tt tt tt tt)
 
 pub exprs_close : (es : gr.Exprs) (s : Spot) (c : Name) (l : ℕ) (st : List Frame)
     → advance (reach_exprs es s c st).state (Mark mark.Close l) (reach_exprs es s c st).stack
-    ≡ Goes s.slot.level (InExpr (mc.Full s c (pr.expr_terms es))) st
+    ≡ Goes s.slot.level (InExpr (mc.Full s c (pr.expr_trees es))) st
 unfolding advance mc.close mc.unwind mc.close_in
 exprs_close (gr.OneExpr e) s c l st = expr_then e _ _ (Mark mark.Close l) (ends_or (Mark mark.Close l) refl tt tt tt tt tt tt)
 exprs_close (gr.MoreExprs es i e) s c l st = expr_then e _ _ (Mark mark.Close l) (ends_or (Mark mark.Close l) refl tt tt tt tt tt tt)
 
 pub expr_close : (e : gr.Expr) (s : Spot) (l m : ℕ) (st : List Frame)
     → advance (reach_expr e s.slot.level (mc.Paren s l ∷ st)).state (Mark mark.Close m) (reach_expr e s.slot.level (mc.Paren s l ∷ st)).stack
-    ≡ Goes s.slot.level (InExpr (mc.unit_done s (record { term = pr.expr_term e; line = l }))) st
+    ≡ Goes s.slot.level (InExpr (mc.unit_done s (record { expression = pr.expr_tree e; line = l }))) st
 unfolding advance mc.close mc.unwind mc.close_in
 expr_close e s l m st = expr_then e s.slot.level (mc.Paren s l ∷ st) (Mark mark.Close m) (ends_or (Mark mark.Close m) refl tt tt tt tt tt tt)
 
 pub expr_in : (e : gr.Expr) (k : ℕ) (n : Name) (m : ℕ) (st : List Frame)
     → advance (reach_expr e k (mc.LetValue k n ∷ st)).state (Mark mark.In m) (reach_expr e k (mc.LetValue k n ∷ st)).stack
-    ≡ Goes k (InExpr (mc.Want k)) (mc.LetBody n (pr.expr_term e) ∷ st)
+    ≡ Goes k (InExpr (mc.Want k)) (mc.LetBody n (pr.expr_tree e) ∷ st)
 unfolding advance mc.close mc.unwind mc.close_in
 expr_in e k n m st = expr_then e k (mc.LetValue k n ∷ st) (Mark mark.In m) (ends_or (Mark mark.In m) refl tt tt tt tt tt tt)
 
 pub expr_to_then : (e : gr.Expr) (k l m : ℕ) (st : List Frame)
     → advance (reach_expr e k (mc.IfCond k l ∷ st)).state (Mark mark.Then m) (reach_expr e k (mc.IfCond k l ∷ st)).stack
-    ≡ Goes k (InExpr (mc.Want k)) (mc.IfThen k l (pr.expr_term e) ∷ st)
+    ≡ Goes k (InExpr (mc.Want k)) (mc.IfThen k l (pr.expr_tree e) ∷ st)
 unfolding advance mc.close mc.unwind mc.close_in
 expr_to_then e k l m st = expr_then e k (mc.IfCond k l ∷ st) (Mark mark.Then m) (ends_or (Mark mark.Then m) refl tt tt tt tt tt tt)
 
-pub expr_to_else : (e : gr.Expr) (k l : ℕ) (c : Term) (m : ℕ) (st : List Frame)
+pub expr_to_else : (e : gr.Expr) (k l : ℕ) (c : Expression) (m : ℕ) (st : List Frame)
     → advance (reach_expr e k (mc.IfThen k l c ∷ st)).state (Mark mark.Else m) (reach_expr e k (mc.IfThen k l c ∷ st)).stack
-    ≡ Goes k (InExpr (mc.Want k)) (mc.IfElse l c (pr.expr_term e) ∷ st)
+    ≡ Goes k (InExpr (mc.Want k)) (mc.IfElse l c (pr.expr_tree e) ∷ st)
 unfolding advance mc.close mc.unwind mc.close_in
 expr_to_else e k l c m st = expr_then e k (mc.IfThen k l c ∷ st) (Mark mark.Else m) (ends_or (Mark mark.Else m) refl tt tt tt tt tt tt)
 
-abbrev pub matching : ℕ → ℕ → Term → List Branch → mc.Matching
+abbrev pub matching : ℕ → ℕ → Expression → List Branch → mc.Matching
 matching k l e bs = record { level = k; line = l; on = e; arms = bs }
 
 pub expr_with : (e : gr.Expr) (k l m : ℕ) (st : List Frame)
     → advance (reach_expr e k (mc.MatchOn k l ∷ st)).state (Mark mark.With m) (reach_expr e k (mc.MatchOn k l ∷ st)).stack
-    ≡ Goes k (InArm (mc.FirstArm (matching k l (pr.expr_term e) []))) st
+    ≡ Goes k (InArm (mc.FirstArm (matching k l (pr.expr_tree e) []))) st
 unfolding advance mc.close mc.unwind mc.close_in
 expr_with e k l m st = expr_then e k (mc.MatchOn k l ∷ st) (Mark mark.With m) (ends_or (Mark mark.With m) refl tt tt tt tt tt tt)
 
 abbrev pub reach_arm : gr.Arm → mc.Matching → List Frame → Config
 reach_arm (gr.Case c fs at' l e) m st = reach_expr e m.level (mc.ArmBody m (mc.head c (pr.names_of fs) (pr.cell_of at')) ∷ st)
 
-abbrev pub reach_arms : gr.Arms → ℕ → ℕ → Term → List Frame → Config
+abbrev pub reach_arms : gr.Arms → ℕ → ℕ → Expression → List Frame → Config
 reach_arms (gr.OneArm a) k l on st = reach_arm a (matching k l on []) st
 reach_arms (gr.MoreArms as' i a) k l on st = reach_arm a (matching k l on (pr.branches as')) st
 
-arm_bar : (a : gr.Arm) (k l : ℕ) (on : Term) (bs : List Branch) (m : ℕ) (st : List Frame)
+arm_bar : (a : gr.Arm) (k l : ℕ) (on : Expression) (bs : List Branch) (m : ℕ) (st : List Frame)
     → advance (reach_arm a (matching k l on bs) st).state (Mark mark.Bar m) (reach_arm a (matching k l on bs) st).stack
     ≡ Goes k (InArm (mc.WantArm (matching k l on (bs ++ pr.branch a ∷ [])))) st
 unfolding advance mc.close mc.unwind mc.close_in
 arm_bar (gr.Case c fs at' i e) k l on bs m st = expr_then e k _ (Mark mark.Bar m) (ends_or (Mark mark.Bar m) refl tt tt tt tt tt tt)
 
-arm_end : (a : gr.Arm) (k l : ℕ) (on : Term) (bs : List Branch) (m : ℕ) (st : List Frame)
+arm_end : (a : gr.Arm) (k l : ℕ) (on : Expression) (bs : List Branch) (m : ℕ) (st : List Frame)
     → advance (reach_arm a (matching k l on bs) st).state (Mark mark.End m) (reach_arm a (matching k l on bs) st).stack
     ≡ Goes k (InExpr (mc.Whole (tree.Match on (tree.arms (bs ++ pr.branch a ∷ [])) l))) st
 unfolding advance mc.close mc.unwind mc.close_in
 arm_end (gr.Case c fs at' i e) k l on bs m st = expr_then e k _ (Mark mark.End m) (ends_or (Mark mark.End m) refl tt tt tt tt tt tt)
 
-pub arms_bar : (as' : gr.Arms) (k l : ℕ) (on : Term) (m : ℕ) (st : List Frame)
+pub arms_bar : (as' : gr.Arms) (k l : ℕ) (on : Expression) (m : ℕ) (st : List Frame)
     → advance (reach_arms as' k l on st).state (Mark mark.Bar m) (reach_arms as' k l on st).stack
     ≡ Goes k (InArm (mc.WantArm (matching k l on (pr.branches as')))) st
 arms_bar (gr.OneArm a) k l on m st = arm_bar a k l on [] m st
 arms_bar (gr.MoreArms as' i a) k l on m st = arm_bar a k l on (pr.branches as') m st
 
-pub arms_end : (as' : gr.Arms) (k l : ℕ) (on : Term) (m : ℕ) (st : List Frame)
+pub arms_end : (as' : gr.Arms) (k l : ℕ) (on : Expression) (m : ℕ) (st : List Frame)
     → advance (reach_arms as' k l on st).state (Mark mark.End m) (reach_arms as' k l on st).stack
     ≡ Goes k (InExpr (mc.Whole (tree.Match on (tree.arms (pr.branches as')) l))) st
 arms_end (gr.OneArm a) k l on m st = arm_end a k l on [] m st

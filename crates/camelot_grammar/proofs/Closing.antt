@@ -8,10 +8,10 @@ use Rattle.camelot_grammar.specs.declared.lexeme.Lexeme.{Lexeme}
 use Rattle.camelot_grammar.specs.declared.lexeme.Lexeme.TheVariants.{Lower, Upper, Number, Mark}
 use Rattle.camelot_grammar.specs.Lexemes.{IsReal}
 use Rattle.camelot_tree.specs.Tree as tree
-use Rattle.camelot_tree.specs.Tree.{Term, Source}
+use Rattle.camelot_tree.specs.Tree.{Expression, Source}
 use Rattle.camelot_grammar.specs.Program.{Operand}
 use Rattle.camelot_grammar.specs.Machine as mc
-use Rattle.camelot_grammar.specs.Machine.{State, InDecl, InExpr, InArm, Done, ExprState, Frame, Step, Goes, Slot, Spot, Callee, step, advance}
+use Rattle.camelot_grammar.specs.Machine.{State, InDecl, InExpr, InArm, Finished, ExprState, Frame, Step, Goes, Slot, Spot, Callee, step, advance}
 use Rattle.camelot_grammar.proofs.Behind.{Over, ran, raw, EndsPre, EndsOr, ends_or, done_then, full_then, con_then, open_then, applied_then, star_past, sign_past, comparison_past, and_past, or_past}
 use Rattle.camelot_grammar.proofs.Concrete as co
 
@@ -38,7 +38,7 @@ zero_real = lit< tt
 -- these tokens lead to the end of a program
 pub record Completes (s : State) (st : List Frame) (ts : List Lexeme) : Type 0 where
   pub source : Source
-  pub ends : raw s st ts ≡ Over (Goes 0 (Done source) [])
+  pub ends : raw s st ts ≡ Over (Goes 0 (Finished source) [])
   pub real : AllByRecursion IsReal ts
 
 -- ---- states that do the same
@@ -71,8 +71,8 @@ raw_closes q q2 st h (t ∷ ts) i = ap (λ y. ran y (λ s3 st3. raw s3 st3 ts) (
 
 -- ---- what is read ends as a whole expression
 
-abbrev whole : Slot → Operand → Term
-whole s y = (mc.finished s.lefts.ors (mc.finished s.lefts.ands (mc.finished s.lefts.cmp (mc.finished s.lefts.sum (mc.finished s.lefts.prod (mc.negated_all s.nots y)))))).term
+abbrev whole : Slot → Operand → Expression
+whole s y = (mc.finished s.lefts.ors (mc.finished s.lefts.ands (mc.finished s.lefts.cmp (mc.finished s.lefts.sum (mc.finished s.lefts.prod (mc.negated_all s.nots y)))))).expression
 
 operand_past : (s : Slot) (y : Operand) (t : Lexeme) (st : List Frame) → EndsOr t → mc.after_operand s y t st ≡ mc.close st (whole s y) t
 unfolding mc.after_operand
@@ -85,57 +85,57 @@ operand_past s y t st h =
 
 -- the state acts as a whole expression where one ends
 record Acts (q : ExprState) (st : List Frame) : Type 0 where
-  term : Term
-  on : (t : Lexeme) → EndsOr t → mc.expr_step q t st ≡ mc.close st term t
+  expression : Expression
+  on : (t : Lexeme) → EndsOr t → mc.expr_step q t st ≡ mc.close st expression t
 
 no_at_of : {t : Lexeme} → EndsOr t → EndsPre t
 no_at_of h = h.ends.ends.ends.ends.ends
 
 have_acts : (s : Slot) (y : Operand) (st : List Frame) → Acts (mc.Have s y) st
 unfolding mc.expr_step
-have_acts s y st = record { term = whole s y; on = λ t h. operand_past s y t st h }
+have_acts s y st = record { expression = whole s y; on = λ t h. operand_past s y t st h }
 
-applied_acts : (s : Slot) (f : Name) (es : List Term) (st : List Frame) → Acts (mc.Applied s f es) st
+applied_acts : (s : Slot) (f : Name) (es : List Expression) (st : List Frame) → Acts (mc.Applied s f es) st
 unfolding mc.expr_step
 applied_acts s f es st = record {
-  term = whole s (mc.applied_operand f es);
+  expression = whole s (mc.applied_operand f es);
   on = λ t h.
       applied_then s f es t st (no_at_of h).no_unit ∙ operand_past s (mc.applied_operand f es) t st h;
 }
 
-after_unit_term : (c : Option Callee) (s : Slot) (y : Operand) (st : List Frame)
-    → (e : Term) × ((t : Lexeme) → EndsOr t → mc.after_unit_of c s y t st ≡ mc.close st e t)
-after_unit_term None s y st = (whole s y, λ t h. operand_past s y t st h)
-after_unit_term (Some c) s y st = (
-  whole s (mc.applied_operand c.fun (c.args ++ y.term ∷ [])),
+after_unit_expression : (c : Option Callee) (s : Slot) (y : Operand) (st : List Frame)
+    → (e : Expression) × ((t : Lexeme) → EndsOr t → mc.after_unit_of c s y t st ≡ mc.close st e t)
+after_unit_expression None s y st = (whole s y, λ t h. operand_past s y t st h)
+after_unit_expression (Some c) s y st = (
+  whole s (mc.applied_operand c.fun (c.args ++ y.expression ∷ [])),
   λ t h.
-      applied_then s c.fun (c.args ++ y.term ∷ []) t st (no_at_of h).no_unit ∙ operand_past s _ t st h,
+      applied_then s c.fun (c.args ++ y.expression ∷ []) t st (no_at_of h).no_unit ∙ operand_past s _ t st h,
 )
 
 unit_acts : (s : Spot) (y : Operand) (st : List Frame) → Acts (mc.unit_done s y) st
 unfolding mc.after_unit
-unit_acts s y st = let k = after_unit_term s.call s.slot y st in record { term = k.0; on = λ t h. done_then s y t st ∙ k.1 t h }
+unit_acts s y st = let k = after_unit_expression s.call s.slot y st in record { expression = k.0; on = λ t h. done_then s y t st ∙ k.1 t h }
 
-full_acts : (s : Spot) (c : Name) (es : List Term) (st : List Frame) → Acts (mc.Full s c es) st
+full_acts : (s : Spot) (c : Name) (es : List Expression) (st : List Frame) → Acts (mc.Full s c es) st
 unfolding mc.after_unit
-full_acts s c es st = let k = after_unit_term s.call s.slot (mc.built c es None) st in
-    record { term = k.0; on = λ t h. full_then s c es t st (no_at_of h).no_at ∙ k.1 t h }
+full_acts s c es st = let k = after_unit_expression s.call s.slot (mc.built c es None) st in
+    record { expression = k.0; on = λ t h. full_then s c es t st (no_at_of h).no_at ∙ k.1 t h }
 
 con_acts : (s : Spot) (c : Name) (st : List Frame) → Acts (mc.Con s c) st
 unfolding mc.after_unit
-con_acts s c st = let k = after_unit_term s.call s.slot (mc.built c [] None) st in
-    record { term = k.0; on = λ t h. con_then s c t st (no_at_of h).no_at (open_then t (no_at_of h).no_unit) ∙ k.1 t h }
+con_acts s c st = let k = after_unit_expression s.call s.slot (mc.built c [] None) st in
+    record { expression = k.0; on = λ t h. con_then s c t st (no_at_of h).no_at (open_then t (no_at_of h).no_unit) ∙ k.1 t h }
 
 -- every whole expression goes on with these tokens to the end
 record Goes_on (st : List Frame) (ts : List Lexeme) : Type 0 where
   first : ClosesFirst ts
-  each : (e : Term) → Completes (InExpr (mc.Whole e)) st ts
+  each : (e : Expression) → Completes (InExpr (mc.Whole e)) st ts
 
 acts_complete : {q : ExprState} {st : List Frame} {ts : List Lexeme} → Acts q st → Goes_on st ts → Completes (InExpr q) st ts
 unfolding mc.expr_step
-acts_complete {q} {st} {ts} a g = let k = g.each a.term in record {
+acts_complete {q} {st} {ts} a g = let k = g.each a.expression in record {
   source = k.source;
-  ends = raw_closes q (mc.Whole a.term) st a.on ts g.first ∙ k.ends;
+  ends = raw_closes q (mc.Whole a.expression) st a.on ts g.first ∙ k.ends;
   real = k.real;
 }
 
@@ -170,22 +170,22 @@ closer : (t : Lexeme) → mc.begins_argument t ≡ false → EndsOr t → EndsOr
 closer t a h = h
 
 -- the body of a `let` ends with what is around it, and so does an `else`
-let_same : (n : Name) (v e : Term) (st : List Frame) (t : Lexeme) → step (InExpr (mc.Whole e)) t (mc.LetBody n v ∷ st) ≡ step (InExpr (mc.Whole (tree.Let n v e))) t st
+let_same : (n : Name) (v e : Expression) (st : List Frame) (t : Lexeme) → step (InExpr (mc.Whole e)) t (mc.LetBody n v ∷ st) ≡ step (InExpr (mc.Whole (tree.Let n v e))) t st
 unfolding step mc.expr_step mc.close mc.unwind
 let_same n v e st t = refl
 
-else_same : (l : ℕ) (c a e : Term) (st : List Frame) (t : Lexeme) → step (InExpr (mc.Whole e)) t (mc.IfElse l c a ∷ st) ≡ step (InExpr (mc.Whole (tree.If c a e l))) t st
+else_same : (l : ℕ) (c a e : Expression) (st : List Frame) (t : Lexeme) → step (InExpr (mc.Whole e)) t (mc.IfElse l c a ∷ st) ≡ step (InExpr (mc.Whole (tree.If c a e l))) t st
 unfolding step mc.expr_step mc.close mc.unwind
 else_same l c a e st t = refl
 
-in_let : {n : Name} {v : Term} {st : List Frame} {ts : List Lexeme} → Goes_on st ts → Goes_on (mc.LetBody n v ∷ st) ts
+in_let : {n : Name} {v : Expression} {st : List Frame} {ts : List Lexeme} → Goes_on st ts → Goes_on (mc.LetBody n v ∷ st) ts
 in_let {n} {v} {st} {ts} g = record {
   first = g.first;
   each = λ e. let k = g.each (tree.Let n v e) in
       record { source = k.source; ends = raw_same _ _ _ _ (let_same n v e st) ts ∙ k.ends; real = k.real };
 }
 
-in_else : {l : ℕ} {c a : Term} {st : List Frame} {ts : List Lexeme} → Goes_on st ts → Goes_on (mc.IfElse l c a ∷ st) ts
+in_else : {l : ℕ} {c a : Expression} {st : List Frame} {ts : List Lexeme} → Goes_on st ts → Goes_on (mc.IfElse l c a ∷ st) ts
 in_else {l} {c} {a} {st} {ts} g = record {
   first = g.first;
   each = λ e. let k = g.each (tree.If c a e l) in
@@ -197,11 +197,11 @@ unfolding advance step mc.expr_step mc.close mc.unwind mc.close_in mc.top_step m
 goes_on (co.Body ds l n ps k m) = record { first = tt; each = λ e. record { source = _; ends = refl; real = tt } }
 goes_on (co.Paren c nots y l st) = record {
   first = ends_or (Mark mark.Close 0) refl tt tt tt tt tt tt;
-  each = λ e. next refl tt (acts_complete (unit_acts (co.spot_of c nots (co.Firm y)) (record { term = e; line = l }) (co.frames st)) (goes_on st));
+  each = λ e. next refl tt (acts_complete (unit_acts (co.spot_of c nots (co.Firm y)) (record { expression = e; line = l }) (co.frames st)) (goes_on st));
 }
 goes_on (co.Args c nots y n l es st) = record {
   first = ends_or (Mark mark.Close 0) refl tt tt tt tt tt tt;
-  each = λ e. next refl tt (acts_complete (full_acts (co.spot_of c nots y) n (co.some_terms es ++ e ∷ []) (co.frames st)) (goes_on st));
+  each = λ e. next refl tt (acts_complete (full_acts (co.spot_of c nots y) n (co.some_expressions es ++ e ∷ []) (co.frames st)) (goes_on st));
 }
 goes_on (co.LetValue k l n m st) = record {
   first = ends_or (Mark mark.In 0) refl tt tt tt tt tt tt;

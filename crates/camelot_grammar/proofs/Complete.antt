@@ -5,14 +5,14 @@ use Rattle.camelot_tree.specs.declared.tree.ArmCell.TheVariants as cell
 use Rattle.camelot_grammar.specs.declared.lexeme.Mark.TheVariants as mark
 use Rattle.camelot_grammar.specs.declared.lexeme.Lexeme.{Lexeme}
 use Rattle.camelot_grammar.specs.declared.lexeme.Lexeme.TheVariants.{Lower, Upper, Number, Mark}
-use Rattle.camelot_tree.specs.Tree.{Term}
+use Rattle.camelot_tree.specs.Tree.{Expression}
 use Rattle.camelot_grammar.specs.Grammar as gr
 use Rattle.camelot_grammar.specs.Program as pr
 use Rattle.camelot_grammar.specs.Program.{Operand}
 use Rattle.camelot_grammar.specs.Levels as lv
 use Rattle.camelot_grammar.specs.Machine as mc
 use Rattle.camelot_grammar.proofs.Behind.{End, Gives, at, one, go, slot, alone, behind, reach_solid, reach_firm, reach_bare, reach_units, reach_pre, reach_prod, reach_sum, reach_cmp, reach_and, reach_or, reach_expr, reach_exprs, reach_arm, reach_arms, matching, prod_joins, sum_joins, sum_compares, and_joins, or_joins, AsSolid, AsUnit, AsPre, want_pre_as, want_as, pre_as_unit, unit_as_solid, units_as, bare_as, units_lower, bare_lower, units_upper, bare_upper, exprs_comma, exprs_close, expr_close, expr_in, expr_to_then, expr_to_else, expr_with, arms_bar, arms_end}
-use Rattle.camelot_grammar.specs.Machine.{State, InDecl, InExpr, InArm, Done, ExprState, Frame, Step, Stuck, Goes, Left, Lefts, Slot, Spot, Callee, step, advance}
+use Rattle.camelot_grammar.specs.Machine.{State, InDecl, InExpr, InArm, Finished, ExprState, Frame, Step, Stuck, Goes, Left, Lefts, Slot, Spot, Callee, step, advance}
 
 -- ---- the head of an arm
 
@@ -64,7 +64,7 @@ head_gives (gr.InParens i fs j) x m c l st ts ls z h =
 
 place_gives : (x : gr.Place) (s : Spot) (c : Name) (l : ℕ) (es : gr.Exprs) (i j : ℕ) (st : List Frame) (ts : List Lexeme) (ls : List ℕ) (z : End)
     → Gives (at (reach_solid (gr.Full c i es j x) s) st) ts ls z
-    → Gives (at (mc.Full s c (pr.expr_terms es)) st) (gr.spell_place x ts) (lv.levels_place x s.slot.level ls) z
+    → Gives (at (mc.Full s c (pr.expr_trees es)) st) (gr.spell_place x ts) (lv.levels_place x s.slot.level ls) z
 unfolding advance step mc.expr_step mc.full_step mc.placed_step
 place_gives gr.NoPlace s c l es i j st ts ls z h = h
 place_gives (gr.At k d) s c l es i j st ts ls z h = go refl (go refl h)
@@ -92,10 +92,10 @@ mutual
   units_gives gr.NoUnits s f st ts ls z h = h
   units_gives (gr.AndLower us n) s f st ts ls z h = units_gives us s f st _ _ z (go (units_lower us s f n st) h)
   units_gives (gr.AndFirm us u) s f st ts ls z h =
-      units_gives us s f st _ _ z (firm_gives u (reach_units us s f) (behind s f (pr.unit_terms us)) st ts ls z (units_as us s f st) h)
+      units_gives us s f st _ _ z (firm_gives u (reach_units us s f) (behind s f (pr.unit_expressions us)) st ts ls z (units_as us s f st) h)
   units_gives (gr.BareLower bs n) s f st ts ls z h = bare_gives bs s f st _ _ z (go (bare_lower bs s f n st) h)
   units_gives (gr.BareSolid bs u) s f st ts ls z h =
-      bare_gives bs s f st _ _ z (solid_gives u (reach_bare bs s f) (behind s f (pr.bare_terms bs)) st ts ls z (bare_as bs s f st) h)
+      bare_gives bs s f st _ _ z (solid_gives u (reach_bare bs s f) (behind s f (pr.bare_expressions bs)) st ts ls z (bare_as bs s f st) h)
 
   pub bare_gives : (bs : gr.Bare) (s : Slot) (f : Name) (st : List Frame) (ts : List Lexeme) (ls : List ℕ) (z : End)
       → Gives (at (reach_bare bs s f) st) ts ls z → Gives (at (mc.Applied s f []) st) (gr.spell_bare bs ts) (lv.levels_bare bs s.level ls) z
@@ -156,26 +156,26 @@ mutual
       → Gives (reach_expr e k st) ts ls z → Gives (at (mc.Want k) st) (gr.spell_expr e ts) (lv.levels_expr e k ls) z
   expr_gives (gr.Let l n i w j b) k st ts ls z h =
       go refl (go refl (go refl (expr_gives w (suc k) (mc.LetValue (suc k) n ∷ st) _ _ z (go (expr_in w (suc k) n j st)
-      (expr_gives b (suc k) (mc.LetBody n (pr.expr_term w) ∷ st) ts ls z h)))))
+      (expr_gives b (suc k) (mc.LetBody n (pr.expr_tree w) ∷ st) ts ls z h)))))
   expr_gives (gr.If l c i a j b) k st ts ls z h =
       go refl (expr_gives c (suc k) (mc.IfCond (suc k) l ∷ st) _ _ z (go (expr_to_then c (suc k) l i st)
-      (expr_gives a (suc k) (mc.IfThen (suc k) l (pr.expr_term c) ∷ st) _ _ z (go (expr_to_else a (suc k) l (pr.expr_term c) j st)
-      (expr_gives b (suc k) (mc.IfElse l (pr.expr_term c) (pr.expr_term a) ∷ st) ts ls z h)))))
+      (expr_gives a (suc k) (mc.IfThen (suc k) l (pr.expr_tree c) ∷ st) _ _ z (go (expr_to_else a (suc k) l (pr.expr_tree c) j st)
+      (expr_gives b (suc k) (mc.IfElse l (pr.expr_tree c) (pr.expr_tree a) ∷ st) ts ls z h)))))
   expr_gives (gr.Match l e i gr.NoBar as' j) k st ts ls z h =
       go refl (expr_gives e (suc k) (mc.MatchOn (suc k) l ∷ st) _ _ z (go (expr_with e (suc k) l i st)
-      (arms_gives as' (mc.FirstArm (matching (suc k) l (pr.expr_term e) [])) (suc k) l (pr.expr_term e) st _ _ z (λ c. refl) (go (arms_end as' (suc k) l (pr.expr_term e) j st) h))))
+      (arms_gives as' (mc.FirstArm (matching (suc k) l (pr.expr_tree e) [])) (suc k) l (pr.expr_tree e) st _ _ z (λ c. refl) (go (arms_end as' (suc k) l (pr.expr_tree e) j st) h))))
   expr_gives (gr.Match l e i (gr.Bar b) as' j) k st ts ls z h =
       go refl (expr_gives e (suc k) (mc.MatchOn (suc k) l ∷ st) _ _ z (go (expr_with e (suc k) l i st)
-      (go refl (arms_gives as' (mc.WantArm (matching (suc k) l (pr.expr_term e) [])) (suc k) l (pr.expr_term e) st _ _ z (λ c. refl) (go (arms_end as' (suc k) l (pr.expr_term e) j st) h)))))
+      (go refl (arms_gives as' (mc.WantArm (matching (suc k) l (pr.expr_tree e) [])) (suc k) l (pr.expr_tree e) st _ _ z (λ c. refl) (go (arms_end as' (suc k) l (pr.expr_tree e) j st) h)))))
   expr_gives (gr.Chain o) k st ts ls z h = or_gives o (mc.Want k) (suc k) st ts ls z (want_as k st) h
 
   pub exprs_gives : (es : gr.Exprs) (s : Spot) (c : Name) (st : List Frame) (ts : List Lexeme) (ls : List ℕ) (z : End)
       → Gives (reach_exprs es s c st) ts ls z → Gives (at (mc.Want s.slot.level) (mc.Args s c [] ∷ st)) (gr.spell_exprs es ts) (lv.levels_exprs es s.slot.level ls) z
   exprs_gives (gr.OneExpr e) s c st ts ls z h = expr_gives e s.slot.level (mc.Args s c [] ∷ st) ts ls z h
   exprs_gives (gr.MoreExprs es l e) s c st ts ls z h =
-      exprs_gives es s c st _ _ z (go (exprs_comma es s c l st) (expr_gives e s.slot.level (mc.Args s c (pr.expr_terms es) ∷ st) ts ls z h))
+      exprs_gives es s c st _ _ z (go (exprs_comma es s c l st) (expr_gives e s.slot.level (mc.Args s c (pr.expr_trees es) ∷ st) ts ls z h))
 
-  pub arms_gives : (as' : gr.Arms) (q : mc.ArmState) (k l : ℕ) (on : Term) (st : List Frame) (ts : List Lexeme) (ls : List ℕ) (z : End)
+  pub arms_gives : (as' : gr.Arms) (q : mc.ArmState) (k l : ℕ) (on : Expression) (st : List Frame) (ts : List Lexeme) (ls : List ℕ) (z : End)
       → ((c : Name) → advance (InArm q) (Upper c) st ≡ Goes k (InArm (mc.ArmCon (matching k l on []) c)) st)
       → Gives (reach_arms as' k l on st) ts ls z → Gives (one (InArm q) st) (gr.spell_arms as' ts) (lv.levels_arms as' k ls) z
   arms_gives (gr.OneArm a) q k l on st ts ls z as'' h = arm_gives a q (matching k l on []) st ts ls z as'' h

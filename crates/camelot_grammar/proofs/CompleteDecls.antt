@@ -11,7 +11,7 @@ use Rattle.camelot_grammar.specs.Grammar as gr
 use Rattle.camelot_grammar.specs.Program as pr
 use Rattle.camelot_grammar.specs.Levels as lv
 use Rattle.camelot_grammar.specs.Machine as mc
-use Rattle.camelot_grammar.specs.Machine.{InDecl, InExpr, Done, DeclState, Frame, Step, Goes, TypeDraft, FunDraft, step, advance, start, nothing}
+use Rattle.camelot_grammar.specs.Machine.{InDecl, InExpr, Finished, DeclState, Frame, Step, Goes, TypeDraft, FunDraft, step, advance, start, nothing}
 use Rattle.camelot_grammar.proofs.Behind.{End, Over, Config, Gives, at, one, go, reach_expr, ends_or, expr_then}
 use Rattle.camelot_grammar.proofs.Complete.{expr_gives}
 
@@ -165,7 +165,7 @@ type_then cs b n (Mark mark.EndOfText l) h = cons_then cs b n (Mark mark.EndOfTe
 type_then cs b n t h = absurd h
 
 fun_then : (e : gr.Expr) (d : FunDraft) (r : Option Atom) (t : Lexeme) → EndsDecl t
-    → step (reach_expr e 0 (mc.Body d r ∷ [])).state t (reach_expr e 0 (mc.Body d r ∷ [])).stack ≡ mc.top_step (mc.fun_done d r (pr.expr_term e)) t []
+    → step (reach_expr e 0 (mc.Body d r ∷ [])).state t (reach_expr e 0 (mc.Body d r ∷ [])).stack ≡ mc.top_step (mc.fun_done d r (pr.expr_tree e)) t []
 unfolding mc.close mc.unwind mc.close_in
 fun_then e d r (Mark mark.Type l) h = expr_then e 0 (mc.Body d r ∷ []) (Mark mark.Type l) (ends_or (Mark mark.Type l) refl tt tt tt tt tt tt)
 fun_then e d r (Mark mark.Let l) h = expr_then e 0 (mc.Body d r ∷ []) (Mark mark.Let l) (ends_or (Mark mark.Let l) refl tt tt tt tt tt tt)
@@ -187,7 +187,7 @@ decls_let : (ds : gr.Decls) (l : ℕ) → advance (reach_decls ds).state (Mark m
 unfolding advance mc.top_step
 decls_let ds l = decls_then ds (Mark mark.Let l) tt
 
-decls_end : (ds : gr.Decls) (l : ℕ) → step (reach_decls ds).state (Mark mark.EndOfText l) (reach_decls ds).stack ≡ Goes 0 (Done (pr.source_of ds)) []
+decls_end : (ds : gr.Decls) (l : ℕ) → step (reach_decls ds).state (Mark mark.EndOfText l) (reach_decls ds).stack ≡ Goes 0 (Finished (pr.source_of ds)) []
 unfolding mc.top_step
 decls_end ds l = decls_then ds (Mark mark.EndOfText l) tt
 
@@ -203,5 +203,5 @@ decls_give (gr.AndFun ds l n ps k m e) ts ls z h =
     (expr_gives e 0 (mc.Body (sketch (pr.source_of ds) n (pr.params_of ps)) (pr.kind_of k) ∷ []) ts ls z h)))))
 
 -- a whole program
-pub program_gives : (ds : gr.Decls) → Gives (one start []) (gr.spell_decls ds []) (lv.levels_decls ds []) (Over (Goes 0 (Done (pr.source_of ds)) []))
+pub program_gives : (ds : gr.Decls) → Gives (one start []) (gr.spell_decls ds []) (lv.levels_decls ds []) (Over (Goes 0 (Finished (pr.source_of ds)) []))
 program_gives ds = decls_give ds [] [] _ (record { ends = ap Over (decls_end ds 0); marks = refl })

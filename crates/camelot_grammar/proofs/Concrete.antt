@@ -7,12 +7,12 @@ use Rattle.camelot_tree.specs.declared.tree.Param.{Param}
 use Rattle.camelot_grammar.specs.declared.lexeme.Mark.TheVariants as mark
 use Rattle.camelot_grammar.specs.declared.lexeme.Lexeme.{Lexeme}
 use Rattle.camelot_grammar.specs.declared.lexeme.Lexeme.TheVariants.{Lower, Upper, Mark}
-use Rattle.camelot_tree.specs.Tree.{Term, Branch, Constructor}
+use Rattle.camelot_tree.specs.Tree.{Expression, Branch, Constructor}
 use Rattle.camelot_grammar.specs.Grammar as gr
 use Rattle.camelot_grammar.specs.Program as pr
 use Rattle.camelot_grammar.specs.Levels as lv
 use Rattle.camelot_grammar.specs.Machine as mc
-use Rattle.camelot_grammar.specs.Machine.{State, InDecl, InExpr, InArm, Done, Frame, Left, Lefts, Slot, Spot, Callee, TypeDraft, FunDraft}
+use Rattle.camelot_grammar.specs.Machine.{State, InDecl, InExpr, InArm, Finished, Frame, Left, Lefts, Slot, Spot, Callee, TypeDraft, FunDraft}
 
 -- ---- unfinished chains
 
@@ -134,8 +134,8 @@ pub data Call : Type 0 where
 
 abbrev pub callee_of : Call → Option Callee
 callee_of (Firm NoCall) = None
-callee_of (Firm (Behind f us)) = Some (record { fun = f; args = pr.unit_terms us })
-callee_of (BehindBare f bs) = Some (record { fun = f; args = pr.bare_terms bs })
+callee_of (Firm (Behind f us)) = Some (record { fun = f; args = pr.unit_expressions us })
+callee_of (BehindBare f bs) = Some (record { fun = f; args = pr.bare_expressions bs })
 
 abbrev pub call_before : Call → List Lexeme → List Lexeme
 call_before (Firm NoCall) r = r
@@ -153,9 +153,9 @@ pub data SomeExprs : Type 0 where
   NoExprs : SomeExprs
   ExprsComma : gr.Exprs → ℕ → SomeExprs
 
-abbrev pub some_terms : SomeExprs → List Term
-some_terms NoExprs = []
-some_terms (ExprsComma es l) = pr.expr_terms es
+abbrev pub some_expressions : SomeExprs → List Expression
+some_expressions NoExprs = []
+some_expressions (ExprsComma es l) = pr.expr_trees es
 
 abbrev pub some_before : SomeExprs → List Lexeme → List Lexeme
 some_before NoExprs r = r
@@ -183,7 +183,7 @@ arms_before (NoArms bar) r = gr.spell_bar bar r
 arms_before (ArmsBar bar as' l) r = gr.spell_bar bar (gr.spell_arms as' (Mark mark.Bar l ∷ r))
 
 abbrev pub matching_of : Matching → mc.Matching
-matching_of (MkMatching k l e m as') = record { level = k; line = l; on = pr.expr_term e; arms = some_branches as' }
+matching_of (MkMatching k l e m as') = record { level = k; line = l; on = pr.expr_tree e; arms = some_branches as' }
 
 abbrev pub matching_before : Matching → List Lexeme → List Lexeme
 matching_before (MkMatching k l e m as') r = Mark mark.Match l ∷ gr.spell_expr e (Mark mark.With m ∷ arms_before as' r)
@@ -208,12 +208,12 @@ fun_draft ds n ps = record { before = pr.source_of ds; name = n; params = pr.par
 abbrev pub frames : Stack → List Frame
 frames (Body ds l n ps k m) = mc.Body (fun_draft ds n ps) (pr.kind_of k) ∷ []
 frames (Paren c nots x l st) = mc.Paren (spot_of c nots (Firm x)) l ∷ frames st
-frames (Args c nots x n l es st) = mc.Args (spot_of c nots x) n (some_terms es) ∷ frames st
+frames (Args c nots x n l es st) = mc.Args (spot_of c nots x) n (some_expressions es) ∷ frames st
 frames (LetValue k l n m st) = mc.LetValue k n ∷ frames st
-frames (LetBody l n m e i st) = mc.LetBody n (pr.expr_term e) ∷ frames st
+frames (LetBody l n m e i st) = mc.LetBody n (pr.expr_tree e) ∷ frames st
 frames (IfCond k l st) = mc.IfCond k l ∷ frames st
-frames (IfThen k l c m st) = mc.IfThen k l (pr.expr_term c) ∷ frames st
-frames (IfElse l c m a n st) = mc.IfElse l (pr.expr_term c) (pr.expr_term a) ∷ frames st
+frames (IfThen k l c m st) = mc.IfThen k l (pr.expr_tree c) ∷ frames st
+frames (IfElse l c m a n st) = mc.IfElse l (pr.expr_tree c) (pr.expr_tree a) ∷ frames st
 frames (MatchOn k l st) = mc.MatchOn k l ∷ frames st
 frames (ArmBody m c fs x l st) = mc.ArmBody (matching_of m) (mc.head c (pr.names_of fs) (pr.cell_of x)) ∷ frames st
 
@@ -235,9 +235,9 @@ pub data Parts : Type 0 where
   NoParts : Parts
   SomeParts : ℕ → gr.Exprs → ℕ → Parts
 
-abbrev pub part_terms : Parts → List Term
-part_terms NoParts = []
-part_terms (SomeParts l es m) = pr.expr_terms es
+abbrev pub part_expressions : Parts → List Expression
+part_expressions NoParts = []
+part_expressions (SomeParts l es m) = pr.expr_trees es
 
 abbrev pub parts_before : Parts → List Lexeme → List Lexeme
 parts_before NoParts r = r
@@ -262,12 +262,12 @@ expr_state (LetName k l) = mc.LetName k
 expr_state (LetEquals k l n) = mc.LetEquals k n
 expr_state (WantPre c nots) = mc.WantPre (chains_lefts c) nots (under nots (chains_level c))
 expr_state (Negative c nots l) = mc.Negative (slot_of c nots) l
-expr_state (Applied c nots f us) = mc.Applied (slot_of c nots) f (pr.unit_terms us)
+expr_state (Applied c nots f us) = mc.Applied (slot_of c nots) f (pr.unit_expressions us)
 expr_state (Have c nots x) = mc.Have (slot_of c nots) (pr.pre_operand x)
 expr_state (Con c nots x n) = mc.Con (spot_of c nots x) n
-expr_state (Full c nots x n l es m) = mc.Full (spot_of c nots x) n (pr.expr_terms es)
-expr_state (Placed c nots x n ps l) = mc.Placed (spot_of c nots x) n (part_terms ps)
-expr_state (Whole e) = mc.Whole (pr.expr_term e)
+expr_state (Full c nots x n l es m) = mc.Full (spot_of c nots x) n (pr.expr_trees es)
+expr_state (Placed c nots x n ps l) = mc.Placed (spot_of c nots x) n (part_expressions ps)
+expr_state (Whole e) = mc.Whole (pr.expr_tree e)
 
 abbrev pub expr_before : ExprState → List Lexeme → List Lexeme
 expr_before (Want k) r = r
@@ -308,7 +308,7 @@ pub data ArmState : Type 0 where
   WantArrow : Matching → Name → gr.Fields → gr.Cell → ArmState
 
 abbrev pub arm_state : ArmState → mc.ArmState
-arm_state (FirstArm k l e m) = mc.FirstArm (record { level = k; line = l; on = pr.expr_term e; arms = [] })
+arm_state (FirstArm k l e m) = mc.FirstArm (record { level = k; line = l; on = pr.expr_tree e; arms = [] })
 arm_state (WantArm m) = mc.WantArm (matching_of m)
 arm_state (ArmCon m c) = mc.ArmCon (matching_of m) c
 arm_state (WantName m c fs) = mc.WantName (matching_of m) c (some_names fs)

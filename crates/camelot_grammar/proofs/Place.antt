@@ -10,7 +10,7 @@ use Rattle.camelot_grammar.specs.Program.{source_of}
 use Rattle.camelot_grammar.specs.Levels.{levels_decls}
 use Rattle.camelot_grammar.specs.Parsing.{limit, AreWithin, IsProgram, BeginsProgram, NoneGoesOn, GoesTooDeep}
 use Rattle.camelot_grammar.specs.Machine as mc
-use Rattle.camelot_grammar.specs.Machine.{State, InDecl, InExpr, InArm, Done, Frame, Step, Stuck, Goes, step, advance, runs, limited, onward, ending, start, Yes, Stopped, TooDeep, Result}
+use Rattle.camelot_grammar.specs.Machine.{State, InDecl, InExpr, InArm, Finished, Frame, Step, Stuck, Goes, step, advance, runs, limited, onward, ending, start, Yes, Stopped, TooDeep, Result}
 use Rattle.camelot_grammar.proofs.Behind.{Over, Halts, ran, raw, metered, meter}
 use Rattle.camelot_grammar.proofs.CompleteDecls.{program_gives}
 use Rattle.camelot_grammar.proofs.Concrete.{Config, InDecls, Top, state_of, stack_of, so_far}
@@ -27,7 +27,7 @@ inside_moved read t Stuck h k = tt
 inside_moved read t (Goes l (InDecl s) st) h k = k
 inside_moved read t (Goes l (InExpr s) st) h k = k
 inside_moved read t (Goes l (InArm s) st) h k = k
-inside_moved read t (Goes l (Done p) st) h k = absurd (h k.at_end)
+inside_moved read t (Goes l (Finished p) st) h k = absurd (h k.at_end)
 
 advance_moved : (c : Config) (t : Lexeme) → Moved (so_far c) t (advance (state_of c) t (stack_of c))
 unfolding advance
@@ -99,14 +99,14 @@ reach_more c t ts k s st e h kept r =
 
 -- the step at the end of the text ends no program
 abbrev NoEnd : Step → Type 0
-NoEnd (Goes k (Done p) st) = ⊥
+NoEnd (Goes k (Finished p) st) = ⊥
 NoEnd y = Unit {0}
 
 pub record Accepts (c : Config) (ts : List Lexeme) (p : Source) : Type 0 where
   pub reach : Reach c ts
   pub level : ℕ
   pub stack : List Frame
-  pub ends : step (state_of reach.config) (Mark mark.EndOfText 0) (stack_of reach.config) ≡ Goes level (Done p) stack
+  pub ends : step (state_of reach.config) (Mark mark.EndOfText 0) (stack_of reach.config) ≡ Goes level (Finished p) stack
 
 abbrev pub StuckAt : Config → List Lexeme → Type 0
 StuckAt c [] = NoEnd (step (state_of c) (Mark mark.EndOfText 0) (stack_of c))
@@ -137,14 +137,14 @@ Tells c ts (Stopped rest) = Stays c ts rest
 Tells c ts (TooDeep rest) = Falls c ts rest
 
 -- a step at the end that ends no program
-ends_nothing : (b : Bool) (s : State) (st : List Frame) → ((p : Source) → s ≡ Done p → ⊥) → ending (if b then mc.Moves s st else mc.Sinks) ≡ Stopped []
+ends_nothing : (b : Bool) (s : State) (st : List Frame) → ((p : Source) → s ≡ Finished p → ⊥) → ending (if b then mc.Moves s st else mc.Sinks) ≡ Stopped []
 ends_nothing false s st h = refl
 ends_nothing true (InDecl s) st h = refl
 ends_nothing true (InExpr s) st h = refl
 ends_nothing true (InArm s) st h = refl
-ends_nothing true (Done p) st h = absurd (h p refl)
+ends_nothing true (Finished p) st h = absurd (h p refl)
 
-stays_end : (c : Config) (k : ℕ) (s : State) (st : List Frame) → NoEnd (Goes k s st) → ((p : Source) → s ≡ Done p → ⊥)
+stays_end : (c : Config) (k : ℕ) (s : State) (st : List Frame) → NoEnd (Goes k s st) → ((p : Source) → s ≡ Finished p → ⊥)
     → step (state_of c) (Mark mark.EndOfText 0) (stack_of c) ≡ Goes k s st → Tells c [] (ending (limited (Goes k s st)))
 unfolding reach_none
 stays_end c k s st h i e = subst (Tells c []) (sym (ends_nothing (nat_le k limit) s st i))
@@ -153,8 +153,8 @@ stays_end c k s st h i e = subst (Tells c []) (sym (ends_nothing (nat_le k limit
 tells_end : (c : Config) (y : Step) → step (state_of c) (Mark mark.EndOfText 0) (stack_of c) ≡ y → Keeps (so_far c) (Mark mark.EndOfText 0) y → Tells c [] (ending (limited y))
 unfolding reach_none
 tells_end c Stuck e h = record { before = []; parts = refl; reach = reach_none c; stuck = subst NoEnd (sym e) tt }
-tells_end c (Goes k (Done p) st) e h =
-    subst (λ j. Tells c [] (ending (limited (Goes j (Done p) st)))) (sym h.no_level) (record { reach = reach_none c; level = k; stack = st; ends = e })
+tells_end c (Goes k (Finished p) st) e h =
+    subst (λ j. Tells c [] (ending (limited (Goes j (Finished p) st)))) (sym h.no_level) (record { reach = reach_none c; level = k; stack = st; ends = e })
 tells_end c (Goes k (InDecl s) st) e h = stays_end c k (InDecl s) st tt (λ p q. absurd cc) e
 tells_end c (Goes k (InExpr s) st) e h = stays_end c k (InExpr s) st tt (λ p q. absurd cc) e
 tells_end c (Goes k (InArm s) st) e h = stays_end c k (InArm s) st tt (λ p q. absurd cc) e
@@ -222,25 +222,25 @@ pub record Read (c : Config) (ts : List Lexeme) (p : Source) : Type 0 where
   pub is : source_of decls ≡ p
   pub spells : spell_decls decls [] ≡ so_far c ts
 
-read_end : (c : Config) (y : Step) (k : ℕ) (p : Source) (st : List Frame) → Keeps (so_far c) (Mark mark.EndOfText 0) y → y ≡ Goes k (Done p) st → Read c [] p
+read_end : (c : Config) (y : Step) (k : ℕ) (p : Source) (st : List Frame) → Keeps (so_far c) (Mark mark.EndOfText 0) y → y ≡ Goes k (Finished p) st → Read c [] p
 read_end c Stuck k p st h e = absurd cc
-read_end c (Goes j (Done q) st2) k p st h e = let pq : q ≡ p = cc in record { decls = h.decls; is = h.is ∙ pq; spells = h.spells [] }
+read_end c (Goes j (Finished q) st2) k p st h e = let pq : q ≡ p = cc in record { decls = h.decls; is = h.is ∙ pq; spells = h.spells [] }
 read_end c (Goes j (InDecl s) st2) k p st h e = absurd cc
 read_end c (Goes j (InExpr s) st2) k p st h e = absurd cc
 read_end c (Goes j (InArm s) st2) k p st h e = absurd cc
 
-read_over : (c : Config) (k : ℕ) (p : Source) (st : List Frame) → Over (step (state_of c) (Mark mark.EndOfText 0) (stack_of c)) ≡ Over (Goes k (Done p) st) → Read c [] p
-read_over c k p st e = let e2 : step (state_of c) (Mark mark.EndOfText 0) (stack_of c) ≡ Goes k (Done p) st = cc in read_end c _ k p st (step_keeps c (Mark mark.EndOfText 0)) e2
+read_over : (c : Config) (k : ℕ) (p : Source) (st : List Frame) → Over (step (state_of c) (Mark mark.EndOfText 0) (stack_of c)) ≡ Over (Goes k (Finished p) st) → Read c [] p
+read_over c k p st e = let e2 : step (state_of c) (Mark mark.EndOfText 0) (stack_of c) ≡ Goes k (Finished p) st = cc in read_end c _ k p st (step_keeps c (Mark mark.EndOfText 0)) e2
 
 read_step : (c : Config) (t : Lexeme) (ts : List Lexeme) (y : Step) (k : ℕ) (p : Source) (st : List Frame) → Moved (so_far c) t y
-    → ((d : Config) → raw (state_of d) (stack_of d) ts ≡ Over (Goes k (Done p) st) → Read d ts p)
-    → ran y (λ s2 st2. raw s2 st2 ts) (t ∷ ts) ≡ Over (Goes k (Done p) st) → Read c (t ∷ ts) p
+    → ((d : Config) → raw (state_of d) (stack_of d) ts ≡ Over (Goes k (Finished p) st) → Read d ts p)
+    → ran y (λ s2 st2. raw s2 st2 ts) (t ∷ ts) ≡ Over (Goes k (Finished p) st) → Read c (t ∷ ts) p
 read_step c t ts Stuck k p st h ih e = absurd cc
 read_step c t ts (Goes j s st2) k p st kept ih e =
     let r = ih kept.config (ap (λ s3. raw s3 (stack_of kept.config) ts) kept.is_state ∙ ap (λ st3. raw s st3 ts) kept.is_stack ∙ e) in
     record { decls = r.decls; is = r.is; spells = r.spells ∙ kept.spells ts }
 
-pub read : (ts : List Lexeme) (c : Config) (k : ℕ) (p : Source) (st : List Frame) → raw (state_of c) (stack_of c) ts ≡ Over (Goes k (Done p) st) → Read c ts p
+pub read : (ts : List Lexeme) (c : Config) (k : ℕ) (p : Source) (st : List Frame) → raw (state_of c) (stack_of c) ts ≡ Over (Goes k (Finished p) st) → Read c ts p
 read [] c k p st e = read_over c k p st e
 read (t ∷ ts) c k p st e = read_step c t ts _ k p st (advance_moved c t) (λ d h. read ts d k p st h) e
 
@@ -265,17 +265,17 @@ reach_begins before r =
       within = subst AreWithin (sym (ap (λ ls. take (length before) ls) levels ∙ take_front r.levels _ (length before) r.count)) r.within;
     }
 
-no_end : (y : Step) (k : ℕ) (p : Source) (st : List Frame) → NoEnd y → y ≡ Goes k (Done p) st → ⊥
+no_end : (y : Step) (k : ℕ) (p : Source) (st : List Frame) → NoEnd y → y ≡ Goes k (Finished p) st → ⊥
 no_end y k p st h e = subst NoEnd e h
 
 stuck_none : (before rest : List Lexeme) (r : Reach begin before) → StuckAt r.config rest → NoneGoesOn before rest
 stuck_none before [] r h = λ decls spells.
-    let e : Over (step (state_of r.config) (Mark mark.EndOfText 0) (stack_of r.config)) ≡ Over (Goes 0 (Done (source_of decls)) []) =
+    let e : Over (step (state_of r.config) (Mark mark.EndOfText 0) (stack_of r.config)) ≡ Over (Goes 0 (Finished (source_of decls)) []) =
     sym (r.raw_on []) ∙ ap (λ ts. raw start [] ts) (append-nil before ∙ sym spells) ∙ (program_gives decls).ends in
-    let e2 : step (state_of r.config) (Mark mark.EndOfText 0) (stack_of r.config) ≡ Goes 0 (Done (source_of decls)) [] = cc in
+    let e2 : step (state_of r.config) (Mark mark.EndOfText 0) (stack_of r.config) ≡ Goes 0 (Finished (source_of decls)) [] = cc in
     no_end _ 0 (source_of decls) [] h e2
 stuck_none before (t ∷ rest) r h = λ decls after spells.
-    let e : Halts (t ∷ after) ≡ Over (Goes 0 (Done (source_of decls)) []) =
+    let e : Halts (t ∷ after) ≡ Over (Goes 0 (Finished (source_of decls)) []) =
     sym (ap (λ y. ran y (λ s2 st2. raw s2 st2 after) (t ∷ after)) h) ∙ sym (r.raw_on (t ∷ after)) ∙ ap (λ ts. raw start [] ts) (sym spells) ∙ (program_gives decls).ends in
     absurd cc
 
@@ -283,9 +283,9 @@ falls_deep : (before : List Lexeme) (token : Lexeme) (r : Reach begin before) (k
     → advance (state_of r.config) token (stack_of r.config) ≡ Goes k s st → limit < k → GoesTooDeep before token
 falls_deep before token r k s st kept e h =
     let c = completed kept.config in
-    let over : raw s st c.more ≡ Over (Goes 0 (Done c.completes.source) []) =
+    let over : raw s st c.more ≡ Over (Goes 0 (Finished c.completes.source) []) =
     ap (λ st3. raw s st3 c.more) (sym kept.is_stack) ∙ ap (λ s3. raw s3 (stack_of kept.config) c.more) (sym kept.is_state) ∙ c.completes.ends in
-    let end : raw start [] (before ++ token ∷ c.more) ≡ Over (Goes 0 (Done c.completes.source) []) =
+    let end : raw start [] (before ++ token ∷ c.more) ≡ Over (Goes 0 (Finished c.completes.source) []) =
     r.raw_on (token ∷ c.more) ∙ ap (λ y. ran y (λ s2 st2. raw s2 st2 c.more) (token ∷ c.more)) e ∙ over in
     let d = read (before ++ token ∷ c.more) begin 0 c.completes.source [] end in
     let levels : levels_decls d.decls [] ≡ r.levels ++ k ∷ meter s st c.more =
@@ -304,7 +304,7 @@ falls_deep before token r k s st kept e h =
 pub yes_is_program : (ts : List Lexeme) (p : Source) → runs start [] ts ≡ Yes p → IsProgram ts p
 yes_is_program ts p e =
     let a : Accepts begin ts p = subst (Tells begin ts) e (tells ts begin) in
-    let over : raw start [] ts ≡ Over (Goes a.level (Done p) a.stack) =
+    let over : raw start [] ts ≡ Over (Goes a.level (Finished p) a.stack) =
     ap (λ xs. raw start [] xs) (sym (append-nil ts)) ∙ a.reach.raw_on [] ∙ ap Over a.ends in
     let d = read ts begin a.level p a.stack over in
     let levels : levels_decls d.decls [] ≡ a.reach.levels =
@@ -355,7 +355,7 @@ reaches (t ∷ before) x c z e w = reaches_step c t before x _ z refl (advance_m
 begins_reach : (before : List Lexeme) → BeginsProgram before → Reach begin before
 begins_reach before b =
     let g = program_gives b.decls in
-    reaches before b.rest begin (Goes 0 (Done (source_of b.decls)) [])
+    reaches before b.rest begin (Goes 0 (Finished (source_of b.decls)) [])
     (ap (λ ts. raw start [] ts) (sym b.spells) ∙ g.ends)
     (subst (λ ls. AreWithin (take (length before) ls)) (sym g.marks ∙ ap (λ ts. meter start [] ts) b.spells) b.within)
 
@@ -365,16 +365,16 @@ stop_end before r Stuck k h = refl
 stop_end before r (Goes l (InDecl s) st) k h = ends_nothing (nat_le l limit) (InDecl s) st (λ p q. absurd cc)
 stop_end before r (Goes l (InExpr s) st) k h = ends_nothing (nat_le l limit) (InExpr s) st (λ p q. absurd cc)
 stop_end before r (Goes l (InArm s) st) k h = ends_nothing (nat_le l limit) (InArm s) st (λ p q. absurd cc)
-stop_end before r (Goes l (Done p) st) k h = absurd (h k.decls (k.spells [] ∙ r.spells [] ∙ append-nil before))
+stop_end before r (Goes l (Finished p) st) k h = absurd (h k.decls (k.spells [] ∙ r.spells [] ∙ append-nil before))
 
 goes_program : (before : List Lexeme) (t : Lexeme) (r : Reach begin before) (k : ℕ) (s : State) (st : List Frame)
     → advance (state_of r.config) t (stack_of r.config) ≡ Goes k s st → Kept (so_far r.config) t s st
     → (decls : Decls) × (after : List Lexeme) × (spell_decls decls [] ≡ before ++ t ∷ after)
 goes_program before t r k s st e kept =
     let c = completed kept.config in
-    let over : raw s st c.more ≡ Over (Goes 0 (Done c.completes.source) []) =
+    let over : raw s st c.more ≡ Over (Goes 0 (Finished c.completes.source) []) =
     ap (λ st3. raw s st3 c.more) (sym kept.is_stack) ∙ ap (λ s3. raw s3 (stack_of kept.config) c.more) (sym kept.is_state) ∙ c.completes.ends in
-    let end : raw start [] (before ++ t ∷ c.more) ≡ Over (Goes 0 (Done c.completes.source) []) =
+    let end : raw start [] (before ++ t ∷ c.more) ≡ Over (Goes 0 (Finished c.completes.source) []) =
     r.raw_on (t ∷ c.more) ∙ ap (λ y. ran y (λ s2 st2. raw s2 st2 c.more) (t ∷ c.more)) e ∙ over in
     let d = read (before ++ t ∷ c.more) begin 0 c.completes.source [] end in
     (d.decls, c.more, d.spells)
@@ -398,7 +398,7 @@ sink_step : (before : List Lexeme) (t : Lexeme) (rest : List Lexeme) (r : Reach 
     → GoesTooDeep before t → onward (limited y) (λ s2 st2. runs s2 st2 rest) (t ∷ rest) ≡ TooDeep (t ∷ rest)
 sink_step before t rest r Stuck e h =
     let g = program_gives h.decls in
-    let q : Halts (t ∷ h.after) ≡ Over (Goes 0 (Done (source_of h.decls)) []) =
+    let q : Halts (t ∷ h.after) ≡ Over (Goes 0 (Finished (source_of h.decls)) []) =
     sym (ap (λ y. ran y (λ s2 st2. raw s2 st2 h.after) (t ∷ h.after)) e) ∙ sym (r.raw_on (t ∷ h.after)) ∙ ap (λ ts. raw start [] ts) (sym h.spells) ∙ g.ends in
     absurd cc
 sink_step before t rest r (Goes k s st) e h =
@@ -424,9 +424,9 @@ pub program_yes : (ts : List Lexeme) (p : Source) → IsProgram ts p → runs st
 program_yes ts p h =
     let g = program_gives h.decls in
     let all : ts ++ [] ≡ spell_decls h.decls [] = append-nil ts ∙ sym h.spells in
-    let over : raw start [] (ts ++ []) ≡ Over (Goes 0 (Done (source_of h.decls)) []) = ap (λ xs. raw start [] xs) all ∙ g.ends in
+    let over : raw start [] (ts ++ []) ≡ Over (Goes 0 (Finished (source_of h.decls)) []) = ap (λ xs. raw start [] xs) all ∙ g.ends in
     let r : Reach begin ts = reaches ts [] begin _ over
     (within_take (length ts) _ (subst AreWithin (sym g.marks ∙ ap (λ xs. meter start [] xs) (sym all)) h.within)) in
-    let last : Over (step (state_of r.config) (Mark mark.EndOfText 0) (stack_of r.config)) ≡ Over (Goes 0 (Done (source_of h.decls)) []) = sym (r.raw_on []) ∙ over in
-    let end : step (state_of r.config) (Mark mark.EndOfText 0) (stack_of r.config) ≡ Goes 0 (Done (source_of h.decls)) [] = cc in
+    let last : Over (step (state_of r.config) (Mark mark.EndOfText 0) (stack_of r.config)) ≡ Over (Goes 0 (Finished (source_of h.decls)) []) = sym (r.raw_on []) ∙ over in
+    let end : step (state_of r.config) (Mark mark.EndOfText 0) (stack_of r.config) ≡ Goes 0 (Finished (source_of h.decls)) [] = cc in
     ap (λ xs. runs start [] xs) (sym (append-nil ts)) ∙ r.runs_on [] ∙ ap (λ y. ending (limited y)) end ∙ ap Yes h.is

@@ -4,7 +4,7 @@ use Rattle.std.specs.List.{list_all}
 use Rattle.camelot_values.specs.Operator as operator
 use Rattle.camelot_tree.specs.declared.tree.Name.{Name}
 use Rattle.camelot_tree.specs.Tree as tree
-use Rattle.camelot_tree.specs.Tree.{Term, Branch, Source}
+use Rattle.camelot_tree.specs.Tree.{Expression, Branch, Source}
 use Rattle.camelot_grammar.specs.Grammar as gr
 use Rattle.camelot_grammar.specs.Program as pr
 use Rattle.camelot_grammar.specs.Program.{Operand, Joint}
@@ -33,92 +33,92 @@ some_append : {A : Type 0} (xs : List A) (y : A) → is_nothing (xs ++ y ∷ [])
 some_append [] y = refl
 some_append (x ∷ xs) y = refl
 
-terms_have : (es : List Term) → list_all has_arms es ≡ true → each_has_arms (tree.terms es) ≡ true
-terms_have [] h = refl
-terms_have (e ∷ es) h = both (has_arms e) _ (and_first (has_arms e) _ h) (terms_have es (and_second (has_arms e) _ h))
+expressions_have : (es : List Expression) → list_all has_arms es ≡ true → each_has_arms (tree.expressions es) ≡ true
+expressions_have [] h = refl
+expressions_have (e ∷ es) h = both (has_arms e) _ (and_first (has_arms e) _ h) (expressions_have es (and_second (has_arms e) _ h))
 
 arms_have : (bs : List Branch) → list_all (λ b. has_arms b.body) bs ≡ true → have_arms (tree.arms bs) ≡ true
 arms_have [] h = refl
 arms_have (b ∷ bs) h = both (has_arms b.body) _ (and_first (has_arms b.body) _ h) (arms_have bs (and_second (has_arms b.body) _ h))
 
-match_has : (e : Term) (bs : List Branch) (l : ℕ) → is_nothing bs ≡ false → has_arms e ≡ true → list_all (λ b. has_arms b.body) bs ≡ true → has_arms (tree.Match e (tree.arms bs) l) ≡ true
+match_has : (e : Expression) (bs : List Branch) (l : ℕ) → is_nothing bs ≡ false → has_arms e ≡ true → list_all (λ b. has_arms b.body) bs ≡ true → has_arms (tree.Match e (tree.arms bs) l) ≡ true
 match_has e [] l s h k = absurd cc
 match_has e (b ∷ bs) l s h k = both (has_arms e) _ h (both (has_arms b.body) _ (and_first (has_arms b.body) _ k) (arms_have bs (and_second (has_arms b.body) _ k)))
 
-applied_has : (f : Name) (es : List Term) → list_all has_arms es ≡ true → has_arms (pr.applied f es) ≡ true
+applied_has : (f : Name) (es : List Expression) → list_all has_arms es ≡ true → has_arms (pr.applied f es) ≡ true
 applied_has f [] h = refl
-applied_has f (e ∷ es) h = terms_have (e ∷ es) h
+applied_has f (e ∷ es) h = expressions_have (e ∷ es) h
 
-join_has : (j : Joint) (l : ℕ) (a b : Operand) → has_arms a.term ≡ true → has_arms b.term ≡ true → has_arms (pr.join j l a b).term ≡ true
+join_has : (j : Joint) (l : ℕ) (a b : Operand) → has_arms a.expression ≡ true → has_arms b.expression ≡ true → has_arms (pr.join j l a b).expression ≡ true
 join_has (pr.Prim o) l a b h k = both _ _ h k
-join_has pr.AndThen l a b h k = both (has_arms a.term) _ h (both (has_arms b.term) true k refl)
-join_has pr.OrElse l a b h k = both (has_arms a.term) _ h k
+join_has pr.AndThen l a b h k = both (has_arms a.expression) _ h (both (has_arms b.expression) true k refl)
+join_has pr.OrElse l a b h k = both (has_arms a.expression) _ h k
 
 branches_some : (as' : gr.Arms) → is_nothing (pr.branches as') ≡ false
 branches_some (gr.OneArm a) = refl
 branches_some (gr.MoreArms as' l a) = some_append (pr.branches as') (pr.branch a)
 
 mutual
-  solid_has : (u : gr.Solid) → has_arms (pr.solid_operand u).term ≡ true
+  solid_has : (u : gr.Solid) → has_arms (pr.solid_operand u).expression ≡ true
   solid_has (gr.Literal n l) = refl
   solid_has (gr.True l) = refl
   solid_has (gr.False l) = refl
-  solid_has (gr.Full c l es m p) = terms_have (pr.expr_terms es) (exprs_have es)
+  solid_has (gr.Full c l es m p) = expressions_have (pr.expr_trees es) (exprs_have es)
   solid_has (gr.Placed c l d) = refl
 
-  firm_has : (u : gr.Firm) → has_arms (pr.firm_operand u).term ≡ true
+  firm_has : (u : gr.Firm) → has_arms (pr.firm_operand u).expression ≡ true
   firm_has (gr.Is u) = solid_has u
   firm_has (gr.Paren l e m) = expr_has e
 
-  units_have : (us : gr.Units) → list_all has_arms (pr.unit_terms us) ≡ true
+  units_have : (us : gr.Units) → list_all has_arms (pr.unit_expressions us) ≡ true
   units_have gr.NoUnits = refl
-  units_have (gr.AndLower us n) = all_append has_arms (pr.unit_terms us) (tree.Var n) (units_have us) refl
-  units_have (gr.AndFirm us u) = all_append has_arms (pr.unit_terms us) (pr.firm_operand u).term (units_have us) (firm_has u)
-  units_have (gr.BareLower bs n) = all_append has_arms (pr.bare_terms bs) (tree.Var n) (bare_have bs) refl
-  units_have (gr.BareSolid bs u) = all_append has_arms (pr.bare_terms bs) (pr.solid_operand u).term (bare_have bs) (solid_has u)
+  units_have (gr.AndLower us n) = all_append has_arms (pr.unit_expressions us) (tree.Var n) (units_have us) refl
+  units_have (gr.AndFirm us u) = all_append has_arms (pr.unit_expressions us) (pr.firm_operand u).expression (units_have us) (firm_has u)
+  units_have (gr.BareLower bs n) = all_append has_arms (pr.bare_expressions bs) (tree.Var n) (bare_have bs) refl
+  units_have (gr.BareSolid bs u) = all_append has_arms (pr.bare_expressions bs) (pr.solid_operand u).expression (bare_have bs) (solid_has u)
 
-  bare_have : (bs : gr.Bare) → list_all has_arms (pr.bare_terms bs) ≡ true
-  bare_have (gr.AndUpper us n) = all_append has_arms (pr.unit_terms us) _ (units_have us) refl
-  bare_have (gr.BareUpper bs n) = all_append has_arms (pr.bare_terms bs) _ (bare_have bs) refl
+  bare_have : (bs : gr.Bare) → list_all has_arms (pr.bare_expressions bs) ≡ true
+  bare_have (gr.AndUpper us n) = all_append has_arms (pr.unit_expressions us) _ (units_have us) refl
+  bare_have (gr.BareUpper bs n) = all_append has_arms (pr.bare_expressions bs) _ (bare_have bs) refl
 
-  pre_has : (x : gr.Pre) → has_arms (pr.pre_operand x).term ≡ true
-  pre_has (gr.Not l x) = both (has_arms (pr.pre_operand x).term) true (pre_has x) refl
+  pre_has : (x : gr.Pre) → has_arms (pr.pre_operand x).expression ≡ true
+  pre_has (gr.Not l x) = both (has_arms (pr.pre_operand x).expression) true (pre_has x) refl
   pre_has (gr.Negative l n m) = refl
   pre_has (gr.Least l m) = refl
-  pre_has (gr.Apply f us) = applied_has f (pr.unit_terms us) (units_have us)
-  pre_has (gr.ApplyBare f bs) = applied_has f (pr.bare_terms bs) (bare_have bs)
+  pre_has (gr.Apply f us) = applied_has f (pr.unit_expressions us) (units_have us)
+  pre_has (gr.ApplyBare f bs) = applied_has f (pr.bare_expressions bs) (bare_have bs)
   pre_has (gr.Con n) = refl
   pre_has (gr.Alone u) = firm_has u
 
-  prod_has : (y : gr.Prod) → has_arms (pr.prod_operand y).term ≡ true
+  prod_has : (y : gr.Prod) → has_arms (pr.prod_operand y).expression ≡ true
   prod_has (gr.OnePre x) = pre_has x
   prod_has (gr.Times y gr.Star l x) = join_has (pr.Prim operator.Mul) l (pr.prod_operand y) (pr.pre_operand x) (prod_has y) (pre_has x)
 
-  sum_has : (y : gr.Sum) → has_arms (pr.sum_operand y).term ≡ true
+  sum_has : (y : gr.Sum) → has_arms (pr.sum_operand y).expression ≡ true
   sum_has (gr.OneProd x) = prod_has x
   sum_has (gr.Adds y o l x) = join_has (pr.sign_joint o) l (pr.sum_operand y) (pr.prod_operand x) (sum_has y) (prod_has x)
 
-  cmp_has : (y : gr.Cmp) → has_arms (pr.cmp_operand y).term ≡ true
+  cmp_has : (y : gr.Cmp) → has_arms (pr.cmp_operand y).expression ≡ true
   cmp_has (gr.OneSum x) = sum_has x
   cmp_has (gr.Compares y o l x) = join_has (pr.comparison_joint o) l (pr.sum_operand y) (pr.sum_operand x) (sum_has y) (sum_has x)
 
-  and_has : (y : gr.And) → has_arms (pr.and_operand y).term ≡ true
+  and_has : (y : gr.And) → has_arms (pr.and_operand y).expression ≡ true
   and_has (gr.OneCmp x) = cmp_has x
   and_has (gr.Both y l x) = join_has pr.AndThen l (pr.and_operand y) (pr.cmp_operand x) (and_has y) (cmp_has x)
 
-  or_has : (y : gr.Or) → has_arms (pr.or_operand y).term ≡ true
+  or_has : (y : gr.Or) → has_arms (pr.or_operand y).expression ≡ true
   or_has (gr.OneAnd x) = and_has x
   or_has (gr.Either y l x) = join_has pr.OrElse l (pr.or_operand y) (pr.and_operand x) (or_has y) (and_has x)
 
-  expr_has : (e : gr.Expr) → has_arms (pr.expr_term e) ≡ true
-  expr_has (gr.Let l n m v i b) = both (has_arms (pr.expr_term v)) _ (expr_has v) (expr_has b)
-  expr_has (gr.If l c m a n b) = both (has_arms (pr.expr_term c)) _ (expr_has c) (both (has_arms (pr.expr_term a)) _ (expr_has a) (expr_has b))
-  expr_has (gr.Match l e m bar as' n) = match_has (pr.expr_term e) (pr.branches as') l (branches_some as') (expr_has e) (branches_have as')
+  expr_has : (e : gr.Expr) → has_arms (pr.expr_tree e) ≡ true
+  expr_has (gr.Let l n m v i b) = both (has_arms (pr.expr_tree v)) _ (expr_has v) (expr_has b)
+  expr_has (gr.If l c m a n b) = both (has_arms (pr.expr_tree c)) _ (expr_has c) (both (has_arms (pr.expr_tree a)) _ (expr_has a) (expr_has b))
+  expr_has (gr.Match l e m bar as' n) = match_has (pr.expr_tree e) (pr.branches as') l (branches_some as') (expr_has e) (branches_have as')
   expr_has (gr.Chain o) = or_has o
 
-  exprs_have : (es : gr.Exprs) → list_all has_arms (pr.expr_terms es) ≡ true
-  exprs_have (gr.OneExpr e) = both (has_arms (pr.expr_term e)) true (expr_has e) refl
-  exprs_have (gr.MoreExprs es l e) = all_append has_arms (pr.expr_terms es) (pr.expr_term e) (exprs_have es) (expr_has e)
+  exprs_have : (es : gr.Exprs) → list_all has_arms (pr.expr_trees es) ≡ true
+  exprs_have (gr.OneExpr e) = both (has_arms (pr.expr_tree e)) true (expr_has e) refl
+  exprs_have (gr.MoreExprs es l e) = all_append has_arms (pr.expr_trees es) (pr.expr_tree e) (exprs_have es) (expr_has e)
 
   branches_have : (as' : gr.Arms) → list_all (λ b. has_arms b.body) (pr.branches as') ≡ true
   branches_have (gr.OneArm a) = both (has_arms (pr.branch a).body) true (arm_has a) refl

@@ -9,7 +9,7 @@ use Rattle.camelot_grammar.specs.Grammar as gr
 use Rattle.camelot_grammar.specs.Program as pr
 use Rattle.camelot_grammar.specs.Program.{Operand}
 use Rattle.camelot_grammar.specs.Machine as mc
-use Rattle.camelot_grammar.specs.Machine.{State, InDecl, InExpr, InArm, Done, Frame, Step, Stuck, Goes, step}
+use Rattle.camelot_grammar.specs.Machine.{State, InDecl, InExpr, InArm, Finished, Frame, Step, Stuck, Goes, step}
 use Rattle.camelot_grammar.proofs.Concrete as co
 use Rattle.camelot_grammar.proofs.Concrete.{Config, InDecls, InExprs, InArms, state_of, stack_of, so_far, Chains, MkChains, Stack, frames, stack_before, Call, Firm, FirmCall, NoCall, Behind, BehindBare, slot_of, slot_before, spot_of, spot_before}
 
@@ -34,7 +34,7 @@ pub record Ended (read : List Lexeme → List Lexeme) (t : Lexeme) (level : ℕ)
 
 abbrev pub Keeps : (List Lexeme → List Lexeme) → Lexeme → Step → Type 0
 Keeps read t Stuck = Unit {0}
-Keeps read t (Goes k (Done p) st) = Ended read t k p
+Keeps read t (Goes k (Finished p) st) = Ended read t k p
 Keeps read t (Goes k s st) = Kept read t s st
 
 keep : {read : List Lexeme → List Lexeme} {t : Lexeme} (c : Config) → ((r : List Lexeme) → so_far c r ≡ read (t ∷ r)) → Kept read t (state_of c) (stack_of c)
@@ -158,18 +158,18 @@ paren_kept read t c nots (Behind f us) u st h = keep (InExprs (co.Applied c nots
 
 args_comma : (read : List Lexeme → List Lexeme) (t : Lexeme) (c : Chains) (nots : List ℕ) (x : Call) (n : Name) (l m : ℕ) (es : co.SomeExprs) (e : gr.Expr) (st : Stack)
     → ((r : List Lexeme) → stack_before st (spot_before c nots x (Upper n ∷ Mark mark.Open l ∷ gr.spell_exprs (co.more_exprs es e) (Mark mark.Comma m ∷ r))) ≡ read (t ∷ r))
-    → Kept read t (InExpr (mc.Want (slot_of c nots).level)) (mc.Args (spot_of c nots x) n (co.some_terms es ++ pr.expr_term e ∷ []) ∷ frames st)
+    → Kept read t (InExpr (mc.Want (slot_of c nots).level)) (mc.Args (spot_of c nots x) n (co.some_expressions es ++ pr.expr_tree e ∷ []) ∷ frames st)
 args_comma read t c nots x n l m co.NoExprs e st h = keep (InExprs (co.Want (slot_of c nots).level) (co.Args c nots x n l (co.ExprsComma (gr.OneExpr e) m) st)) h
 args_comma read t c nots x n l m (co.ExprsComma es i) e st h = keep (InExprs (co.Want (slot_of c nots).level) (co.Args c nots x n l (co.ExprsComma (gr.MoreExprs es i e) m) st)) h
 
 args_close : (read : List Lexeme → List Lexeme) (t : Lexeme) (c : Chains) (nots : List ℕ) (x : Call) (n : Name) (l m : ℕ) (es : co.SomeExprs) (e : gr.Expr) (st : Stack)
     → ((r : List Lexeme) → stack_before st (spot_before c nots x (Upper n ∷ Mark mark.Open l ∷ gr.spell_exprs (co.more_exprs es e) (Mark mark.Close m ∷ r))) ≡ read (t ∷ r))
-    → Kept read t (InExpr (mc.Full (spot_of c nots x) n (co.some_terms es ++ pr.expr_term e ∷ []))) (frames st)
+    → Kept read t (InExpr (mc.Full (spot_of c nots x) n (co.some_expressions es ++ pr.expr_tree e ∷ []))) (frames st)
 args_close read t c nots x n l m co.NoExprs e st h = keep (InExprs (co.Full c nots x n l (gr.OneExpr e) m) st) h
 args_close read t c nots x n l m (co.ExprsComma es i) e st h = keep (InExprs (co.Full c nots x n l (gr.MoreExprs es i e) m) st) h
 
 body_keeps : (m : co.Matching) (c : Name) (fs : gr.Fields) (x : gr.Cell) (l : ℕ) (e : gr.Expr) (st : Stack) (t : Lexeme)
-    → Keeps (λ r. stack_before (co.ArmBody m c fs x l st) (gr.spell_expr e r)) t (mc.close_in (mc.ArmBody (co.matching_of m) (mc.head c (pr.names_of fs) (pr.cell_of x))) (pr.expr_term e) t (frames st))
+    → Keeps (λ r. stack_before (co.ArmBody m c fs x l st) (gr.spell_expr e r)) t (mc.close_in (mc.ArmBody (co.matching_of m) (mc.head c (pr.names_of fs) (pr.cell_of x))) (pr.expr_tree e) t (frames st))
 unfolding mc.close_in
 body_keeps (co.MkMatching k i o j (co.NoArms bar)) c fs x l e st (Mark mark.Bar n) =
     keep (InArms (co.WantArm (co.MkMatching k i o j (co.ArmsBar bar (gr.OneArm (gr.Case c fs x l e)) n))) st) (λ r. refl)
@@ -182,7 +182,7 @@ body_keeps (co.MkMatching k i o j (co.ArmsBar bar as' h)) c fs x l e st (Mark ma
 body_keeps m c fs x l e st t = tt
 
 args_keeps : (c : Chains) (nots : List ℕ) (x : Call) (n : Name) (l : ℕ) (es : co.SomeExprs) (st : Stack) (e : gr.Expr) (t : Lexeme)
-    → Keeps (λ r. stack_before (co.Args c nots x n l es st) (gr.spell_expr e r)) t (mc.close_in (mc.Args (spot_of c nots x) n (co.some_terms es)) (pr.expr_term e) t (frames st))
+    → Keeps (λ r. stack_before (co.Args c nots x n l es st) (gr.spell_expr e r)) t (mc.close_in (mc.Args (spot_of c nots x) n (co.some_expressions es)) (pr.expr_tree e) t (frames st))
 unfolding mc.close_in
 args_keeps c nots x n l co.NoExprs st e (Mark mark.Comma m) =
     keep (InExprs (co.Want (slot_of c nots).level) (co.Args c nots x n l (co.ExprsComma (gr.OneExpr e) m) st)) (λ r. refl)
@@ -192,7 +192,7 @@ args_keeps c nots x n l co.NoExprs st e (Mark mark.Close m) = keep (InExprs (co.
 args_keeps c nots x n l (co.ExprsComma es i) st e (Mark mark.Close m) = keep (InExprs (co.Full c nots x n l (gr.MoreExprs es i e) m) st) (λ r. refl)
 args_keeps c nots x n l es st e t = tt
 
-close_keeps : (st : Stack) (e : gr.Expr) (t : Lexeme) → Keeps (λ r. stack_before st (gr.spell_expr e r)) t (mc.close (frames st) (pr.expr_term e) t)
+close_keeps : (st : Stack) (e : gr.Expr) (t : Lexeme) → Keeps (λ r. stack_before st (gr.spell_expr e r)) t (mc.close (frames st) (pr.expr_tree e) t)
 unfolding mc.close mc.unwind mc.close_in
 close_keeps (co.Body ds l n ps k m) e t = top_keeps (gr.AndFun ds l n ps k m e) t
 close_keeps (co.LetBody l n m w i st) e t = close_keeps st (gr.Let l n m w i e) t
@@ -311,13 +311,13 @@ bare_unit_keeps c nots f bs st (Mark mark.Open l) h = absurd h
 bare_unit_keeps c nots f bs st t h = tt
 
 argument_keeps : (c : Chains) (nots : List ℕ) (f : Name) (us : gr.Units) (st : Stack) (t : Lexeme)
-    → Keeps (λ r. stack_before st (slot_before c nots (Lower f ∷ gr.spell_units us r))) t (mc.argument_step (slot_of c nots) f (pr.unit_terms us) t (frames st))
+    → Keeps (λ r. stack_before st (slot_before c nots (Lower f ∷ gr.spell_units us r))) t (mc.argument_step (slot_of c nots) f (pr.unit_expressions us) t (frames st))
 unfolding mc.argument_step
 argument_keeps c nots f us st (Lower n) = keep (InExprs (co.Applied c nots f (gr.AndLower us n)) st) (λ r. refl)
 argument_keeps c nots f us st t = unit_keeps c nots (Behind f us) st t
 
 bare_argument_keeps : (c : Chains) (nots : List ℕ) (f : Name) (bs : gr.Bare) (st : Stack) (t : Lexeme) → NotOpen t
-    → Keeps (λ r. stack_before st (slot_before c nots (Lower f ∷ gr.spell_bare bs r))) t (mc.argument_step (slot_of c nots) f (pr.bare_terms bs) t (frames st))
+    → Keeps (λ r. stack_before st (slot_before c nots (Lower f ∷ gr.spell_bare bs r))) t (mc.argument_step (slot_of c nots) f (pr.bare_expressions bs) t (frames st))
 unfolding mc.argument_step
 bare_argument_keeps c nots f bs st (Lower n) h = keep (InExprs (co.Applied c nots f (gr.BareLower bs n)) st) (λ r. refl)
 bare_argument_keeps c nots f bs st t h = bare_unit_keeps c nots f bs st t h
@@ -328,13 +328,13 @@ either_keeps read t true x y h i = h
 either_keeps read t false x y h i = i
 
 applied_keeps : (c : Chains) (nots : List ℕ) (f : Name) (us : gr.Units) (st : Stack) (t : Lexeme)
-    → Keeps (λ r. stack_before st (slot_before c nots (Lower f ∷ gr.spell_units us r))) t (mc.applied_step (slot_of c nots) f (pr.unit_terms us) t (frames st))
+    → Keeps (λ r. stack_before st (slot_before c nots (Lower f ∷ gr.spell_units us r))) t (mc.applied_step (slot_of c nots) f (pr.unit_expressions us) t (frames st))
 unfolding mc.applied_step mc.after_operand
 applied_keeps c nots f us st t =
     either_keeps _ t (mc.begins_argument t) _ _ (argument_keeps c nots f us st t) (operand_keeps c nots (gr.Apply f us) st t)
 
 bare_applied_keeps : (c : Chains) (nots : List ℕ) (f : Name) (bs : gr.Bare) (st : Stack) (t : Lexeme) → NotOpen t
-    → Keeps (λ r. stack_before st (slot_before c nots (Lower f ∷ gr.spell_bare bs r))) t (mc.applied_step (slot_of c nots) f (pr.bare_terms bs) t (frames st))
+    → Keeps (λ r. stack_before st (slot_before c nots (Lower f ∷ gr.spell_bare bs r))) t (mc.applied_step (slot_of c nots) f (pr.bare_expressions bs) t (frames st))
 unfolding mc.applied_step mc.after_operand
 bare_applied_keeps c nots f bs st t h =
     either_keeps _ t (mc.begins_argument t) _ _ (bare_argument_keeps c nots f bs st t h) (operand_keeps c nots (gr.ApplyBare f bs) st t)
@@ -362,13 +362,13 @@ con_unit_keeps c nots x n st (Mark mark.At l) = keep (InExprs (co.Placed c nots 
 con_unit_keeps c nots x n st t = con_after c nots x n st t tt
 
 full_keeps : (c : Chains) (nots : List ℕ) (x : Call) (n : Name) (l : ℕ) (es : gr.Exprs) (m : ℕ) (st : Stack) (t : Lexeme)
-    → Keeps (λ r. stack_before st (co.expr_before (co.Full c nots x n l es m) r)) t (mc.full_step (spot_of c nots x) n (pr.expr_terms es) t (frames st))
+    → Keeps (λ r. stack_before st (co.expr_before (co.Full c nots x n l es m) r)) t (mc.full_step (spot_of c nots x) n (pr.expr_trees es) t (frames st))
 unfolding mc.full_step
 full_keeps c nots x n l es m st (Mark mark.At i) = keep (InExprs (co.Placed c nots x n (co.SomeParts l es m) i) st) (λ r. refl)
 full_keeps c nots x n l es m st t = solid_after c nots x (gr.Full n l es m gr.NoPlace) st t
 
 placed_keeps : (c : Chains) (nots : List ℕ) (x : Call) (n : Name) (ps : co.Parts) (l : ℕ) (st : Stack) (t : Lexeme)
-    → Keeps (λ r. stack_before st (co.expr_before (co.Placed c nots x n ps l) r)) t (mc.placed_step (spot_of c nots x) n (co.part_terms ps) t (frames st))
+    → Keeps (λ r. stack_before st (co.expr_before (co.Placed c nots x n ps l) r)) t (mc.placed_step (spot_of c nots x) n (co.part_expressions ps) t (frames st))
 unfolding mc.placed_step
 placed_keeps c nots x n co.NoParts l st (Lower d) = solid_kept _ (Lower d) c nots x (gr.Placed n l d) st (λ r. refl)
 placed_keeps c nots x n (co.SomeParts i es j) l st (Lower d) = solid_kept _ (Lower d) c nots x (gr.Full n i es j (gr.At l d)) st (λ r. refl)

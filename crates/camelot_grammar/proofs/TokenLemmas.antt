@@ -9,8 +9,8 @@ use Rattle.camelot_values.specs.Value.{is_int32}
 use Rattle.camelot_values.specs.Names as names
 use Rattle.camelot_tree.specs.declared.tree.Name.{Name}
 use Rattle.camelot_tree.specs.Tree as tree
-use Rattle.camelot_tree.specs.Tree.{Term, Branch, Source}
-use Rattle.camelot_tree.specs.Tokens.{is_lower, is_upper, is_lower_or_none, cell_is_named, term_is_named, terms_are_named, arms_are_named, atom_is_named, written_is_named, con_is_named, type_is_named, param_is_named, fun_is_named, is_named, term_has_ints, terms_have_ints, arms_have_ints, has_ints}
+use Rattle.camelot_tree.specs.Tree.{Expression, Branch, Source}
+use Rattle.camelot_tree.specs.Tokens.{is_lower, is_upper, is_lower_or_none, cell_is_named, expression_is_named, expressions_are_named, arms_are_named, atom_is_named, written_is_named, con_is_named, type_is_named, param_is_named, fun_is_named, is_named, expression_has_ints, expressions_have_ints, arms_have_ints, has_ints}
 use Rattle.camelot_grammar.specs.declared.lexeme.Lexeme.{Lexeme}
 use Rattle.camelot_grammar.specs.declared.lexeme.Lexeme.TheVariants.{Lower, Upper}
 use Rattle.camelot_grammar.specs.Lexemes.{IsReal}
@@ -63,22 +63,22 @@ negative_real : (n : ℕ) → n < 2147483648 → is_int32 (pos 0 -ℤ pos n) ≡
 negative_real zero h = refl
 negative_real (suc n) h = grind (arith, h)
 
--- ---- terms
+-- ---- expressions
 
 -- its names have their forms and its literals 32 bits
-pub record Good (e : Term) : Type 0 where
-  pub named : term_is_named e ≡ true
-  pub ints : term_has_ints e ≡ true
+pub record Good (e : Expression) : Type 0 where
+  pub named : expression_is_named e ≡ true
+  pub ints : expression_has_ints e ≡ true
 
-pub record AllGood (es : List Term) : Type 0 where
-  pub named : list_all term_is_named es ≡ true
-  pub ints : list_all term_has_ints es ≡ true
+pub record AllGood (es : List Expression) : Type 0 where
+  pub named : list_all expression_is_named es ≡ true
+  pub ints : list_all expression_has_ints es ≡ true
 
 abbrev pub branch_named : Branch → Bool
-branch_named b = is_upper b.con && (list_all is_lower_or_none b.fields && (cell_is_named b.cell && term_is_named b.body))
+branch_named b = is_upper b.con && (list_all is_lower_or_none b.fields && (cell_is_named b.cell && expression_is_named b.body))
 
 abbrev pub branch_ints : Branch → Bool
-branch_ints b = term_has_ints b.body
+branch_ints b = expression_has_ints b.body
 
 pub record BranchesGood (bs : List Branch) : Type 0 where
   pub named : list_all branch_named bs ≡ true
@@ -87,19 +87,19 @@ pub record BranchesGood (bs : List Branch) : Type 0 where
 none_good : AllGood []
 none_good = record { named = refl; ints = refl }
 
-good_append : (es : List Term) (e : Term) → AllGood es → Good e → AllGood (es ++ e ∷ [])
-good_append es e h k = record { named = all_append term_is_named es e h.named k.named; ints = all_append term_has_ints es e h.ints k.ints }
+good_append : (es : List Expression) (e : Expression) → AllGood es → Good e → AllGood (es ++ e ∷ [])
+good_append es e h k = record { named = all_append expression_is_named es e h.named k.named; ints = all_append expression_has_ints es e h.ints k.ints }
 
-good_one : (e : Term) → Good e → AllGood (e ∷ [])
+good_one : (e : Expression) → Good e → AllGood (e ∷ [])
 good_one e k = record { named = both _ true k.named refl; ints = both _ true k.ints refl }
 
-terms_named : (es : List Term) → list_all term_is_named es ≡ true → terms_are_named (tree.terms es) ≡ true
-terms_named [] h = refl
-terms_named (e ∷ es) h = both (term_is_named e) _ (and_first (term_is_named e) _ h) (terms_named es (and_second (term_is_named e) _ h))
+expressions_named : (es : List Expression) → list_all expression_is_named es ≡ true → expressions_are_named (tree.expressions es) ≡ true
+expressions_named [] h = refl
+expressions_named (e ∷ es) h = both (expression_is_named e) _ (and_first (expression_is_named e) _ h) (expressions_named es (and_second (expression_is_named e) _ h))
 
-terms_ints : (es : List Term) → list_all term_has_ints es ≡ true → terms_have_ints (tree.terms es) ≡ true
-terms_ints [] h = refl
-terms_ints (e ∷ es) h = both (term_has_ints e) _ (and_first (term_has_ints e) _ h) (terms_ints es (and_second (term_has_ints e) _ h))
+expressions_ints : (es : List Expression) → list_all expression_has_ints es ≡ true → expressions_have_ints (tree.expressions es) ≡ true
+expressions_ints [] h = refl
+expressions_ints (e ∷ es) h = both (expression_has_ints e) _ (and_first (expression_has_ints e) _ h) (expressions_ints es (and_second (expression_has_ints e) _ h))
 
 arms_named : (bs : List Branch) → list_all branch_named bs ≡ true → arms_are_named (tree.arms bs) ≡ true
 arms_named [] h = refl
@@ -112,31 +112,31 @@ arms_ints (b ∷ bs) h = both (branch_ints b) _ (and_first (branch_ints b) _ h) 
 good_var : (n : Name) → is_lower n ≡ true → Good (tree.Var n)
 good_var n h = record { named = h; ints = refl }
 
-good_build : (c : Name) (es : List Term) (p : Option Name) → is_upper c ≡ true → AllGood es → is_lower_or_none p ≡ true → Good (tree.Build c (tree.terms es) p)
-good_build c es p h k i = record { named = both _ _ h (both _ _ (terms_named es k.named) i); ints = terms_ints es k.ints }
+good_build : (c : Name) (es : List Expression) (p : Option Name) → is_upper c ≡ true → AllGood es → is_lower_or_none p ≡ true → Good (tree.Build c (tree.expressions es) p)
+good_build c es p h k i = record { named = both _ _ h (both _ _ (expressions_named es k.named) i); ints = expressions_ints es k.ints }
 
-good_applied : (f : Name) (es : List Term) → is_lower f ≡ true → AllGood es → Good (pr.applied f es)
+good_applied : (f : Name) (es : List Expression) → is_lower f ≡ true → AllGood es → Good (pr.applied f es)
 good_applied f [] h k = record { named = h; ints = refl }
-good_applied f (e ∷ es) h k = record { named = both _ _ h (terms_named (e ∷ es) k.named); ints = terms_ints (e ∷ es) k.ints }
+good_applied f (e ∷ es) h k = record { named = both _ _ h (expressions_named (e ∷ es) k.named); ints = expressions_ints (e ∷ es) k.ints }
 
-good_join : (j : Joint) (l : ℕ) (a b : Operand) → Good a.term → Good b.term → Good (pr.join j l a b).term
+good_join : (j : Joint) (l : ℕ) (a b : Operand) → Good a.expression → Good b.expression → Good (pr.join j l a b).expression
 good_join (pr.Prim o) l a b h k = record { named = both _ _ h.named k.named; ints = both _ _ h.ints k.ints }
 good_join pr.AndThen l a b h k = record {
-  named = both (term_is_named a.term) _ h.named (both (term_is_named b.term) true k.named refl);
-  ints = both (term_has_ints a.term) _ h.ints (both (term_has_ints b.term) true k.ints refl);
+  named = both (expression_is_named a.expression) _ h.named (both (expression_is_named b.expression) true k.named refl);
+  ints = both (expression_has_ints a.expression) _ h.ints (both (expression_has_ints b.expression) true k.ints refl);
 }
 good_join pr.OrElse l a b h k = record { named = both _ _ h.named k.named; ints = both _ _ h.ints k.ints }
 
-good_not : (l : ℕ) (a : Operand) → Good a.term → Good (pr.negated l a).term
-good_not l a h = record { named = both (term_is_named a.term) true h.named refl; ints = both (term_has_ints a.term) true h.ints refl }
+good_not : (l : ℕ) (a : Operand) → Good a.expression → Good (pr.negated l a).expression
+good_not l a h = record { named = both (expression_is_named a.expression) true h.named refl; ints = both (expression_has_ints a.expression) true h.ints refl }
 
-good_let : (n : Name) (v b : Term) → is_lower n ≡ true → Good v → Good b → Good (tree.Let n v b)
+good_let : (n : Name) (v b : Expression) → is_lower n ≡ true → Good v → Good b → Good (tree.Let n v b)
 good_let n v b h i k = record { named = both _ _ h (both _ _ i.named k.named); ints = both _ _ i.ints k.ints }
 
-good_if : (c a b : Term) (l : ℕ) → Good c → Good a → Good b → Good (tree.If c a b l)
+good_if : (c a b : Expression) (l : ℕ) → Good c → Good a → Good b → Good (tree.If c a b l)
 good_if c a b l h i k = record { named = both _ _ h.named (both _ _ i.named k.named); ints = both _ _ h.ints (both _ _ i.ints k.ints) }
 
-good_match : (e : Term) (bs : List Branch) (l : ℕ) → Good e → BranchesGood bs → Good (tree.Match e (tree.arms bs) l)
+good_match : (e : Expression) (bs : List Branch) (l : ℕ) → Good e → BranchesGood bs → Good (tree.Match e (tree.arms bs) l)
 good_match e bs l h k = record { named = both _ _ h.named (arms_named bs k.named); ints = both _ _ h.ints (arms_ints bs k.ints) }
 
 -- ---- trees of the grammar
@@ -169,111 +169,111 @@ bar_real gr.NoBar r h = h
 bar_real (gr.Bar l) r h = h.1
 
 mutual
-  solid_real : (u : gr.Solid) (r : List Lexeme) → Real (gr.spell_solid u r) → Good (pr.solid_operand u).term × Real r
+  solid_real : (u : gr.Solid) (r : List Lexeme) → Real (gr.spell_solid u r) → Good (pr.solid_operand u).expression × Real r
   solid_real (gr.Literal n l) r h = (record { named = refl; ints = number_real n h.0 }, h.1)
   solid_real (gr.True l) r h = (record { named = refl; ints = refl }, h.1)
   solid_real (gr.False l) r h = (record { named = refl; ints = refl }, h.1)
   solid_real (gr.Full c l es m p) r h =
       let i = exprs_real es _ h.1.1 in
       let j = place_real p r i.1.1 in
-      (good_build c (pr.expr_terms es) (pr.place_name p) (upper_real c h.0) i.0 j.0, j.1)
+      (good_build c (pr.expr_trees es) (pr.place_name p) (upper_real c h.0) i.0 j.0, j.1)
   solid_real (gr.Placed c l d) r h = (good_build c [] (Some d) (upper_real c h.0) none_good (lower_real d h.1.1.0), h.1.1.1)
 
-  firm_real : (u : gr.Firm) (r : List Lexeme) → Real (gr.spell_firm u r) → Good (pr.firm_operand u).term × Real r
+  firm_real : (u : gr.Firm) (r : List Lexeme) → Real (gr.spell_firm u r) → Good (pr.firm_operand u).expression × Real r
   firm_real (gr.Is u) r h = solid_real u r h
   firm_real (gr.Paren l e m) r h = let i = expr_real e _ h.1 in (i.0, i.1.1)
 
-  units_real : (us : gr.Units) (r : List Lexeme) → Real (gr.spell_units us r) → AllGood (pr.unit_terms us) × Real r
+  units_real : (us : gr.Units) (r : List Lexeme) → Real (gr.spell_units us r) → AllGood (pr.unit_expressions us) × Real r
   units_real gr.NoUnits r h = (none_good, h)
   units_real (gr.AndLower us n) r h =
       let i = units_real us _ h in
-      (good_append (pr.unit_terms us) (tree.Var n) i.0 (good_var n (lower_real n i.1.0)), i.1.1)
+      (good_append (pr.unit_expressions us) (tree.Var n) i.0 (good_var n (lower_real n i.1.0)), i.1.1)
   units_real (gr.AndFirm us u) r h =
       let i = units_real us _ h in
       let j = firm_real u r i.1 in
-      (good_append (pr.unit_terms us) (pr.firm_operand u).term i.0 j.0, j.1)
+      (good_append (pr.unit_expressions us) (pr.firm_operand u).expression i.0 j.0, j.1)
   units_real (gr.BareLower bs n) r h =
       let i = bare_real bs _ h in
-      (good_append (pr.bare_terms bs) (tree.Var n) i.0 (good_var n (lower_real n i.1.0)), i.1.1)
+      (good_append (pr.bare_expressions bs) (tree.Var n) i.0 (good_var n (lower_real n i.1.0)), i.1.1)
   units_real (gr.BareSolid bs u) r h =
       let i = bare_real bs _ h in
       let j = solid_real u r i.1 in
-      (good_append (pr.bare_terms bs) (pr.solid_operand u).term i.0 j.0, j.1)
+      (good_append (pr.bare_expressions bs) (pr.solid_operand u).expression i.0 j.0, j.1)
 
-  bare_real : (bs : gr.Bare) (r : List Lexeme) → Real (gr.spell_bare bs r) → AllGood (pr.bare_terms bs) × Real r
+  bare_real : (bs : gr.Bare) (r : List Lexeme) → Real (gr.spell_bare bs r) → AllGood (pr.bare_expressions bs) × Real r
   bare_real (gr.AndUpper us n) r h =
       let i = units_real us _ h in
-      (good_append (pr.unit_terms us) (tree.Build n tree.NoTerms None) i.0 (good_build n [] None (upper_real n i.1.0) none_good refl), i.1.1)
+      (good_append (pr.unit_expressions us) (tree.Build n tree.NoExpressions None) i.0 (good_build n [] None (upper_real n i.1.0) none_good refl), i.1.1)
   bare_real (gr.BareUpper bs n) r h =
       let i = bare_real bs _ h in
-      (good_append (pr.bare_terms bs) (tree.Build n tree.NoTerms None) i.0 (good_build n [] None (upper_real n i.1.0) none_good refl), i.1.1)
+      (good_append (pr.bare_expressions bs) (tree.Build n tree.NoExpressions None) i.0 (good_build n [] None (upper_real n i.1.0) none_good refl), i.1.1)
 
-  pre_real : (x : gr.Pre) (r : List Lexeme) → Real (gr.spell_pre x r) → Good (pr.pre_operand x).term × Real r
+  pre_real : (x : gr.Pre) (r : List Lexeme) → Real (gr.spell_pre x r) → Good (pr.pre_operand x).expression × Real r
   pre_real (gr.Not l x) r h = let i = pre_real x r h.1 in (good_not l (pr.pre_operand x) i.0, i.1)
   pre_real (gr.Negative l n m) r h = (record { named = refl; ints = negative_real n h.1.0 }, h.1.1)
   pre_real (gr.Least l m) r h = (record { named = refl; ints = refl }, h.1.1)
-  pre_real (gr.Apply f us) r h = let i = units_real us r h.1 in (good_applied f (pr.unit_terms us) (lower_real f h.0) i.0, i.1)
-  pre_real (gr.ApplyBare f bs) r h = let i = bare_real bs r h.1 in (good_applied f (pr.bare_terms bs) (lower_real f h.0) i.0, i.1)
+  pre_real (gr.Apply f us) r h = let i = units_real us r h.1 in (good_applied f (pr.unit_expressions us) (lower_real f h.0) i.0, i.1)
+  pre_real (gr.ApplyBare f bs) r h = let i = bare_real bs r h.1 in (good_applied f (pr.bare_expressions bs) (lower_real f h.0) i.0, i.1)
   pre_real (gr.Con n) r h = (good_build n [] None (upper_real n h.0) none_good refl, h.1)
   pre_real (gr.Alone u) r h = firm_real u r h
 
-  prod_real : (y : gr.Prod) (r : List Lexeme) → Real (gr.spell_prod y r) → Good (pr.prod_operand y).term × Real r
+  prod_real : (y : gr.Prod) (r : List Lexeme) → Real (gr.spell_prod y r) → Good (pr.prod_operand y).expression × Real r
   prod_real (gr.OnePre x) r h = pre_real x r h
   prod_real (gr.Times y gr.Star l x) r h =
       let i = prod_real y _ h in
       let j = pre_real x r i.1.1 in
       (good_join (pr.Prim operator.Mul) l (pr.prod_operand y) (pr.pre_operand x) i.0 j.0, j.1)
 
-  sum_real : (y : gr.Sum) (r : List Lexeme) → Real (gr.spell_sum y r) → Good (pr.sum_operand y).term × Real r
+  sum_real : (y : gr.Sum) (r : List Lexeme) → Real (gr.spell_sum y r) → Good (pr.sum_operand y).expression × Real r
   sum_real (gr.OneProd x) r h = prod_real x r h
   sum_real (gr.Adds y o l x) r h =
       let i = sum_real y _ h in
       let j = prod_real x r i.1.1 in
       (good_join (pr.sign_joint o) l (pr.sum_operand y) (pr.prod_operand x) i.0 j.0, j.1)
 
-  cmp_real : (y : gr.Cmp) (r : List Lexeme) → Real (gr.spell_cmp y r) → Good (pr.cmp_operand y).term × Real r
+  cmp_real : (y : gr.Cmp) (r : List Lexeme) → Real (gr.spell_cmp y r) → Good (pr.cmp_operand y).expression × Real r
   cmp_real (gr.OneSum x) r h = sum_real x r h
   cmp_real (gr.Compares y o l x) r h =
       let i = sum_real y _ h in
       let j = sum_real x r i.1.1 in
       (good_join (pr.comparison_joint o) l (pr.sum_operand y) (pr.sum_operand x) i.0 j.0, j.1)
 
-  and_real : (y : gr.And) (r : List Lexeme) → Real (gr.spell_and y r) → Good (pr.and_operand y).term × Real r
+  and_real : (y : gr.And) (r : List Lexeme) → Real (gr.spell_and y r) → Good (pr.and_operand y).expression × Real r
   and_real (gr.OneCmp x) r h = cmp_real x r h
   and_real (gr.Both y l x) r h =
       let i = and_real y _ h in
       let j = cmp_real x r i.1.1 in
       (good_join pr.AndThen l (pr.and_operand y) (pr.cmp_operand x) i.0 j.0, j.1)
 
-  or_real : (y : gr.Or) (r : List Lexeme) → Real (gr.spell_or y r) → Good (pr.or_operand y).term × Real r
+  or_real : (y : gr.Or) (r : List Lexeme) → Real (gr.spell_or y r) → Good (pr.or_operand y).expression × Real r
   or_real (gr.OneAnd x) r h = and_real x r h
   or_real (gr.Either y l x) r h =
       let i = or_real y _ h in
       let j = and_real x r i.1.1 in
       (good_join pr.OrElse l (pr.or_operand y) (pr.and_operand x) i.0 j.0, j.1)
 
-  expr_real : (e : gr.Expr) (r : List Lexeme) → Real (gr.spell_expr e r) → Good (pr.expr_term e) × Real r
+  expr_real : (e : gr.Expr) (r : List Lexeme) → Real (gr.spell_expr e r) → Good (pr.expr_tree e) × Real r
   expr_real (gr.Let l n m v i b) r h =
       let x = expr_real v _ h.1.1.1 in
       let y = expr_real b r x.1.1 in
-      (good_let n (pr.expr_term v) (pr.expr_term b) (lower_real n h.1.0) x.0 y.0, y.1)
+      (good_let n (pr.expr_tree v) (pr.expr_tree b) (lower_real n h.1.0) x.0 y.0, y.1)
   expr_real (gr.If l c m a n b) r h =
       let x = expr_real c _ h.1 in
       let y = expr_real a _ x.1.1 in
       let z = expr_real b r y.1.1 in
-      (good_if (pr.expr_term c) (pr.expr_term a) (pr.expr_term b) l x.0 y.0 z.0, z.1)
+      (good_if (pr.expr_tree c) (pr.expr_tree a) (pr.expr_tree b) l x.0 y.0 z.0, z.1)
   expr_real (gr.Match l e m bar as' n) r h =
       let x = expr_real e _ h.1 in
       let y = arms_real as' _ (bar_real bar _ x.1.1) in
-      (good_match (pr.expr_term e) (pr.branches as') l x.0 y.0, y.1.1)
+      (good_match (pr.expr_tree e) (pr.branches as') l x.0 y.0, y.1.1)
   expr_real (gr.Chain o) r h = or_real o r h
 
-  exprs_real : (es : gr.Exprs) (r : List Lexeme) → Real (gr.spell_exprs es r) → AllGood (pr.expr_terms es) × Real r
-  exprs_real (gr.OneExpr e) r h = let i = expr_real e r h in (good_one (pr.expr_term e) i.0, i.1)
+  exprs_real : (es : gr.Exprs) (r : List Lexeme) → Real (gr.spell_exprs es r) → AllGood (pr.expr_trees es) × Real r
+  exprs_real (gr.OneExpr e) r h = let i = expr_real e r h in (good_one (pr.expr_tree e) i.0, i.1)
   exprs_real (gr.MoreExprs es l e) r h =
       let i = exprs_real es _ h in
       let j = expr_real e r i.1.1 in
-      (good_append (pr.expr_terms es) (pr.expr_term e) i.0 j.0, j.1)
+      (good_append (pr.expr_trees es) (pr.expr_tree e) i.0 j.0, j.1)
 
   arms_real : (as' : gr.Arms) (r : List Lexeme) → Real (gr.spell_arms as' r) → BranchesGood (pr.branches as') × Real r
   arms_real (gr.OneArm a) r h =
@@ -342,7 +342,7 @@ params_real (gr.MoreParams ps p) r h =
 pub record DeclsGood (ds : gr.Decls) : Type 0 where
   pub types : list_all type_is_named (pr.types_of ds) ≡ true
   pub funs : list_all fun_is_named (pr.funs_of ds) ≡ true
-  pub ints : list_all (λ f. term_has_ints f.body) (pr.funs_of ds) ≡ true
+  pub ints : list_all (λ f. expression_has_ints f.body) (pr.funs_of ds) ≡ true
 
 decls_real : (ds : gr.Decls) (r : List Lexeme) → Real (gr.spell_decls ds r) → DeclsGood ds × Real r
 decls_real gr.NoDecls r h = (record { types = refl; funs = refl; ints = refl }, h)
@@ -364,7 +364,7 @@ decls_real (gr.AndFun ds l n ps k m e) r h =
       record {
         types = i.0.types;
         funs = all_append fun_is_named (pr.funs_of ds) _ i.0.funs (both _ _ (lower_real n i.1.1.0) (both _ _ j.0 (both _ _ x.0 y.0.named)));
-        ints = all_append (λ f. term_has_ints f.body) (pr.funs_of ds) _ i.0.ints y.0.ints;
+        ints = all_append (λ f. expression_has_ints f.body) (pr.funs_of ds) _ i.0.ints y.0.ints;
       },
       y.1,
     )

@@ -15,7 +15,7 @@ use Rattle.camelot_grammar.specs.declared.fault.ParseFault.{ParseFault}
 use Rattle.camelot_grammar.specs.declared.fault.ParseFault.TheVariants as fault
 use Rattle.camelot_grammar.specs.Parsing.{limit, stop_fault, first_line}
 use Rattle.camelot_tree.specs.Tree as tree
-use Rattle.camelot_tree.specs.Tree.{Term, Branch, Constructor, Source, terms, arms}
+use Rattle.camelot_tree.specs.Tree.{Expression, Branch, Constructor, Source, expressions, arms}
 use Rattle.camelot_grammar.specs.Program.{Operand, Joint, Prim, AndThen, OrElse, join, negated, applied}
 
 -- ---- what was read so far
@@ -46,7 +46,7 @@ pub record Slot : Type 0 where
 -- a name with the units that stand behind it so far
 pub record Callee : Type 0 where
   pub fun : Name
-  pub args : List Term
+  pub args : List Expression
 
 -- the place of a unit: alone, or behind a name
 pub record Spot : Type 0 where
@@ -57,7 +57,7 @@ pub record Spot : Type 0 where
 pub record Matching : Type 0 where
   pub level : ℕ
   pub line : ℕ
-  pub on : Term
+  pub on : Expression
   pub arms : List Branch
 
 -- an arm before its body
@@ -82,12 +82,12 @@ pub record FunDraft : Type 0 where
 pub data Frame : Type 0 where
   Body : FunDraft → Option Atom → Frame
   Paren : Spot → ℕ → Frame
-  Args : Spot → Name → List Term → Frame
+  Args : Spot → Name → List Expression → Frame
   LetValue : (level : ℕ) → Name → Frame
-  LetBody : Name → Term → Frame
+  LetBody : Name → Expression → Frame
   IfCond : (level line : ℕ) → Frame
-  IfThen : (level line : ℕ) → Term → Frame
-  IfElse : (line : ℕ) → Term → Term → Frame
+  IfThen : (level line : ℕ) → Expression → Frame
+  IfElse : (line : ℕ) → Expression → Expression → Frame
   MatchOn : (level line : ℕ) → Frame
   ArmBody : Matching → ArmHead → Frame
 
@@ -120,12 +120,12 @@ pub data ExprState : Type 0 where
   LetEquals : (level : ℕ) → Name → ExprState
   WantPre : Lefts → List ℕ → (around : ℕ) → ExprState
   Negative : Slot → ℕ → ExprState
-  Applied : Slot → Name → List Term → ExprState
+  Applied : Slot → Name → List Expression → ExprState
   Have : Slot → Operand → ExprState
   Con : Spot → Name → ExprState
-  Full : Spot → Name → List Term → ExprState
-  Placed : Spot → Name → List Term → ExprState
-  Whole : Term → ExprState
+  Full : Spot → Name → List Expression → ExprState
+  Placed : Spot → Name → List Expression → ExprState
+  Whole : Expression → ExprState
 
 -- in the head of an arm
 pub data ArmState : Type 0 where
@@ -142,7 +142,7 @@ pub data State : Type 0 where
   InDecl : DeclState → State
   InExpr : ExprState → State
   InArm : ArmState → State
-  Done : Source → State
+  Finished : Source → State
 
 -- one token: none may stand here, or its level, and the state and the stack behind it
 pub data Step : Type 0 where
@@ -177,32 +177,32 @@ with_con d n b as' = record { before = d.before; name = d.name; cons = d.cons ++
 abbrev pub with_param : FunDraft → Param → FunDraft
 with_param d p = record { before = d.before; name = d.name; params = d.params ++ p ∷ [] }
 
-abbrev pub fun_done : FunDraft → Option Atom → Term → Source
+abbrev pub fun_done : FunDraft → Option Atom → Expression → Source
 fun_done d r e = record { types = d.before.types; funs = d.before.funs ++ record { name = d.name; params = d.params; result = r; body = e } ∷ [] }
 
-abbrev pub with_arm : Matching → ArmHead → Term → Matching
+abbrev pub with_arm : Matching → ArmHead → Expression → Matching
 with_arm m h e = record { level = m.level; line = m.line; on = m.on; arms = m.arms ++ record { con = h.con; fields = h.fields; cell = h.cell; body = e } ∷ [] }
 
 -- a unit is read: behind a name it is one more of its units
 abbrev pub unit_of : Option Callee → Slot → Operand → ExprState
 unit_of None s a = Have s a
-unit_of (Some c) s a = Applied s c.fun (c.args ++ a.term ∷ [])
+unit_of (Some c) s a = Applied s c.fun (c.args ++ a.expression ∷ [])
 
 abbrev pub unit_done : Spot → Operand → ExprState
 unit_done s a = unit_of s.call s.slot a
 
-abbrev pub built : Name → List Term → Option Name → Operand
-built c es p = record { term = tree.Build c (terms es) p; line = c.line }
+abbrev pub built : Name → List Expression → Option Name → Operand
+built c es p = record { expression = tree.Build c (expressions es) p; line = c.line }
 
-abbrev pub applied_operand : Name → List Term → Operand
-applied_operand f es = record { term = applied f es; line = f.line }
+abbrev pub applied_operand : Name → List Expression → Operand
+applied_operand f es = record { expression = applied f es; line = f.line }
 
 -- ---- steps in declarations
 
 unfoldable pub top_step : Source → Lexeme → List Frame → Step
 top_step p (Mark mark.Type l) st = Goes 0 (InDecl (TypeName p)) st
 top_step p (Mark mark.Let l) st = Goes 0 (InDecl (FunName p)) st
-top_step p (Mark mark.EndOfText l) st = Goes 0 (Done p) st
+top_step p (Mark mark.EndOfText l) st = Goes 0 (Finished p) st
 top_step p t st = Stuck
 
 unfoldable pub con_step : TypeDraft → Lexeme → List Frame → Step
@@ -280,9 +280,9 @@ decl_step (ParamClose d p) t st = param_step (ParamClose d p) t st
 
 -- ---- steps behind a whole expression
 
-unfoldable pub close_in : Frame → Term → Lexeme → List Frame → Step
+unfoldable pub close_in : Frame → Expression → Lexeme → List Frame → Step
 close_in (Body d r) e t st = top_step (fun_done d r e) t st
-close_in (Paren s l) e (Mark mark.Close m) st = Goes s.slot.level (InExpr (unit_done s (record { term = e; line = l }))) st
+close_in (Paren s l) e (Mark mark.Close m) st = Goes s.slot.level (InExpr (unit_done s (record { expression = e; line = l }))) st
 close_in (Args s c es) e (Mark mark.Comma m) st = Goes s.slot.level (InExpr (Want s.slot.level)) (Args s c (es ++ e ∷ []) ∷ st)
 close_in (Args s c es) e (Mark mark.Close m) st = Goes s.slot.level (InExpr (Full s c (es ++ e ∷ []))) st
 close_in (LetValue k n) e (Mark mark.In m) st = Goes k (InExpr (Want k)) (LetBody n e ∷ st)
@@ -294,7 +294,7 @@ close_in (ArmBody m h) e (Mark mark.End l) st = Goes m.level (InExpr (Whole (tre
 close_in f e t st = Stuck
 
 -- the bodies of `let` and `else` end where what is around them goes on: the `let` or `if` that ends with an expression
-abbrev pub enclosed : Frame → Term → Option Term
+abbrev pub enclosed : Frame → Expression → Option Expression
 enclosed (LetBody n v) e = Some (tree.Let n v e)
 enclosed (IfElse l c a) e = Some (tree.If c a e l)
 enclosed f e = None
@@ -302,13 +302,13 @@ enclosed f e = None
 -- the innermost frame whose expression has an end of its own, with that expression and the frames below
 pub data Unwound : Type 0 where
   Nowhere : Unwound
-  Inside : Frame → Term → List Frame → Unwound
+  Inside : Frame → Expression → List Frame → Unwound
 
-abbrev pub on_enclosed : Option Term → (Term → Unwound) → Unwound → Unwound
+abbrev pub on_enclosed : Option Expression → (Expression → Unwound) → Unwound → Unwound
 on_enclosed None next here = here
 on_enclosed (Some e) next here = next e
 
-unfoldable pub unwind : List Frame → Term → Unwound
+unfoldable pub unwind : List Frame → Expression → Unwound
 unwind [] e = Nowhere
 unwind (f ∷ st) e = on_enclosed (enclosed f e) (λ whole. unwind st whole) (Inside f e st)
 
@@ -316,7 +316,7 @@ abbrev pub closed : Unwound → Lexeme → Step
 closed Nowhere t = Stuck
 closed (Inside f e st) t = close_in f e t st
 
-unfoldable pub close : List Frame → Term → Lexeme → Step
+unfoldable pub close : List Frame → Expression → Lexeme → Step
 close st e t = closed (unwind st e) t
 
 -- ---- steps behind an operand: an operator ends the chains of higher ranks; `k` is the level of the expression's own
@@ -331,7 +331,7 @@ operator_read k c st = Goes k (InExpr (WantPre c [] (suc k))) st
 
 unfoldable pub after_and : ℕ → (ors : Option Left) → Operand → Lexeme → List Frame → Step
 after_and k o x (Mark mark.OrOr l) st = operator_read (within o k) (lefts k (left (finished o x) OrElse l (within o k)) None None None None) st
-after_and k o x t st = close st (finished o x).term t
+after_and k o x t st = close st (finished o x).expression t
 
 unfoldable pub after_cmp : ℕ → (ors ands : Option Left) → Operand → Lexeme → List Frame → Step
 after_cmp k o a x (Mark mark.AndAnd l) st =
@@ -399,23 +399,23 @@ begins_pre (Mark mark.Minus l) = true
 begins_pre t = begins_argument t
 
 unfoldable pub unit_step : Spot → Lexeme → List Frame → Step
-unit_step s (Number n l) st = Goes s.slot.level (InExpr (unit_done s (record { term = tree.Num (pos n) l; line = l }))) st
-unit_step s (Mark mark.True l) st = Goes s.slot.level (InExpr (unit_done s (record { term = tree.Truth true l; line = l }))) st
-unit_step s (Mark mark.False l) st = Goes s.slot.level (InExpr (unit_done s (record { term = tree.Truth false l; line = l }))) st
+unit_step s (Number n l) st = Goes s.slot.level (InExpr (unit_done s (record { expression = tree.Num (pos n) l; line = l }))) st
+unit_step s (Mark mark.True l) st = Goes s.slot.level (InExpr (unit_done s (record { expression = tree.Truth true l; line = l }))) st
+unit_step s (Mark mark.False l) st = Goes s.slot.level (InExpr (unit_done s (record { expression = tree.Truth false l; line = l }))) st
 unit_step s (Upper n) st = Goes s.slot.level (InExpr (Con s n)) st
 unit_step s (Mark mark.Open l) st = Goes s.slot.level (InExpr (Want s.slot.level)) (Paren s l ∷ st)
 unit_step s t st = Stuck
 
-unfoldable pub argument_step : Slot → Name → List Term → Lexeme → List Frame → Step
+unfoldable pub argument_step : Slot → Name → List Expression → Lexeme → List Frame → Step
 argument_step s f es (Lower n) st = Goes s.level (InExpr (Applied s f (es ++ tree.Var n ∷ []))) st
 argument_step s f es t st = unit_step (record { slot = s; call = Some (record { fun = f; args = es }) }) t st
 
-unfoldable pub applied_step : Slot → Name → List Term → Lexeme → List Frame → Step
+unfoldable pub applied_step : Slot → Name → List Expression → Lexeme → List Frame → Step
 applied_step s f es t st = if begins_argument t then argument_step s f es t st else after_operand s (applied_operand f es) t st
 
 abbrev pub after_unit_of : Option Callee → Slot → Operand → Lexeme → List Frame → Step
 after_unit_of None s a t st = after_operand s a t st
-after_unit_of (Some c) s a t st = applied_step s c.fun (c.args ++ a.term ∷ []) t st
+after_unit_of (Some c) s a t st = applied_step s c.fun (c.args ++ a.expression ∷ []) t st
 
 unfoldable pub after_unit : Spot → Operand → Lexeme → List Frame → Step
 after_unit s a t st = after_unit_of s.call s.slot a t st
@@ -425,11 +425,11 @@ con_unit_step s c (Mark mark.Open l) st = Goes s.slot.level (InExpr (Want s.slot
 con_unit_step s c (Mark mark.At l) st = Goes s.slot.level (InExpr (Placed s c [])) st
 con_unit_step s c t st = after_unit s (built c [] None) t st
 
-unfoldable pub full_step : Spot → Name → List Term → Lexeme → List Frame → Step
+unfoldable pub full_step : Spot → Name → List Expression → Lexeme → List Frame → Step
 full_step s c es (Mark mark.At l) st = Goes s.slot.level (InExpr (Placed s c es)) st
 full_step s c es t st = after_unit s (built c es None) t st
 
-unfoldable pub placed_step : Spot → Name → List Term → Lexeme → List Frame → Step
+unfoldable pub placed_step : Spot → Name → List Expression → Lexeme → List Frame → Step
 placed_step s c es (Lower d) st = Goes s.slot.level (InExpr (unit_done s (built c es (Some d)))) st
 placed_step s c es t st = Stuck
 
@@ -452,8 +452,8 @@ want_step k (Mark mark.Match l) st = Goes (suc k) (InExpr (Want (suc k))) (Match
 want_step k t st = pre_step (lefts (suc k) None None None None None) [] (suc k) t st
 
 unfoldable pub negative_step : Slot → ℕ → Lexeme → List Frame → Step
-negative_step s l (Number n m) st = Goes s.level (InExpr (Have s (record { term = tree.Num (pos 0 -ℤ pos n) l; line = l }))) st
-negative_step s l (Greatest m) st = Goes s.level (InExpr (Have s (record { term = tree.Num (pos 0 -ℤ pos 2147483648) l; line = l }))) st
+negative_step s l (Number n m) st = Goes s.level (InExpr (Have s (record { expression = tree.Num (pos 0 -ℤ pos n) l; line = l }))) st
+negative_step s l (Greatest m) st = Goes s.level (InExpr (Have s (record { expression = tree.Num (pos 0 -ℤ pos 2147483648) l; line = l }))) st
 negative_step s l t st = Stuck
 
 unfoldable pub let_step : ExprState → Lexeme → List Frame → Step
@@ -513,7 +513,7 @@ unfoldable pub step : State → Lexeme → List Frame → Step
 step (InDecl s) t st = decl_step s t st
 step (InExpr s) t st = expr_step s t st
 step (InArm s) t st = arm_step s t st
-step (Done p) t st = Stuck
+step (Finished p) t st = Stuck
 
 -- a step within the limit
 pub data Move : Type 0 where
@@ -542,7 +542,7 @@ onward Sinks next ts = TooDeep ts
 onward (Moves s st) next ts = next s st
 
 abbrev pub ending : Move → Result
-ending (Moves (Done p) st) = Yes p
+ending (Moves (Finished p) st) = Yes p
 ending m = Stopped []
 
 abbrev pub runs : State → List Frame → List Lexeme → Result

@@ -10,7 +10,7 @@ use Rattle.camelot_tree.specs.declared.tree.Param.{Param}
 use Rattle.camelot_tree.specs.declared.tree.ArmCell.{ArmCell}
 use Rattle.camelot_tree.specs.declared.tree.ArmCell.TheVariants as cell
 use Rattle.camelot_tree.specs.Tree as tree
-use Rattle.camelot_tree.specs.Tree.{Term, Branch, Constructor, DataType, Function, Source, terms}
+use Rattle.camelot_tree.specs.Tree.{Expression, Branch, Constructor, DataType, Function, Source, expressions}
 use Rattle.camelot_grammar.specs.Grammar.{Place, NoPlace, At, Field, Named, Blank, FieldList, OneField, MoreFields, Fields, NoFields, InParens, Cell, NoCell, AtField, ProductSign, Star, Sign, Plus, Minus, Comparison, Eq, Ne, Lt, Le, Gt, Ge, Solid, Literal, True, False, Full, Placed, Firm, Is, Paren, Units, NoUnits, AndLower, AndFirm, BareLower, BareSolid, Bare, AndUpper, BareUpper, Pre, Not, Negative, Least, Apply, ApplyBare, Con, Alone, Prod, OnePre, Times, Sum, OneProd, Adds, Cmp, OneSum, Compares, And, OneCmp, Both, Or, OneAnd, Either, Expr, Let, If, Match, Chain, Exprs, OneExpr, MoreExprs, Arms, OneArm, MoreArms, Arm, Case, WrittenAtom, Int, Bool', Dia, Of, AtomList, OneAtom, MoreAtoms, ConDecl, Inline, NoFields', WithFields, Cons, OneCon, MoreCons, Kind, NoKind, OfKind, ReadMark, NoRead, Read, WrittenParam, Simple, Marked, Params, OneParam, MoreParams, Decls, NoDecls, AndType, AndFun}
 
 -- what an operator does with its operands
@@ -21,24 +21,24 @@ pub data Joint : Type 0 where
 
 -- an operand: its tree, and the line of its first token
 pub record Operand : Type 0 where
-  pub term : Term
+  pub expression : Expression
   pub line : ℕ
 
 -- Two operands and what joins them, in this line: `a && b` is `if a then b else false`, and `a || b` is
 -- `if a then true else b`.
 abbrev pub join : Joint → ℕ → Operand → Operand → Operand
-join (Prim op) l a b = record { term = tree.Prim op a.term b.term a.line; line = a.line }
-join AndThen l a b = record { term = tree.If a.term b.term (tree.Truth false l) a.line; line = a.line }
-join OrElse l a b = record { term = tree.If a.term (tree.Truth true l) b.term a.line; line = a.line }
+join (Prim op) l a b = record { expression = tree.Prim op a.expression b.expression a.line; line = a.line }
+join AndThen l a b = record { expression = tree.If a.expression b.expression (tree.Truth false l) a.line; line = a.line }
+join OrElse l a b = record { expression = tree.If a.expression (tree.Truth true l) b.expression a.line; line = a.line }
 
 -- `not a` is `if a then false else true`
 abbrev pub negated : ℕ → Operand → Operand
-negated l a = record { term = tree.If a.term (tree.Truth false l) (tree.Truth true l) l; line = l }
+negated l a = record { expression = tree.If a.expression (tree.Truth false l) (tree.Truth true l) l; line = l }
 
 -- a name alone is a variable; with units behind it, it is a call
-abbrev pub applied : Name → List Term → Term
+abbrev pub applied : Name → List Expression → Expression
 applied f [] = tree.Var f
-applied f (e ∷ es) = tree.Call f (terms (e ∷ es))
+applied f (e ∷ es) = tree.Call f (expressions (e ∷ es))
 
 abbrev pub product_joint : ProductSign → Joint
 product_joint Star = Prim operator.Mul
@@ -78,34 +78,34 @@ cell_of (AtField l (Blank m)) = cell.Free
 
 abbrev mutual
   pub solid_operand : Solid → Operand
-  solid_operand (Literal n l) = record { term = tree.Num (pos n) l; line = l }
-  solid_operand (True l) = record { term = tree.Truth true l; line = l }
-  solid_operand (False l) = record { term = tree.Truth false l; line = l }
-  solid_operand (Full c l es m p) = record { term = tree.Build c (terms (expr_terms es)) (place_name p); line = c.line }
-  solid_operand (Placed c l d) = record { term = tree.Build c tree.NoTerms (Some d); line = c.line }
+  solid_operand (Literal n l) = record { expression = tree.Num (pos n) l; line = l }
+  solid_operand (True l) = record { expression = tree.Truth true l; line = l }
+  solid_operand (False l) = record { expression = tree.Truth false l; line = l }
+  solid_operand (Full c l es m p) = record { expression = tree.Build c (expressions (expr_trees es)) (place_name p); line = c.line }
+  solid_operand (Placed c l d) = record { expression = tree.Build c tree.NoExpressions (Some d); line = c.line }
 
   pub firm_operand : Firm → Operand
   firm_operand (Is s) = solid_operand s
-  firm_operand (Paren l e m) = record { term = expr_term e; line = l }
+  firm_operand (Paren l e m) = record { expression = expr_tree e; line = l }
 
-  pub unit_terms : Units → List Term
-  unit_terms NoUnits = []
-  unit_terms (AndLower us n) = unit_terms us ++ tree.Var n ∷ []
-  unit_terms (AndFirm us u) = unit_terms us ++ (firm_operand u).term ∷ []
-  unit_terms (BareLower bs n) = bare_terms bs ++ tree.Var n ∷ []
-  unit_terms (BareSolid bs u) = bare_terms bs ++ (solid_operand u).term ∷ []
+  pub unit_expressions : Units → List Expression
+  unit_expressions NoUnits = []
+  unit_expressions (AndLower us n) = unit_expressions us ++ tree.Var n ∷ []
+  unit_expressions (AndFirm us u) = unit_expressions us ++ (firm_operand u).expression ∷ []
+  unit_expressions (BareLower bs n) = bare_expressions bs ++ tree.Var n ∷ []
+  unit_expressions (BareSolid bs u) = bare_expressions bs ++ (solid_operand u).expression ∷ []
 
-  pub bare_terms : Bare → List Term
-  bare_terms (AndUpper us n) = unit_terms us ++ tree.Build n tree.NoTerms None ∷ []
-  bare_terms (BareUpper bs n) = bare_terms bs ++ tree.Build n tree.NoTerms None ∷ []
+  pub bare_expressions : Bare → List Expression
+  bare_expressions (AndUpper us n) = unit_expressions us ++ tree.Build n tree.NoExpressions None ∷ []
+  bare_expressions (BareUpper bs n) = bare_expressions bs ++ tree.Build n tree.NoExpressions None ∷ []
 
   pub pre_operand : Pre → Operand
   pre_operand (Not l p) = negated l (pre_operand p)
-  pre_operand (Negative l n m) = record { term = tree.Num (pos 0 -ℤ pos n) l; line = l }
-  pre_operand (Least l m) = record { term = tree.Num (pos 0 -ℤ pos 2147483648) l; line = l }
-  pre_operand (Apply f us) = record { term = applied f (unit_terms us); line = f.line }
-  pre_operand (ApplyBare f bs) = record { term = applied f (bare_terms bs); line = f.line }
-  pre_operand (Con c) = record { term = tree.Build c tree.NoTerms None; line = c.line }
+  pre_operand (Negative l n m) = record { expression = tree.Num (pos 0 -ℤ pos n) l; line = l }
+  pre_operand (Least l m) = record { expression = tree.Num (pos 0 -ℤ pos 2147483648) l; line = l }
+  pre_operand (Apply f us) = record { expression = applied f (unit_expressions us); line = f.line }
+  pre_operand (ApplyBare f bs) = record { expression = applied f (bare_expressions bs); line = f.line }
+  pre_operand (Con c) = record { expression = tree.Build c tree.NoExpressions None; line = c.line }
   pre_operand (Alone u) = firm_operand u
 
   pub prod_operand : Prod → Operand
@@ -128,22 +128,22 @@ abbrev mutual
   or_operand (OneAnd a) = and_operand a
   or_operand (Either o l a) = join OrElse l (or_operand o) (and_operand a)
 
-  pub expr_term : Expr → Term
-  expr_term (Let l n m v i b) = tree.Let n (expr_term v) (expr_term b)
-  expr_term (If l c m a n b) = tree.If (expr_term c) (expr_term a) (expr_term b) l
-  expr_term (Match l e m bar as' n) = tree.Match (expr_term e) (tree.arms (branches as')) l
-  expr_term (Chain o) = (or_operand o).term
+  pub expr_tree : Expr → Expression
+  expr_tree (Let l n m v i b) = tree.Let n (expr_tree v) (expr_tree b)
+  expr_tree (If l c m a n b) = tree.If (expr_tree c) (expr_tree a) (expr_tree b) l
+  expr_tree (Match l e m bar as' n) = tree.Match (expr_tree e) (tree.arms (branches as')) l
+  expr_tree (Chain o) = (or_operand o).expression
 
-  pub expr_terms : Exprs → List Term
-  expr_terms (OneExpr e) = expr_term e ∷ []
-  expr_terms (MoreExprs es l e) = expr_terms es ++ expr_term e ∷ []
+  pub expr_trees : Exprs → List Expression
+  expr_trees (OneExpr e) = expr_tree e ∷ []
+  expr_trees (MoreExprs es l e) = expr_trees es ++ expr_tree e ∷ []
 
   pub branches : Arms → List Branch
   branches (OneArm a) = branch a ∷ []
   branches (MoreArms as' l a) = branches as' ++ branch a ∷ []
 
   pub branch : Arm → Branch
-  branch (Case c fs at l e) = record { con = c; fields = names_of fs; cell = cell_of at; body = expr_term e }
+  branch (Case c fs at l e) = record { con = c; fields = names_of fs; cell = cell_of at; body = expr_tree e }
 
 abbrev pub atom_of : WrittenAtom → Atom
 atom_of (Int l) = atom.Int
@@ -188,7 +188,7 @@ types_of (AndFun ds l n ps k m e) = types_of ds
 abbrev pub funs_of : Decls → List Function
 funs_of NoDecls = []
 funs_of (AndType ds l n m cs) = funs_of ds
-funs_of (AndFun ds l n ps k m e) = funs_of ds ++ record { name = n; params = params_of ps; result = kind_of k; body = expr_term e } ∷ []
+funs_of (AndFun ds l n ps k m e) = funs_of ds ++ record { name = n; params = params_of ps; result = kind_of k; body = expr_tree e } ∷ []
 
 abbrev pub source_of : Decls → Source
 source_of ds = record { types = types_of ds; funs = funs_of ds }

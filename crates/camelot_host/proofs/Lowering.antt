@@ -23,7 +23,7 @@ use Rattle.grail_code.specs.Meaning.{Locals, put, arguments, operands, lets_run}
 use Rattle.camelot_host.specs.FirstScript.{Spells, SpellFurther, IsFunctionText, part_expr, sum_expr, int_param, fun_of, source_of}
 use Rattle.camelot_host.specs.Lexemes.{Lexeme, Word, Symbol}
 use Rattle.camelot_tree.specs.Tree as tree
-use Rattle.camelot_tree.specs.Tree.{Term, Source}
+use Rattle.camelot_tree.specs.Tree.{Expression, Source}
 use Rattle.camelot_tree.specs.Meaning as meaning
 use Rattle.camelot_tree.specs.Meaning.{Environment, put_params, eval}
 use Rattle.camelot_host.specs.Read.{names_of, part_of, IsKnown, function_of}
@@ -82,14 +82,14 @@ add_known k None q = refl
 add_known k (Some u) None = refl
 add_known k (Some u) (Some v) = after_nothing (after 0 0 0 (operate Add u v)) ∙ after_nothing (operate Add u v) ∙ operate_is u v
 
-eval-add : (s : Source) (enter : Enter) (names : List (List ℕ)) (e : Term) (p : Part) (o : Option Value) (w : ℕ) (scope : Environment) → ((k : ℕ) → eval s enter e k w false scope ≡ known o)
+eval-add : (s : Source) (enter : Enter) (names : List (List ℕ)) (e : Expression) (p : Part) (o : Option Value) (w : ℕ) (scope : Environment) → ((k : ℕ) → eval s enter e k w false scope ≡ known o)
     → (k : ℕ) (t : Bool) → eval s enter (tree.Prim Add e (part_expr (part_of names p)) 1) k w t scope ≡ known (added o (part_value scope names p))
 eval-add s enter names e p o w scope h k t =
     ap (λ x. first_then k x (λ rest u. first_then rest (eval s enter (part_expr (part_of names p)) rest w false scope) (λ last v. operate Add u v))) (h k)
     ∙ then_same k (known o) _ (λ rest u. first_then rest (known (part_value scope names p)) (λ last v. operate Add u v)) (λ j u. ap (λ x. first_then j x (λ last v. operate Add u v)) (eval-part s enter names p j w false scope))
     ∙ add_known k o (part_value scope names p)
 
-eval-sum : (s : Source) (enter : Enter) (names : List (List ℕ)) (e : Term) (ps : List Part) (o : Option Value) (w : ℕ) (scope : Environment) → ((k : ℕ) (t : Bool) → eval s enter e k w t scope ≡ known o)
+eval-sum : (s : Source) (enter : Enter) (names : List (List ℕ)) (e : Expression) (ps : List Part) (o : Option Value) (w : ℕ) (scope : Environment) → ((k : ℕ) (t : Bool) → eval s enter e k w t scope ≡ known o)
     → (k : ℕ) (t : Bool) → eval s enter (sum_expr e (map (part_of names) ps)) k w t scope ≡ known (sum_value scope names o ps)
 eval-sum s enter names e [] o w scope h k t = h k t
 eval-sum s enter names e (p ∷ ps) o w scope h k t =

@@ -11,7 +11,7 @@ use Rattle.camelot_tree.specs.declared.tree.Name.{Name}
 use Rattle.camelot_tree.specs.declared.tree.Param.{Param}
 use Rattle.camelot_tree.specs.declared.tree.Atom.TheVariants as atom
 use Rattle.camelot_tree.specs.Tree as tree
-use Rattle.camelot_tree.specs.Tree.{Term, Num, Var, Prim, Source}
+use Rattle.camelot_tree.specs.Tree.{Expression, Num, Var, Prim, Source}
 use Rattle.camelot_host.specs.Lexemes.{Lexeme, Word, Symbol, lexemes, is_name, is_variable}
 
 -- a part of the sum: a parameter by its name, or a number
@@ -117,12 +117,12 @@ pub record IsFirstScript (bytes : List ℕ) (s : Script) : Type 0 where
 abbrev pub name_of : List ℕ → Name
 name_of word = record { word = word; line = 1 }
 
-abbrev pub part_expr : Part → Term
+abbrev pub part_expr : Part → Expression
 part_expr (Named x) = Var (name_of x)
 part_expr (Number n) = Num (pos n) 1
 
 -- sums are read from left to right
-abbrev pub sum_expr : Term → List Part → Term
+abbrev pub sum_expr : Expression → List Part → Expression
 sum_expr e [] = e
 sum_expr e (p ∷ ps) = sum_expr (Prim Add e (part_expr p) 1) ps
 

@@ -47,12 +47,12 @@ nothing_left : (count last : ℕ) → fault_of count last (Stopped []) ≡ Some 
 nothing_left count last = let e : count - 0 ≡ count = omega arith in ap (λ n. Some (fault.Unexpected n last)) e
 
 -- the text ends, or not
-pub ends_whole : (count last : ℕ) (m : Move) (s : State) (fs : List Frame) (d : Decls) → m ≡ Moves (state_of s) (stack_of fs) → state_of s ≡ mc.Done (decls_of d)
+pub ends_whole : (count last : ℕ) (m : Move) (s : State) (fs : List Frame) (d : Decls) → m ≡ Moves (state_of s) (stack_of fs) → state_of s ≡ mc.Finished (decls_of d)
     → Answers count last (ending m) (Ok d)
 ends_whole count last m s fs d e h = record { answers = ap ending (e ∙ ap (λ q. Moves q (stack_of fs)) h) }
 
 ending_early : (s : mc.State) (st : List mc.Frame) → IsUnfinished s → ending (Moves s st) ≡ Stopped []
-ending_early (mc.Done p) st h = absurd h
+ending_early (mc.Finished p) st h = absurd h
 ending_early (mc.InDecl s) st h = refl
 ending_early (mc.InExpr s) st h = refl
 ending_early (mc.InArm s) st h = refl

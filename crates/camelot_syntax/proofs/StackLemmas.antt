@@ -2,7 +2,7 @@
 use Rattle.std.proofs.Common.{◌≡◌, ℕ, List, [], ◌∷◌, ◌++◌, refl, ap}
 use Rattle.camelot_tree.specs.declared.tree.Name.{Name}
 use Rattle.camelot_grammar.specs.declared.lexeme.Lexeme.{Lexeme}
-use Rattle.camelot_tree.specs.Tree.{Term}
+use Rattle.camelot_tree.specs.Tree.{Expression}
 use Rattle.camelot_syntax.specs.declared.state.Frame.{Frame}
 use Rattle.camelot_grammar.specs.Machine as mc
 use Rattle.camelot_syntax.specs.States.{frame_of, stacked, stack_of, upside, nots_of}
@@ -22,14 +22,14 @@ upside_push (m ∷ ls) l below = upside_push ls l (m ∷ below)
 pub nots_push : (ls : List ℕ) (l : ℕ) → nots_of (ls ++ l ∷ []) ≡ l ∷ nots_of ls
 nots_push ls l = upside_push ls l []
 
-pub unwind_none : (fs : List Frame) (e : Term) → fs ≡ [] → mc.unwind (stack_of fs) e ≡ mc.Nowhere
+pub unwind_none : (fs : List Frame) (e : Expression) → fs ≡ [] → mc.unwind (stack_of fs) e ≡ mc.Nowhere
 unfolding stack_of mc.unwind
 unwind_none fs e h = ap (λ xs. mc.unwind (stack_of xs) e) h
 
-pub let_stuck : (n : Name) (v e : Term) (t : Lexeme) (st : List mc.Frame) → mc.close_in (mc.LetBody n v) e t st ≡ mc.Stuck
+pub let_stuck : (n : Name) (v e : Expression) (t : Lexeme) (st : List mc.Frame) → mc.close_in (mc.LetBody n v) e t st ≡ mc.Stuck
 unfolding mc.close_in
 let_stuck n v e t st = refl
 
-pub else_stuck : (l : ℕ) (c a e : Term) (t : Lexeme) (st : List mc.Frame) → mc.close_in (mc.IfElse l c a) e t st ≡ mc.Stuck
+pub else_stuck : (l : ℕ) (c a e : Expression) (t : Lexeme) (st : List mc.Frame) → mc.close_in (mc.IfElse l c a) e t st ≡ mc.Stuck
 unfolding mc.close_in
 else_stuck l c a e t st = refl

@@ -34,7 +34,7 @@ use Rattle.camelot_syntax.specs.declared.parser.Parser.{Parser}
 use Rattle.camelot_syntax.specs.declared.words.TokenView.{TokenView}
 use Rattle.camelot_syntax.specs.declared.words.TokenView.TheVariants as view
 use Rattle.camelot_syntax.specs.declared.state.Halt.TheVariants.{Stuck, Deep, Memory}
-use Rattle.camelot_tree.specs.Tree.{Term, Source, operator_of, term_of, branch_of, constructor_of, data_type_of, function_of}
+use Rattle.camelot_tree.specs.Tree.{Expression, Source, operator_of, expression_of, branch_of, constructor_of, data_type_of, function_of}
 use Rattle.camelot_grammar.specs.declared.fault.ParseFault.{ParseFault}
 use Rattle.camelot_grammar.specs.declared.fault.ParseFault.TheVariants as fault
 use Rattle.camelot_grammar.specs.Parsing.{stop_fault, line_of}
@@ -51,11 +51,11 @@ seen (view.Number n l) = lexeme.Number n l
 seen (view.Greatest l) = lexeme.Greatest l
 seen (view.Mark m l) = lexeme.Mark m l
 
-abbrev pub terms_of : List Expr → List Term
-terms_of es = map term_of es
+abbrev pub expressions_of : List Expr → List Expression
+expressions_of es = map expression_of es
 
 abbrev pub operand_of : Operand → pr.Operand
-operand_of a = record { term = term_of a.tree.value; line = a.line }
+operand_of a = record { expression = expression_of a.tree.value; line = a.line }
 
 abbrev pub joint_of : Joint → pr.Joint
 joint_of (joint.Prim o) = pr.Prim (operator_of o)
@@ -91,7 +91,7 @@ abbrev pub slot_of : Spot → mc.Slot
 slot_of s = record { lefts = lefts_of s.lefts; nots = nots_of s.nots.items; level = s.level }
 
 abbrev pub callee_of : Callee → mc.Callee
-callee_of c = record { fun = c.fun; args = terms_of c.args.items }
+callee_of c = record { fun = c.fun; args = expressions_of c.args.items }
 
 abbrev pub some_callee : Option Callee → Option mc.Callee
 some_callee None = None
@@ -103,10 +103,10 @@ spot_of s = record { slot = slot_of s; call = some_callee s.call }
 -- where an operand is wanted, or behind a name
 abbrev pub open_as : Option Callee → mc.Slot → mc.ExprState
 open_as None s = mc.WantPre s.lefts s.nots s.level
-open_as (Some c) s = mc.Applied s c.fun (terms_of c.args.items)
+open_as (Some c) s = mc.Applied s c.fun (expressions_of c.args.items)
 
 abbrev pub matching_of : Matching → mc.Matching
-matching_of m = record { level = m.level; line = m.line; on = term_of m.on.value; arms = map branch_of m.arms.items }
+matching_of m = record { level = m.level; line = m.line; on = expression_of m.on.value; arms = map branch_of m.arms.items }
 
 abbrev pub arm_head_of : ArmHead → mc.ArmHead
 arm_head_of h = record { con = h.con; fields = h.fields.items; cell = h.cell }
@@ -123,12 +123,12 @@ fun_draft_of d = record { before = decls_of d.before.value; name = d.name; param
 abbrev pub frame_of : Frame → mc.Frame
 frame_of (frame.Body d) = mc.Body (fun_draft_of d.value) d.value.result
 frame_of (frame.Paren s l) = mc.Paren (spot_of s.value) l
-frame_of (frame.Args s b) = mc.Args (spot_of s.value) b.value.con (terms_of b.value.args.items)
+frame_of (frame.Args s b) = mc.Args (spot_of s.value) b.value.con (expressions_of b.value.args.items)
 frame_of (frame.LetValue k n) = mc.LetValue k n.value
-frame_of (frame.LetBody n e) = mc.LetBody n.value (term_of e.value)
+frame_of (frame.LetBody n e) = mc.LetBody n.value (expression_of e.value)
 frame_of (frame.IfCond k l) = mc.IfCond k l
-frame_of (frame.IfThen k l e) = mc.IfThen k l (term_of e.value)
-frame_of (frame.IfElse l e a) = mc.IfElse l (term_of e.value) (term_of a.value)
+frame_of (frame.IfThen k l e) = mc.IfThen k l (expression_of e.value)
+frame_of (frame.IfElse l e a) = mc.IfElse l (expression_of e.value) (expression_of a.value)
 frame_of (frame.MatchOn k l) = mc.MatchOn k l
 frame_of (frame.ArmBody m h) = mc.ArmBody (matching_of m.value) (arm_head_of h.value)
 
@@ -142,12 +142,12 @@ stack_of fs = stacked fs []
 
 abbrev pub unwound_of : Option Outer → List mc.Frame → mc.Unwound
 unwound_of None st = mc.Nowhere
-unwound_of (Some o) st = mc.Inside (frame_of o.frame) (term_of o.tree.value) st
+unwound_of (Some o) st = mc.Inside (frame_of o.frame) (expression_of o.tree.value) st
 
 -- the whole that ends with the expression, or the frame with the expression
-abbrev pub Encloses : mc.Frame → Term → Enclosed → Type 0
-Encloses f e (enclosed.Whole whole) = mc.enclosed f e ≡ Some (term_of whole.value)
-Encloses f e (enclosed.Outer o) = (mc.enclosed f e ≡ None) × (frame_of o.frame ≡ f) × (term_of o.tree.value ≡ e)
+abbrev pub Encloses : mc.Frame → Expression → Enclosed → Type 0
+Encloses f e (enclosed.Whole whole) = mc.enclosed f e ≡ Some (expression_of whole.value)
+Encloses f e (enclosed.Outer o) = (mc.enclosed f e ≡ None) × (frame_of o.frame ≡ f) × (expression_of o.tree.value ≡ e)
 
 abbrev pub decl_of : DeclState → mc.DeclState
 decl_of (decl.Top d) = mc.Top (decls_of d.value)
@@ -178,9 +178,9 @@ expr_of (expr.Open s) = open_as s.value.call (slot_of s.value)
 expr_of (expr.Negative s l) = mc.Negative (slot_of s.value) l
 expr_of (expr.Have s a) = mc.Have (slot_of s.value) (operand_of a)
 expr_of (expr.Con s n) = mc.Con (spot_of s.value) n
-expr_of (expr.Full s b) = mc.Full (spot_of s.value) b.value.con (terms_of b.value.args.items)
-expr_of (expr.Placed s b) = mc.Placed (spot_of s.value) b.value.con (terms_of b.value.args.items)
-expr_of (expr.Whole e) = mc.Whole (term_of e.value)
+expr_of (expr.Full s b) = mc.Full (spot_of s.value) b.value.con (expressions_of b.value.args.items)
+expr_of (expr.Placed s b) = mc.Placed (spot_of s.value) b.value.con (expressions_of b.value.args.items)
+expr_of (expr.Whole e) = mc.Whole (expression_of e.value)
 
 abbrev pub arm_of : ArmState → mc.ArmState
 arm_of (arm.FirstArm m) = mc.FirstArm (matching_of m.value)
@@ -196,7 +196,7 @@ abbrev pub state_of : State → mc.State
 state_of (state.InDecl s) = mc.InDecl (decl_of s)
 state_of (state.InExpr s) = mc.InExpr (expr_of s)
 state_of (state.InArm s) = mc.InArm (arm_of s)
-state_of (state.Done d) = mc.Done (decls_of d.value)
+state_of (state.Finished d) = mc.Finished (decls_of d.value)
 
 -- ---- what a step of the code answers
 
@@ -235,5 +235,5 @@ pub record Reads (step : Step) (t : Lexeme) (at : ℕ) (parser : Parser) (result
 
 -- the text can't end in this state
 abbrev pub IsUnfinished : mc.State → Type 0
-IsUnfinished (mc.Done p) = ⊥
+IsUnfinished (mc.Finished p) = ⊥
 IsUnfinished s = Unit {0}

@@ -71,7 +71,7 @@ impl Parser {
             TokenView::Mark {
                 mark: Mark::EndOfText,
                 ..
-            } => self.go(0, State::Done(decls)),
+            } => self.go(0, State::Finished(decls)),
             _ => Err(Halt::Stuck),
         }
     }

@@ -2,9 +2,9 @@
 
 ghost use Rattle.std.specs.Prelude.{◌≡◌, ◌∷◌, MatchResult};
 ghost use Rattle.camelot_syntax.specs.declared.state.Halt.TheVariants.{Memory};
-ghost use Rattle.camelot_tree.specs.Tree.{term_of, arms, Match};
+ghost use Rattle.camelot_tree.specs.Tree.{expression_of, arms, Match};
 ghost use Rattle.camelot_grammar.specs.Machine.{close, close_in, unwind, with_arm, Body, Paren, Args, LetValue, IfCond, IfThen, MatchOn, ArmBody};
-ghost use Rattle.camelot_syntax.specs.States.{Does, seen, stack_of, fun_draft_of, spot_of, terms_of, matching_of, arm_head_of, frame_of, unwound_of, Encloses};
+ghost use Rattle.camelot_syntax.specs.States.{Does, seen, stack_of, fun_draft_of, spot_of, expressions_of, matching_of, arm_head_of, frame_of, unwound_of, Encloses};
 
 use crate::operand::{if_tree, let_tree};
 use crate::parser::Parser;
@@ -26,7 +26,7 @@ fn with_arm(
     body: Box<Expr>,
 ) -> Result<Box<Matching>, Halt>
     ensures { MatchResult result
-        (λ more. matching_of more.value ≡ with_arm (matching_of matching.value) (arm_head_of head.value) (term_of body.value)) (λ halt. halt ≡ Memory) }
+        (λ more. matching_of more.value ≡ with_arm (matching_of matching.value) (arm_head_of head.value) (expression_of body.value)) (λ halt. halt ≡ Memory) }
 {
     let ArmHead { con, fields, cell } = Box::into_inner(head);
     let body = Box::into_inner(body);
@@ -42,7 +42,7 @@ fn with_arm(
 /// The whole match.
 fn whole_match(alloc: Global, matching: Box<Matching>) -> Result<Box<Expr>, Halt>
     ensures { MatchResult result
-        (λ tree. term_of tree.value ≡ Match (matching_of matching.value).on (arms (matching_of matching.value).arms) matching.value.line) (λ halt. halt ≡ Memory) }
+        (λ tree. expression_of tree.value ≡ Match (matching_of matching.value).on (arms (matching_of matching.value).arms) matching.value.line) (λ halt. halt ≡ Memory) }
 {
     let Matching {
         level: _,
@@ -57,7 +57,7 @@ fn whole_match(alloc: Global, matching: Box<Matching>) -> Result<Box<Expr>, Halt
 /// The `let` or `if` that ends with this expression, or else the frame that goes on behind it.
 #[tactic(auto, using(crate::proofs::StackLemmas::stack_push))]
 fn enclose(alloc: Global, frame: Frame, tree: Box<Expr>) -> Result<Enclosed, Halt>
-    ensures { MatchResult result (λ found. Encloses (frame_of frame) (term_of tree.value) found) (λ halt. halt ≡ Memory) }
+    ensures { MatchResult result (λ found. Encloses (frame_of frame) (expression_of tree.value) found) (λ halt. halt ≡ Memory) }
 {
     match frame {
         Frame::LetBody { name, value } => {
@@ -80,7 +80,7 @@ impl Parser {
         tree: Box<Expr>,
         lexeme: &TokenView<'_>,
     ) -> Result<(), Halt>
-        ensures { Does (close_in (Body (fun_draft_of draft.value) draft.value.result) (term_of tree.value) (seen lexeme.now) (stack_of self.old.stack.items)) self.new result }
+        ensures { Does (close_in (Body (fun_draft_of draft.value) draft.value.result) (expression_of tree.value) (seen lexeme.now) (stack_of self.old.stack.items)) self.new result }
     {
         let FunDraft {
             before: mut decls,
@@ -108,7 +108,7 @@ impl Parser {
         tree: Box<Expr>,
         lexeme: &TokenView<'_>,
     ) -> Result<(), Halt>
-        ensures { Does (close_in (Paren (spot_of spot.value) line) (term_of tree.value) (seen lexeme.now) (stack_of self.old.stack.items)) self.new result }
+        ensures { Does (close_in (Paren (spot_of spot.value) line) (expression_of tree.value) (seen lexeme.now) (stack_of self.old.stack.items)) self.new result }
     {
         match *lexeme {
             TokenView::Mark {
@@ -128,7 +128,7 @@ impl Parser {
         tree: Box<Expr>,
         lexeme: &TokenView<'_>,
     ) -> Result<(), Halt>
-        ensures { Does (close_in (Args (spot_of spot.value) build.value.con (terms_of build.value.args.items)) (term_of tree.value) (seen lexeme.now) (stack_of self.old.stack.items)) self.new result }
+        ensures { Does (close_in (Args (spot_of spot.value) build.value.con (expressions_of build.value.args.items)) (expression_of tree.value) (seen lexeme.now) (stack_of self.old.stack.items)) self.new result }
     {
         let level = spot.level;
         push_tree(&mut build.args, tree)?;
@@ -157,7 +157,7 @@ impl Parser {
         value: Box<Expr>,
         lexeme: &TokenView<'_>,
     ) -> Result<(), Halt>
-        ensures { Does (close_in (LetValue level name.value) (term_of value.value) (seen lexeme.now) (stack_of self.old.stack.items)) self.new result }
+        ensures { Does (close_in (LetValue level name.value) (expression_of value.value) (seen lexeme.now) (stack_of self.old.stack.items)) self.new result }
     {
         match *lexeme {
             TokenView::Mark { mark: Mark::In, .. } => {
@@ -177,7 +177,7 @@ impl Parser {
         cond: Box<Expr>,
         lexeme: &TokenView<'_>,
     ) -> Result<(), Halt>
-        ensures { Does (close_in (IfCond level line) (term_of cond.value) (seen lexeme.now) (stack_of self.old.stack.items)) self.new result }
+        ensures { Does (close_in (IfCond level line) (expression_of cond.value) (seen lexeme.now) (stack_of self.old.stack.items)) self.new result }
     {
         match *lexeme {
             TokenView::Mark {
@@ -201,7 +201,7 @@ impl Parser {
         yes: Box<Expr>,
         lexeme: &TokenView<'_>,
     ) -> Result<(), Halt>
-        ensures { Does (close_in (IfThen level line (term_of cond.value)) (term_of yes.value) (seen lexeme.now) (stack_of self.old.stack.items)) self.new result }
+        ensures { Does (close_in (IfThen level line (expression_of cond.value)) (expression_of yes.value) (seen lexeme.now) (stack_of self.old.stack.items)) self.new result }
     {
         match *lexeme {
             TokenView::Mark {
@@ -224,7 +224,7 @@ impl Parser {
         on: Box<Expr>,
         lexeme: &TokenView<'_>,
     ) -> Result<(), Halt>
-        ensures { Does (close_in (MatchOn level line) (term_of on.value) (seen lexeme.now) (stack_of self.old.stack.items)) self.new result }
+        ensures { Does (close_in (MatchOn level line) (expression_of on.value) (seen lexeme.now) (stack_of self.old.stack.items)) self.new result }
     {
         match *lexeme {
             TokenView::Mark {
@@ -253,7 +253,7 @@ impl Parser {
         body: Box<Expr>,
         lexeme: &TokenView<'_>,
     ) -> Result<(), Halt>
-        ensures { Does (close_in (ArmBody (matching_of matching.value) (arm_head_of head.value)) (term_of body.value) (seen lexeme.now) (stack_of self.old.stack.items)) self.new result }
+        ensures { Does (close_in (ArmBody (matching_of matching.value) (arm_head_of head.value)) (expression_of body.value) (seen lexeme.now) (stack_of self.old.stack.items)) self.new result }
     {
         let level = matching.level;
         match *lexeme {
@@ -279,7 +279,7 @@ impl Parser {
     /// Behind an expression that this frame goes on with.
     #[tactic(auto, using(crate::proofs::StackLemmas::let_stuck, crate::proofs::StackLemmas::else_stuck))]
     fn close_in(&mut self, outer: Outer, lexeme: &TokenView<'_>) -> Result<(), Halt>
-        ensures { Does (close_in (frame_of outer.frame) (term_of outer.tree.value) (seen lexeme.now) (stack_of self.old.stack.items)) self.new result }
+        ensures { Does (close_in (frame_of outer.frame) (expression_of outer.tree.value) (seen lexeme.now) (stack_of self.old.stack.items)) self.new result }
     {
         let tree = outer.tree;
         match outer.frame {
@@ -302,7 +302,7 @@ impl Parser {
     #[tactic(auto, unfolding(camelot_grammar::specs::Machine::unwind), using(crate::proofs::StackLemmas::stack_push, crate::proofs::StackLemmas::unwind_none))]
     fn unwind(&mut self, mut tree: Box<Expr>) -> Result<Option<Outer>, Halt>
         ensures { MatchResult result
-            (λ outer. unwind (stack_of self.old.stack.items) (term_of tree.value) ≡ unwound_of outer (stack_of self.new.stack.items)) (λ halt. halt ≡ Memory) }
+            (λ outer. unwind (stack_of self.old.stack.items) (expression_of tree.value) ≡ unwound_of outer (stack_of self.new.stack.items)) (λ halt. halt ≡ Memory) }
     {
         'frames: while let Some(frame) = self.stack.pop() {
             match enclose(self.alloc, frame, tree)? {
@@ -316,7 +316,7 @@ impl Parser {
     /// Behind a whole expression.
     #[tactic(auto, unfolding(camelot_grammar::specs::Machine::close))]
     pub fn close(&mut self, tree: Box<Expr>, lexeme: &TokenView<'_>) -> Result<(), Halt>
-        ensures { Does (close (stack_of self.old.stack.items) (term_of tree.value) (seen lexeme.now)) self.new result }
+        ensures { Does (close (stack_of self.old.stack.items) (expression_of tree.value) (seen lexeme.now)) self.new result }
     {
         match self.unwind(tree)? {
             Some(outer) => self.close_in(outer, lexeme),

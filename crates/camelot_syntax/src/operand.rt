@@ -2,7 +2,7 @@
 
 ghost use Rattle.std.specs.Prelude.{◌≡◌, ◌≤◌, ◌<◌, suc, MatchResult};
 ghost use Rattle.camelot_syntax.specs.declared.state.Halt.TheVariants.{Memory, Deep};
-ghost use Rattle.camelot_tree.specs.Tree.{term_of, operator_of, Truth, Prim, If, Let};
+ghost use Rattle.camelot_tree.specs.Tree.{expression_of, operator_of, Truth, Prim, If, Let};
 ghost use Rattle.camelot_grammar.specs.Program.{join, negated};
 ghost use Rattle.camelot_grammar.specs.Machine.{finished, negated_all, within};
 ghost use Rattle.camelot_syntax.specs.States.{operand_of, joint_of, some_left, nots_of};
@@ -54,7 +54,7 @@ pub fn prim(
     right: Box<Expr>,
     line: u32,
 ) -> Result<Box<Expr>, Halt>
-    ensures { MatchResult result (λ tree. term_of tree.value ≡ Prim (operator_of op) (term_of left.value) (term_of right.value) line) (λ halt. halt ≡ Memory) }
+    ensures { MatchResult result (λ tree. expression_of tree.value ≡ Prim (operator_of op) (expression_of left.value) (expression_of right.value) line) (λ halt. halt ≡ Memory) }
 {
     Ok(Box::new(
         alloc,
@@ -74,7 +74,7 @@ pub fn if_tree(
     no: Box<Expr>,
     line: u32,
 ) -> Result<Box<Expr>, Halt>
-    ensures { MatchResult result (λ tree. term_of tree.value ≡ If (term_of cond.value) (term_of yes.value) (term_of no.value) line) (λ halt. halt ≡ Memory) }
+    ensures { MatchResult result (λ tree. expression_of tree.value ≡ If (expression_of cond.value) (expression_of yes.value) (expression_of no.value) line) (λ halt. halt ≡ Memory) }
 {
     Ok(Box::new(
         alloc,
@@ -93,21 +93,21 @@ pub fn let_tree(
     value: Box<Expr>,
     body: Box<Expr>,
 ) -> Result<Box<Expr>, Halt>
-    ensures { MatchResult result (λ tree. term_of tree.value ≡ Let name (term_of value.value) (term_of body.value)) (λ halt. halt ≡ Memory) }
+    ensures { MatchResult result (λ tree. expression_of tree.value ≡ Let name (expression_of value.value) (expression_of body.value)) (λ halt. halt ≡ Memory) }
 {
     Ok(Box::new(alloc, Expr::Let { name, value, body })?)
 }
 
 /// A truth value in this line.
 fn truth(alloc: Global, value: bool, line: u32) -> Result<Box<Expr>, Halt>
-    ensures { MatchResult result (λ tree. term_of tree.value ≡ Truth value line) (λ halt. halt ≡ Memory) }
+    ensures { MatchResult result (λ tree. expression_of tree.value ≡ Truth value line) (λ halt. halt ≡ Memory) }
 {
     Ok(Box::new(alloc, Expr::Truth { value, line })?)
 }
 
 /// The operand that is this tree.
 pub fn leaf(alloc: Global, tree: Expr, line: u32) -> Result<Operand, Halt>
-    ensures { MatchResult result (λ operand. operand_of operand ≡ record { term = term_of tree; line = line }) (λ halt. halt ≡ Memory) }
+    ensures { MatchResult result (λ operand. operand_of operand ≡ record { expression = expression_of tree; line = line }) (λ halt. halt ≡ Memory) }
 {
     let tree = Box::new(alloc, tree)?;
     Ok(Operand { tree, line })

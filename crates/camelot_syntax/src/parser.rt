@@ -6,7 +6,7 @@ ghost use Rattle.text_scan.specs.Reading.{IsSliceOf, line_at};
 ghost use Rattle.camelot_grammar.specs.declared.lexeme.Lexeme.{Lexeme};
 ghost use Rattle.camelot_grammar.specs.Lexemes.{lexeme_at, lexemes, IsReal};
 ghost use Rattle.camelot_grammar.specs.Parsing.{stop_fault, line_of, last_line};
-ghost use Rattle.camelot_grammar.specs.Machine.{step, advance, runs, ending, limited, start, Done, Goes};
+ghost use Rattle.camelot_grammar.specs.Machine.{step, advance, runs, ending, limited, start, Finished, Goes};
 ghost use Rattle.camelot_syntax.specs.States.{Does, IsSmall, IsUnfinished, Answers, Reads, seen, stack_of, state_of, decls_of};
 
 use crate::operand::LIMIT;
@@ -82,13 +82,13 @@ fn last_line(text: &[u8]) -> u64
 impl State {
     /// The declarations, where the text ends in this state; else this fault.
     fn whole(self, fault: ParseFault) -> Result<Decls, ParseFault>
-        ensures { MatchResult result (λ decls. state_of self ≡ Done (decls_of decls)) (λ found. (found ≡ fault) × IsUnfinished (state_of self)) }
+        ensures { MatchResult result (λ decls. state_of self ≡ Finished (decls_of decls)) (λ found. (found ≡ fault) × IsUnfinished (state_of self)) }
     {
         match self {
             State::InDecl(_state) => Err(fault),
             State::InExpr(_state) => Err(fault),
             State::InArm(_state) => Err(fault),
-            State::Done(decls) => Ok(Box::into_inner(decls)),
+            State::Finished(decls) => Ok(Box::into_inner(decls)),
         }
     }
 }
@@ -125,7 +125,7 @@ impl Parser {
             State::InDecl(state) => self.decl(state, lexeme),
             State::InExpr(state) => self.expr(state, lexeme),
             State::InArm(state) => self.arm(state, lexeme),
-            State::Done(_) => Err(Halt::Stuck),
+            State::Finished(_) => Err(Halt::Stuck),
         }
     }
 

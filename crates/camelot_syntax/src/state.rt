@@ -237,7 +237,7 @@ pub enum State {
     InDecl(DeclState),
     InExpr(ExprState),
     InArm(ArmState),
-    Done(Box<Decls>),
+    Finished(Box<Decls>),
 }
 
 /// Why the parser goes no further at a token.

@@ -2,9 +2,9 @@
 
 ghost use Rattle.std.specs.Prelude.{◌≡◌, ◌<◌, ◌≤◌, ◌++◌, ◌∷◌, [], Some, None, IfOk, IfErr, OnOk, MatchResult, pos, ◌-ℤ◌};
 ghost use Rattle.camelot_syntax.specs.declared.state.Halt.TheVariants.{Memory};
-ghost use Rattle.camelot_tree.specs.Tree.{term_of, Num};
+ghost use Rattle.camelot_tree.specs.Tree.{expression_of, Num};
 ghost use Rattle.camelot_grammar.specs.Machine.{unit_done, unit_step, argument_step, applied_step, after_unit, con_unit_step, full_step, placed_step, built, applied_operand, begins_unit, begins_argument, Goes, InExpr};
-ghost use Rattle.camelot_syntax.specs.States.{Does, seen, IsSmall, stack_of, terms_of, operand_of, slot_of, spot_of, expr_of};
+ghost use Rattle.camelot_syntax.specs.States.{Does, seen, IsSmall, stack_of, expressions_of, operand_of, slot_of, spot_of, expr_of};
 
 use crate::operand::leaf;
 use crate::parser::Parser;
@@ -38,7 +38,7 @@ pub fn begins_argument(lexeme: &TokenView<'_>) -> bool
 /// The literal of a number token.
 fn number(value: u32, line: u32) -> Expr
     requires { value < 2147483648 }
-    ensures { term_of result ≡ Num (pos value) line }
+    ensures { expression_of result ≡ Num (pos value) line }
 {
     Expr::Num {
         value: value as i32,
@@ -49,7 +49,7 @@ fn number(value: u32, line: u32) -> Expr
 /// The literal of a number behind a minus sign.
 pub fn negative(value: u32, line: u32) -> Expr
     requires { value ≤ 2147483648 }
-    ensures { term_of result ≡ Num (pos 0 -ℤ pos value) line }
+    ensures { expression_of result ≡ Num (pos 0 -ℤ pos value) line }
 {
     let size = i64::from(value);
     Expr::Num {
@@ -65,7 +65,7 @@ fn built(
     mut args: Vec<Expr>,
     place: Option<Name>,
 ) -> Result<Operand, Halt>
-    ensures { MatchResult result (λ operand. operand_of operand ≡ built con (terms_of args.items) place) (λ halt. halt ≡ Memory) }
+    ensures { MatchResult result (λ operand. operand_of operand ≡ built con (expressions_of args.items) place) (λ halt. halt ≡ Memory) }
 {
     args.shrink_to_fit();
     let line = con.line;
@@ -75,7 +75,7 @@ fn built(
 /// One more of these expressions.
 #[tactic(auto, using(std::proofs::lemmas::List::map_push))]
 pub fn push_tree(args: &mut Vec<Expr>, tree: Box<Expr>) -> Result<(), Halt>
-    ensures ok { OnOk result (terms_of args.new.items ≡ terms_of args.old.items ++ term_of tree.value ∷ []) }
+    ensures ok { OnOk result (expressions_of args.new.items ≡ expressions_of args.old.items ++ expression_of tree.value ∷ []) }
     ensures err { IfErr result (λ halt. halt ≡ Memory) }
 {
     // A list of one expression takes no more room than that.
@@ -90,7 +90,7 @@ impl Callee {
     /// The name with one more unit behind it.
     fn with(mut self, arg: Box<Expr>) -> Result<Callee, Halt>
         ensures name { IfOk result (λ callee. callee.fun ≡ self.fun) }
-        ensures units { IfOk result (λ callee. terms_of callee.args.items ≡ terms_of self.args.items ++ term_of arg.value ∷ []) }
+        ensures units { IfOk result (λ callee. expressions_of callee.args.items ≡ expressions_of self.args.items ++ expression_of arg.value ∷ []) }
         ensures err { IfErr result (λ halt. halt ≡ Memory) }
     {
         push_tree(&mut self.args, arg)?;
@@ -99,7 +99,7 @@ impl Callee {
 
     /// A name alone is a variable; with units behind it, it is a call.
     fn applied(mut self, alloc: Global) -> Result<Operand, Halt>
-        ensures { MatchResult result (λ operand. operand_of operand ≡ applied_operand self.fun (terms_of self.args.items)) (λ halt. halt ≡ Memory) }
+        ensures { MatchResult result (λ operand. operand_of operand ≡ applied_operand self.fun (expressions_of self.args.items)) (λ halt. halt ≡ Memory) }
     {
         let line = self.fun.line;
         if self.args.is_empty() {
@@ -134,7 +134,7 @@ impl Parser {
 
     /// The unit here is this expression of one token.
     fn take_leaf(&mut self, spot: Box<Spot>, tree: Expr, line: u32) -> Result<(), Halt>
-        ensures { Does (Goes spot.value.level (InExpr (unit_done (spot_of spot.value) (record { term = term_of tree; line = line }))) (stack_of self.old.stack.items)) self.new result }
+        ensures { Does (Goes spot.value.level (InExpr (unit_done (spot_of spot.value) (record { expression = expression_of tree; line = line }))) (stack_of self.old.stack.items)) self.new result }
     {
         let operand = leaf(self.alloc, tree, line)?;
         self.take_unit(spot, operand)
@@ -181,7 +181,7 @@ impl Parser {
         lexeme: &TokenView<'_>,
     ) -> Result<(), Halt>
         requires { IsSmall (seen lexeme.now) }
-        ensures { Does (argument_step (slot_of spot.value) callee.fun (terms_of callee.args.items) (seen lexeme.now) (stack_of self.old.stack.items)) self.new result }
+        ensures { Does (argument_step (slot_of spot.value) callee.fun (expressions_of callee.args.items) (seen lexeme.now) (stack_of self.old.stack.items)) self.new result }
     {
         spot.call = Some(callee);
         match *lexeme {
@@ -202,7 +202,7 @@ impl Parser {
         lexeme: &TokenView<'_>,
     ) -> Result<(), Halt>
         requires { IsSmall (seen lexeme.now) }
-        ensures { Does (applied_step (slot_of spot.value) callee.fun (terms_of callee.args.items) (seen lexeme.now) (stack_of self.old.stack.items)) self.new result }
+        ensures { Does (applied_step (slot_of spot.value) callee.fun (expressions_of callee.args.items) (seen lexeme.now) (stack_of self.old.stack.items)) self.new result }
     {
         if begins_argument(&lexeme) {
             self.argument(spot, callee, lexeme)
@@ -269,7 +269,7 @@ impl Parser {
         lexeme: &TokenView<'_>,
     ) -> Result<(), Halt>
         requires { IsSmall (seen lexeme.now) }
-        ensures { Does (full_step (spot_of spot.value) build.value.con (terms_of build.value.args.items) (seen lexeme.now) (stack_of self.old.stack.items)) self.new result }
+        ensures { Does (full_step (spot_of spot.value) build.value.con (expressions_of build.value.args.items) (seen lexeme.now) (stack_of self.old.stack.items)) self.new result }
     {
         match *lexeme {
             TokenView::Mark { mark: Mark::At, .. } => {
@@ -292,7 +292,7 @@ impl Parser {
         build: Box<Building>,
         lexeme: &TokenView<'_>,
     ) -> Result<(), Halt>
-        ensures { Does (placed_step (spot_of spot.value) build.value.con (terms_of build.value.args.items) (seen lexeme.now) (stack_of self.old.stack.items)) self.new result }
+        ensures { Does (placed_step (spot_of spot.value) build.value.con (expressions_of build.value.args.items) (seen lexeme.now) (stack_of self.old.stack.items)) self.new result }
     {
         match *lexeme {
             TokenView::Lower { word, line } => {

@@ -1,5 +1,5 @@
 ghost use Rattle.std.specs.Prelude.{◌≡◌, ◌≤◌, ◌∷◌, [], MatchResult, IsTrue, map};
-ghost use Rattle.text_scan.specs.Forms.{is_number, number_value};
+ghost use Rattle.text_scan.specs.Forms.{is_number_token, number_value};
 ghost use Rattle.text_scan.specs.Reading.{IsSliceOf};
 ghost use Rattle.text_scan.specs.declared.tokens.TokenKind.TheVariants.{Number};
 ghost use Rattle.camelot_grammar.specs.Lexemes.{mark_in, mark_of, lexeme_of, lexeme_at};
@@ -120,7 +120,7 @@ fn lookup(text: &[u8]) -> Mark
 /// The token of these digits.
 #[tactic(auto, unfolding(camelot_grammar::specs::Lexemes::lexeme_of))]
 fn number(digits: &[u8], line: u32) -> TokenView<'static>
-    requires form { IsTrue (is_number digits.now) }
+    requires form { IsTrue (is_number_token digits.now) }
     requires short { number_value digits.now ≤ 2147483648 }
     ensures { seen result ≡ lexeme_of Number digits.now line }
 {

@@ -10,7 +10,7 @@ use Rattle.camelot_tree.specs.declared.tree.Name.{Name}
 use Rattle.camelot_tree.specs.declared.tree.Atom.TheVariants as atom
 use Rattle.camelot_tree.specs.declared.tree.Param.{Param}
 use Rattle.camelot_tree.specs.declared.tree.ArmCell.TheVariants as cell
-use Rattle.camelot_tree.specs.Tree.{Term, Num, Var, Prim, If, Let, Match, Build, Call, DataType, Function, Source, terms, arms}
+use Rattle.camelot_tree.specs.Tree.{Expression, Num, Var, Prim, If, Let, Match, Build, Call, DataType, Function, Source, expressions, arms}
 use Rattle.camelot_tree.specs.Meaning.{run_of}
 
 abbrev named : List ℕ → Name
@@ -28,14 +28,14 @@ ilist = record {
       ∷ record { name = named (codes "Cons"); inline = false; fields = atom.Int ∷ atom.Named (named (codes "ilist")) ∷ [] } ∷ [];
 }
 
-abbrev var : List ℕ → Term
+abbrev var : List ℕ → Expression
 var word = Var (named word)
 
-abbrev nil : Term
-nil = Build (named (codes "Nil")) (terms []) None
+abbrev nil : Expression
+nil = Build (named (codes "Nil")) (expressions []) None
 
-abbrev cons : Term → Term → Term
-cons head tail = Build (named (codes "Cons")) (terms (head ∷ tail ∷ [])) None
+abbrev cons : Expression → Expression → Expression
+cons head tail = Build (named (codes "Cons")) (expressions (head ∷ tail ∷ [])) None
 
 -- let dup l = match l with Nil -> Nil | Cons(h, t)@_ -> let r = dup t in Cons(h, Cons(h, r)) end
 abbrev dup : Function
@@ -51,7 +51,7 @@ dup = record {
         fields = Some (named (codes "h")) ∷ Some (named (codes "t")) ∷ [];
         cell = cell.Free;
         body =
-            Let (named (codes "r")) (Call (named (codes "dup")) (terms (var (codes "t") ∷ []))) (cons (var (codes "h")) (cons (var (codes "h")) (var (codes "r"))));
+            Let (named (codes "r")) (Call (named (codes "dup")) (expressions (var (codes "t") ∷ []))) (cons (var (codes "h")) (cons (var (codes "h")) (var (codes "r"))));
       }
       ∷ [])) 1;
 }
@@ -84,7 +84,7 @@ rev = record {
         fields = Some (named (codes "h")) ∷ Some (named (codes "t")) ∷ [];
         cell = cell.Keep (named (codes "d"));
         body =
-            Call (named (codes "rev")) (terms (Build (named (codes "Cons")) (terms (var (codes "h") ∷ var (codes "acc") ∷ [])) (Some (named (codes "d"))) ∷ var (codes "t") ∷ []));
+            Call (named (codes "rev")) (expressions (Build (named (codes "Cons")) (expressions (var (codes "h") ∷ var (codes "acc") ∷ [])) (Some (named (codes "d"))) ∷ var (codes "t") ∷ []));
       }
       ∷ [])) 1;
 }
@@ -100,32 +100,32 @@ two = record {
       record { name = named (codes "Two"); inline = false; fields = atom.Named (named (codes "ilist")) ∷ atom.Int ∷ [] } ∷ [];
 }
 
-abbrev of_x : List ℕ → Term → Function
+abbrev of_x : List ℕ → Expression → Function
 of_x name e = record { name = named name; params = param (codes "x") ∷ []; result = None; body = e }
 
-abbrev applied : List ℕ → Term
-applied name = Call (named name) (terms (var (codes "x") ∷ []))
+abbrev applied : List ℕ → Expression
+applied name = Call (named name) (expressions (var (codes "x") ∷ []))
 
 -- the first argument takes its cell before the second runs out of fuel
 pub both_of_seven : run_of (record {
   types = ilist ∷ two ∷ [];
   funs =
       of_x (codes "one") (cons (var (codes "x")) nil) ∷ of_x (codes "spin") (applied (codes "spin"))
-      ∷ of_x (codes "both") (Build (named (codes "Two")) (terms (applied (codes "one") ∷ applied (codes "spin") ∷ [])) None) ∷ [];
+      ∷ of_x (codes "both") (Build (named (codes "Two")) (expressions (applied (codes "one") ∷ applied (codes "spin") ∷ [])) None) ∷ [];
 })
     65536 2 5 (value.Int (pos 7) ∷ []) ≡ Fuel 5 1
 both_of_seven = refl
 
 -- ---- tail position and depth
 
-abbrev num : ℕ → Term
+abbrev num : ℕ → Expression
 num n = Num (pos n) 1
 
 -- the call on x - 1
-abbrev next : List ℕ → Term
-next name = Call (named name) (terms (Prim operator.Sub (var (codes "x")) (num 1) 1 ∷ []))
+abbrev next : List ℕ → Expression
+next name = Call (named name) (expressions (Prim operator.Sub (var (codes "x")) (num 1) 1 ∷ []))
 
-abbrev of_zero : Term → Term → Term
+abbrev of_zero : Expression → Expression → Expression
 of_zero e other = If (Prim operator.Eq (var (codes "x")) (num 0) 1) e other 1
 
 -- let loop x = if x = 0 then 0 else loop (x - 1): no call waits
@@ -163,7 +163,7 @@ pub pushed : run_of (record {
         name = named (codes "push");
         params = param (codes "d") ∷ param (codes "x") ∷ param (codes "l") ∷ [];
         result = None;
-        body = Build (named (codes "Cons")) (terms (var (codes "x") ∷ var (codes "l") ∷ [])) (Some (named (codes "d")));
+        body = Build (named (codes "Cons")) (expressions (var (codes "x") ∷ var (codes "l") ∷ [])) (Some (named (codes "d")));
       } ∷ [];
 })
     0 0 1 (value.Dia ∷ value.Int (pos 1) ∷ list (7 ∷ []) ∷ []) ≡ Done (list (1 ∷ 7 ∷ [])) 1 0 0

@@ -14,7 +14,7 @@ use Rattle.camelot_tree.specs.declared.tree.Name.{Name}
 use Rattle.camelot_tree.specs.declared.tree.Param.{Param}
 use Rattle.camelot_tree.specs.declared.tree.ArmCell.{ArmCell}
 use Rattle.camelot_tree.specs.declared.tree.ArmCell.TheVariants as cell
-use Rattle.camelot_tree.specs.Tree.{Term, Num, Truth, Var, Prim, If, Let, Match, Build, Call, Terms, NoTerms, AndTerm, Arms, NoArms, AndArm, Constructor, Function, Source}
+use Rattle.camelot_tree.specs.Tree.{Expression, Num, Truth, Var, Prim, If, Let, Match, Build, Call, Expressions, NoExpressions, AndExpression, Arms, NoArms, AndArm, Constructor, Function, Source}
 
 -- ---- names
 
@@ -77,7 +77,7 @@ on_constructor v next = Stuck
 
 -- with so much fuel, so many waiting calls, in tail position or not, and these names bound
 abbrev mutual
-  pub eval : Source → Enter → Term → ℕ → ℕ → Bool → Environment → Outcome Value
+  pub eval : Source → Enter → Expression → ℕ → ℕ → Bool → Environment → Outcome Value
   eval p enter (Num z l) fuel waits tail env = at_once (value.Int z)
   eval p enter (Truth b l) fuel waits tail env = at_once (value.Flag b)
   eval p enter (Var n) fuel waits tail env = known (env n.word)
@@ -94,9 +94,9 @@ abbrev mutual
   eval p enter (Call f es) fuel waits tail env = first_then fuel (eval_all p enter es fuel waits env)
       (λ left vs. given (function_number p f) (λ func. enter left waits tail func vs))
 
-  pub eval_all : Source → Enter → Terms → ℕ → ℕ → Environment → Outcome (List Value)
-  eval_all p enter NoTerms fuel waits env = at_once []
-  eval_all p enter (AndTerm e es) fuel waits env = first_then fuel (eval p enter e fuel waits false env)
+  pub eval_all : Source → Enter → Expressions → ℕ → ℕ → Environment → Outcome (List Value)
+  eval_all p enter NoExpressions fuel waits env = at_once []
+  eval_all p enter (AndExpression e es) fuel waits env = first_then fuel (eval p enter e fuel waits false env)
       (λ left v. first_then left (eval_all p enter es left waits env) (λ last vs. at_once (v ∷ vs)))
 
   -- the arm of the value's constructor

@@ -12,7 +12,7 @@ use Rattle.camelot_values.specs.RunLaws.{Relation, Closed, Related, Respect, giv
 use Rattle.camelot_tree.specs.declared.tree.Name.{Name}
 use Rattle.camelot_tree.specs.declared.tree.ArmCell.{ArmCell}
 use Rattle.camelot_tree.specs.declared.tree.ArmCell.TheVariants as cell
-use Rattle.camelot_tree.specs.Tree.{Term, Num, Truth, Var, Prim, If, Let, Match, Build, Call, Terms, NoTerms, AndTerm, Arms, NoArms, AndArm, Constructor, Function, Source}
+use Rattle.camelot_tree.specs.Tree.{Expression, Num, Truth, Var, Prim, If, Let, Match, Build, Call, Expressions, NoExpressions, AndExpression, Arms, NoArms, AndArm, Constructor, Function, Source}
 use Rattle.camelot_tree.specs.Meaning.{Environment, put, declared_constructors, constructor_number, function_number, in_cell, placed, put_fields, cell_run, is_that, on_constructor, eval, eval_all, arms_run, put_params, body_run, bodies}
 
 in_cell_related : (Fine : ℕ → ℕ → Type 0) (R : Relation) → Closed Fine R → (o : Option Constructor) (v : Value) (j k : ℕ) → R Value j k (in_cell o v) (in_cell o v)
@@ -48,7 +48,7 @@ pick_related R j k true a b a' b' h g = h
 pick_related R j k false a b a' b' h g = g
 
 mutual
-  eval_related : (Fine : ℕ → ℕ → Type 0) (R : Relation) → Closed Fine R → (p : Source) (enter enter' : Enter) → Related Fine R enter enter' → (e : Term) (j k w : ℕ) (t : Bool) (env : Environment) → Fine j k
+  eval_related : (Fine : ℕ → ℕ → Type 0) (R : Relation) → Closed Fine R → (p : Source) (enter enter' : Enter) → Related Fine R enter enter' → (e : Expression) (j k w : ℕ) (t : Bool) (env : Environment) → Fine j k
       → R Value j k (eval p enter e j w t env) (eval p enter' e k w t env)
   eval_related Fine R closed p enter enter' r (Num z l) j k w t env f = closed.free Value j k (value.Int z) 0 0
   eval_related Fine R closed p enter enter' r (Truth b l) j k w t env f = closed.free Value j k (value.Flag b) 0 0
@@ -91,10 +91,10 @@ mutual
       (λ d vs. given_related Fine R closed (function_number p g) (j - d) (k - d) (λ func. enter (j - d) w t func vs) (λ func. enter' (k - d) w t func vs)
       (λ func. r (j - d) (k - d) w t func vs (closed.less j k d f)))
 
-  all_related : (Fine : ℕ → ℕ → Type 0) (R : Relation) → Closed Fine R → (p : Source) (enter enter' : Enter) → Related Fine R enter enter' → (es : Terms) (j k w : ℕ) (env : Environment) → Fine j k
+  all_related : (Fine : ℕ → ℕ → Type 0) (R : Relation) → Closed Fine R → (p : Source) (enter enter' : Enter) → Related Fine R enter enter' → (es : Expressions) (j k w : ℕ) (env : Environment) → Fine j k
       → R (List Value) j k (eval_all p enter es j w env) (eval_all p enter' es k w env)
-  all_related Fine R closed p enter enter' r NoTerms j k w env f = closed.free (List Value) j k [] 0 0
-  all_related Fine R closed p enter enter' r (AndTerm e es) j k w env f =
+  all_related Fine R closed p enter enter' r NoExpressions j k w env f = closed.free (List Value) j k [] 0 0
+  all_related Fine R closed p enter enter' r (AndExpression e es) j k w env f =
       closed.sequence Value (List Value) j k (eval p enter e j w false env) (eval p enter' e k w false env)
       (λ left v. first_then left (eval_all p enter es left w env) (λ last vs. at_once (v ∷ vs))) (λ left v. first_then left (eval_all p enter' es left w env) (λ last vs. at_once (v ∷ vs))) f
       (eval_related Fine R closed p enter enter' r e j k w false env f)

@@ -3,7 +3,7 @@
 -- inline constructor no fields.
 use Rattle.std.specs.Prelude.{Bool, true, false, not, ◌&&◌, ◌||◌, List, [], ◌∷◌}
 use Rattle.std.specs.List.{list_all}
-use Rattle.camelot_tree.specs.Tree.{Term, Num, Truth, Var, Prim, If, Let, Match, Build, Call, Terms, NoTerms, AndTerm, Arms, NoArms, AndArm, Constructor, DataType, Function, Source}
+use Rattle.camelot_tree.specs.Tree.{Expression, Num, Truth, Var, Prim, If, Let, Match, Build, Call, Expressions, NoExpressions, AndExpression, Arms, NoArms, AndArm, Constructor, DataType, Function, Source}
 
 abbrev pub is_nothing : {A : Type 0} → List A → Bool
 is_nothing [] = true
@@ -11,7 +11,7 @@ is_nothing (x ∷ xs) = false
 
 -- each match in it has an arm
 abbrev mutual
-  pub has_arms : Term → Bool
+  pub has_arms : Expression → Bool
   has_arms (Num z l) = true
   has_arms (Truth b l) = true
   has_arms (Var n) = true
@@ -23,9 +23,9 @@ abbrev mutual
   has_arms (Build c es p) = each_has_arms es
   has_arms (Call f es) = each_has_arms es
 
-  pub each_has_arms : Terms → Bool
-  each_has_arms NoTerms = true
-  each_has_arms (AndTerm e es) = has_arms e && each_has_arms es
+  pub each_has_arms : Expressions → Bool
+  each_has_arms NoExpressions = true
+  each_has_arms (AndExpression e es) = has_arms e && each_has_arms es
 
   pub have_arms : Arms → Bool
   have_arms NoArms = true

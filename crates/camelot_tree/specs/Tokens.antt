@@ -11,7 +11,7 @@ use Rattle.camelot_tree.specs.declared.tree.Atom.TheVariants as atom
 use Rattle.camelot_tree.specs.declared.tree.Param.{Param}
 use Rattle.camelot_tree.specs.declared.tree.ArmCell.{ArmCell}
 use Rattle.camelot_tree.specs.declared.tree.ArmCell.TheVariants as cell
-use Rattle.camelot_tree.specs.Tree.{Term, Num, Truth, Var, Prim, If, Let, Match, Build, Call, Terms, NoTerms, AndTerm, Arms, NoArms, AndArm, Constructor, DataType, Function, Source}
+use Rattle.camelot_tree.specs.Tree.{Expression, Num, Truth, Var, Prim, If, Let, Match, Build, Call, Expressions, NoExpressions, AndExpression, Arms, NoArms, AndArm, Constructor, DataType, Function, Source}
 
 -- ---- names
 
@@ -32,24 +32,24 @@ cell_is_named cell.Free = true
 cell_is_named (cell.Keep d) = is_lower d
 
 abbrev mutual
-  pub term_is_named : Term → Bool
-  term_is_named (Num z l) = true
-  term_is_named (Truth b l) = true
-  term_is_named (Var n) = is_lower n
-  term_is_named (Prim op a b l) = term_is_named a && term_is_named b
-  term_is_named (If c a b l) = term_is_named c && (term_is_named a && term_is_named b)
-  term_is_named (Let n e b) = is_lower n && (term_is_named e && term_is_named b)
-  term_is_named (Match e as' l) = term_is_named e && arms_are_named as'
-  term_is_named (Build c es place) = is_upper c && (terms_are_named es && is_lower_or_none place)
-  term_is_named (Call f es) = is_lower f && terms_are_named es
+  pub expression_is_named : Expression → Bool
+  expression_is_named (Num z l) = true
+  expression_is_named (Truth b l) = true
+  expression_is_named (Var n) = is_lower n
+  expression_is_named (Prim op a b l) = expression_is_named a && expression_is_named b
+  expression_is_named (If c a b l) = expression_is_named c && (expression_is_named a && expression_is_named b)
+  expression_is_named (Let n e b) = is_lower n && (expression_is_named e && expression_is_named b)
+  expression_is_named (Match e as' l) = expression_is_named e && arms_are_named as'
+  expression_is_named (Build c es place) = is_upper c && (expressions_are_named es && is_lower_or_none place)
+  expression_is_named (Call f es) = is_lower f && expressions_are_named es
 
-  pub terms_are_named : Terms → Bool
-  terms_are_named NoTerms = true
-  terms_are_named (AndTerm e es) = term_is_named e && terms_are_named es
+  pub expressions_are_named : Expressions → Bool
+  expressions_are_named NoExpressions = true
+  expressions_are_named (AndExpression e es) = expression_is_named e && expressions_are_named es
 
   pub arms_are_named : Arms → Bool
   arms_are_named NoArms = true
-  arms_are_named (AndArm c fs x b as') = (is_upper c && (list_all is_lower_or_none fs && (cell_is_named x && term_is_named b))) && arms_are_named as'
+  arms_are_named (AndArm c fs x b as') = (is_upper c && (list_all is_lower_or_none fs && (cell_is_named x && expression_is_named b))) && arms_are_named as'
 
 abbrev pub atom_is_named : Atom → Bool
 atom_is_named (atom.Named n) = is_lower n
@@ -71,7 +71,7 @@ abbrev pub param_is_named : Param → Bool
 param_is_named x = is_lower x.name && written_is_named x.kind
 
 abbrev pub fun_is_named : Function → Bool
-fun_is_named f = is_lower f.name && (list_all param_is_named f.params && (written_is_named f.result && term_is_named f.body))
+fun_is_named f = is_lower f.name && (list_all param_is_named f.params && (written_is_named f.result && expression_is_named f.body))
 
 -- each name in the program has its form
 abbrev pub is_named : Source → Bool
@@ -80,25 +80,25 @@ is_named p = list_all type_is_named p.types && list_all fun_is_named p.funs
 -- ---- literals
 
 abbrev mutual
-  pub term_has_ints : Term → Bool
-  term_has_ints (Num z l) = is_int32 z
-  term_has_ints (Truth b l) = true
-  term_has_ints (Var n) = true
-  term_has_ints (Prim op a b l) = term_has_ints a && term_has_ints b
-  term_has_ints (If c a b l) = term_has_ints c && (term_has_ints a && term_has_ints b)
-  term_has_ints (Let n e b) = term_has_ints e && term_has_ints b
-  term_has_ints (Match e as' l) = term_has_ints e && arms_have_ints as'
-  term_has_ints (Build c es place) = terms_have_ints es
-  term_has_ints (Call f es) = terms_have_ints es
+  pub expression_has_ints : Expression → Bool
+  expression_has_ints (Num z l) = is_int32 z
+  expression_has_ints (Truth b l) = true
+  expression_has_ints (Var n) = true
+  expression_has_ints (Prim op a b l) = expression_has_ints a && expression_has_ints b
+  expression_has_ints (If c a b l) = expression_has_ints c && (expression_has_ints a && expression_has_ints b)
+  expression_has_ints (Let n e b) = expression_has_ints e && expression_has_ints b
+  expression_has_ints (Match e as' l) = expression_has_ints e && arms_have_ints as'
+  expression_has_ints (Build c es place) = expressions_have_ints es
+  expression_has_ints (Call f es) = expressions_have_ints es
 
-  pub terms_have_ints : Terms → Bool
-  terms_have_ints NoTerms = true
-  terms_have_ints (AndTerm e es) = term_has_ints e && terms_have_ints es
+  pub expressions_have_ints : Expressions → Bool
+  expressions_have_ints NoExpressions = true
+  expressions_have_ints (AndExpression e es) = expression_has_ints e && expressions_have_ints es
 
   pub arms_have_ints : Arms → Bool
   arms_have_ints NoArms = true
-  arms_have_ints (AndArm c fs x b as') = term_has_ints b && arms_have_ints as'
+  arms_have_ints (AndArm c fs x b as') = expression_has_ints b && arms_have_ints as'
 
 -- each literal in the program has 32 bits
 abbrev pub has_ints : Source → Bool
-has_ints p = list_all (λ f. term_has_ints f.body) p.funs
+has_ints p = list_all (λ f. expression_has_ints f.body) p.funs

@@ -20,35 +20,35 @@ use Rattle.camelot_tree.specs.declared.tree.Expr.TheOpen.{Expr-F, Arm-F}
 
 -- expressions; a number at the end is the line
 mutual
-  pub data Term : Type 0 where
-    Num : (value : ℤ) (line : ℕ) → Term
-    Truth : (value : Bool) (line : ℕ) → Term
-    Var : Name → Term
-    Prim : Operator → (left right : Term) (line : ℕ) → Term
-    If : (cond first second : Term) (line : ℕ) → Term
-    Let : Name → (value body : Term) → Term
-    Match : (on : Term) (arms : Arms) (line : ℕ) → Term
-    Build : (con : Name) (args : Terms) (place : Option Name) → Term
-    Call : (fun : Name) (args : Terms) → Term
+  pub data Expression : Type 0 where
+    Num : (value : ℤ) (line : ℕ) → Expression
+    Truth : (value : Bool) (line : ℕ) → Expression
+    Var : Name → Expression
+    Prim : Operator → (left right : Expression) (line : ℕ) → Expression
+    If : (cond first second : Expression) (line : ℕ) → Expression
+    Let : Name → (value body : Expression) → Expression
+    Match : (on : Expression) (arms : Arms) (line : ℕ) → Expression
+    Build : (con : Name) (args : Expressions) (place : Option Name) → Expression
+    Call : (fun : Name) (args : Expressions) → Expression
 
-  pub data Terms : Type 0 where
-    NoTerms : Terms
-    AndTerm : Term → Terms → Terms
+  pub data Expressions : Type 0 where
+    NoExpressions : Expressions
+    AndExpression : Expression → Expressions → Expressions
 
   -- each arm is a constructor with the names of its fields, what becomes of its cell, and a body
   pub data Arms : Type 0 where
     NoArms : Arms
-    AndArm : (con : Name) (fields : List (Option Name)) (cell : ArmCell) (body : Term) → Arms → Arms
+    AndArm : (con : Name) (fields : List (Option Name)) (cell : ArmCell) (body : Expression) → Arms → Arms
 
 pub record Branch : Type 0 where
   pub con : Name
   pub fields : List (Option Name)
   pub cell : ArmCell
-  pub body : Term
+  pub body : Expression
 
-abbrev pub terms : List Term → Terms
-terms [] = NoTerms
-terms (e ∷ es) = AndTerm e (terms es)
+abbrev pub expressions : List Expression → Expressions
+expressions [] = NoExpressions
+expressions (e ∷ es) = AndExpression e (expressions es)
 
 abbrev pub arms : List Branch → Arms
 arms [] = NoArms
@@ -67,7 +67,7 @@ pub record Function : Type 0 where
   pub name : Name
   pub params : List Param
   pub result : Option Atom
-  pub body : Term
+  pub body : Expression
 
 pub record Source : Type 0 where
   pub types : List DataType
@@ -86,7 +86,7 @@ operator_of prim.Le = operator.Le
 operator_of prim.Gt = operator.Gt
 operator_of prim.Ge = operator.Ge
 
-abbrev pub expr_layer : Expr-F Term Branch → Term
+abbrev pub expr_layer : Expr-F Expression Branch → Expression
 expr_layer (layer.Num z l) = Num z l
 expr_layer (layer.Truth b l) = Truth b l
 expr_layer (layer.Var n) = Var n
@@ -94,17 +94,17 @@ expr_layer (layer.Prim o a b l) = Prim (operator_of o) a.value b.value l
 expr_layer (layer.If c a b l) = If c.value a.value b.value l
 expr_layer (layer.Let n v b) = Let n v.value b.value
 expr_layer (layer.Match e as' l) = Match e.value (arms as'.items) l
-expr_layer (layer.Build c es p) = Build c (terms es.items) p
-expr_layer (layer.Call f es) = Call f (terms es.items)
+expr_layer (layer.Build c es p) = Build c (expressions es.items) p
+expr_layer (layer.Call f es) = Call f (expressions es.items)
 
-abbrev pub arm_layer : Arm-F Term Branch → Branch
+abbrev pub arm_layer : Arm-F Expression Branch → Branch
 arm_layer a = record { con = a.con; fields = a.fields.items; cell = a.cell; body = a.body }
 
-abbrev pub term_of : Expr → Term
-term_of = fold-Expr Term Branch expr_layer arm_layer
+abbrev pub expression_of : Expr → Expression
+expression_of = fold-Expr Expression Branch expr_layer arm_layer
 
 abbrev pub branch_of : Arm → Branch
-branch_of = fold-Arm Term Branch expr_layer arm_layer
+branch_of = fold-Arm Expression Branch expr_layer arm_layer
 
 abbrev pub constructor_of : ConDecl → Constructor
 constructor_of c = record { name = c.name; inline = c.inline; fields = c.fields.items }
@@ -113,4 +113,4 @@ abbrev pub data_type_of : TypeDecl → DataType
 data_type_of t = record { name = t.name; cons = map constructor_of t.cons.items }
 
 abbrev pub function_of : FunDecl → Function
-function_of f = record { name = f.name; params = f.params.items; result = f.result; body = term_of f.body }
+function_of f = record { name = f.name; params = f.params.items; result = f.result; body = expression_of f.body }

@@ -1,7 +1,7 @@
 //! Copies of programs, in memory of their own.
 
 ghost use Rattle.std.specs.Prelude.{◌≡◌, map, IfOk};
-ghost use Rattle.camelot_tree.specs.Tree.{term_of, branch_of, constructor_of, data_type_of, function_of};
+ghost use Rattle.camelot_tree.specs.Tree.{expression_of, branch_of, constructor_of, data_type_of, function_of};
 ghost use Rattle.camelot_tree.specs.Programs.{program_of};
 ghost use Rattle.camelot_tree.specs.Spine.{IsLeaf, with_first};
 
@@ -77,7 +77,7 @@ fn copy_kind(alloc: Global, kind: &Option<Atom>) -> Result<Option<Atom>, AllocEr
 #[cycle(copy)]
 #[tactic(auto, using(crate::specs::SpineLaws::around_popped, crate::specs::SpineLaws::front_popped, crate::specs::SpineLaws::last_popped, crate::specs::SpineLaws::around_begun, crate::specs::SpineLaws::none_larger, crate::specs::SpineLaws::leaf_smaller))]
 fn copy_expr(alloc: Global, expr: &Expr) -> Result<Expr, AllocError>
-    ensures { IfOk result (λ copy. term_of copy ≡ term_of expr.now) }
+    ensures { IfOk result (λ copy. expression_of copy ≡ expression_of expr.now) }
 {
     let spine = left_spine(alloc, expr)?;
     let mut parents = spine.parents;
@@ -91,7 +91,7 @@ fn copy_expr(alloc: Global, expr: &Expr) -> Result<Expr, AllocError>
 // A parent of the left end, with a copy of its first part.
 #[cycle(copy)]
 fn copy_around(alloc: Global, parent: &Expr, first: Expr) -> Result<Expr, AllocError>
-    ensures { IfOk result (λ copy. term_of copy ≡ with_first (term_of parent.now) (term_of first)) }
+    ensures { IfOk result (λ copy. expression_of copy ≡ with_first (expression_of parent.now) (expression_of first)) }
 {
     match parent {
         Expr::Prim {
@@ -127,8 +127,8 @@ fn copy_around(alloc: Global, parent: &Expr, first: Expr) -> Result<Expr, AllocE
 // The innermost part of a left end.
 #[cycle(copy)]
 fn copy_leaf(alloc: Global, expr: &Expr) -> Result<Expr, AllocError>
-    requires { IsLeaf (term_of expr.now) }
-    ensures { IfOk result (λ copy. term_of copy ≡ term_of expr.now) }
+    requires { IsLeaf (expression_of expr.now) }
+    ensures { IfOk result (λ copy. expression_of copy ≡ expression_of expr.now) }
 {
     match expr {
         Expr::Num { value, line } => Ok(Expr::Num {
@@ -170,7 +170,7 @@ fn copy_leaf(alloc: Global, expr: &Expr) -> Result<Expr, AllocError>
 
 #[cycle(copy)]
 fn copy_args(alloc: Global, args: &[Expr]) -> Result<Vec<Expr>, AllocError>
-    ensures { IfOk result (λ copy. map term_of copy.items ≡ map term_of args.now) }
+    ensures { IfOk result (λ copy. map expression_of copy.items ≡ map expression_of args.now) }
 {
     let mut copy = Vec::new(alloc);
     'args: for arg in args {

@@ -1,5 +1,5 @@
 ghost use Rattle.std.specs.Prelude.{◌≡◌, map, IfOk};
-ghost use Rattle.camelot_tree.specs.Tree.{term_of};
+ghost use Rattle.camelot_tree.specs.Tree.{expression_of};
 ghost use Rattle.camelot_tree.specs.Spine.{spine_of, leaf_of, IsLeaf};
 
 use crate::tree::Expr;
@@ -16,9 +16,9 @@ pub struct Spine<'a> {
 
 /// The left end of an expression; `AllocError` where memory runs out.
 pub fn left_spine(alloc: Global, expr: &Expr) -> Result<Spine<'_>, AllocError>
-    ensures parents { IfOk result (λ spine. map (λ parent. term_of parent.now) spine.parents.items ≡ spine_of (term_of expr.now)) }
-    ensures leaf { IfOk result (λ spine. term_of spine.leaf.now ≡ leaf_of (term_of expr.now)) }
-    ensures is_leaf { IfOk result (λ spine. IsLeaf (term_of spine.leaf.now)) }
+    ensures parents { IfOk result (λ spine. map (λ parent. expression_of parent.now) spine.parents.items ≡ spine_of (expression_of expr.now)) }
+    ensures leaf { IfOk result (λ spine. expression_of spine.leaf.now ≡ leaf_of (expression_of expr.now)) }
+    ensures is_leaf { IfOk result (λ spine. IsLeaf (expression_of spine.leaf.now)) }
 {
     let mut parents = Vec::new(alloc);
     let mut leaf = expr;

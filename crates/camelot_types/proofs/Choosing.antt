@@ -11,7 +11,7 @@ use Rattle.camelot_tree.specs.declared.tree.Name.{Name}
 use Rattle.camelot_tree.specs.declared.tree.Param.{Param}
 use Rattle.camelot_tree.specs.declared.tree.ArmCell.{ArmCell}
 use Rattle.camelot_tree.specs.declared.tree.ArmCell.TheVariants as cell
-use Rattle.camelot_tree.specs.Tree.{Term, Num, Truth, Var, Prim, If, Let, Match, Build, Call, Terms, NoTerms, AndTerm, Arms, NoArms, AndArm}
+use Rattle.camelot_tree.specs.Tree.{Expression, Num, Truth, Var, Prim, If, Let, Match, Build, Call, Expressions, NoExpressions, AndExpression, Arms, NoArms, AndArm}
 use Rattle.typing_rules.specs.Kinds.{Head, Globals, Scope, bind, or_else, constructor_number, fields_of, head_of, bind_fields, bind_cell, arm_scope, atom_of, arms_atom, atoms_of, all_atoms, arms_atoms}
 use Rattle.typing_rules.specs.Typing.{Signature, known_kind, params_scope}
 use Rattle.camelot_types.specs.declared.guess.Guess.{Guess}
@@ -80,7 +80,7 @@ result_under choice None = refl
 result_under choice (Some h) = refl
 
 mutual
-  pub atom_under : (choice : Choice) (g : Globals Guess) (s : Scope Guess) (e : Term) → under choice (atom_of Known g s e) ≡ atom_of known_kind (globals_under choice g) (scope_under choice s) e
+  pub atom_under : (choice : Choice) (g : Globals Guess) (s : Scope Guess) (e : Expression) → under choice (atom_of Known g s e) ≡ atom_of known_kind (globals_under choice g) (scope_under choice s) e
   atom_under choice g s (Num z l) = refl
   atom_under choice g s (Truth b l) = refl
   atom_under choice g s (Var n) = or_else_under choice (find s n.word) (Known kind.Int) ∙ ap (λ o. or_else o kind.Int) (sym (find_under choice s n.word))
@@ -105,11 +105,11 @@ map_append choice (x ∷ xs) ys = ap (λ l. under choice x ∷ l) (map_append ch
 both_under : (choice : Choice) (xs ys : List Guess) (ks qs : List Kind) → map (under choice) xs ≡ ks → map (under choice) ys ≡ qs → map (under choice) (xs ++ ys) ≡ ks ++ qs
 both_under choice xs ys ks qs h k = map_append choice xs ys ∙ ap (λ l. l ++ map (under choice) ys) h ∙ ap (λ l. ks ++ l) k
 
-own_under : (choice : Choice) (g : Globals Guess) (s : Scope Guess) (e : Term) → map (under choice) (atom_of Known g s e ∷ []) ≡ atom_of known_kind (globals_under choice g) (scope_under choice s) e ∷ []
+own_under : (choice : Choice) (g : Globals Guess) (s : Scope Guess) (e : Expression) → map (under choice) (atom_of Known g s e ∷ []) ≡ atom_of known_kind (globals_under choice g) (scope_under choice s) e ∷ []
 own_under choice g s e = ap (λ x. x ∷ []) (atom_under choice g s e)
 
 mutual
-  pub atoms_under : (choice : Choice) (g : Globals Guess) (s : Scope Guess) (e : Term) → map (under choice) (atoms_of Known g s e) ≡ atoms_of known_kind (globals_under choice g) (scope_under choice s) e
+  pub atoms_under : (choice : Choice) (g : Globals Guess) (s : Scope Guess) (e : Expression) → map (under choice) (atoms_of Known g s e) ≡ atoms_of known_kind (globals_under choice g) (scope_under choice s) e
   atoms_under choice g s (Num z l) = refl
   atoms_under choice g s (Truth b l) = refl
   atoms_under choice g s (Var n) = own_under choice g s (Var n)
@@ -128,9 +128,9 @@ mutual
   atoms_under choice g s (Build c es place) = both_under choice _ _ _ _ (all_atoms_under choice g s es) (own_under choice g s (Build c es place))
   atoms_under choice g s (Call f es) = both_under choice _ _ _ _ (all_atoms_under choice g s es) (own_under choice g s (Call f es))
 
-  pub all_atoms_under : (choice : Choice) (g : Globals Guess) (s : Scope Guess) (es : Terms) → map (under choice) (all_atoms Known g s es) ≡ all_atoms known_kind (globals_under choice g) (scope_under choice s) es
-  all_atoms_under choice g s NoTerms = refl
-  all_atoms_under choice g s (AndTerm e es) = both_under choice _ _ _ _ (atoms_under choice g s e) (all_atoms_under choice g s es)
+  pub all_atoms_under : (choice : Choice) (g : Globals Guess) (s : Scope Guess) (es : Expressions) → map (under choice) (all_atoms Known g s es) ≡ all_atoms known_kind (globals_under choice g) (scope_under choice s) es
+  all_atoms_under choice g s NoExpressions = refl
+  all_atoms_under choice g s (AndExpression e es) = both_under choice _ _ _ _ (atoms_under choice g s e) (all_atoms_under choice g s es)
 
   pub arms_atoms_under : (choice : Choice) (g : Globals Guess) (s : Scope Guess) (as' : Arms) → map (under choice) (arms_atoms Known g s as') ≡ arms_atoms known_kind (globals_under choice g) (scope_under choice s) as'
   arms_atoms_under choice g s NoArms = refl

@@ -13,7 +13,7 @@ use Rattle.camelot_values.specs.declared.kinds.Kind.TheVariants as kind
 use Rattle.camelot_tree.specs.declared.tree.Name.{Name}
 use Rattle.camelot_tree.specs.declared.tree.ArmCell.{ArmCell}
 use Rattle.camelot_tree.specs.declared.tree.ArmCell.TheVariants as cell
-use Rattle.camelot_tree.specs.Tree.{Term, Num, Truth, Var, Prim, If, Let, Match, Build, Call, Terms, NoTerms, AndTerm, Arms, NoArms, AndArm}
+use Rattle.camelot_tree.specs.Tree.{Expression, Num, Truth, Var, Prim, If, Let, Match, Build, Call, Expressions, NoExpressions, AndExpression, Arms, NoArms, AndArm}
 use Rattle.camelot_tree.specs.Meaning.{is_that}
 use Rattle.typing_rules.specs.Kinds.{Head, Globals, Scope, bind, or_else, constructor_number, fields_of, is_inline, built_kind, numbers_of, head_of, bound_names, arm_scope}
 use Rattle.typing_rules.specs.Typing.{Signature, PlaceFits, CellFits, arms_with, Covers, HeadFits, HasKind, HaveKinds, ArmsHaveKind}
@@ -161,7 +161,7 @@ head_fits choice types earlier against c fs x t h o = record { con = h.con; is =
 pub record ArmsCounted (types : List DataType) (as' : Arms) : Type 0 where
   pub same : (con : ℕ) → arms_with types con as' ≡ times con (arm_numbers types as')
 
-counted_more : (types : List DataType) (c : Name) (fs : List (Option Name)) (x : ArmCell) (b : Term) (as' : Arms) (con : ℕ) → constructor_number types c.word ≡ Some con → ArmsCounted types as'
+counted_more : (types : List DataType) (c : Name) (fs : List (Option Name)) (x : ArmCell) (b : Expression) (as' : Arms) (con : ℕ) → constructor_number types c.word ≡ Some con → ArmsCounted types as'
     → ArmsCounted types (AndArm c fs x b as')
 counted_more types c fs x b as' con e h = record {
   same = λ n.
@@ -203,7 +203,7 @@ of_kind : (t u : ℕ) → kind.Of t ≡ kind.Of u → t ≡ u
 of_kind t u h = cc
 
 -- an arm behind the first one
-arm_sound : (choice : Choice) (g : Globals Guess) (s : Scope Guess) (earlier : List ℕ) (first t : ℕ) (body : Guess) (c : Name) (fs : List (Option Name)) (x : ArmCell) (b : Term) (as' : Arms)
+arm_sound : (choice : Choice) (g : Globals Guess) (s : Scope Guess) (earlier : List ℕ) (first t : ℕ) (body : Guess) (c : Name) (fs : List (Option Name)) (x : ArmCell) (b : Expression) (as' : Arms)
     → type_of g.types first ≡ Some t
     → HeadHolds choice g.types earlier (λ con. Same (con_guess g.types first) (con_guess g.types con) c.line) c fs x
     → HasKind (globals_under choice g) (scope_under choice (arm_scope Known g.types c fs x s)) b (under choice (guess g (arm_scope Known g.types c fs x s) b))
@@ -224,7 +224,7 @@ arm_sound choice g s earlier first t body c fs x b as' o h k same rest =
     }
 
 -- a whole match
-match_sound : (choice : Choice) (g : Globals Guess) (s : Scope Guess) (e : Term) (c : Name) (fs : List (Option Name)) (x : ArmCell) (b : Term) (as' : Arms) (l : ℕ)
+match_sound : (choice : Choice) (g : Globals Guess) (s : Scope Guess) (e : Expression) (c : Name) (fs : List (Option Name)) (x : ArmCell) (b : Expression) (as' : Arms) (l : ℕ)
     → HasKind (globals_under choice g) (scope_under choice s) e (under choice (guess g s e))
     → (h : HeadHolds choice g.types [] (λ con. Same (con_guess g.types con) (guess g s e) c.line) c fs x)
     → HasKind (globals_under choice g) (scope_under choice (arm_scope Known g.types c fs x s)) b (under choice (guess g (arm_scope Known g.types c fs x s) b))
@@ -253,7 +253,7 @@ match_sound choice g s e c fs x b as' l ke h kb arms missing =
 
 -- ---- a build and a call
 
-build_sound : (choice : Choice) (g : Globals Guess) (s : Scope Guess) (c : Name) (es : Terms) (place : Option Name) (o : Option ℕ) → constructor_number g.types c.word ≡ o
+build_sound : (choice : Choice) (g : Globals Guess) (s : Scope Guess) (c : Name) (es : Expressions) (place : Option Name) (o : Option ℕ) → constructor_number g.types c.word ≡ o
     → ((ts : List Guess) → argument_count es ≡ length ts → AllHold choice (same_steps g s es ts) → HaveKinds (globals_under choice g) (scope_under choice s) es (map (under choice) ts))
     → AllHold choice (build_steps g s c es place o) → HasKind (globals_under choice g) (scope_under choice s) (Build c es place) (under choice (guess g s (Build c es place)))
 build_sound choice g s c es place None e f h = let q : false ≡ true = h.0 in cc
@@ -273,7 +273,7 @@ build_sound choice g s c es place (Some con) e f h =
       place_holds choice s (is_inline g.types con) place h.1.0 known (all_back choice (same_steps g s es ts) (place_same s place) sames),
     )
 
-call_sound : (choice : Choice) (g : Globals Guess) (s : Scope Guess) (f : Name) (es : Terms) (o : Option (Head Guess)) → head_of g.heads f.word ≡ o
+call_sound : (choice : Choice) (g : Globals Guess) (s : Scope Guess) (f : Name) (es : Expressions) (o : Option (Head Guess)) → head_of g.heads f.word ≡ o
     → ((ts : List Guess) → argument_count es ≡ length ts → AllHold choice (same_steps g s es ts) → HaveKinds (globals_under choice g) (scope_under choice s) es (map (under choice) ts))
     → AllHold choice (call_steps g s f es o) → HasKind (globals_under choice g) (scope_under choice s) (Call f es) (under choice (guess g s (Call f es)))
 call_sound choice g s f es None e k h = let q : false ≡ true = h.0 in cc
@@ -287,7 +287,7 @@ call_sound choice g s f es (Some d) e k h = (
 -- ---- steps that hold give kinds
 
 mutual
-  pub sound : (choice : Choice) (g : Globals Guess) (s : Scope Guess) (e : Term) → AllHold choice (steps g s e) → HasKind (globals_under choice g) (scope_under choice s) e (under choice (guess g s e))
+  pub sound : (choice : Choice) (g : Globals Guess) (s : Scope Guess) (e : Expression) → AllHold choice (steps g s e) → HasKind (globals_under choice g) (scope_under choice s) e (under choice (guess g s e))
   sound choice g s (Num z l) h = refl
   sound choice g s (Truth b l) h = refl
   sound choice g s (Var n) h = known_name choice s n.word h.0
@@ -344,12 +344,12 @@ mutual
       call_sound choice g s f es (head_of g.heads f.word) refl
       (λ ts n k. sound_all choice g s es ts n (all_front choice (all_steps g s es) last h) k) (all_back choice (all_steps g s es) last h)
 
-  pub sound_all : (choice : Choice) (g : Globals Guess) (s : Scope Guess) (es : Terms) (ts : List Guess) → argument_count es ≡ length ts → AllHold choice (all_steps g s es) → AllHold choice (same_steps g s es ts)
+  pub sound_all : (choice : Choice) (g : Globals Guess) (s : Scope Guess) (es : Expressions) (ts : List Guess) → argument_count es ≡ length ts → AllHold choice (all_steps g s es) → AllHold choice (same_steps g s es ts)
       → HaveKinds (globals_under choice g) (scope_under choice s) es (map (under choice) ts)
-  sound_all choice g s NoTerms [] n h k = tt
-  sound_all choice g s NoTerms (t ∷ ts) n h k = absurd (omega (arith, n))
-  sound_all choice g s (AndTerm e es) [] n h k = absurd (omega (arith, n))
-  sound_all choice g s (AndTerm e es) (t ∷ ts) n h k = (
+  sound_all choice g s NoExpressions [] n h k = tt
+  sound_all choice g s NoExpressions (t ∷ ts) n h k = absurd (omega (arith, n))
+  sound_all choice g s (AndExpression e es) [] n h k = absurd (omega (arith, n))
+  sound_all choice g s (AndExpression e es) (t ∷ ts) n h k = (
     subst (HasKind (globals_under choice g) (scope_under choice s) e) k.0 (sound choice g s e (all_front choice (steps g s e) (all_steps g s es) h)),
     sound_all choice g s es ts (omega (arith, n)) (all_back choice (steps g s e) (all_steps g s es) h) k.1,
   )
@@ -373,12 +373,12 @@ mutual
 -- ---- kinds make steps hold
 
 -- the steps hold, and the guess is this kind under the choice
-pub record Judged (choice : Choice) (g : Globals Guess) (s : Scope Guess) (e : Term) (k : Kind) : Type 0 where
+pub record Judged (choice : Choice) (g : Globals Guess) (s : Scope Guess) (e : Expression) (k : Kind) : Type 0 where
   pub hold : AllHold choice (steps g s e)
   pub is : under choice (guess g s e) ≡ k
 
 -- those of arguments, for what is needed
-pub record AllJudged (choice : Choice) (g : Globals Guess) (s : Scope Guess) (es : Terms) (ts : List Guess) : Type 0 where
+pub record AllJudged (choice : Choice) (g : Globals Guess) (s : Scope Guess) (es : Expressions) (ts : List Guess) : Type 0 where
   pub hold : AllHold choice (all_steps g s es)
   pub count_is : argument_count es ≡ length ts
   pub same : AllHold choice (same_steps g s es ts)
@@ -392,7 +392,7 @@ counted_kinds : (g : Globals Guess) (choice : Choice) (s : Scope Guess) (t : ℕ
 counted_kinds g choice s t NoArms k h = record { same = λ con. refl }
 counted_kinds g choice s t (AndArm c fs x b as') k h = counted_more g.types c fs x b as' h.0.con h.0.is (counted_kinds g choice s t as' k h.2)
 
-build_complete : (choice : Choice) (g : Globals Guess) (s : Scope Guess) (c : Name) (es : Terms) (place : Option Name) (k : Kind) (con : ℕ) → constructor_number g.types c.word ≡ Some con → built_kind g.types con ≡ Some k
+build_complete : (choice : Choice) (g : Globals Guess) (s : Scope Guess) (c : Name) (es : Expressions) (place : Option Name) (k : Kind) (con : ℕ) → constructor_number g.types c.word ≡ Some con → built_kind g.types con ≡ Some k
     → AllJudged choice g s es (map Known (fields_of g.types con)) → PlaceFits (scope_under choice s) (is_inline g.types con) place → Judged choice g s (Build c es place) k
 build_complete choice g s c es place k con e b all fits =
     let p = holds_place choice s (is_inline g.types con) place fits in
@@ -418,7 +418,7 @@ head_known choice g f h e = by_option (head_of g.heads f) refl (sym (head_of_und
     by_option None q k = cc
     by_option (Some d) q k = let same : head_under choice d ≡ h = cc in record { head = d; is = q; signature = same }
 
-call_complete : (choice : Choice) (g : Globals Guess) (s : Scope Guess) (f : Name) (es : Terms) (k : Kind) (h : Signature) → (n : HeadKnown choice g f.word h) → h.result ≡ k → AllJudged choice g s es n.head.params
+call_complete : (choice : Choice) (g : Globals Guess) (s : Scope Guess) (f : Name) (es : Expressions) (k : Kind) (h : Signature) → (n : HeadKnown choice g f.word h) → h.result ≡ k → AllJudged choice g s es n.head.params
     → Judged choice g s (Call f es) k
 call_complete choice g s f es k h n r all = record {
   hold = all_both choice (all_steps g s es) (call_steps g s f es (head_of g.heads f.word)) all.hold
@@ -427,7 +427,7 @@ call_complete choice g s f es k h n r all = record {
 }
 
 -- the arms behind the first one
-arm_complete : (choice : Choice) (g : Globals Guess) (s : Scope Guess) (earlier : List ℕ) (first t : ℕ) (body : Guess) (c : Name) (fs : List (Option Name)) (x : ArmCell) (b : Term) (as' : Arms) (k : Kind)
+arm_complete : (choice : Choice) (g : Globals Guess) (s : Scope Guess) (earlier : List ℕ) (first t : ℕ) (body : Guess) (c : Name) (fs : List (Option Name)) (x : ArmCell) (b : Expression) (as' : Arms) (k : Kind)
     → type_of g.types first ≡ Some t → under choice body ≡ k → (h : HeadFits g.types t c fs x)
     → times h.con (earlier ++ arm_numbers g.types (AndArm c fs x b as')) ≤ 1
     → Judged choice g (arm_scope Known g.types c fs x s) b k
@@ -444,7 +444,7 @@ arm_complete choice g s earlier first t body c fs x b as' k o e h once j rest =
     all_both choice heads (steps g inner b ++ (last ∷ more)) (holds_head choice g.types earlier against c fs x (head_complete choice g.types earlier against c fs x t h new same))
     (all_both choice (steps g inner b) (last ∷ more) j.hold (e ∙ sym j.is, rest))
 
-match_complete : (choice : Choice) (g : Globals Guess) (s : Scope Guess) (e : Term) (c : Name) (fs : List (Option Name)) (x : ArmCell) (b : Term) (as' : Arms) (l : ℕ) (k : Kind) (t : ℕ)
+match_complete : (choice : Choice) (g : Globals Guess) (s : Scope Guess) (e : Expression) (c : Name) (fs : List (Option Name)) (x : ArmCell) (b : Expression) (as' : Arms) (l : ℕ) (k : Kind) (t : ℕ)
     → Judged choice g s e (kind.Of t) → Covers g.types t (AndArm c fs x b as') → (h : HeadFits g.types t c fs x) → Judged choice g (arm_scope Known g.types c fs x s) b k → ArmsCounted g.types as'
     → ((first : ℕ) → type_of g.types first ≡ Some t → ((con : ℕ) → type_of g.types con ≡ Some t → times con (first ∷ arm_numbers g.types as') ≤ 1)
     → AllHold choice (arms_steps g s (first ∷ []) first (guess g (arm_scope Known g.types c fs x s) b) as'))
@@ -475,7 +475,7 @@ match_complete choice g s e c fs x b as' l k t je covered h jb counts arms =
     }
 
 mutual
-  pub complete : (choice : Choice) (g : Globals Guess) (s : Scope Guess) (e : Term) (k : Kind) → HasKind (globals_under choice g) (scope_under choice s) e k → Judged choice g s e k
+  pub complete : (choice : Choice) (g : Globals Guess) (s : Scope Guess) (e : Expression) (k : Kind) → HasKind (globals_under choice g) (scope_under choice s) e k → Judged choice g s e k
   complete choice g s (Num z l) k h = record { hold = tt; is = sym h }
   complete choice g s (Truth b l) k h = record { hold = tt; is = sym h }
   complete choice g s (Var n) k h = let q = name_known choice s n.word k h in record { hold = (q.there, tt); is = q.is }
@@ -515,11 +515,11 @@ mutual
       call_complete choice g s f es k h.0 n h.2
       (complete_all choice g s es n.head.params (subst (HaveKinds (globals_under choice g) (scope_under choice s) es) (sym (ap (λ d. d.params) n.signature)) h.3))
 
-  pub complete_all : (choice : Choice) (g : Globals Guess) (s : Scope Guess) (es : Terms) (ts : List Guess) → HaveKinds (globals_under choice g) (scope_under choice s) es (map (under choice) ts) → AllJudged choice g s es ts
-  complete_all choice g s NoTerms [] h = record { hold = tt; count_is = refl; same = tt }
-  complete_all choice g s NoTerms (t ∷ ts) h = absurd h
-  complete_all choice g s (AndTerm e es) [] h = absurd h
-  complete_all choice g s (AndTerm e es) (t ∷ ts) h =
+  pub complete_all : (choice : Choice) (g : Globals Guess) (s : Scope Guess) (es : Expressions) (ts : List Guess) → HaveKinds (globals_under choice g) (scope_under choice s) es (map (under choice) ts) → AllJudged choice g s es ts
+  complete_all choice g s NoExpressions [] h = record { hold = tt; count_is = refl; same = tt }
+  complete_all choice g s NoExpressions (t ∷ ts) h = absurd h
+  complete_all choice g s (AndExpression e es) [] h = absurd h
+  complete_all choice g s (AndExpression e es) (t ∷ ts) h =
       let j = complete choice g s e (under choice t) h.0 in
       let js = complete_all choice g s es ts h.1 in
       record { hold = all_both choice (steps g s e) (all_steps g s es) j.hold js.hold; count_is = ap suc js.count_is; same = (j.is, js.same) }

@@ -7,7 +7,7 @@ use Rattle.camelot_values.specs.declared.kinds.Kind.{Kind}
 use Rattle.camelot_tree.specs.declared.tree.Name.{Name}
 use Rattle.camelot_tree.specs.declared.tree.ArmCell.{ArmCell}
 use Rattle.camelot_tree.specs.declared.tree.ArmCell.TheVariants as cell
-use Rattle.camelot_tree.specs.Tree.{Function, Term, Branch, terms, arms, Match, Terms, NoTerms, AndTerm, Arms, NoArms, AndArm}
+use Rattle.camelot_tree.specs.Tree.{Function, Expression, Branch, expressions, arms, Match, Expressions, NoExpressions, AndExpression, Arms, NoArms, AndArm}
 use Rattle.camelot_tree.specs.Spine.{spine_of, leaf_of}
 use Rattle.typing_rules.specs.Kinds.{Head, Globals, Scope, bind, or_else, fields_of, constructor_number, bind_fields, bind_cell, arm_scope, all_atoms}
 use Rattle.camelot_types.specs.declared.fault.TypeFault.{TypeFault}
@@ -54,23 +54,23 @@ arm_found w con a = record { work = w; con = con; guess = a }
 
 -- ---- the left end of an expression
 
-map_last : {A : Type 0} (f : A → Term) (xs : List A) (x : A) → map f (xs ++ x ∷ []) ≡ map f xs ++ f x ∷ []
+map_last : {A : Type 0} (f : A → Expression) (xs : List A) (x : A) → map f (xs ++ x ∷ []) ≡ map f xs ++ f x ∷ []
 map_last f [] x = refl
 map_last f (y ∷ xs) x = ap (λ l. f y ∷ l) (map_last f xs x)
 
-pub unwound_begins : (g : Globals Guess) (s : Scope Guess) (w : Work) (e leaf : Term) (ps : List Term) (o : Walked Found) → ps ≡ spine_of e → leaf ≡ leaf_of e → walk g s w leaf ≡ o → unwound g s ps o ≡ walk g s w e
+pub unwound_begins : (g : Globals Guess) (s : Scope Guess) (w : Work) (e leaf : Expression) (ps : List Expression) (o : Walked Found) → ps ≡ spine_of e → leaf ≡ leaf_of e → walk g s w leaf ≡ o → unwound g s ps o ≡ walk g s w e
 unwound_begins g s w e leaf ps o p l h = ap (unwound g s ps) (sym h ∙ ap (walk g s w) l) ∙ ap (λ x. unwound g s x (walk g s w (leaf_of e))) p ∙ unwound_spine g s w e
 
-pub leaf_stops : (g : Globals Guess) (s : Scope Guess) (w : Work) (e leaf : Term) (ps : List Term) (fault : TypeFault) → ps ≡ spine_of e → leaf ≡ leaf_of e → StopsWith (walk g s w leaf) fault → StopsWith (walk g s w e) fault
+pub leaf_stops : (g : Globals Guess) (s : Scope Guess) (w : Work) (e leaf : Expression) (ps : List Expression) (fault : TypeFault) → ps ≡ spine_of e → leaf ≡ leaf_of e → StopsWith (walk g s w leaf) fault → StopsWith (walk g s w e) fault
 leaf_stops g s w e leaf ps fault p l h =
     stops_along (walk g s w leaf) (walk g s w e) fault (λ k. sym (unwound_begins g s w e leaf ps (Stops fault) p l k) ∙ unwound_stops g s ps fault) h
 
-pub unwound_more : {A : Type 0} (f : A → Term) (g : Globals Guess) (s : Scope Guess) (before after : List A) (p : A) (found : Found) (o whole : Walked Found) → before ≡ after ++ p ∷ []
+pub unwound_more : {A : Type 0} (f : A → Expression) (g : Globals Guess) (s : Scope Guess) (before after : List A) (p : A) (found : Found) (o whole : Walked Found) → before ≡ after ++ p ∷ []
     → unwound g s (map f before) (Goes found) ≡ whole → rest_of g s (f p) found ≡ o → unwound g s (map f after) o ≡ whole
 unwound_more f g s before after p found o whole e h k =
     ap (unwound g s (map f after)) (sym k) ∙ sym (unwound_last g s (map f after) (f p) (Goes found)) ∙ ap (λ l. unwound g s l (Goes found)) (sym (map_last f after p)) ∙ ap (λ l. unwound g s (map f l) (Goes found)) (sym e) ∙ h
 
-pub unwound_fails : {A : Type 0} (f : A → Term) (g : Globals Guess) (s : Scope Guess) (before after : List A) (p : A) (found : Found) (whole : Walked Found) (fault : TypeFault) → before ≡ after ++ p ∷ []
+pub unwound_fails : {A : Type 0} (f : A → Expression) (g : Globals Guess) (s : Scope Guess) (before after : List A) (p : A) (found : Found) (whole : Walked Found) (fault : TypeFault) → before ≡ after ++ p ∷ []
     → unwound g s (map f before) (Goes found) ≡ whole → StopsWith (rest_of g s (f p) found) fault → StopsWith whole fault
 unwound_fails f g s before after p found whole fault e h k =
     stops_along (rest_of g s (f p) found) whole fault (λ q. sym (unwound_more f g s before after p found (Stops fault) whole e h q) ∙ unwound_stops g s (map f after) fault) k
@@ -84,13 +84,13 @@ and_then_stops o next fault h = ap (λ q. and_then q next) h
 abbrev behind : List Guess → FoundAll → FoundGuesses
 behind before h = record { work = h.work; guesses = before ++ h.guesses }
 
-walk_on_all : (g : Globals Guess) (s : Scope Guess) (w : Work) (before : List Guess) (es : Terms) → walk_on g s w before es ≡ and_then (walk_all g s w es) (λ h. Goes (behind before h))
+walk_on_all : (g : Globals Guess) (s : Scope Guess) (w : Work) (before : List Guess) (es : Expressions) → walk_on g s w before es ≡ and_then (walk_all g s w es) (λ h. Goes (behind before h))
 unfolding walk_on walk_all
-walk_on_all g s w before NoTerms = ap (λ l. Goes (with_guesses w l)) (sym (append-nil before))
+walk_on_all g s w before NoExpressions = ap (λ l. Goes (with_guesses w l)) (sym (append-nil before))
   where
     with_guesses : Work → List Guess → FoundGuesses
     with_guesses w l = record { work = w; guesses = l }
-walk_on_all g s w before (AndTerm e es) = by_walk (walk g s w e) (λ f. walk_on_all g s f.work (before ++ f.guess ∷ []) es)
+walk_on_all g s w before (AndExpression e es) = by_walk (walk g s w e) (λ f. walk_on_all g s f.work (before ++ f.guess ∷ []) es)
   where
     whole : Found → FoundAll → FoundAll
     whole f h = record { work = h.work; lines = line_of e ∷ h.lines; guesses = f.guess ∷ h.guesses }
@@ -108,7 +108,7 @@ walk_on_all g s w before (AndTerm e es) = by_walk (walk g s w e) (λ f. walk_on_
     by_walk (Stops fault) k = refl
 
 -- the lines of arguments are those of the arguments
-lines_all : (g : Globals Guess) (s : Scope Guess) (w : Work) (es : Terms) (h : FoundAll) → walk_all g s w es ≡ Goes h → h.lines ≡ lines_of es
+lines_all : (g : Globals Guess) (s : Scope Guess) (w : Work) (es : Expressions) (h : FoundAll) → walk_all g s w es ≡ Goes h → h.lines ≡ lines_of es
 lines_all g s w es h e = by_run (run g.types w.table (all_steps g s es)) (sym e ∙ walk_all_is g s w es)
   where
     answer : List Guess → FoundAll
@@ -119,20 +119,20 @@ lines_all g s w es h e = by_run (run g.types w.table (all_steps g s es)) (sym e 
     by_run (Stops fault) k = cc
 
 -- what is left of the walk of arguments
-pub record ArgsLeft (g : Globals Guess) (s : Scope Guess) (first : Work) (all : Terms) (w : Work) (guesses : List Guess) (rest : Terms) : Type 0 where
+pub record ArgsLeft (g : Globals Guess) (s : Scope Guess) (first : Work) (all : Expressions) (w : Work) (guesses : List Guess) (rest : Expressions) : Type 0 where
   pub left : walk_on g s w guesses rest ≡ walk_on g s first [] all
 
-pub args_begin : (g : Globals Guess) (s : Scope Guess) (w : Work) (all : Terms) (guesses : List Guess) → guesses ≡ [] → ArgsLeft g s w all w guesses all
+pub args_begin : (g : Globals Guess) (s : Scope Guess) (w : Work) (all : Expressions) (guesses : List Guess) → guesses ≡ [] → ArgsLeft g s w all w guesses all
 args_begin g s w all guesses h = record { left = ap (λ l. walk_on g s w l all) h }
 
-pub args_more : (g : Globals Guess) (s : Scope Guess) (first : Work) (all : Terms) (w next : Work) (guesses more : List Guess) (e : Term) (es : Terms) (a : Guess) → ArgsLeft g s first all w guesses (AndTerm e es)
+pub args_more : (g : Globals Guess) (s : Scope Guess) (first : Work) (all : Expressions) (w next : Work) (guesses more : List Guess) (e : Expression) (es : Expressions) (a : Guess) → ArgsLeft g s first all w guesses (AndExpression e es)
     → walk g s w e ≡ Goes (record { work = next; guess = a }) → more ≡ guesses ++ a ∷ [] → ArgsLeft g s first all next more es
 unfolding walk_on
 args_more g s first all w next guesses more e es a h k m = record {
   left = ap (λ l. walk_on g s next l es) m ∙ sym (ap (λ o. and_then o (λ f. walk_on g s f.work (guesses ++ f.guess ∷ []) es)) k) ∙ h.left;
 }
 
-pub args_fail : (g : Globals Guess) (s : Scope Guess) (first : Work) (all : Terms) (w : Work) (guesses : List Guess) (e : Term) (es : Terms) (fault : TypeFault) → ArgsLeft g s first all w guesses (AndTerm e es)
+pub args_fail : (g : Globals Guess) (s : Scope Guess) (first : Work) (all : Expressions) (w : Work) (guesses : List Guess) (e : Expression) (es : Expressions) (fault : TypeFault) → ArgsLeft g s first all w guesses (AndExpression e es)
     → StopsWith (walk g s w e) fault → StopsWith (walk_all g s first all) fault
 unfolding walk_on
 args_fail g s first all w guesses e es fault h k = stops_along (walk g s w e) (walk_all g s first all) fault (λ q. by_all (walk_all g s first all)
@@ -145,7 +145,7 @@ args_fail g s first all w guesses e es fault h k = stops_along (walk g s w e) (w
         stopped : TypeFault → Walked FoundAll
         stopped f = Stops f
 
-pub args_end : (g : Globals Guess) (s : Scope Guess) (first : Work) (all : Terms) (w : Work) (guesses : List Guess) → ArgsLeft g s first all w guesses NoTerms
+pub args_end : (g : Globals Guess) (s : Scope Guess) (first : Work) (all : Expressions) (w : Work) (guesses : List Guess) → ArgsLeft g s first all w guesses NoExpressions
     → walk_all g s first all ≡ Goes (record { work = w; lines = lines_of all; guesses = guesses })
 unfolding walk_on
 args_end g s first all w guesses h = by_all (walk_all g s first all) refl (sym (walk_on_all g s first [] all) ∙ sym h.left)
@@ -164,7 +164,7 @@ args_end g s first all w guesses h = by_all (walk_all g s first all) refl (sym (
 
 -- ---- arms
 
-arms_step : (g : Globals Guess) (s : Scope Guess) (w : Work) (ns : List ℕ) (first : ℕ) (body : Guess) (c : Name) (fs : List (Option Name)) (x : ArmCell) (b : Term) (as' : Arms)
+arms_step : (g : Globals Guess) (s : Scope Guess) (w : Work) (ns : List ℕ) (first : ℕ) (body : Guess) (c : Name) (fs : List (Option Name)) (x : ArmCell) (b : Expression) (as' : Arms)
     → walk_arms g s w ns first body (AndArm c fs x b as') ≡ and_then (next_arm g s w ns first body c fs x b) (λ r. walk_arms g s r.work (ns ++ r.con ∷ []) first body as')
 unfolding walk_arms next_arm
 arms_step g s w ns first body c fs x b as' = by_con (con_found g.types c (constructor_number g.types c.word))
@@ -203,13 +203,13 @@ pub record ArmsLeft (g : Globals Guess) (s : Scope Guess) (start : Work) (con : 
 pub arms_begin : (g : Globals Guess) (s : Scope Guess) (w : Work) (con : ℕ) (body : Guess) (all : Arms) (ns : List ℕ) → ns ≡ con ∷ [] → ArmsLeft g s w con body all w ns all
 arms_begin g s w con body all ns h = record { left = ap (λ l. walk_arms g s w l con body all) h }
 
-pub arms_more : (g : Globals Guess) (s : Scope Guess) (start : Work) (con : ℕ) (body : Guess) (all : Arms) (w next : Work) (ns more : List ℕ) (c : Name) (fs : List (Option Name)) (x : ArmCell) (b : Term) (as' : Arms) (k : ℕ) (a : Guess)
+pub arms_more : (g : Globals Guess) (s : Scope Guess) (start : Work) (con : ℕ) (body : Guess) (all : Arms) (w next : Work) (ns more : List ℕ) (c : Name) (fs : List (Option Name)) (x : ArmCell) (b : Expression) (as' : Arms) (k : ℕ) (a : Guess)
     → ArmsLeft g s start con body all w ns (AndArm c fs x b as') → next_arm g s w ns con body c fs x b ≡ Goes (record { work = next; con = k; guess = a }) → more ≡ ns ++ k ∷ [] → ArmsLeft g s start con body all next more as'
 arms_more g s start con body all w next ns more c fs x b as' k a h e m = record {
   left = ap (λ l. walk_arms g s next l con body as') m ∙ sym (ap (λ o. and_then o (λ r. walk_arms g s r.work (ns ++ r.con ∷ []) con body as')) e) ∙ sym (arms_step g s w ns con body c fs x b as') ∙ h.left;
 }
 
-pub arms_fail : (g : Globals Guess) (s : Scope Guess) (start : Work) (con : ℕ) (body : Guess) (all : Arms) (w : Work) (ns : List ℕ) (c : Name) (fs : List (Option Name)) (x : ArmCell) (b : Term) (as' : Arms) (fault : TypeFault)
+pub arms_fail : (g : Globals Guess) (s : Scope Guess) (start : Work) (con : ℕ) (body : Guess) (all : Arms) (w : Work) (ns : List ℕ) (c : Name) (fs : List (Option Name)) (x : ArmCell) (b : Expression) (as' : Arms) (fault : TypeFault)
     → ArmsLeft g s start con body all w ns (AndArm c fs x b as') → StopsWith (next_arm g s w ns con body c fs x b) fault → StopsWith (walk_arms g s start (con ∷ []) con body all) fault
 arms_fail g s start con body all w ns c fs x b as' fault h k =
     stops_along (next_arm g s w ns con body c fs x b) (walk_arms g s start (con ∷ []) con body all) fault
@@ -222,7 +222,7 @@ arms_end g s start con body all w ns h = sym h.left
 
 -- ---- matches
 
-match_is : (g : Globals Guess) (s : Scope Guess) (w : Work) (e : Term) (as' : Arms) (l : ℕ) → match_walk g s w e as' l ≡ walk g s w (Match e as' l)
+match_is : (g : Globals Guess) (s : Scope Guess) (w : Work) (e : Expression) (as' : Arms) (l : ℕ) → match_walk g s w e as' l ≡ walk g s w (Match e as' l)
 unfolding match_walk walk first_arm
 match_is g s w e NoArms l = refl
 match_is g s w e (AndArm c fs x b as') l = by_walk (walk g s w e)
@@ -253,7 +253,7 @@ match_is g s w e (AndArm c fs x b as') l = by_walk (walk g s w e)
     by_walk (Goes f) = by_con f (con_found g.types c (constructor_number g.types c.word))
     by_walk (Stops fault) = refl
 
-pub finds_match : (g : Globals Guess) (s : Scope Guess) (w work : Work) (e : Term) (as' : Arms) (l : ℕ) (result : Result Guess TypeFault) → Finds (match_walk g s w e as' l) work result → Finds (walk g s w (Match e as' l)) work result
+pub finds_match : (g : Globals Guess) (s : Scope Guess) (w work : Work) (e : Expression) (as' : Arms) (l : ℕ) (result : Result Guess TypeFault) → Finds (match_walk g s w e as' l) work result → Finds (walk g s w (Match e as' l)) work result
 finds_match g s w work e as' l result h = subst (λ o. Finds o work result) (match_is g s w e as' l) h
 
 pub number_found : (types : List DataType) (c : Name) (o : Option ℕ) (con : ℕ) → con_found types c o ≡ Goes con → o ≡ Some con
@@ -320,13 +320,13 @@ none_here (x ∷ xs) zero h = absurd (h (omega arith))
 none_here (x ∷ xs) (suc i) h = none_here xs i (λ k. h (omega arith))
 
 -- the arguments and arms that are left
-pub args_here : {A : Type 0} (f : A → Term) (g : Globals Guess) (s : Scope Guess) (first : Work) (all : Terms) (w : Work) (gs : List Guess) (xs : List A) (i : ℕ) (x : A) → i < length xs → x ≡ get_or xs i x
-    → ArgsLeft g s first all w gs (terms (map f (drop i xs))) → ArgsLeft g s first all w gs (AndTerm (f x) (terms (map f (drop (i + 1) xs))))
-args_here f g s first all w gs xs i x h e l = subst (λ ys. ArgsLeft g s first all w gs (terms (map f ys))) (item_here xs i x h e) l
+pub args_here : {A : Type 0} (f : A → Expression) (g : Globals Guess) (s : Scope Guess) (first : Work) (all : Expressions) (w : Work) (gs : List Guess) (xs : List A) (i : ℕ) (x : A) → i < length xs → x ≡ get_or xs i x
+    → ArgsLeft g s first all w gs (expressions (map f (drop i xs))) → ArgsLeft g s first all w gs (AndExpression (f x) (expressions (map f (drop (i + 1) xs))))
+args_here f g s first all w gs xs i x h e l = subst (λ ys. ArgsLeft g s first all w gs (expressions (map f ys))) (item_here xs i x h e) l
 
-pub args_none : {A : Type 0} (f : A → Term) (g : Globals Guess) (s : Scope Guess) (first : Work) (all : Terms) (w : Work) (gs : List Guess) (xs : List A) (i : ℕ) → (i < length xs → ⊥)
-    → ArgsLeft g s first all w gs (terms (map f (drop i xs))) → ArgsLeft g s first all w gs NoTerms
-args_none f g s first all w gs xs i h l = subst (λ ys. ArgsLeft g s first all w gs (terms (map f ys))) (none_here xs i h) l
+pub args_none : {A : Type 0} (f : A → Expression) (g : Globals Guess) (s : Scope Guess) (first : Work) (all : Expressions) (w : Work) (gs : List Guess) (xs : List A) (i : ℕ) → (i < length xs → ⊥)
+    → ArgsLeft g s first all w gs (expressions (map f (drop i xs))) → ArgsLeft g s first all w gs NoExpressions
+args_none f g s first all w gs xs i h l = subst (λ ys. ArgsLeft g s first all w gs (expressions (map f ys))) (none_here xs i h) l
 
 pub arms_here : {A : Type 0} (f : A → Branch) (g : Globals Guess) (s : Scope Guess) (start : Work) (con : ℕ) (body : Guess) (all : Arms) (w : Work) (ns : List ℕ) (xs : List A) (i : ℕ) (x : A) → i < length xs → x ≡ get_or xs i x
     → ArmsLeft g s start con body all w ns (arms (map f (drop i xs))) → ArmsLeft g s start con body all w ns (AndArm (f x).con (f x).fields (f x).cell (f x).body (arms (map f (drop (i + 1) xs))))

@@ -14,7 +14,7 @@ use Rattle.camelot_values.specs.declared.kinds.Kind.TheVariants as kind
 use Rattle.camelot_tree.specs.declared.tree.Name.{Name}
 use Rattle.camelot_tree.specs.declared.tree.ArmCell.{ArmCell}
 use Rattle.camelot_tree.specs.declared.tree.ArmCell.TheVariants as cell
-use Rattle.camelot_tree.specs.Tree.{Term, Num, Truth, Var, Prim, If, Let, Match, Build, Call, Terms, NoTerms, AndTerm, Arms, NoArms, AndArm}
+use Rattle.camelot_tree.specs.Tree.{Expression, Num, Truth, Var, Prim, If, Let, Match, Build, Call, Expressions, NoExpressions, AndExpression, Arms, NoArms, AndArm}
 use Rattle.typing_rules.specs.Kinds.{Head, Globals, Scope, bind, or_else, constructor_number, fields_of, head_of, bound_names, bind_fields, bind_cell, arm_scope, arms_atom}
 use Rattle.typing_rules.specs.Typing.{IsDeclared}
 use Rattle.camelot_types.specs.declared.guess.Guess.{Guess}
@@ -101,7 +101,7 @@ result_within n g name p = by_option (head_of g.heads name) refl
     by_option (Some h) e = (head_there g.types n g.heads name h p.heads e).1
 
 mutual
-  pub guess_within : (n : ℕ) (g : Globals Guess) (s : Scope Guess) (e : Term) → IsProper n g → ScopeWithin g.types n s → IsWithin g.types n (guess g s e)
+  pub guess_within : (n : ℕ) (g : Globals Guess) (s : Scope Guess) (e : Expression) → IsProper n g → ScopeWithin g.types n s → IsWithin g.types n (guess g s e)
   guess_within n g s (Num z l) p h = tt
   guess_within n g s (Truth b l) p h = tt
   guess_within n g s (Var m) p h = found_within g.types n s m.word h
@@ -122,10 +122,10 @@ names_within : (types : List DataType) (n : ℕ) (earlier : List (List ℕ)) (ns
 names_within types n earlier [] = tt
 names_within types n earlier (m ∷ ns) = (tt, names_within types n (earlier ++ m.word ∷ []) ns)
 
-same_within : (n : ℕ) (g : Globals Guess) (s : Scope Guess) (es : Terms) (ts : List Guess) → IsProper n g → ScopeWithin g.types n s → AreWithin g.types n ts → AllWithin g.types n (same_steps g s es ts)
-same_within n g s NoTerms ts p h w = tt
-same_within n g s (AndTerm e es) [] p h w = tt
-same_within n g s (AndTerm e es) (t ∷ ts) p h w = ((guess_within n g s e p h, w.0), same_within n g s es ts p h w.1)
+same_within : (n : ℕ) (g : Globals Guess) (s : Scope Guess) (es : Expressions) (ts : List Guess) → IsProper n g → ScopeWithin g.types n s → AreWithin g.types n ts → AllWithin g.types n (same_steps g s es ts)
+same_within n g s NoExpressions ts p h w = tt
+same_within n g s (AndExpression e es) [] p h w = tt
+same_within n g s (AndExpression e es) (t ∷ ts) p h w = ((guess_within n g s e p h, w.0), same_within n g s es ts p h w.1)
 
 place_within_steps : (types : List DataType) (n : ℕ) (s : Scope Guess) (place : Option Name) → ScopeWithin types n s → AllWithin types n (place_same s place)
 place_within_steps types n s None h = tt
@@ -139,7 +139,7 @@ declared_within : (types : List DataType) (n : ℕ) (ks : List Kind) → AreDecl
 declared_within types n [] h = tt
 declared_within types n (k ∷ ks) h = (h.0, declared_within types n ks h.1)
 
-build_within : (n : ℕ) (g : Globals Guess) (s : Scope Guess) (c : Name) (es : Terms) (place : Option Name) (o : Option ℕ) → IsProper n g → ScopeWithin g.types n s → AllWithin g.types n (build_steps g s c es place o)
+build_within : (n : ℕ) (g : Globals Guess) (s : Scope Guess) (c : Name) (es : Expressions) (place : Option Name) (o : Option ℕ) → IsProper n g → ScopeWithin g.types n s → AllWithin g.types n (build_steps g s c es place o)
 build_within n g s c es place None p h = (tt, tt)
 build_within n g s c es place (Some con) p h =
     let ts : List Guess = map Known (fields_of g.types con) in (
@@ -151,7 +151,7 @@ build_within n g s c es place (Some con) p h =
       ),
     )
 
-call_within : (n : ℕ) (g : Globals Guess) (s : Scope Guess) (f : Name) (es : Terms) (o : Option (Head Guess)) → head_of g.heads f.word ≡ o → IsProper n g → ScopeWithin g.types n s → AllWithin g.types n (call_steps g s f es o)
+call_within : (n : ℕ) (g : Globals Guess) (s : Scope Guess) (f : Name) (es : Expressions) (o : Option (Head Guess)) → head_of g.heads f.word ≡ o → IsProper n g → ScopeWithin g.types n s → AllWithin g.types n (call_steps g s f es o)
 call_within n g s f es None e p h = (tt, tt)
 call_within n g s f es (Some d) e p h = (tt, same_within n g s es d.params p h (head_there g.types n g.heads f.word d p.heads e).0)
 
@@ -165,7 +165,7 @@ missing_within types n there line [] = tt
 missing_within types n there line (con ∷ cons) = (tt, missing_within types n there line cons)
 
 mutual
-  pub expr_within : (n : ℕ) (g : Globals Guess) (s : Scope Guess) (e : Term) → IsProper n g → ScopeWithin g.types n s → AllWithin g.types n (steps g s e)
+  pub expr_within : (n : ℕ) (g : Globals Guess) (s : Scope Guess) (e : Expression) → IsProper n g → ScopeWithin g.types n s → AllWithin g.types n (steps g s e)
   expr_within n g s (Num z l) p h = tt
   expr_within n g s (Truth b l) p h = tt
   expr_within n g s (Var m) p h = (tt, tt)
@@ -204,9 +204,9 @@ mutual
   expr_within n g s (Call f es) p h =
       within_both g.types n (all_steps g s es) (call_steps g s f es (head_of g.heads f.word)) (all_steps_within n g s es p h) (call_within n g s f es (head_of g.heads f.word) refl p h)
 
-  all_steps_within : (n : ℕ) (g : Globals Guess) (s : Scope Guess) (es : Terms) → IsProper n g → ScopeWithin g.types n s → AllWithin g.types n (all_steps g s es)
-  all_steps_within n g s NoTerms p h = tt
-  all_steps_within n g s (AndTerm e es) p h = within_both g.types n (steps g s e) (all_steps g s es) (expr_within n g s e p h) (all_steps_within n g s es p h)
+  all_steps_within : (n : ℕ) (g : Globals Guess) (s : Scope Guess) (es : Expressions) → IsProper n g → ScopeWithin g.types n s → AllWithin g.types n (all_steps g s es)
+  all_steps_within n g s NoExpressions p h = tt
+  all_steps_within n g s (AndExpression e es) p h = within_both g.types n (steps g s e) (all_steps g s es) (expr_within n g s e p h) (all_steps_within n g s es p h)
 
   arms_steps_within : (n : ℕ) (g : Globals Guess) (s : Scope Guess) (earlier : List ℕ) (first : ℕ) (body : Guess) (as' : Arms) → IsProper n g → ScopeWithin g.types n s → IsWithin g.types n body
       → AllWithin g.types n (arms_steps g s earlier first body as')

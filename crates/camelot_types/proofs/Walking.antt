@@ -9,7 +9,7 @@ use Rattle.camelot_values.specs.Operator.{Operator}
 use Rattle.camelot_values.specs.declared.kinds.Kind.TheVariants as kind
 use Rattle.camelot_tree.specs.declared.tree.Name.{Name}
 use Rattle.camelot_tree.specs.declared.tree.ArmCell.{ArmCell}
-use Rattle.camelot_tree.specs.Tree.{Term, Num, Truth, Var, Prim, If, Let, Match, Build, Call, Terms, NoTerms, AndTerm, Arms, NoArms, AndArm}
+use Rattle.camelot_tree.specs.Tree.{Expression, Num, Truth, Var, Prim, If, Let, Match, Build, Call, Expressions, NoExpressions, AndExpression, Arms, NoArms, AndArm}
 use Rattle.camelot_tree.specs.Spine.{spine_of, leaf_of}
 use Rattle.typing_rules.specs.Kinds.{Head, Globals, Scope, bind, or_else, constructor_number, fields_of, is_inline, head_of, bound_names, arm_scope, atoms_of, all_atoms, arms_atoms}
 use Rattle.camelot_types.specs.declared.fault.TypeFault.{TypeFault}
@@ -118,19 +118,19 @@ missing_is types table there line (con ∷ cons) K G h = by_test (list_any (λ n
 -- ---- arguments
 
 -- the guesses of arguments
-abbrev pub guesses_of : Globals Guess → Scope Guess → Terms → List Guess
-guesses_of g s NoTerms = []
-guesses_of g s (AndTerm e es) = guess g s e ∷ guesses_of g s es
+abbrev pub guesses_of : Globals Guess → Scope Guess → Expressions → List Guess
+guesses_of g s NoExpressions = []
+guesses_of g s (AndExpression e es) = guess g s e ∷ guesses_of g s es
 
-guesses_count : (g : Globals Guess) (s : Scope Guess) (es : Terms) → length (guesses_of g s es) ≡ argument_count es
-guesses_count g s NoTerms = refl
-guesses_count g s (AndTerm e es) = ap suc (guesses_count g s es)
+guesses_count : (g : Globals Guess) (s : Scope Guess) (es : Expressions) → length (guesses_of g s es) ≡ argument_count es
+guesses_count g s NoExpressions = refl
+guesses_count g s (AndExpression e es) = ap suc (guesses_count g s es)
 
-all_same_is : (types : List DataType) (table : List Guess) (g : Globals Guess) (s : Scope Guess) (es : Terms) (ts : List Guess) → all_same types table (lines_of es) (guesses_of g s es) ts ≡ run types table (same_steps g s es ts)
+all_same_is : (types : List DataType) (table : List Guess) (g : Globals Guess) (s : Scope Guess) (es : Expressions) (ts : List Guess) → all_same types table (lines_of es) (guesses_of g s es) ts ≡ run types table (same_steps g s es ts)
 unfolding all_same
-all_same_is types table g s NoTerms ts = refl
-all_same_is types table g s (AndTerm e es) [] = refl
-all_same_is types table g s (AndTerm e es) (t ∷ ts) = then_same (made_same types table (guess g s e) t (line_of e)) _ _ (λ next. all_same_is types next g s es ts)
+all_same_is types table g s NoExpressions ts = refl
+all_same_is types table g s (AndExpression e es) [] = refl
+all_same_is types table g s (AndExpression e es) (t ∷ ts) = then_same (made_same types table (guess g s e) t (line_of e)) _ _ (λ next. all_same_is types next g s es ts)
 
 -- ---- builds and calls, behind their arguments
 
@@ -151,7 +151,7 @@ placed_is types table s (Some d) o ys h = by_option (find s d.word)
         goes_on (Goes t) = refl
         goes_on (Stops fault) = refl
 
-built_is : (g : Globals Guess) (table : List Guess) (s : Scope Guess) (c : Name) (es : Terms) (place : Option Name) (con : ℕ)
+built_is : (g : Globals Guess) (table : List Guess) (s : Scope Guess) (c : Name) (es : Expressions) (place : Option Name) (con : ℕ)
     → built g.types s table c con (lines_of es) (guesses_of g s es) place ≡ run g.types table (build_steps g s c es place (Some con))
 unfolding built arity_checked place_checked
 built_is g table s c es place con =
@@ -163,7 +163,7 @@ built_is g table s c es place con =
     (test_is g.types table (not (is_inline g.types con) || not (is_some place)) _ _ _
     (placed_is g.types table s place (all_same g.types table (lines_of es) (guesses_of g s es) ts) (same_steps g s es ts) (all_same_is g.types table g s es ts)))
 
-called_is : (g : Globals Guess) (table : List Guess) (s : Scope Guess) (f : Name) (es : Terms) (h : Option (Head Guess)) → called g.types table f (lines_of es) (guesses_of g s es) h ≡ run g.types table (call_steps g s f es h)
+called_is : (g : Globals Guess) (table : List Guess) (s : Scope Guess) (f : Name) (es : Expressions) (h : Option (Head Guess)) → called g.types table f (lines_of es) (guesses_of g s es) h ≡ run g.types table (call_steps g s f es h)
 unfolding called arity_checked
 called_is g table s f es None = refl
 called_is g table s f es (Some h) =
@@ -185,14 +185,14 @@ headed_is types table earlier left right c con fs x =
 
 -- ---- expressions
 
-abbrev pub WalkIs : Globals Guess → Scope Guess → Term → Type 0
+abbrev pub WalkIs : Globals Guess → Scope Guess → Expression → Type 0
 WalkIs g s e = (w : Work) → walk g s w e ≡ ended (run g.types w.table (steps g s e)) w (atoms_of Known g s e) (guess g s e)
 
 -- what is known of the arguments
 abbrev pub all_answered : Work → List Guess → List ℕ → List Guess → List Guess → FoundAll
 all_answered w as' ls gs t = record { work = record { table = t; atoms = w.atoms ++ as' }; lines = ls; guesses = gs }
 
-abbrev pub WalkAllIs : Globals Guess → Scope Guess → Terms → Type 0
+abbrev pub WalkAllIs : Globals Guess → Scope Guess → Expressions → Type 0
 WalkAllIs g s es = (w : Work) → walk_all g s w es ≡ giving (all_answered w (all_atoms Known g s es) (lines_of es) (guesses_of g s es)) (run g.types w.table (all_steps g s es))
 
 abbrev pub arms_answered : Work → List Guess → List ℕ → List Guess → FoundArms
@@ -203,7 +203,7 @@ WalkArmsIs g s as' = (w : Work) (numbers : List ℕ) (first : ℕ) (body : Guess
     → walk_arms g s w numbers first body as' ≡ giving (arms_answered w (arms_atoms Known g s as') (numbers ++ arm_numbers g.types as')) (run g.types w.table (arms_steps g s numbers first body as'))
 
 -- an expression, and what stands behind it
-pub behind : {A : Type 0} (g : Globals Guess) (s : Scope Guess) (w : Work) (e : Term) (ys : List Step) (K : Found → Walked A) (G : List Guess → A)
+pub behind : {A : Type 0} (g : Globals Guess) (s : Scope Guess) (w : Work) (e : Expression) (ys : List Step) (K : Found → Walked A) (G : List Guess → A)
     → WalkIs g s e → ((t : List Guess) → K (answered w (atoms_of Known g s e) (guess g s e) t) ≡ giving G (run g.types t ys)) → and_then (walk g s w e) K ≡ giving G (run g.types w.table (steps g s e ++ ys))
 behind g s w e ys K G h k = part g.types w.table (steps g s e) ys (walk g s w e) (answered w (atoms_of Known g s e) (guess g s e)) K G (h w) k
 
@@ -226,7 +226,7 @@ var_is g s n w = by_option (find s n.word)
     by_option None = refl
     by_option (Some a) = refl
 
-prim_is : (g : Globals Guess) (s : Scope Guess) (op : Operator) (a b : Term) (l : ℕ) → WalkIs g s a → WalkIs g s b → WalkIs g s (Prim op a b l)
+prim_is : (g : Globals Guess) (s : Scope Guess) (op : Operator) (a b : Expression) (l : ℕ) → WalkIs g s a → WalkIs g s b → WalkIs g s (Prim op a b l)
 unfolding walk noted
 prim_is g s op a b l ha hb w =
     behind g s w a _ _ _ ha (λ t. behind g s _ b _ _ _ hb (λ u.
@@ -234,7 +234,7 @@ prim_is g s op a b l ha hb w =
     along (made_same g.types v (guess g s b) (Known kind.Int) (line_of b)) _ _ _ (λ x.
     ap (found x (Known (operator_kind op))) (three_parts w.atoms (atoms_of Known g s a) (atoms_of Known g s b) (Known (operator_kind op) ∷ []))))))
 
-if_is : (g : Globals Guess) (s : Scope Guess) (c a b : Term) (l : ℕ) → WalkIs g s c → WalkIs g s a → WalkIs g s b → WalkIs g s (If c a b l)
+if_is : (g : Globals Guess) (s : Scope Guess) (c a b : Expression) (l : ℕ) → WalkIs g s c → WalkIs g s a → WalkIs g s b → WalkIs g s (If c a b l)
 unfolding walk noted
 if_is g s c a b l hc ha hb w =
     behind g s w c _ _ _ hc (λ t.
@@ -243,7 +243,7 @@ if_is g s c a b l hc ha hb w =
     along (made_same g.types x (guess g s a) (guess g s b) (line_of b)) _ _ _ (λ y.
     ap (found y (guess g s a)) (four_parts w.atoms (atoms_of Known g s c) (atoms_of Known g s a) (atoms_of Known g s b) (guess g s a ∷ [])))))))
 
-let_is : (g : Globals Guess) (s : Scope Guess) (n : Name) (e b : Term) → WalkIs g s e → WalkIs g (bind n.word (guess g s e) s) b → WalkIs g s (Let n e b)
+let_is : (g : Globals Guess) (s : Scope Guess) (n : Name) (e b : Expression) → WalkIs g s e → WalkIs g (bind n.word (guess g s e) s) b → WalkIs g s (Let n e b)
 unfolding walk noted
 let_is g s n e b he hb w =
     let inner : Scope Guess = bind n.word (guess g s e) s in
@@ -252,7 +252,7 @@ let_is g s n e b he hb w =
     last_part (run g.types t (steps g inner b)) _ _ _ _ (hb (answered w (atoms_of Known g s e) (guess g s e) t).work) (λ u.
     ap (found u k) (three_parts w.atoms (atoms_of Known g s e) (atoms_of Known g inner b) (k ∷ []))))
 
-build_is : (g : Globals Guess) (s : Scope Guess) (c : Name) (es : Terms) (place : Option Name) → WalkAllIs g s es → WalkIs g s (Build c es place)
+build_is : (g : Globals Guess) (s : Scope Guess) (c : Name) (es : Expressions) (place : Option Name) → WalkAllIs g s es → WalkIs g s (Build c es place)
 unfolding walk noted con_found
 build_is g s c es place h w = by_option (constructor_number g.types c.word)
   where
@@ -265,7 +265,7 @@ build_is g s c es place h w = by_option (constructor_number g.types c.word)
         last_table (run g.types t (build_steps g s c es place (Some con))) _ _ _ (built_is g t s c es place con) (λ u.
         ap (found u (con_guess g.types con)) (append_assoc w.atoms (all_atoms Known g s es) (con_guess g.types con ∷ []))))
 
-call_is : (g : Globals Guess) (s : Scope Guess) (f : Name) (es : Terms) → WalkAllIs g s es → WalkIs g s (Call f es)
+call_is : (g : Globals Guess) (s : Scope Guess) (f : Name) (es : Expressions) → WalkAllIs g s es → WalkIs g s (Call f es)
 unfolding walk noted
 call_is g s f es h w =
     let d : Option (Head Guess) = head_of g.heads f.word in
@@ -276,7 +276,7 @@ call_is g s f es h w =
 
 -- ---- arms
 
-arm_is : (g : Globals Guess) (s inner : Scope Guess) (w : Work) (numbers : List ℕ) (first : ℕ) (body : Guess) (c : Name) (fs : List (Option Name)) (x : ArmCell) (b : Term) (as' : Arms) (o : Option ℕ)
+arm_is : (g : Globals Guess) (s inner : Scope Guess) (w : Work) (numbers : List ℕ) (first : ℕ) (body : Guess) (c : Name) (fs : List (Option Name)) (x : ArmCell) (b : Expression) (as' : Arms) (o : Option ℕ)
     → WalkIs g inner b → WalkArmsIs g s as'
     → and_then (con_found g.types c o) (λ con. and_then (headed g.types w.table numbers (con_guess g.types first) (con_guess g.types con) c con fs x) (λ table.
     and_then (walk g inner (with_table w table) b) (λ f. and_then (made_same g.types f.work.table body f.guess (line_of b)) (λ next.
@@ -297,7 +297,7 @@ arm_is g s inner w numbers first body c fs x b as' (Some con) hb ha =
     ∙ ap (λ l. giving (λ y. record { work = record { table = y; atoms = l }; numbers = (numbers ++ con ∷ []) ++ arm_numbers g.types as' }) q) (append_assoc w.atoms (atoms_of Known g inner b) (arms_atoms Known g s as'))
     ∙ ap (λ ns. giving (arms_answered w (atoms_of Known g inner b ++ arms_atoms Known g s as') ns) q) (append_assoc numbers (con ∷ []) (arm_numbers g.types as')))))
 
-match_is : (g : Globals Guess) (s inner : Scope Guess) (w : Work) (e : Term) (c : Name) (fs : List (Option Name)) (x : ArmCell) (b : Term) (as' : Arms) (l : ℕ) (o : Option ℕ)
+match_is : (g : Globals Guess) (s inner : Scope Guess) (w : Work) (e : Expression) (c : Name) (fs : List (Option Name)) (x : ArmCell) (b : Expression) (as' : Arms) (l : ℕ) (o : Option ℕ)
     → WalkIs g s e → WalkIs g inner b → WalkArmsIs g s as'
     → and_then (walk g s w e) (λ f. and_then (con_found g.types c o) (λ con. and_then (headed g.types f.work.table [] (con_guess g.types con) f.guess c con fs x) (λ table.
     and_then (walk g inner (with_table f.work table) b) (λ body. and_then (walk_arms g s body.work (con ∷ []) con body.guess as') (λ arms.
@@ -326,7 +326,7 @@ match_is g s inner w e c fs x b as' l (Some con) he hb ha =
 mutual
   unfolding walk noted
 
-  pub walk_is : (g : Globals Guess) (s : Scope Guess) (w : Work) (e : Term) → walk g s w e ≡ ended (run g.types w.table (steps g s e)) w (atoms_of Known g s e) (guess g s e)
+  pub walk_is : (g : Globals Guess) (s : Scope Guess) (w : Work) (e : Expression) → walk g s w e ≡ ended (run g.types w.table (steps g s e)) w (atoms_of Known g s e) (guess g s e)
   walk_is g s w (Num z l) = refl
   walk_is g s w (Truth b l) = refl
   walk_is g s w (Var n) = var_is g s n w
@@ -340,13 +340,13 @@ mutual
   walk_is g s w (Build c es place) = build_is g s c es place (λ v. walk_all_is g s v es) w
   walk_is g s w (Call f es) = call_is g s f es (λ v. walk_all_is g s v es) w
 
-  pub walk_all_is : (g : Globals Guess) (s : Scope Guess) (w : Work) (es : Terms)
+  pub walk_all_is : (g : Globals Guess) (s : Scope Guess) (w : Work) (es : Expressions)
       → walk_all g s w es ≡ giving (all_answered w (all_atoms Known g s es) (lines_of es) (guesses_of g s es)) (run g.types w.table (all_steps g s es))
-  walk_all_is g s w NoTerms = ap (λ l. Goes (record { work = record { table = w.table; atoms = l }; lines = []; guesses = [] })) (sym (append-nil w.atoms))
-  walk_all_is g s w (AndTerm e es) =
+  walk_all_is g s w NoExpressions = ap (λ l. Goes (record { work = record { table = w.table; atoms = l }; lines = []; guesses = [] })) (sym (append-nil w.atoms))
+  walk_all_is g s w (AndExpression e es) =
       behind g s w e _ _ _ (λ v. walk_is g s v e) (λ t.
       last_part (run g.types t (all_steps g s es)) _ _ _ _ (walk_all_is g s (answered w (atoms_of Known g s e) (guess g s e) t).work es) (λ u.
-      ap (λ l. Goes (record { work = record { table = u; atoms = l }; lines = lines_of (AndTerm e es); guesses = guesses_of g s (AndTerm e es) }))
+      ap (λ l. Goes (record { work = record { table = u; atoms = l }; lines = lines_of (AndExpression e es); guesses = guesses_of g s (AndExpression e es) }))
       (append_assoc w.atoms (atoms_of Known g s e) (all_atoms Known g s es))))
 
   pub walk_arms_is : (g : Globals Guess) (s : Scope Guess) (w : Work) (numbers : List ℕ) (first : ℕ) (body : Guess) (as' : Arms)
@@ -360,7 +360,7 @@ mutual
 
 -- ---- the left end of an expression
 
-pub unwound_spine : (g : Globals Guess) (s : Scope Guess) (w : Work) (e : Term) → unwound g s (spine_of e) (walk g s w (leaf_of e)) ≡ walk g s w e
+pub unwound_spine : (g : Globals Guess) (s : Scope Guess) (w : Work) (e : Expression) → unwound g s (spine_of e) (walk g s w (leaf_of e)) ≡ walk g s w e
 unfolding walk rest_of
 unwound_spine g s w (Num z l) = refl
 unwound_spine g s w (Truth b l) = refl
@@ -372,10 +372,10 @@ unwound_spine g s w (Match e as' l) = refl
 unwound_spine g s w (Build c es place) = refl
 unwound_spine g s w (Call f es) = refl
 
-pub unwound_last : (g : Globals Guess) (s : Scope Guess) (ps : List Term) (p : Term) (o : Walked Found) → unwound g s (ps ++ p ∷ []) o ≡ unwound g s ps (and_then o (rest_of g s p))
+pub unwound_last : (g : Globals Guess) (s : Scope Guess) (ps : List Expression) (p : Expression) (o : Walked Found) → unwound g s (ps ++ p ∷ []) o ≡ unwound g s ps (and_then o (rest_of g s p))
 unwound_last g s [] p o = refl
 unwound_last g s (q ∷ ps) p o = ap (λ r. and_then r (rest_of g s q)) (unwound_last g s ps p o)
 
-pub unwound_stops : (g : Globals Guess) (s : Scope Guess) (ps : List Term) (fault : TypeFault) → unwound g s ps (Stops fault) ≡ Stops fault
+pub unwound_stops : (g : Globals Guess) (s : Scope Guess) (ps : List Expression) (fault : TypeFault) → unwound g s ps (Stops fault) ≡ Stops fault
 unwound_stops g s [] fault = refl
 unwound_stops g s (p ∷ ps) fault = ap (λ r. and_then r (rest_of g s p)) (unwound_stops g s ps fault)

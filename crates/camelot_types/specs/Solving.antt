@@ -11,7 +11,7 @@ use Rattle.camelot_values.specs.declared.kinds.Kind.{Kind}
 use Rattle.camelot_values.specs.declared.kinds.Kind.TheVariants as kind
 use Rattle.camelot_tree.specs.declared.tree.Name.{Name}
 use Rattle.camelot_tree.specs.declared.tree.ArmCell.{ArmCell}
-use Rattle.camelot_tree.specs.Tree.{Function, Term, Num, Truth, Var, Prim, If, Let, Match, Build, Call, Terms, NoTerms, AndTerm, Arms, NoArms, AndArm}
+use Rattle.camelot_tree.specs.Tree.{Function, Expression, Num, Truth, Var, Prim, If, Let, Match, Build, Call, Expressions, NoExpressions, AndExpression, Arms, NoArms, AndArm}
 use Rattle.camelot_values.specs.Names.{find}
 use Rattle.typing_rules.specs.Kinds.{Head, Globals, Scope, bind, constructor_number, fields_of, is_inline, head_of, bound_names, arm_scope}
 use Rattle.typing_rules.specs.Typing.{params_scope}
@@ -152,16 +152,16 @@ abbrev pub with_table : Work → List Guess → Work
 with_table w table = record { table = table; atoms = w.atoms }
 
 -- the lines of arguments
-abbrev pub lines_of : Terms → List ℕ
-lines_of NoTerms = []
-lines_of (AndTerm e es) = line_of e ∷ lines_of es
+abbrev pub lines_of : Expressions → List ℕ
+lines_of NoExpressions = []
+lines_of (AndExpression e es) = line_of e ∷ lines_of es
 
 -- the expression's own atom is noted
 unfoldable pub noted : Work → Guess → Found
 noted w a = record { work = record { table = w.table; atoms = w.atoms ++ a ∷ [] }; guess = a }
 
 unfoldable mutual
-  pub walk : Globals Guess → Scope Guess → Work → Term → Walked Found
+  pub walk : Globals Guess → Scope Guess → Work → Expression → Walked Found
   walk g s w (Num z l) = Goes (noted w (Known kind.Int))
   walk g s w (Truth b l) = Goes (noted w (Known kind.Flag))
   walk g s w (Var n) = and_then (name_found (find s n.word) n) (λ a. Goes (noted w a))
@@ -201,9 +201,9 @@ unfoldable mutual
       and_then (called g.types h.work.table f h.lines h.guesses (head_of g.heads f.word)) (λ table.
       Goes (noted (with_table h.work table) (option_map_or (λ d. d.result) (head_of g.heads f.word) (Known kind.Int)))))
 
-  pub walk_all : Globals Guess → Scope Guess → Work → Terms → Walked FoundAll
-  walk_all g s w NoTerms = Goes (record { work = w; lines = []; guesses = [] })
-  walk_all g s w (AndTerm e es) =
+  pub walk_all : Globals Guess → Scope Guess → Work → Expressions → Walked FoundAll
+  walk_all g s w NoExpressions = Goes (record { work = w; lines = []; guesses = [] })
+  walk_all g s w (AndExpression e es) =
       and_then (walk g s w e) (λ f.
       and_then (walk_all g s f.work es) (λ h.
       Goes (record { work = h.work; lines = line_of e ∷ h.lines; guesses = f.guess ∷ h.guesses })))
@@ -220,7 +220,7 @@ unfoldable mutual
 -- ---- the same along the left end of an expression, and from argument to argument
 
 -- what is left of a parent, where its first part is walked
-unfoldable pub rest_of : Globals Guess → Scope Guess → Term → Found → Walked Found
+unfoldable pub rest_of : Globals Guess → Scope Guess → Expression → Found → Walked Found
 rest_of g s (Prim op a b l) f =
     and_then (walk g s f.work b) (λ h.
     and_then (made_same g.types h.work.table f.guess (Known kind.Int) (line_of a)) (λ first.
@@ -235,7 +235,7 @@ rest_of g s (If c a b l) f =
 rest_of g s e f = Goes f
 
 -- the parents from the outermost inwards
-abbrev pub unwound : Globals Guess → Scope Guess → List Term → Walked Found → Walked Found
+abbrev pub unwound : Globals Guess → Scope Guess → List Expression → Walked Found → Walked Found
 unwound g s [] o = o
 unwound g s (p ∷ ps) o = and_then (unwound g s ps o) (rest_of g s p)
 
@@ -244,9 +244,9 @@ pub record FoundGuesses : Type 0 where
   pub work : Work
   pub guesses : List Guess
 
-unfoldable pub walk_on : Globals Guess → Scope Guess → Work → List Guess → Terms → Walked FoundGuesses
-walk_on g s w guesses NoTerms = Goes (record { work = w; guesses = guesses })
-walk_on g s w guesses (AndTerm e es) = and_then (walk g s w e) (λ f. walk_on g s f.work (guesses ++ f.guess ∷ []) es)
+unfoldable pub walk_on : Globals Guess → Scope Guess → Work → List Guess → Expressions → Walked FoundGuesses
+walk_on g s w guesses NoExpressions = Goes (record { work = w; guesses = guesses })
+walk_on g s w guesses (AndExpression e es) = and_then (walk g s w e) (λ f. walk_on g s f.work (guesses ++ f.guess ∷ []) es)
 
 -- ---- the same arm by arm: the constructor, and the guess of the body
 pub record FoundArm : Type 0 where
@@ -254,14 +254,14 @@ pub record FoundArm : Type 0 where
   pub con : ℕ
   pub guess : Guess
 
-unfoldable pub first_arm : Globals Guess → Scope Guess → Work → Guess → Name → List (Option Name) → ArmCell → Term → Walked FoundArm
+unfoldable pub first_arm : Globals Guess → Scope Guess → Work → Guess → Name → List (Option Name) → ArmCell → Expression → Walked FoundArm
 first_arm g s w scrutinee c fs x b =
     and_then (con_found g.types c (constructor_number g.types c.word)) (λ con.
     and_then (headed g.types w.table [] (con_guess g.types con) scrutinee c con fs x) (λ table.
     and_then (walk g (arm_scope Known g.types c fs x s) (with_table w table) b) (λ body.
     Goes (record { work = body.work; con = con; guess = body.guess }))))
 
-unfoldable pub next_arm : Globals Guess → Scope Guess → Work → List ℕ → ℕ → Guess → Name → List (Option Name) → ArmCell → Term → Walked FoundArm
+unfoldable pub next_arm : Globals Guess → Scope Guess → Work → List ℕ → ℕ → Guess → Name → List (Option Name) → ArmCell → Expression → Walked FoundArm
 next_arm g s w numbers first body c fs x b =
     and_then (con_found g.types c (constructor_number g.types c.word)) (λ con.
     and_then (headed g.types w.table numbers (con_guess g.types first) (con_guess g.types con) c con fs x) (λ table.
@@ -269,7 +269,7 @@ next_arm g s w numbers first body c fs x b =
     and_then (made_same g.types f.work.table body f.guess (line_of b)) (λ next.
     Goes (record { work = with_table f.work next; con = con; guess = f.guess })))))
 
-unfoldable pub match_walk : Globals Guess → Scope Guess → Work → Term → Arms → ℕ → Walked Found
+unfoldable pub match_walk : Globals Guess → Scope Guess → Work → Expression → Arms → ℕ → Walked Found
 match_walk g s w e NoArms l = and_then (walk g s w e) (λ f. Stops (MissingArm [] l))
 match_walk g s w e (AndArm c fs x b as') l =
     and_then (walk g s w e) (λ f.

@@ -15,7 +15,7 @@ use Rattle.camelot_tree.specs.declared.tree.Atom.{Atom}
 use Rattle.camelot_tree.specs.declared.tree.Atom.TheVariants as atom
 use Rattle.camelot_tree.specs.declared.tree.Param.{Param}
 use Rattle.camelot_tree.specs.declared.tree.ArmCell.{ArmCell}
-use Rattle.camelot_tree.specs.Tree.{Term, Num, Truth, Var, Prim, If, Let, Match, Build, Call, Terms, NoTerms, AndTerm, Arms, NoArms, AndArm, Constructor, Function, Source}
+use Rattle.camelot_tree.specs.Tree.{Expression, Num, Truth, Var, Prim, If, Let, Match, Build, Call, Expressions, NoExpressions, AndExpression, Arms, NoArms, AndArm, Constructor, Function, Source}
 use Rattle.camelot_tree.specs.Tree as tree
 use Rattle.camelot_values.specs.Names.{find}
 use Rattle.typing_rules.specs.Kinds.{Head, Globals, Scope, bind, or_else, kind_of_atom, types_of, constructor_number, fields_of, is_inline, built_kind, numbers_of, head_of, bound_names, arm_scope, atom_of}
@@ -155,7 +155,7 @@ guesses_of p = record { types = types_of p; heads = head_guesses p 0 p.funs }
 -- ---- expressions
 
 -- the line of an expression's first token; a `let` counts with that of its name
-abbrev pub line_of : Term → ℕ
+abbrev pub line_of : Expression → ℕ
 line_of (Num z l) = l
 line_of (Truth b l) = l
 line_of (Var n) = n.line
@@ -167,16 +167,16 @@ line_of (Build c es place) = c.line
 line_of (Call f es) = f.line
 
 -- how many arguments there are
-abbrev pub argument_count : Terms → ℕ
-argument_count NoTerms = 0
-argument_count (AndTerm e es) = suc (argument_count es)
+abbrev pub argument_count : Expressions → ℕ
+argument_count NoExpressions = 0
+argument_count (AndExpression e es) = suc (argument_count es)
 
-abbrev pub guess : Globals Guess → Scope Guess → Term → Guess
+abbrev pub guess : Globals Guess → Scope Guess → Expression → Guess
 guess g s e = atom_of Known g s e
 
 -- each argument has what is needed, from left to right
-abbrev pub same_steps : Globals Guess → Scope Guess → Terms → List Guess → List Step
-same_steps g s (AndTerm e es) (t ∷ ts) = Same (guess g s e) t (line_of e) ∷ same_steps g s es ts
+abbrev pub same_steps : Globals Guess → Scope Guess → Expressions → List Guess → List Step
+same_steps g s (AndExpression e es) (t ∷ ts) = Same (guess g s e) t (line_of e) ∷ same_steps g s es ts
 same_steps g s es ts = []
 
 -- the diamond that a build names: it is known, and, last of all, it is one
@@ -189,7 +189,7 @@ place_same s None = []
 place_same s (Some d) = Same (or_else (find s d.word) (Known kind.Int)) (Known kind.Dia) d.line ∷ []
 
 -- a build, behind its arguments
-abbrev pub build_steps : Globals Guess → Scope Guess → Name → Terms → Option Name → Option ℕ → List Step
+abbrev pub build_steps : Globals Guess → Scope Guess → Name → Expressions → Option Name → Option ℕ → List Step
 build_steps g s c es place None = Must false (UnknownName c.word c.line) ∷ []
 build_steps g s c es place (Some con) =
     Must (argument_count es == length (fields_of g.types con)) (Arity c.word (argument_count es) (length (fields_of g.types con)) c.line)
@@ -197,7 +197,7 @@ build_steps g s c es place (Some con) =
     ∷ (place_known s place ++ (same_steps g s es (map Known (fields_of g.types con)) ++ place_same s place))
 
 -- a call, behind its arguments
-abbrev pub call_steps : Globals Guess → Scope Guess → Name → Terms → Option (Head Guess) → List Step
+abbrev pub call_steps : Globals Guess → Scope Guess → Name → Expressions → Option (Head Guess) → List Step
 call_steps g s f es None = Must false (UnknownName f.word f.line) ∷ []
 call_steps g s f es (Some h) = Must (argument_count es == length h.params) (Arity f.word (argument_count es) (length h.params) f.line) ∷ same_steps g s es h.params
 
@@ -233,7 +233,7 @@ abbrev pub first_number : List DataType → Name → ℕ
 first_number types c = or_else (constructor_number types c.word) 0
 
 abbrev mutual
-  pub steps : Globals Guess → Scope Guess → Term → List Step
+  pub steps : Globals Guess → Scope Guess → Expression → List Step
   steps g s (Num z l) = []
   steps g s (Truth b l) = []
   steps g s (Var n) = Must (is_some (find s n.word)) (UnknownName n.word n.line) ∷ []
@@ -254,9 +254,9 @@ abbrev mutual
   steps g s (Build c es place) = all_steps g s es ++ build_steps g s c es place (constructor_number g.types c.word)
   steps g s (Call f es) = all_steps g s es ++ call_steps g s f es (head_of g.heads f.word)
 
-  pub all_steps : Globals Guess → Scope Guess → Terms → List Step
-  all_steps g s NoTerms = []
-  all_steps g s (AndTerm e es) = steps g s e ++ all_steps g s es
+  pub all_steps : Globals Guess → Scope Guess → Expressions → List Step
+  all_steps g s NoExpressions = []
+  all_steps g s (AndExpression e es) = steps g s e ++ all_steps g s es
 
   -- the arms behind the first one, whose constructor and body these are
   pub arms_steps : Globals Guess → Scope Guess → List ℕ → ℕ → Guess → Arms → List Step

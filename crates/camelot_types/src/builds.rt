@@ -3,7 +3,7 @@
 ghost use Rattle.std.specs.Prelude.{◌≡◌, map, is_some, Some, None};
 ghost use Rattle.std.specs.Option.{option_map};
 ghost use Rattle.camelot_values.specs.Names.{find};
-ghost use Rattle.camelot_tree.specs.Tree.{term_of, terms};
+ghost use Rattle.camelot_tree.specs.Tree.{expression_of, expressions};
 ghost use Rattle.camelot_types.specs.Tables.{globals_view, head_view};
 ghost use Rattle.camelot_types.specs.Walk.{line_of};
 ghost use Rattle.camelot_types.specs.Solving.{place_found, place_made, all_same, built, called, lines_of};
@@ -21,7 +21,7 @@ use camelot_values::Kind;
 
 /// The line of an expression's first token; a `let` counts with that of its name.
 pub(crate) fn line_of(expr: &Expr) -> u32
-    ensures { result ≡ line_of (term_of expr.now) }
+    ensures { result ≡ line_of (expression_of expr.now) }
 {
     match expr {
         Expr::Num { line, .. }
@@ -77,7 +77,7 @@ impl Walker<'_> {
         guesses: &[Guess],
         needed: &[Guess],
     ) -> Result<(), TypeFault>
-        ensures done { Leaves (all_same (globals_view globals.now).types self.old.table.items (lines_of (terms (map term_of args.now))) guesses.now needed.now) self.new.table.items result }
+        ensures done { Leaves (all_same (globals_view globals.now).types self.old.table.items (lines_of (expressions (map expression_of args.now))) guesses.now needed.now) self.new.table.items result }
         ensures atoms { self.new.atoms.items ≡ self.old.atoms.items }
         ensures scope { self.new.scope ≡ self.old.scope }
     {
@@ -103,7 +103,7 @@ impl Walker<'_> {
         guesses: &[Guess],
         needed: &[Kind],
     ) -> Result<(), TypeFault>
-        ensures done { Leaves (all_same (globals_view globals.now).types self.old.table.items (lines_of (terms (map term_of args.now))) guesses.now (map Known needed.now)) self.new.table.items result }
+        ensures done { Leaves (all_same (globals_view globals.now).types self.old.table.items (lines_of (expressions (map expression_of args.now))) guesses.now (map Known needed.now)) self.new.table.items result }
         ensures atoms { self.new.atoms.items ≡ self.old.atoms.items }
         ensures scope { self.new.scope ≡ self.old.scope }
     {
@@ -131,7 +131,7 @@ impl Walker<'_> {
         guesses: &[Guess],
         place: &Option<Name>,
     ) -> Result<(), TypeFault>
-        ensures done { Leaves (built (globals_view globals.now).types self.old.scope self.old.table.items name.now con (lines_of (terms (map term_of args.now))) guesses.now place.now) self.new.table.items result }
+        ensures done { Leaves (built (globals_view globals.now).types self.old.scope self.old.table.items name.now con (lines_of (expressions (map expression_of args.now))) guesses.now place.now) self.new.table.items result }
         ensures atoms { self.new.atoms.items ≡ self.old.atoms.items }
         ensures scope { self.new.scope ≡ self.old.scope }
     {
@@ -153,7 +153,7 @@ impl Walker<'_> {
         args: &[Expr],
         guesses: &[Guess],
     ) -> Result<(), TypeFault>
-        ensures done { Leaves (called (globals_view globals.now).types self.old.table.items name.now (lines_of (terms (map term_of args.now))) guesses.now (option_map (λ h. head_view h.now) head.entry)) self.new.table.items result }
+        ensures done { Leaves (called (globals_view globals.now).types self.old.table.items name.now (lines_of (expressions (map expression_of args.now))) guesses.now (option_map (λ h. head_view h.now) head.entry)) self.new.table.items result }
         ensures atoms { self.new.atoms.items ≡ self.old.atoms.items }
         ensures scope { self.new.scope ≡ self.old.scope }
     {

@@ -1,7 +1,7 @@
 //! The walk of expressions. It goes along the left end of an expression in a loop, since trees are deep there and nowhere else.
 
 ghost use Rattle.std.specs.Prelude.{◌≡◌, ◌∷◌, ℕ, [], map, OnOk, Some};
-ghost use Rattle.camelot_tree.specs.Tree.{term_of, terms, branch_of, operator_of};
+ghost use Rattle.camelot_tree.specs.Tree.{expression_of, expressions, branch_of, operator_of};
 ghost use Rattle.camelot_tree.specs.Tree as tree;
 ghost use Rattle.camelot_tree.specs.Spine.{IsLeaf};
 ghost use Rattle.camelot_values.specs.Typing.{operator_kind};
@@ -42,7 +42,7 @@ impl<'a> Walker<'a> {
         globals: &Globals<'_, '_>,
         expr: &'a Expr,
     ) -> Result<Guess, TypeFault>
-        ensures found { Finds (walk (globals_view globals.now) self.old.scope (work_of self.old) (term_of expr.now)) (work_of self.new) result }
+        ensures found { Finds (walk (globals_view globals.now) self.old.scope (work_of self.old) (expression_of expr.now)) (work_of self.new) result }
         ensures scope { OnOk result (self.new.scope ≡ self.old.scope) }
     {
         let spine = left_spine(self.alloc, expr)?;
@@ -66,7 +66,7 @@ impl<'a> Walker<'a> {
         parent: &'a Expr,
         first: Guess,
     ) -> Result<Guess, TypeFault>
-        ensures found { Finds (rest_of (globals_view globals.now) self.old.scope (term_of parent.now) (record { work = work_of self.old; guess = first })) (work_of self.new) result }
+        ensures found { Finds (rest_of (globals_view globals.now) self.old.scope (expression_of parent.now) (record { work = work_of self.old; guess = first })) (work_of self.new) result }
         ensures scope { OnOk result (self.new.scope ≡ self.old.scope) }
     {
         match parent {
@@ -96,8 +96,8 @@ impl<'a> Walker<'a> {
     #[cycle(walk)]
     #[tactic(auto, unfolding(crate::specs::Solving::walk))]
     fn leaf(&mut self, globals: &Globals<'_, '_>, expr: &'a Expr) -> Result<Guess, TypeFault>
-        requires { IsLeaf (term_of expr.now) }
-        ensures found { Finds (walk (globals_view globals.now) self.old.scope (work_of self.old) (term_of expr.now)) (work_of self.new) result }
+        requires { IsLeaf (expression_of expr.now) }
+        ensures found { Finds (walk (globals_view globals.now) self.old.scope (work_of self.old) (expression_of expr.now)) (work_of self.new) result }
         ensures scope { OnOk result (self.new.scope ≡ self.old.scope) }
     {
         match expr {
@@ -125,7 +125,7 @@ impl<'a> Walker<'a> {
         value: &'a Expr,
         body: &'a Expr,
     ) -> Result<Guess, TypeFault>
-        ensures found { Finds (walk (globals_view globals.now) self.old.scope (work_of self.old) (tree.Let name.now (term_of value.now) (term_of body.now))) (work_of self.new) result }
+        ensures found { Finds (walk (globals_view globals.now) self.old.scope (work_of self.old) (tree.Let name.now (expression_of value.now) (expression_of body.now))) (work_of self.new) result }
         ensures scope { OnOk result (self.new.scope ≡ self.old.scope) }
     {
         let guess = self.expr(globals, value)?;
@@ -146,7 +146,7 @@ impl<'a> Walker<'a> {
         args: &'a [Expr],
         place: &Option<Name>,
     ) -> Result<Guess, TypeFault>
-        ensures found { Finds (walk (globals_view globals.now) self.old.scope (work_of self.old) (tree.Build con.now (terms (map term_of args.now)) place.now)) (work_of self.new) result }
+        ensures found { Finds (walk (globals_view globals.now) self.old.scope (work_of self.old) (tree.Build con.now (expressions (map expression_of args.now)) place.now)) (work_of self.new) result }
         ensures scope { OnOk result (self.new.scope ≡ self.old.scope) }
     {
         let guesses = self.args(globals, args)?;
@@ -164,7 +164,7 @@ impl<'a> Walker<'a> {
         fun: &Name,
         args: &'a [Expr],
     ) -> Result<Guess, TypeFault>
-        ensures found { Finds (walk (globals_view globals.now) self.old.scope (work_of self.old) (tree.Call fun.now (terms (map term_of args.now)))) (work_of self.new) result }
+        ensures found { Finds (walk (globals_view globals.now) self.old.scope (work_of self.old) (tree.Call fun.now (expressions (map expression_of args.now)))) (work_of self.new) result }
         ensures scope { OnOk result (self.new.scope ≡ self.old.scope) }
     {
         let guesses = self.args(globals, args)?;
@@ -180,7 +180,7 @@ impl<'a> Walker<'a> {
     #[cycle(walk)]
     #[tactic(auto, using(crate::proofs::Looping::args_begin, crate::proofs::Looping::args_more, crate::proofs::Looping::args_fail, crate::proofs::Looping::args_end))]
     fn args(&mut self, globals: &Globals<'_, '_>, args: &'a [Expr]) -> Result<Vec<Guess>, TypeFault>
-        ensures found { FindsAll (walk_all (globals_view globals.now) self.old.scope (work_of self.old) (terms (map term_of args.now))) (work_of self.new) (lines_of (terms (map term_of args.now))) result }
+        ensures found { FindsAll (walk_all (globals_view globals.now) self.old.scope (work_of self.old) (expressions (map expression_of args.now))) (work_of self.new) (lines_of (expressions (map expression_of args.now))) result }
         ensures scope { OnOk result (self.new.scope ≡ self.old.scope) }
     {
         let mut guesses = Vec::new(self.alloc);
@@ -203,7 +203,7 @@ impl<'a> Walker<'a> {
         arms: &'a [Arm],
         line: u32,
     ) -> Result<Guess, TypeFault>
-        ensures found { Finds (walk (globals_view globals.now) self.old.scope (work_of self.old) (tree.Match (term_of on.now) (tree.arms (map branch_of arms.now)) line)) (work_of self.new) result }
+        ensures found { Finds (walk (globals_view globals.now) self.old.scope (work_of self.old) (tree.Match (expression_of on.now) (tree.arms (map branch_of arms.now)) line)) (work_of self.new) result }
         ensures scope { OnOk result (self.new.scope ≡ self.old.scope) }
     {
         self.match_arms(globals, on, arms, line)
@@ -219,7 +219,7 @@ impl<'a> Walker<'a> {
         arms: &'a [Arm],
         line: u32,
     ) -> Result<Guess, TypeFault>
-        ensures found { Finds (match_walk (globals_view globals.now) self.old.scope (work_of self.old) (term_of on.now) (tree.arms (map branch_of arms.now)) line) (work_of self.new) result }
+        ensures found { Finds (match_walk (globals_view globals.now) self.old.scope (work_of self.old) (expression_of on.now) (tree.arms (map branch_of arms.now)) line) (work_of self.new) result }
         ensures scope { OnOk result (self.new.scope ≡ self.old.scope) }
     {
         let scrutinee = self.expr(globals, on)?;

@@ -7,7 +7,7 @@ use Rattle.camelot_values.specs.declared.kinds.Kind.TheVariants as kind
 use Rattle.camelot_tree.specs.declared.tree.Name.{Name}
 use Rattle.camelot_tree.specs.declared.tree.ArmCell.{ArmCell}
 use Rattle.camelot_tree.specs.declared.tree.ArmCell.TheVariants as cell
-use Rattle.camelot_tree.specs.Tree.{Term, Let, Branch}
+use Rattle.camelot_tree.specs.Tree.{Expression, Let, Branch}
 use Rattle.typing_rules.specs.Kinds.{Globals, Scope, bind, or_else, constructor_number, is_inline, arm_scope, atom_of, atoms_of}
 use Rattle.typing_rules.specs.Typing.{known_kind}
 use Rattle.linear_use.specs.declared.fault.UseFault.{UseFault}
@@ -44,20 +44,20 @@ scoped_walked f free count n bs s1 s2 s3 s4 sc sp po e w q = record {
 
 -- ---- lets
 
-abbrev let_variable : Globals Kind → State → Term → ℕ → Variable
+abbrev let_variable : Globals Kind → State → Expression → ℕ → Variable
 let_variable g s0 e n = record { number = n; kind = atom_of known_kind g (kinds_in s0.scope) e }
 
-abbrev let_flow : Globals Kind → State → Name → Term → Term → ℕ → Scope Variable → Flow
+abbrev let_flow : Globals Kind → State → Name → Expression → Expression → ℕ → Scope Variable → Flow
 let_flow g s0 n e b i s = flow g (suc i) (bind n.word (let_variable g s0 e i) s) b
 
 -- the state after a local was bound
-pub record Bound (g : Globals Kind) (n : Name) (e : Term) (s0 s1 s2 : State) : Type 0 where
+pub record Bound (g : Globals Kind) (n : Name) (e : Expression) (s0 s1 s2 : State) : Type 0 where
   pub scope : s2.scope ≡ bind n.word (let_variable g s0 e s1.next) s1.scope
   pub next : s2.next ≡ suc s1.next
   pub spent : s2.spent ≡ s1.spent
   pub position : s2.position ≡ s1.position
 
-pub let_bound : (g : Globals Kind) (ex : List Kind) (n : Name) (e b : Term) (k : Kind) (s0 s1 s2 : State) → AreAt ex s0.position (parts_kinds g (kinds_in s0.scope) (Let n e b)) → WalkedTerm g e s0 s1
+pub let_bound : (g : Globals Kind) (ex : List Kind) (n : Name) (e b : Expression) (k : Kind) (s0 s1 s2 : State) → AreAt ex s0.position (parts_kinds g (kinds_in s0.scope) (Let n e b)) → WalkedTerm g e s0 s1
     → k ≡ or_else (slice_get ex (s1.position - 1)) kind.Int → s2.scope ≡ bind n.word (record { number = s1.next; kind = k }) s1.scope → s2.next ≡ suc s1.next → s2.spent ≡ s1.spent → s2.position ≡ s1.position
     → Bound g n e s0 s1 s2
 let_bound g ex n e b k s0 s1 s2 a w kind sc ne sp po =
@@ -65,7 +65,7 @@ let_bound g ex n e b k s0 s1 s2 a w kind sc ne sp po =
     kind ∙ last_kind g ex (kinds_in s0.scope) e s0.position s1.position (atoms_of known_kind g (bind n.word (atom_of known_kind g (kinds_in s0.scope) e) (kinds_in s0.scope)) b) w.position a in
     record { scope = sc ∙ ap (λ q. bind n.word (record { number = s1.next; kind = q }) s1.scope) is; next = ne; spent = sp; position = po }
 
-pub let_at : (g : Globals Kind) (ex : List Kind) (n : Name) (e b : Term) (s0 s1 s2 : State) → AreAt ex s0.position (parts_kinds g (kinds_in s0.scope) (Let n e b)) → WalkedTerm g e s0 s1 → Bound g n e s0 s1 s2
+pub let_at : (g : Globals Kind) (ex : List Kind) (n : Name) (e b : Expression) (s0 s1 s2 : State) → AreAt ex s0.position (parts_kinds g (kinds_in s0.scope) (Let n e b)) → WalkedTerm g e s0 s1 → Bound g n e s0 s1 s2
     → AreAt ex s2.position (kinds_at g s2 b)
 let_at g ex n e b s0 s1 s2 a w h =
     let q = atom_of known_kind g (kinds_in s0.scope) e in
@@ -73,14 +73,14 @@ let_at g ex n e b s0 s1 s2 a w h =
     let there : AreAt ex s1.position (K s1.scope) = seq_at ex K (flow g s0.next s0.scope e) (next_of g.types s0.next e) (length (kinds_at g s0 e)) (kinds_at g s0 e) s0 s1 w refl a in
     subst (λ i. AreAt ex i (kinds_at g s2 b)) (sym h.position) (subst (λ s. AreAt ex s1.position (atoms_of known_kind g (kinds_in s) b)) (sym h.scope) there)
 
-pub let_tells : (g : Globals Kind) (n : Name) (e b : Term) (s0 s1 s2 : State) (fault : UseFault) → WalkedTerm g e s0 s1 → Bound g n e s0 s1 s2 → Tells fault s2.spent (flow g s2.next s2.scope b)
+pub let_tells : (g : Globals Kind) (n : Name) (e b : Expression) (s0 s1 s2 : State) (fault : UseFault) → WalkedTerm g e s0 s1 → Bound g n e s0 s1 s2 → Tells fault s2.spent (flow g s2.next s2.scope b)
     → Tells fault s0.spent (After (flow g s0.next s0.scope e) (let_flow g s0 n e b (next_of g.types s0.next e) s0.scope))
 let_tells g n e b s0 s1 s2 fault w h t =
     let here : Tells fault s1.spent (let_flow g s0 n e b s1.next s1.scope) =
     λ m. ap (λ l. first_of l (let_flow g s0 n e b s1.next s1.scope)) (sym h.spent) ∙ ap (λ s. first_of s2.spent (flow g (suc s1.next) s b)) (sym h.scope) ∙ ap (λ i. first_of s2.spent (flow g i s2.scope b)) (sym h.next) ∙ t m in
     seq_tells fault (let_flow g s0 n e b) (flow g s0.next s0.scope e) (next_of g.types s0.next e) (length (kinds_at g s0 e)) s0 s1 w here
 
-pub let_walked : (g : Globals Kind) (n : Name) (e b : Term) (len : ℕ) (s0 s1 s2 s3 s4 : State) → WalkedTerm g e s0 s1 → len ≡ length s1.scope → Bound g n e s0 s1 s2 → WalkedTerm g b s2 s3
+pub let_walked : (g : Globals Kind) (n : Name) (e b : Expression) (len : ℕ) (s0 s1 s2 s3 s4 : State) → WalkedTerm g e s0 s1 → len ≡ length s1.scope → Bound g n e s0 s1 s2 → WalkedTerm g b s2 s3
     → s4 ≡ record s3 { scope = drop (length s3.scope - len) s3.scope } → WalkedParts g (Let n e b) s0 s4
 let_walked g n e b len s0 s1 s2 s3 s4 w l h v q =
     let k = atom_of known_kind g (kinds_in s0.scope) e in
@@ -97,7 +97,7 @@ let_walked g n e b len s0 s1 s2 s3 s4 w l h v q =
 -- ---- branches
 
 -- The state between two branches: what the first one spent is held.
-pub branches_tell : (g : Globals Kind) (a b : Term) (start : ℕ) (s0 s1 s2 : State) (fault : UseFault) → WalkedTerm g a s0 s1 → start ≡ length s0.spent → s2.spent ≡ take start s1.spent
+pub branches_tell : (g : Globals Kind) (a b : Expression) (start : ℕ) (s0 s1 s2 : State) (fault : UseFault) → WalkedTerm g a s0 s1 → start ≡ length s0.spent → s2.spent ≡ take start s1.spent
     → s2.next ≡ s1.next → s2.scope ≡ s1.scope → Tells fault s2.spent (flow g s2.next s2.scope b)
     → Tells fault s0.spent (Either (flow g s0.next s0.scope a) (flow g (next_of g.types s0.next a) s0.scope b))
 branches_tell g a b start s0 s1 s2 fault w st sp ne sc t m =
@@ -107,12 +107,12 @@ branches_tell g a b start s0 s1 s2 fault w st sp ne sc t m =
     or_none (first_of s0.spent (flow g s0.next s0.scope a)) (first_of s0.spent (flow g (next_of g.types s0.next a) s0.scope b)) w.none
     ∙ ap (λ l. first_of l (flow g (next_of g.types s0.next a) s0.scope b)) (sym spent) ∙ ap (λ i. first_of s2.spent (flow g i s0.scope b)) (sym next) ∙ ap (λ s. first_of s2.spent (flow g s2.next s b)) (sym scope) ∙ t m
 
-pub branches_at : (g : Globals Kind) (ex : List Kind) (a b : Term) (s0 s1 : State) → AreAt ex s0.position (kinds_at g s0 a ++ kinds_at g s0 b) → WalkedTerm g a s0 s1
+pub branches_at : (g : Globals Kind) (ex : List Kind) (a b : Expression) (s0 s1 : State) → AreAt ex s0.position (kinds_at g s0 a ++ kinds_at g s0 b) → WalkedTerm g a s0 s1
     → AreAt ex s1.position (kinds_at g s1 b)
 branches_at g ex a b s0 s1 h w =
     seq_at ex (λ s. atoms_of known_kind g (kinds_in s) b) (flow g s0.next s0.scope a) (next_of g.types s0.next a) (length (kinds_at g s0 a)) (kinds_at g s0 a) s0 s1 w refl h
 
-pub branches_walked : (g : Globals Kind) (a b : Term) (start : ℕ) (none held : List ℕ) (s0 s1 s2 s3 s4 : State) → WalkedTerm g a s0 s1 → WalkedTerm g b s2 s3 → start ≡ length s0.spent
+pub branches_walked : (g : Globals Kind) (a b : Expression) (start : ℕ) (none held : List ℕ) (s0 s1 s2 s3 s4 : State) → WalkedTerm g a s0 s1 → WalkedTerm g b s2 s3 → start ≡ length s0.spent
     → s2.spent ≡ take start s1.spent → held ≡ drop start s1.spent ++ none → none ≡ [] → s2.next ≡ s1.next → s2.scope ≡ s1.scope → s2.position ≡ s1.position
     → s4.spent ≡ s3.spent ++ held → s4.next ≡ s3.next → s4.scope ≡ s3.scope → s4.position ≡ s3.position
     → Walked (Either (flow g s0.next s0.scope a) (flow g (next_of g.types s0.next a) s0.scope b)) (next_of g.types (next_of g.types s0.next a) b) (length (kinds_at g s0 a ++ kinds_at g s0 b)) s0 s4

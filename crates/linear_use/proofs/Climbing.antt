@@ -1,7 +1,7 @@
 -- Laws of the walk along a left end.
 use Rattle.std.proofs.Common.{◌≡◌, ℕ, ◌+◌, ◌≤◌, ◌<◌, List, [], ◌∷◌, ◌++◌, map, length, Some, refl, sym, ap, ◌∙◌, subst, arith, length-append}
 use Rattle.camelot_values.specs.declared.kinds.Kind.{Kind}
-use Rattle.camelot_tree.specs.Tree.{Term, Num, Truth, Var, Prim, If, Let, Match, Build, Call}
+use Rattle.camelot_tree.specs.Tree.{Expression, Num, Truth, Var, Prim, If, Let, Match, Build, Call}
 use Rattle.camelot_tree.specs.Spine.{spine_of, leaf_of, size}
 use Rattle.camelot_tree.specs.SpineLaws.{NoLarger, spine_no_larger, no_larger_front, no_larger_last}
 use Rattle.typing_rules.specs.Kinds.{Globals, Scope, atom_of, atoms_of}
@@ -14,17 +14,17 @@ use Rattle.linear_use.specs.Walk.{first_of, AreAt, Walked, kinds_at, parts_kinds
 use Rattle.linear_use.proofs.Walking.{Tells, at_front, end_within, kinds_split, seq_tells, seq_at, seq_walked, walked_count, finished, tells_first}
 
 -- an operator or a conditional
-abbrev pub IsParent : Term → Type 0
+abbrev pub IsParent : Expression → Type 0
 IsParent (Prim op a b l) = Unit {0}
 IsParent (If c a b l) = Unit {0}
 IsParent e = ⊥
 
 -- from an expression along first parts: these parents, and then this part
-abbrev pub IsChain : List Term → Term → Term → Type 0
+abbrev pub IsChain : List Expression → Expression → Expression → Type 0
 IsChain [] d e = d ≡ e
 IsChain (p ∷ ps) d e = (p ≡ e) × IsParent p × IsChain ps d (first_part p)
 
-chain_spine : (e : Term) → IsChain (spine_of e) (leaf_of e) e
+chain_spine : (e : Expression) → IsChain (spine_of e) (leaf_of e) e
 chain_spine (Num z l) = refl
 chain_spine (Truth b l) = refl
 chain_spine (Var n) = refl
@@ -35,16 +35,16 @@ chain_spine (Match e as' l) = refl
 chain_spine (Build c es d) = refl
 chain_spine (Call f es) = refl
 
-pub record Popped (ps : List Term) (p d e : Term) : Type 0 where
+pub record Popped (ps : List Expression) (p d e : Expression) : Type 0 where
   pub chain : IsChain ps p e
   pub parent : IsParent p
   pub part : first_part p ≡ d
 
-chain_popped : (ps : List Term) (p d e : Term) → IsChain (ps ++ p ∷ []) d e → Popped ps p d e
+chain_popped : (ps : List Expression) (p d e : Expression) → IsChain (ps ++ p ∷ []) d e → Popped ps p d e
 chain_popped [] p d e h = record { chain = h.0; parent = h.1; part = sym h.2 }
 chain_popped (q ∷ ps) p d e h = let r = chain_popped ps p d (first_part q) h.2 in record { chain = (h.0, h.1, r.chain); parent = r.parent; part = r.part }
 
-parent_kinds : (g : Globals Kind) (s : Scope Kind) (p : Term) → IsParent p → atoms_of known_kind g s p ≡ atoms_of known_kind g s (first_part p) ++ rest_kinds g s p
+parent_kinds : (g : Globals Kind) (s : Scope Kind) (p : Expression) → IsParent p → atoms_of known_kind g s p ≡ atoms_of known_kind g s (first_part p) ++ rest_kinds g s p
 parent_kinds g s (Num z l) h = absurd h
 parent_kinds g s (Truth b l) h = absurd h
 parent_kinds g s (Var n) h = absurd h
@@ -55,7 +55,7 @@ parent_kinds g s (Match e as' l) h = absurd h
 parent_kinds g s (Build c es d) h = absurd h
 parent_kinds g s (Call f es) h = absurd h
 
-parent_flow : (g : Globals Kind) (next : ℕ) (s : Scope Variable) (p : Term) → IsParent p
+parent_flow : (g : Globals Kind) (next : ℕ) (s : Scope Variable) (p : Expression) → IsParent p
     → flow g next s p ≡ After (flow g next s (first_part p)) (rest_flow g (next_of g.types next (first_part p)) s p)
 parent_flow g next s (Num z l) h = absurd h
 parent_flow g next s (Truth b l) h = absurd h
@@ -67,7 +67,7 @@ parent_flow g next s (Match e as' l) h = absurd h
 parent_flow g next s (Build c es d) h = absurd h
 parent_flow g next s (Call f es) h = absurd h
 
-parent_next : (g : Globals Kind) (next : ℕ) (p : Term) → IsParent p → next_of g.types next p ≡ rest_next g.types (next_of g.types next (first_part p)) p
+parent_next : (g : Globals Kind) (next : ℕ) (p : Expression) → IsParent p → next_of g.types next p ≡ rest_next g.types (next_of g.types next (first_part p)) p
 parent_next g next (Num z l) h = absurd h
 parent_next g next (Truth b l) h = absurd h
 parent_next g next (Var n) h = absurd h
@@ -78,14 +78,14 @@ parent_next g next (Match e as' l) h = absurd h
 parent_next g next (Build c es d) h = absurd h
 parent_next g next (Call f es) h = absurd h
 
-chain_at : (g : Globals Kind) (s : Scope Kind) (ex : List Kind) (place : ℕ) (ps : List Term) (d e : Term) → IsChain ps d e → AreAt ex place (atoms_of known_kind g s e)
+chain_at : (g : Globals Kind) (s : Scope Kind) (ex : List Kind) (place : ℕ) (ps : List Expression) (d e : Expression) → IsChain ps d e → AreAt ex place (atoms_of known_kind g s e)
     → AreAt ex place (atoms_of known_kind g s d)
 chain_at g s ex place [] d e h a = subst (λ x. AreAt ex place (atoms_of known_kind g s x)) (sym h) a
 chain_at g s ex place (p ∷ ps) d e h a =
     let own : AreAt ex place (atoms_of known_kind g s p) = subst (λ x. AreAt ex place (atoms_of known_kind g s x)) (sym h.0) a in
     chain_at g s ex place ps d (first_part p) h.2 (at_front ex place (atoms_of known_kind g s (first_part p)) (rest_kinds g s p) (subst (AreAt ex place) (parent_kinds g s p h.1) own))
 
-chain_tells : (g : Globals Kind) (next : ℕ) (s : Scope Variable) (spent : List ℕ) (fault : UseFault) (ps : List Term) (d e : Term) → IsChain ps d e
+chain_tells : (g : Globals Kind) (next : ℕ) (s : Scope Variable) (spent : List ℕ) (fault : UseFault) (ps : List Expression) (d e : Expression) → IsChain ps d e
     → Tells fault spent (flow g next s d) → Tells fault spent (flow g next s e)
 chain_tells g next s spent fault [] d e h t m = subst (λ x. first_of spent (flow g next s x) ≡ Some fault) h (t m)
 chain_tells g next s spent fault (p ∷ ps) d e h t m =
@@ -95,67 +95,67 @@ chain_tells g next s spent fault (p ∷ ps) d e h t m =
 
 -- ---- the loop
 
-abbrev pub WalkedTerm : Globals Kind → Term → State → State → Type 0
+abbrev pub WalkedTerm : Globals Kind → Expression → State → State → Type 0
 WalkedTerm g e s0 s1 = Walked (flow g s0.next s0.scope e) (next_of g.types s0.next e) (length (kinds_at g s0 e)) s0 s1
 
-abbrev pub WalkedParts : Globals Kind → Term → State → State → Type 0
+abbrev pub WalkedParts : Globals Kind → Expression → State → State → Type 0
 WalkedParts g e s0 s1 = Walked (flow g s0.next s0.scope e) (next_of g.types s0.next e) (length (parts_kinds g (kinds_in s0.scope) e)) s0 s1
 
-abbrev pub WalkedRest : Globals Kind → Term → State → State → Type 0
+abbrev pub WalkedRest : Globals Kind → Expression → State → State → Type 0
 WalkedRest g p s0 s1 = Walked (rest_flow g s0.next s0.scope p) (rest_next g.types s0.next p) (length (rest_kinds g (kinds_in s0.scope) p)) s0 s1
 
 -- the walk has come up to a part of the expression, and these parents are left
-pub record Climbed (g : Globals Kind) (e : Term) (ps : List Term) (s0 s1 : State) : Type 0 where
-  pub done : Term
+pub record Climbed (g : Globals Kind) (e : Expression) (ps : List Expression) (s0 s1 : State) : Type 0 where
+  pub done : Expression
   pub chain : IsChain ps done e
   pub walked : WalkedTerm g done s0 s1
   pub few : NoLarger (size e) ps
 
-pub term_finished : (g : Globals Kind) (e : Term) (s0 s1 s2 : State) → WalkedParts g e s0 s1 → s2 ≡ record s1 { position = s1.position + 1 } → WalkedTerm g e s0 s2
-term_finished g e s0 s1 s2 w q =
+pub expression_finished : (g : Globals Kind) (e : Expression) (s0 s1 s2 : State) → WalkedParts g e s0 s1 → s2 ≡ record s1 { position = s1.position + 1 } → WalkedTerm g e s0 s2
+expression_finished g e s0 s1 s2 w q =
     let k = ap length (kinds_split g (kinds_in s0.scope) e) in
     let l = length-append (parts_kinds g (kinds_in s0.scope) e) (atom_of known_kind g (kinds_in s0.scope) e ∷ []) in
     finished (flow g s0.next s0.scope e) (next_of g.types s0.next e) (length (parts_kinds g (kinds_in s0.scope) e)) (length (kinds_at g s0 e)) s0 s1 s2 w q (omega (arith, k, l))
 
-pub climb_begun : (g : Globals Kind) (e leaf : Term) (ps : List Term) (s0 s1 s2 : State) → ps ≡ spine_of e → leaf ≡ leaf_of e → WalkedParts g leaf s0 s1
+pub climb_begun : (g : Globals Kind) (e leaf : Expression) (ps : List Expression) (s0 s1 s2 : State) → ps ≡ spine_of e → leaf ≡ leaf_of e → WalkedParts g leaf s0 s1
     → s2 ≡ record s1 { position = s1.position + 1 } → Climbed g e ps s0 s2
 climb_begun g e leaf ps s0 s1 s2 h k w q = record {
   done = leaf;
   chain = subst (λ x. IsChain x leaf e) (sym h) (subst (λ x. IsChain (spine_of e) x e) (sym k) (chain_spine e));
-  walked = term_finished g leaf s0 s1 s2 w q;
+  walked = expression_finished g leaf s0 s1 s2 w q;
   few = subst (NoLarger (size e)) (sym h) (spine_no_larger e);
 }
 
-pub leaf_at : (g : Globals Kind) (s : Scope Kind) (ex : List Kind) (place : ℕ) (e leaf : Term) → leaf ≡ leaf_of e → AreAt ex place (atoms_of known_kind g s e) → AreAt ex place (parts_kinds g s leaf)
+pub leaf_at : (g : Globals Kind) (s : Scope Kind) (ex : List Kind) (place : ℕ) (e leaf : Expression) → leaf ≡ leaf_of e → AreAt ex place (atoms_of known_kind g s e) → AreAt ex place (parts_kinds g s leaf)
 leaf_at g s ex place e leaf h a =
     let own : AreAt ex place (atoms_of known_kind g s (leaf_of e)) = chain_at g s ex place (spine_of e) (leaf_of e) e (chain_spine e) a in
     let is : AreAt ex place (atoms_of known_kind g s leaf) = subst (λ x. AreAt ex place (atoms_of known_kind g s x)) (sym h) own in
     at_front ex place (parts_kinds g s leaf) (atom_of known_kind g s leaf ∷ []) (subst (AreAt ex place) (kinds_split g s leaf) is)
 
-pub leaf_tells : (g : Globals Kind) (s0 : State) (fault : UseFault) (e leaf : Term) → leaf ≡ leaf_of e → Tells fault s0.spent (flow g s0.next s0.scope leaf) → Tells fault s0.spent (flow g s0.next s0.scope e)
+pub leaf_tells : (g : Globals Kind) (s0 : State) (fault : UseFault) (e leaf : Expression) → leaf ≡ leaf_of e → Tells fault s0.spent (flow g s0.next s0.scope leaf) → Tells fault s0.spent (flow g s0.next s0.scope e)
 leaf_tells g s0 fault e leaf h t = chain_tells g s0.next s0.scope s0.spent fault (spine_of e) (leaf_of e) e (chain_spine e) (λ m. ap (λ x. first_of s0.spent (flow g s0.next s0.scope x)) (sym h) ∙ t m)
 
 -- the place of the leaf's own kind
-pub leaf_end : (g : Globals Kind) (ex : List Kind) (e leaf : Term) (s0 s1 : State) → leaf ≡ leaf_of e → AreAt ex s0.position (kinds_at g s0 e) → WalkedParts g leaf s0 s1 → s1.position < length ex
+pub leaf_end : (g : Globals Kind) (ex : List Kind) (e leaf : Expression) (s0 s1 : State) → leaf ≡ leaf_of e → AreAt ex s0.position (kinds_at g s0 e) → WalkedParts g leaf s0 s1 → s1.position < length ex
 leaf_end g ex e leaf s0 s1 h a w =
     let s = kinds_in s0.scope in
     let own : AreAt ex s0.position (atoms_of known_kind g s (leaf_of e)) = chain_at g s ex s0.position (spine_of e) (leaf_of e) e (chain_spine e) a in
     let is : AreAt ex s0.position (atoms_of known_kind g s leaf) = subst (λ x. AreAt ex s0.position (atoms_of known_kind g s x)) (sym h) own in
     end_within ex s0.position s1.position (parts_kinds g s leaf) (atom_of known_kind g s leaf) w.position (subst (AreAt ex s0.position) (kinds_split g s leaf) is)
 
-map_last : {A : Type 0} (f : A → Term) (xs : List A) (x : A) → map f (xs ++ x ∷ []) ≡ map f xs ++ f x ∷ []
+map_last : {A : Type 0} (f : A → Expression) (xs : List A) (x : A) → map f (xs ++ x ∷ []) ≡ map f xs ++ f x ∷ []
 map_last f [] x = refl
 map_last f (y ∷ xs) x = ap (λ l. f y ∷ l) (map_last f xs x)
 
-climb_popped : {A : Type 0} (f : A → Term) (g : Globals Kind) (e : Term) (before after : List A) (p : A) (s0 s1 : State) → before ≡ after ++ p ∷ [] → (c : Climbed g e (map f before) s0 s1)
+climb_popped : {A : Type 0} (f : A → Expression) (g : Globals Kind) (e : Expression) (before after : List A) (p : A) (s0 s1 : State) → before ≡ after ++ p ∷ [] → (c : Climbed g e (map f before) s0 s1)
     → Popped (map f after) (f p) c.done e
 climb_popped f g e before after p s0 s1 h c = chain_popped (map f after) (f p) c.done e (subst (λ l. IsChain l c.done e) (ap (map f) h ∙ map_last f after p) c.chain)
 
-pub climb_smaller : {A : Type 0} (f : A → Term) (g : Globals Kind) (e : Term) (before after : List A) (p : A) (s0 s1 : State) → before ≡ after ++ p ∷ [] → Climbed g e (map f before) s0 s1
+pub climb_smaller : {A : Type 0} (f : A → Expression) (g : Globals Kind) (e : Expression) (before after : List A) (p : A) (s0 s1 : State) → before ≡ after ++ p ∷ [] → Climbed g e (map f before) s0 s1
     → size (f p) ≤ size e
 climb_smaller f g e before after p s0 s1 h c = no_larger_last (size e) (map f after) (f p) (subst (NoLarger (size e)) (ap (map f) h ∙ map_last f after p) c.few)
 
-pub climb_at : {A : Type 0} (f : A → Term) (g : Globals Kind) (e : Term) (before after : List A) (p : A) (s0 s1 : State) (ex : List Kind) → before ≡ after ++ p ∷ []
+pub climb_at : {A : Type 0} (f : A → Expression) (g : Globals Kind) (e : Expression) (before after : List A) (p : A) (s0 s1 : State) (ex : List Kind) → before ≡ after ++ p ∷ []
     → Climbed g e (map f before) s0 s1 → AreAt ex s0.position (kinds_at g s0 e) → AreAt ex s1.position (rest_kinds g (kinds_in s1.scope) (f p))
 climb_at f g e before after p s0 s1 ex h c a =
     let q = climb_popped f g e before after p s0 s1 h c in
@@ -164,7 +164,7 @@ climb_at f g e before after p s0 s1 ex h c a =
     seq_at ex (λ s. rest_kinds g (kinds_in s) (f p)) (flow g s0.next s0.scope c.done) (next_of g.types s0.next c.done) (length (kinds_at g s0 c.done)) (kinds_at g s0 (first_part (f p))) s0 s1 c.walked
     (ap (λ x. length (kinds_at g s0 x)) (sym q.part)) split
 
-pub climb_tells : {A : Type 0} (f : A → Term) (g : Globals Kind) (e : Term) (before after : List A) (p : A) (s0 s1 : State) (fault : UseFault) → before ≡ after ++ p ∷ []
+pub climb_tells : {A : Type 0} (f : A → Expression) (g : Globals Kind) (e : Expression) (before after : List A) (p : A) (s0 s1 : State) (fault : UseFault) → before ≡ after ++ p ∷ []
     → Climbed g e (map f before) s0 s1 → Tells fault s1.spent (rest_flow g s1.next s1.scope (f p)) → Tells fault s0.spent (flow g s0.next s0.scope e)
 climb_tells f g e before after p s0 s1 fault h c t =
     let q = climb_popped f g e before after p s0 s1 h c in
@@ -173,7 +173,7 @@ climb_tells f g e before after p s0 s1 fault h c t =
     seq_tells fault (λ n s. rest_flow g n s (f p)) (flow g s0.next s0.scope (first_part (f p))) (next_of g.types s0.next (first_part (f p))) (length (kinds_at g s0 (first_part (f p)))) s0 s1 walked t in
     chain_tells g s0.next s0.scope s0.spent fault (map f after) (f p) e q.chain (λ m. ap (first_of s0.spent) (parent_flow g s0.next s0.scope (f p) q.parent) ∙ own m)
 
-pub climbed_on : {A : Type 0} (f : A → Term) (g : Globals Kind) (e : Term) (before after : List A) (p : A) (s0 s1 s2 : State) → before ≡ after ++ p ∷ [] → Climbed g e (map f before) s0 s1
+pub climbed_on : {A : Type 0} (f : A → Expression) (g : Globals Kind) (e : Expression) (before after : List A) (p : A) (s0 s1 s2 : State) → before ≡ after ++ p ∷ [] → Climbed g e (map f before) s0 s1
     → WalkedRest g (f p) s1 s2 → Climbed g e (map f after) s0 s2
 climbed_on f g e before after p s0 s1 s2 h c w =
     let q = climb_popped f g e before after p s0 s1 h c in

@@ -6,7 +6,7 @@ use Rattle.camelot_values.specs.Kinds.{DataType}
 use Rattle.camelot_values.specs.declared.kinds.Kind.{Kind}
 use Rattle.camelot_tree.specs.declared.tree.Name.{Name}
 use Rattle.camelot_tree.specs.declared.tree.ArmCell.{ArmCell}
-use Rattle.camelot_tree.specs.Tree.{Term, Num, Truth, Var, Prim, If, Let, Match, Build, Call, Terms, NoTerms, AndTerm, Arms, NoArms, AndArm}
+use Rattle.camelot_tree.specs.Tree.{Expression, Num, Truth, Var, Prim, If, Let, Match, Build, Call, Expressions, NoExpressions, AndExpression, Arms, NoArms, AndArm}
 use Rattle.typing_rules.specs.Kinds.{Globals, Scope, bind, or_else, constructor_number, is_inline, atom_of, bound_names}
 use Rattle.typing_rules.specs.Typing.{known_kind}
 use Rattle.linear_use.specs.declared.variable.Variable.{Variable}
@@ -21,7 +21,7 @@ use Rattle.linear_use.proofs.Binders.{only, only_none, Means, bind_other, unequa
 -- ---- numbers grow
 
 mutual
-  pub next_grows : (types : List DataType) (next : ℕ) (e : Term) → next ≤ next_of types next e
+  pub next_grows : (types : List DataType) (next : ℕ) (e : Expression) → next ≤ next_of types next e
   next_grows types next (Num z l) = omega arith
   next_grows types next (Truth b l) = omega arith
   next_grows types next (Var n) = omega arith
@@ -37,9 +37,9 @@ mutual
   next_grows types next (Build c es place) = all_grow types next es
   next_grows types next (Call f es) = all_grow types next es
 
-  pub all_grow : (types : List DataType) (next : ℕ) (es : Terms) → next ≤ all_next types next es
-  all_grow types next NoTerms = omega arith
-  all_grow types next (AndTerm e es) = let p = next_grows types next e in let q = all_grow types (next_of types next e) es in omega (arith, p, q)
+  pub all_grow : (types : List DataType) (next : ℕ) (es : Expressions) → next ≤ all_next types next es
+  all_grow types next NoExpressions = omega arith
+  all_grow types next (AndExpression e es) = let p = next_grows types next e in let q = all_grow types (next_of types next e) es in omega (arith, p, q)
 
   pub arms_grow : (types : List DataType) (next : ℕ) (as' : Arms) → next ≤ arms_next types next as'
   arms_grow types next NoArms = omega arith
@@ -79,7 +79,7 @@ arm_other types c fs x next s i y h full o m =
     inner_other types fs (con_fields types c) x next (next + fields_count fs (con_fields types c)) s i y h full.full refl (λ q. let r = o q in omega (arith, r)) m
 
 mutual
-  pub counted : (g : Globals Kind) (e : Term) (next : ℕ) (s : Scope Variable) (i : ℕ) (x : List ℕ) (h : Bool) → IsFull g.types e → Outside i next (next_of g.types next e)
+  pub counted : (g : Globals Kind) (e : Expression) (next : ℕ) (s : Scope Variable) (i : ℕ) (x : List ℕ) (h : Bool) → IsFull g.types e → Outside i next (next_of g.types next e)
       → Means g.types s i x h → flow_uses i (flow g next s e) ≡ only h (uses x e)
   counted g (Num z l) next s i x h full o m = sym (only_none h)
   counted g (Truth b l) next s i x h full o m = sym (only_none h)
@@ -127,10 +127,10 @@ mutual
       at_place (Some d) = m d
   counted g (Call f es) next s i x h full o m = all_counted g es next s i x h full o m
 
-  pub all_counted : (g : Globals Kind) (es : Terms) (next : ℕ) (s : Scope Variable) (i : ℕ) (x : List ℕ) (h : Bool) → AllAreFull g.types es → Outside i next (all_next g.types next es)
+  pub all_counted : (g : Globals Kind) (es : Expressions) (next : ℕ) (s : Scope Variable) (i : ℕ) (x : List ℕ) (h : Bool) → AllAreFull g.types es → Outside i next (all_next g.types next es)
       → Means g.types s i x h → flow_uses i (all_flow g next s es) ≡ only h (all_uses x es)
-  all_counted g NoTerms next s i x h full o m = sym (only_none h)
-  all_counted g (AndTerm e es) next s i x h full o m =
+  all_counted g NoExpressions next s i x h full o m = sym (only_none h)
+  all_counted g (AndExpression e es) next s i x h full o m =
       let mid = next_of g.types next e in
       let p = next_grows g.types next e in
       let q = all_grow g.types mid es in

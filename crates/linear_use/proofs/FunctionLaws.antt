@@ -5,7 +5,7 @@ use Rattle.std.specs.Option.{option_or}
 use Rattle.camelot_values.specs.Kinds.{DataType}
 use Rattle.camelot_values.specs.declared.kinds.Kind.{Kind}
 use Rattle.camelot_tree.specs.declared.tree.Param.{Param}
-use Rattle.camelot_tree.specs.Tree.{Term, Function}
+use Rattle.camelot_tree.specs.Tree.{Expression, Function}
 use Rattle.typing_rules.specs.Kinds.{Globals, Scope, atoms_of}
 use Rattle.typing_rules.specs.Typing.{known_kind, params_scope}
 use Rattle.typing_rules.specs.Typed.{FunctionKinds, signature_of, signatures_of, functions_kinds, typing_globals}
@@ -74,7 +74,7 @@ at_behind front (x ∷ xs) p e =
     counted (y ∷ front) (suc p) e = let h = counted front p (omega (arith, e)) in omega (arith, h)
 
 -- the kinds of a body, where the whole list is theirs
-pub body_at : (g : Globals Kind) (ex list : List Kind) (xs ys : List Param) (ks ls : List Kind) (s : Scope Variable) (e : Term) → ex ≡ list → list ≡ atoms_of known_kind g (params_scope xs ks) e
+pub body_at : (g : Globals Kind) (ex list : List Kind) (xs ys : List Param) (ks ls : List Kind) (s : Scope Variable) (e : Expression) → ex ≡ list → list ≡ atoms_of known_kind g (params_scope xs ks) e
     → s ≡ param_variables 0 ys ls → ys ≡ xs → ls ≡ ks → AreAt ex 0 (atoms_of known_kind g (kinds_in s) e)
 body_at g ex list xs ys ks ls s e p q h i j =
     let scope : kinds_in s ≡ params_scope xs ks = ap kinds_in h ∙ ap (λ z. kinds_in (param_variables 0 z ls)) i ∙ ap (λ z. kinds_in (param_variables 0 xs z)) j ∙ param_kinds 0 xs ks in
@@ -92,7 +92,7 @@ pub finds_walk : {A : Type 0} (r : Result A UseFault) (f : Flow) (free count : �
 finds_walk (Ok x) f free count s0 s1 w = w.none
 finds_walk (Err fault) f free count s0 s1 w = w
 
-pub function_finds : {A : Type 0} (r : Result A UseFault) (g : Globals Kind) (e : Term) (xs ys zs : List Param) (ks ls : List Kind) (next free count : ℕ) (s0 s1 : State)
+pub function_finds : {A : Type 0} (r : Result A UseFault) (g : Globals Kind) (e : Expression) (xs ys zs : List Param) (ks ls : List Kind) (next free count : ℕ) (s0 s1 : State)
     → first_of [] (read_flow ys) ≡ None → ys ≡ xs → s0.next ≡ next → s0.scope ≡ param_variables 0 zs ls → zs ≡ xs → ls ≡ ks → s0.spent ≡ []
     → Walks (flow g s0.next s0.scope e) free count s0 r s1 → Finds r (first_of [] (After (read_flow xs) (flow g next (param_variables 0 xs ks) e)))
 function_finds r g e xs ys zs ks ls next free count s0 s1 n yx nx sc zx lk sp w =

@@ -1,7 +1,7 @@
 -- Laws of the walk through arguments and arms.
 use Rattle.std.proofs.Common.{◌≡◌, ℕ, zero, suc, ◌+◌, ◌<◌, List, [], ◌∷◌, ◌++◌, map, length, drop, take, get_or, refl, sym, ap, ◌∙◌, subst, arith, append_assoc, length-append}
 use Rattle.camelot_values.specs.declared.kinds.Kind.{Kind}
-use Rattle.camelot_tree.specs.Tree.{Term, Terms, AndTerm, Arms, AndArm, Branch, terms, arms}
+use Rattle.camelot_tree.specs.Tree.{Expression, Expressions, AndExpression, Arms, AndArm, Branch, expressions, arms}
 use Rattle.typing_rules.specs.Kinds.{Globals, all_atoms, arms_atoms}
 use Rattle.typing_rules.specs.Typing.{known_kind}
 use Rattle.linear_use.specs.declared.state.State.{State}
@@ -13,7 +13,7 @@ use Rattle.linear_use.proofs.Climbing.{WalkedTerm}
 -- ---- arguments
 
 -- what is left of these arguments
-pub record AllLeft (g : Globals Kind) (ex : List Kind) (all left : Terms) (s0 s1 : State) : Type 0 where
+pub record AllLeft (g : Globals Kind) (ex : List Kind) (all left : Expressions) (s0 s1 : State) : Type 0 where
   pub first : first_of s0.spent (all_flow g s0.next s0.scope all) ≡ first_of s1.spent (all_flow g s1.next s1.scope left)
   pub spent : s1.spent ++ used (all_flow g s1.next s1.scope left) ≡ s0.spent ++ used (all_flow g s0.next s0.scope all)
   pub next : all_next g.types s1.next left ≡ all_next g.types s0.next all
@@ -21,11 +21,11 @@ pub record AllLeft (g : Globals Kind) (ex : List Kind) (all left : Terms) (s0 s1
   pub position : s1.position + length (all_kinds_at g s1 left) ≡ s0.position + length (all_kinds_at g s0 all)
   pub kinds : AreAt ex s1.position (all_kinds_at g s1 left)
 
-pub all_at : (g : Globals Kind) (ex : List Kind) (all left rest : Terms) (e : Term) (s0 s1 : State) → left ≡ AndTerm e rest → AllLeft g ex all left s0 s1 → AreAt ex s1.position (kinds_at g s1 e)
+pub all_at : (g : Globals Kind) (ex : List Kind) (all left rest : Expressions) (e : Expression) (s0 s1 : State) → left ≡ AndExpression e rest → AllLeft g ex all left s0 s1 → AreAt ex s1.position (kinds_at g s1 e)
 all_at g ex all left rest e s0 s1 q h =
     at_front ex s1.position (kinds_at g s1 e) (all_kinds_at g s1 rest) (subst (λ x. AreAt ex s1.position (all_kinds_at g s1 x)) q h.kinds)
 
-pub all_step : (g : Globals Kind) (ex : List Kind) (all left rest : Terms) (e : Term) (s0 s1 s2 : State) → left ≡ AndTerm e rest → AllLeft g ex all left s0 s1 → WalkedTerm g e s1 s2
+pub all_step : (g : Globals Kind) (ex : List Kind) (all left rest : Expressions) (e : Expression) (s0 s1 s2 : State) → left ≡ AndExpression e rest → AllLeft g ex all left s0 s1 → WalkedTerm g e s1 s2
     → AllLeft g ex all rest s0 s2
 all_step g ex all left rest e s0 s1 s2 q h w =
     let own = flow g s1.next s1.scope e in
@@ -54,11 +54,11 @@ all_step g ex all left rest e s0 s1 s2 q h w =
 
 -- ---- a loop over a list
 
-pub left_terms : {A : Type 0} (f : A → Term) (xs : List A) (i j : ℕ) (x : A) → j ≡ i + 1 → i < length xs → x ≡ get_or xs i x → terms (map f (drop i xs)) ≡ AndTerm (f x) (terms (map f (drop j xs)))
-left_terms f [] i j x e h r = absurd (omega (arith, h))
-left_terms f (y ∷ xs) zero j x e h r = let q : j ≡ 1 = omega (arith, e) in ap (λ z. AndTerm (f z) (terms (map f xs))) (sym r) ∙ ap (λ k. AndTerm (f x) (terms (map f (drop k (y ∷ xs))))) (sym q)
-left_terms f (y ∷ xs) (suc i) zero x e h r = absurd (omega (arith, e))
-left_terms f (y ∷ xs) (suc i) (suc j) x e h r = left_terms f xs i j x (omega (arith, e)) (omega (arith, h)) r
+pub left_expressions : {A : Type 0} (f : A → Expression) (xs : List A) (i j : ℕ) (x : A) → j ≡ i + 1 → i < length xs → x ≡ get_or xs i x → expressions (map f (drop i xs)) ≡ AndExpression (f x) (expressions (map f (drop j xs)))
+left_expressions f [] i j x e h r = absurd (omega (arith, h))
+left_expressions f (y ∷ xs) zero j x e h r = let q : j ≡ 1 = omega (arith, e) in ap (λ z. AndExpression (f z) (expressions (map f xs))) (sym r) ∙ ap (λ k. AndExpression (f x) (expressions (map f (drop k (y ∷ xs))))) (sym q)
+left_expressions f (y ∷ xs) (suc i) zero x e h r = absurd (omega (arith, e))
+left_expressions f (y ∷ xs) (suc i) (suc j) x e h r = left_expressions f xs i j x (omega (arith, e)) (omega (arith, h)) r
 
 pub left_arms : {A : Type 0} (f : A → Branch) (xs : List A) (i j : ℕ) (x : A) → j ≡ i + 1 → i < length xs → x ≡ get_or xs i x
     → arms (map f (drop i xs)) ≡ AndArm (f x).con (f x).fields (f x).cell (f x).body (arms (map f (drop j xs)))

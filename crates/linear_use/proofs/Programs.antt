@@ -9,7 +9,7 @@ use Rattle.camelot_values.specs.declared.kinds.Kind.{Kind}
 use Rattle.camelot_values.specs.NameLaws.{same_name, name_itself}
 use Rattle.camelot_tree.specs.declared.tree.Name.{Name}
 use Rattle.camelot_tree.specs.declared.tree.Param.{Param}
-use Rattle.camelot_tree.specs.Tree.{Term, Function, Source}
+use Rattle.camelot_tree.specs.Tree.{Expression, Function, Source}
 use Rattle.typing_rules.specs.Kinds.{Globals, Scope, bind}
 use Rattle.typing_rules.specs.Typing.{Signature, ParamsStand, FunctionFits, FunctionsFit, IsTyped, params_scope, globals_of}
 use Rattle.linear_use.specs.declared.variable.Variable.{Variable}
@@ -114,7 +114,7 @@ read_clean : (x : Param) (b : Bool) → b ≡ false → IsClean (if b then Fault
 read_clean x true h = cc
 read_clean x false h = tt
 
-once_params : (types : List DataType) (s : Scope Variable) (f : Flow) (e : Term) (next : ℕ) (xs : List Param) (ks : List Kind)
+once_params : (types : List DataType) (s : Scope Variable) (f : Flow) (e : Expression) (next : ℕ) (xs : List Param) (ks : List Kind)
     → ((i : ℕ) (y : List ℕ) (h : Bool) → i < next + length xs → Means types s i y h → flow_uses i f ≡ only h (uses y e))
     → ParamsAre types s next xs ks → IsClean (read_flow xs) → ((i : ℕ) → flow_uses i f ≤ 1) → ParamsUsedOnce types xs ks e
 once_params types s f e next [] ks count a clean once = tt
@@ -125,12 +125,12 @@ once_params types s f e next (x ∷ xs) (k ∷ ks) count a clean once = (
   once_params types s f e (suc next) xs ks (λ i y h p. count i y h (omega (arith, p))) a.1 clean.1 once,
 )
 
-params_clean : (types : List DataType) (xs : List Param) (ks : List Kind) (e : Term) → length xs ≡ length ks → ParamsUsedOnce types xs ks e → IsClean (read_flow xs)
+params_clean : (types : List DataType) (xs : List Param) (ks : List Kind) (e : Expression) → length xs ≡ length ks → ParamsUsedOnce types xs ks e → IsClean (read_flow xs)
 params_clean types [] ks e l u = tt
 params_clean types (x ∷ xs) [] e l u = absurd (omega (arith, l))
 params_clean types (x ∷ xs) (k ∷ ks) e l u = (read_clean x x.read u.0, params_clean types xs ks e (omega (arith, l)) u.2)
 
-params_once : (types : List DataType) (s : Scope Variable) (f : Flow) (e : Term) (next : ℕ) (xs : List Param) (ks : List Kind)
+params_once : (types : List DataType) (s : Scope Variable) (f : Flow) (e : Expression) (next : ℕ) (xs : List Param) (ks : List Kind)
     → ((i : ℕ) (y : List ℕ) (h : Bool) → i < next + length xs → Means types s i y h → flow_uses i f ≡ only h (uses y e))
     → length xs ≡ length ks → ParamsAre types s next xs ks → ParamsUsedOnce types xs ks e → (i : ℕ) → next ≤ i → i < next + length xs → flow_uses i f ≤ 1
 params_once types s f e next [] ks count l a u i p q = absurd (omega (arith, p, q))

@@ -8,7 +8,7 @@ use Rattle.camelot_values.specs.declared.kinds.Kind.{Kind}
 use Rattle.camelot_tree.specs.declared.tree.Name.{Name}
 use Rattle.camelot_tree.specs.declared.tree.Param.{Param}
 use Rattle.camelot_tree.specs.declared.tree.ArmCell.{ArmCell}
-use Rattle.camelot_tree.specs.Tree.{Term, Num, Truth, Var, Prim, If, Let, Match, Build, Call, Terms, NoTerms, AndTerm, Arms, NoArms, AndArm, Function}
+use Rattle.camelot_tree.specs.Tree.{Expression, Num, Truth, Var, Prim, If, Let, Match, Build, Call, Expressions, NoExpressions, AndExpression, Arms, NoArms, AndArm, Function}
 use Rattle.typing_rules.specs.Kinds.{Globals, Scope, bind, bound_names, arm_scope, atom_of}
 use Rattle.typing_rules.specs.Typing.{Signature, known_kind, params_scope}
 use Rattle.typing_rules.specs.Typed.{Typing, typing_globals}
@@ -19,10 +19,10 @@ use Rattle.linear_use.specs.Answers.{KeepsRule}
 to_prop : {A B : Type 0} → IsProp B → IsProp (A → B)
 to_prop h f g = fun_ext (λ x. h (f x) (g x))
 
-once_prop : (types : List DataType) (k : Kind) (x : List ℕ) (e : Term) → IsProp (UsedOnce types k x e)
+once_prop : (types : List DataType) (k : Kind) (x : List ℕ) (e : Expression) → IsProp (UsedOnce types k x e)
 once_prop types k x e = to_prop le_prop
 
-each_prop : (types : List DataType) (inner : Scope Kind) (ns : List Name) (e : Term) → IsProp (EachUsedOnce types inner ns e)
+each_prop : (types : List DataType) (inner : Scope Kind) (ns : List Name) (e : Expression) → IsProp (EachUsedOnce types inner ns e)
 each_prop types inner [] e = Unit-prop
 each_prop types inner (n ∷ ns) e = ×_prop (to_prop le_prop) (each_prop types inner ns e)
 
@@ -30,7 +30,7 @@ cell_prop : (types : List DataType) (c : Name) (x : ArmCell) → IsProp (CellTak
 cell_prop types c x = to_prop (Bool-set (has_cell x) true)
 
 mutual
-  linear_prop : (g : Globals Kind) (s : Scope Kind) (e : Term) → IsProp (IsLinear g s e)
+  linear_prop : (g : Globals Kind) (s : Scope Kind) (e : Expression) → IsProp (IsLinear g s e)
   linear_prop g s (Num z l) = Unit-prop
   linear_prop g s (Truth b l) = Unit-prop
   linear_prop g s (Var n) = Unit-prop
@@ -45,9 +45,9 @@ mutual
   linear_prop g s (Build c es place) = all_prop g s es
   linear_prop g s (Call f es) = all_prop g s es
 
-  all_prop : (g : Globals Kind) (s : Scope Kind) (es : Terms) → IsProp (AllAreLinear g s es)
-  all_prop g s NoTerms = Unit-prop
-  all_prop g s (AndTerm e es) = ×_prop (linear_prop g s e) (all_prop g s es)
+  all_prop : (g : Globals Kind) (s : Scope Kind) (es : Expressions) → IsProp (AllAreLinear g s es)
+  all_prop g s NoExpressions = Unit-prop
+  all_prop g s (AndExpression e es) = ×_prop (linear_prop g s e) (all_prop g s es)
 
   arms_prop : (g : Globals Kind) (s : Scope Kind) (as' : Arms) → IsProp (ArmsAreLinear g s as')
   arms_prop g s NoArms = Unit-prop
@@ -58,7 +58,7 @@ mutual
       let r = arms_prop g s as' in
       hlevel (o, p, q, r)
 
-params_prop : (types : List DataType) (xs : List Param) (ks : List Kind) (e : Term) → IsProp (ParamsUsedOnce types xs ks e)
+params_prop : (types : List DataType) (xs : List Param) (ks : List Kind) (e : Expression) → IsProp (ParamsUsedOnce types xs ks e)
 params_prop types [] ks e = Unit-prop
 params_prop types (x ∷ xs) [] e = Unit-prop
 params_prop types (x ∷ xs) (k ∷ ks) e =

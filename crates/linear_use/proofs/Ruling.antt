@@ -9,7 +9,7 @@ use Rattle.camelot_values.specs.declared.kinds.Kind.TheVariants as kind
 use Rattle.camelot_tree.specs.declared.tree.Name.{Name}
 use Rattle.camelot_tree.specs.declared.tree.ArmCell.{ArmCell}
 use Rattle.camelot_tree.specs.declared.tree.ArmCell.TheVariants as cell
-use Rattle.camelot_tree.specs.Tree.{Term, Num, Truth, Var, Prim, If, Let, Match, Build, Call, Terms, NoTerms, AndTerm, Arms, NoArms, AndArm}
+use Rattle.camelot_tree.specs.Tree.{Expression, Num, Truth, Var, Prim, If, Let, Match, Build, Call, Expressions, NoExpressions, AndExpression, Arms, NoArms, AndArm}
 use Rattle.typing_rules.specs.Kinds.{Globals, Scope, bind, or_else, constructor_number, is_inline, atom_of, field_names, cell_names, bound_names, arm_scope}
 use Rattle.typing_rules.specs.Typing.{known_kind}
 use Rattle.linear_use.specs.declared.variable.Variable.{Variable}
@@ -105,18 +105,18 @@ cell_clean types c x h = at_test (is_inline types (or_else (constructor_number t
     at_test false true h = tt
     at_test false false h = let e = h refl in cc
 
-stands_once : (types : List DataType) (s : Scope Variable) (f : Flow) (e : Term) (i : ℕ) (n : Name) (k : Kind) → Stands types s i n k
+stands_once : (types : List DataType) (s : Scope Variable) (f : Flow) (e : Expression) (i : ℕ) (n : Name) (k : Kind) → Stands types s i n k
     → flow_uses i f ≡ only (is_heap types k) (uses n.word e) → UsedOnce types (or_else (find (kinds_in s) n.word) kind.Int) n.word e → flow_uses i f ≤ 1
 stands_once types s f e i n k h c u =
     counted_once (is_heap types k) (uses n.word e) (flow_uses i f) c (λ t. u (ap (λ o. is_heap types (or_else o kind.Int)) h.kind ∙ t))
 
-once_stands : (types : List DataType) (s : Scope Variable) (f : Flow) (e : Term) (i : ℕ) (n : Name) (k : Kind) → Stands types s i n k
+once_stands : (types : List DataType) (s : Scope Variable) (f : Flow) (e : Expression) (i : ℕ) (n : Name) (k : Kind) → Stands types s i n k
     → flow_uses i f ≡ only (is_heap types k) (uses n.word e) → flow_uses i f ≤ 1 → UsedOnce types (or_else (find (kinds_in s) n.word) kind.Int) n.word e
 once_stands types s f e i n k h c u t =
     once_counted (is_heap types k) (uses n.word e) (flow_uses i f) c u (ap (λ o. is_heap types (or_else o kind.Int)) (sym h.kind) ∙ t)
 
 -- from `first` on, each number below the end is one of the arm's names
-fields_once : (types : List DataType) (s : Scope Variable) (f : Flow) (e : Term) (next last end : ℕ) (fs : List (Option Name)) (ks : List Kind) (x : ArmCell)
+fields_once : (types : List DataType) (s : Scope Variable) (f : Flow) (e : Expression) (next last end : ℕ) (fs : List (Option Name)) (ks : List Kind) (x : ArmCell)
     → ((i : ℕ) (y : List ℕ) (h : Bool) → i < end → Means types s i y h → flow_uses i f ≡ only h (uses y e))
     → length fs ≡ length ks → last ≡ next + fields_count fs ks → end ≡ last + cell_count x → AllStand types s next last fs ks x
     → EachUsedOnce types (kinds_in s) (field_names fs ++ cell_names x) e → (i : ℕ) → next ≤ i → i < end → flow_uses i f ≤ 1
@@ -138,7 +138,7 @@ fields_once types s f e next last end (Some n ∷ fs) (t ∷ ks) x count l p q a
         subst (λ m. flow_uses m f ≤ 1) same once
     at_side rest (inr j) = rest j
 
-once_fields : (types : List DataType) (s : Scope Variable) (f : Flow) (e : Term) (next last end : ℕ) (fs : List (Option Name)) (ks : List Kind) (x : ArmCell)
+once_fields : (types : List DataType) (s : Scope Variable) (f : Flow) (e : Expression) (next last end : ℕ) (fs : List (Option Name)) (ks : List Kind) (x : ArmCell)
     → ((i : ℕ) (y : List ℕ) (h : Bool) → i < end → Means types s i y h → flow_uses i f ≡ only h (uses y e))
     → length fs ≡ length ks → last ≡ next + fields_count fs ks → end ≡ last + cell_count x → AllStand types s next last fs ks x
     → ((i : ℕ) → next ≤ i → flow_uses i f ≤ 1) → EachUsedOnce types (kinds_in s) (field_names fs ++ cell_names x) e
@@ -169,10 +169,10 @@ quiet_arm next body c x f types taken q fields = record {
 abbrev none : List ℕ
 none = []
 
-unused : (g : Globals Kind) (e : Term) (next : ℕ) (s : Scope Variable) (i : ℕ) → IsFull g.types e → Outside i next (next_of g.types next e) → Means g.types s i none false → flow_uses i (flow g next s e) ≡ 0
+unused : (g : Globals Kind) (e : Expression) (next : ℕ) (s : Scope Variable) (i : ℕ) → IsFull g.types e → Outside i next (next_of g.types next e) → Means g.types s i none false → flow_uses i (flow g next s e) ≡ 0
 unused g e next s i full o m = counted g e next s i none false full o m
 
-all_unused : (g : Globals Kind) (es : Terms) (next : ℕ) (s : Scope Variable) (i : ℕ) → AllAreFull g.types es → Outside i next (all_next g.types next es) → Means g.types s i none false → flow_uses i (all_flow g next s es) ≡ 0
+all_unused : (g : Globals Kind) (es : Expressions) (next : ℕ) (s : Scope Variable) (i : ℕ) → AllAreFull g.types es → Outside i next (all_next g.types next es) → Means g.types s i none false → flow_uses i (all_flow g next s es) ≡ 0
 all_unused g es next s i full o m = all_counted g es next s i none false full o m
 
 arms_unused : (g : Globals Kind) (as' : Arms) (next : ℕ) (s : Scope Variable) (i : ℕ) → ArmsAreFull g.types as' → Outside i next (arms_next g.types next as') → Means g.types s i none false → flow_uses i (arms_flow g next s as') ≡ 0
@@ -212,7 +212,7 @@ arm_kinds types next c fs x s = inner_kinds next (next + fields_count fs (con_fi
 -- ---- a quiet flow keeps the rule
 
 mutual
-  pub quiet_linear : (g : Globals Kind) (e : Term) (next : ℕ) (s : Scope Variable) → IsFull g.types e → Below g.types next s → IsQuiet next (flow g next s e) → IsLinear g (kinds_in s) e
+  pub quiet_linear : (g : Globals Kind) (e : Expression) (next : ℕ) (s : Scope Variable) → IsFull g.types e → Below g.types next s → IsQuiet next (flow g next s e) → IsLinear g (kinds_in s) e
   quiet_linear g (Num z l) next s full below q = tt
   quiet_linear g (Truth b l) next s full below q = tt
   quiet_linear g (Var n) next s full below q = tt
@@ -252,9 +252,9 @@ mutual
   quiet_linear g (Build c es place) next s full below q = quiet_all g es next s full below (after_left next (all_flow g next s es) (place_flow g.types s place) q)
   quiet_linear g (Call f es) next s full below q = quiet_all g es next s full below q
 
-  pub quiet_all : (g : Globals Kind) (es : Terms) (next : ℕ) (s : Scope Variable) → AllAreFull g.types es → Below g.types next s → IsQuiet next (all_flow g next s es) → AllAreLinear g (kinds_in s) es
-  quiet_all g NoTerms next s full below q = tt
-  quiet_all g (AndTerm e es) next s full below q =
+  pub quiet_all : (g : Globals Kind) (es : Expressions) (next : ℕ) (s : Scope Variable) → AllAreFull g.types es → Below g.types next s → IsQuiet next (all_flow g next s es) → AllAreLinear g (kinds_in s) es
+  quiet_all g NoExpressions next s full below q = tt
+  quiet_all g (AndExpression e es) next s full below q =
       let mid = next_of g.types next e in
       let p = next_grows g.types next e in (
         quiet_linear g e next s full.0 below (after_left next (flow g next s e) (all_flow g mid s es) q),
@@ -284,7 +284,7 @@ mutual
 -- ---- the rule keeps a flow quiet
 
 mutual
-  pub linear_quiet : (g : Globals Kind) (e : Term) (next : ℕ) (s : Scope Variable) → IsFull g.types e → Below g.types next s → IsLinear g (kinds_in s) e → IsQuiet next (flow g next s e)
+  pub linear_quiet : (g : Globals Kind) (e : Expression) (next : ℕ) (s : Scope Variable) → IsFull g.types e → Below g.types next s → IsLinear g (kinds_in s) e → IsQuiet next (flow g next s e)
   linear_quiet g (Num z l) next s full below q = quiet_none next
   linear_quiet g (Truth b l) next s full below q = quiet_none next
   linear_quiet g (Var n) next s full below q = place_quiet g next s (Some n) below
@@ -344,9 +344,9 @@ mutual
       (λ i h k. all_unused g es next s i full (λ t. k) (below i h))
   linear_quiet g (Call f es) next s full below q = all_quiet g es next s full below q
 
-  pub all_quiet : (g : Globals Kind) (es : Terms) (next : ℕ) (s : Scope Variable) → AllAreFull g.types es → Below g.types next s → AllAreLinear g (kinds_in s) es → IsQuiet next (all_flow g next s es)
-  all_quiet g NoTerms next s full below q = quiet_none next
-  all_quiet g (AndTerm e es) next s full below q =
+  pub all_quiet : (g : Globals Kind) (es : Expressions) (next : ℕ) (s : Scope Variable) → AllAreFull g.types es → Below g.types next s → AllAreLinear g (kinds_in s) es → IsQuiet next (all_flow g next s es)
+  all_quiet g NoExpressions next s full below q = quiet_none next
+  all_quiet g (AndExpression e es) next s full below q =
       let mid = next_of g.types next e in
       let p = next_grows g.types next e in
       quiet_after next mid (flow g next s e) (all_flow g mid s es)

@@ -8,7 +8,7 @@ use Rattle.camelot_values.specs.declared.kinds.Kind.{Kind}
 use Rattle.camelot_values.specs.NameLaws.{same_name}
 use Rattle.camelot_tree.specs.declared.tree.Name.{Name}
 use Rattle.camelot_tree.specs.declared.tree.ArmCell.{ArmCell}
-use Rattle.camelot_tree.specs.Tree.{Term, Num, Truth, Var, Prim, If, Let, Match, Build, Call, Terms, NoTerms, AndTerm, Arms, NoArms, AndArm}
+use Rattle.camelot_tree.specs.Tree.{Expression, Num, Truth, Var, Prim, If, Let, Match, Build, Call, Expressions, NoExpressions, AndExpression, Arms, NoArms, AndArm}
 use Rattle.typing_rules.specs.Kinds.{Globals, Scope, bind, or_else, fields_of, bound_names, arm_scope}
 use Rattle.typing_rules.specs.Typing.{HasKind, HaveKinds, ArmsHaveKind, HeadFits, known_kind}
 use Rattle.linear_use.specs.Uses.{is_bound}
@@ -43,7 +43,7 @@ pub record HeadIsFull (types : List DataType) (c : Name) (fs : List (Option Name
   pub apart : AreApart (bound_names fs x)
 
 abbrev mutual
-  pub IsFull : List DataType → Term → Type 0
+  pub IsFull : List DataType → Expression → Type 0
   IsFull types (Num z l) = Unit {0}
   IsFull types (Truth b l) = Unit {0}
   IsFull types (Var n) = Unit {0}
@@ -54,9 +54,9 @@ abbrev mutual
   IsFull types (Build c es place) = AllAreFull types es
   IsFull types (Call f es) = AllAreFull types es
 
-  pub AllAreFull : List DataType → Terms → Type 0
-  AllAreFull types NoTerms = Unit {0}
-  AllAreFull types (AndTerm e es) = IsFull types e × AllAreFull types es
+  pub AllAreFull : List DataType → Expressions → Type 0
+  AllAreFull types NoExpressions = Unit {0}
+  AllAreFull types (AndExpression e es) = IsFull types e × AllAreFull types es
 
   pub ArmsAreFull : List DataType → Arms → Type 0
   ArmsAreFull types NoArms = Unit {0}
@@ -69,7 +69,7 @@ head_full types t c fs x h = record {
 }
 
 mutual
-  pub typed_full : (g : Globals Kind) (s : Scope Kind) (e : Term) (k : Kind) → HasKind g s e k → IsFull g.types e
+  pub typed_full : (g : Globals Kind) (s : Scope Kind) (e : Expression) (k : Kind) → HasKind g s e k → IsFull g.types e
   typed_full g s (Num z l) k h = tt
   typed_full g s (Truth b l) k h = tt
   typed_full g s (Var n) k h = tt
@@ -81,10 +81,10 @@ mutual
   typed_full g s (Build c es place) k h = typed_all_full g s es (fields_of g.types h.0) h.3
   typed_full g s (Call f es) k h = typed_all_full g s es h.0.params h.3
 
-  typed_all_full : (g : Globals Kind) (s : Scope Kind) (es : Terms) (ks : List Kind) → HaveKinds g s es ks → AllAreFull g.types es
-  typed_all_full g s NoTerms ks h = tt
-  typed_all_full g s (AndTerm e es) [] h = absurd h
-  typed_all_full g s (AndTerm e es) (k ∷ ks) h = (typed_full g s e k h.0, typed_all_full g s es ks h.1)
+  typed_all_full : (g : Globals Kind) (s : Scope Kind) (es : Expressions) (ks : List Kind) → HaveKinds g s es ks → AllAreFull g.types es
+  typed_all_full g s NoExpressions ks h = tt
+  typed_all_full g s (AndExpression e es) [] h = absurd h
+  typed_all_full g s (AndExpression e es) (k ∷ ks) h = (typed_full g s e k h.0, typed_all_full g s es ks h.1)
 
   typed_arms_full : (g : Globals Kind) (s : Scope Kind) (t : ℕ) (as' : Arms) (k : Kind) → ArmsHaveKind g s t as' k → ArmsAreFull g.types as'
   typed_arms_full g s t NoArms k h = tt

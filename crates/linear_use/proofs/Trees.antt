@@ -9,7 +9,7 @@ use Rattle.camelot_tree.specs.declared.tree.Expr.{Expr}
 use Rattle.camelot_tree.specs.declared.tree.Expr as code
 use Rattle.camelot_tree.specs.declared.tree.Expr.TheFolds.{the_lemmas}
 use Rattle.camelot_tree.specs.declared.tree.Arm.{Arm}
-use Rattle.camelot_tree.specs.Tree.{Term, Prim, If, Match, Build, Terms, Arms, term_of, branch_of, operator_of, terms, arms}
+use Rattle.camelot_tree.specs.Tree.{Expression, Prim, If, Match, Build, Expressions, Arms, expression_of, branch_of, operator_of, expressions, arms}
 use Rattle.camelot_tree.specs.Spine.{size, arms_size}
 use Rattle.typing_rules.specs.Kinds.{Globals, atom_of, arms_atoms}
 use Rattle.typing_rules.specs.Typing.{known_kind}
@@ -22,36 +22,36 @@ use Rattle.linear_use.proofs.Climbing.{WalkedTerm, WalkedRest}
 
 -- ---- the code's trees
 
-pub arm_is : (a : Arm) → branch_of a ≡ record { con = a.con; fields = a.fields.items; cell = a.cell; body = term_of a.body }
+pub arm_is : (a : Arm) → branch_of a ≡ record { con = a.con; fields = a.fields.items; cell = a.cell; body = expression_of a.body }
 arm_is a = search (rules, the_lemmas)
 
-pub match_is : (on : Box Expr Global) (as' : Vec Arm Global) (l : ℕ) → term_of (code.Match on as' l) ≡ Match (term_of on.value) (arms (map branch_of as'.items)) l
+pub match_is : (on : Box Expr Global) (as' : Vec Arm Global) (l : ℕ) → expression_of (code.Match on as' l) ≡ Match (expression_of on.value) (arms (map branch_of as'.items)) l
 match_is on as' l = search (rules, the_lemmas)
 
-pub build_is : (c : Name) (es : Vec Expr Global) (place : Option Name) → term_of (code.Build c es place) ≡ Build c (terms (map term_of es.items)) place
+pub build_is : (c : Name) (es : Vec Expr Global) (place : Option Name) → expression_of (code.Build c es place) ≡ Build c (expressions (map expression_of es.items)) place
 build_is c es place = search (rules, the_lemmas)
 
-pub prim_is : (op : PrimOp) (a b : Box Expr Global) (l : ℕ) → term_of (code.Prim op a b l) ≡ Prim (operator_of op) (term_of a.value) (term_of b.value) l
+pub prim_is : (op : PrimOp) (a b : Box Expr Global) (l : ℕ) → expression_of (code.Prim op a b l) ≡ Prim (operator_of op) (expression_of a.value) (expression_of b.value) l
 prim_is op a b l = search (rules, the_lemmas)
 
-pub if_is : (c a b : Box Expr Global) (l : ℕ) → term_of (code.If c a b l) ≡ If (term_of c.value) (term_of a.value) (term_of b.value) l
+pub if_is : (c a b : Box Expr Global) (l : ℕ) → expression_of (code.If c a b l) ≡ If (expression_of c.value) (expression_of a.value) (expression_of b.value) l
 if_is c a b l = search (rules, the_lemmas)
 
 -- ---- matches
 
-pub match_at : (g : Globals Kind) (ex : List Kind) (s0 : State) (e on : Term) (as' : Arms) (l : ℕ) → e ≡ Match on as' l → AreAt ex s0.position (parts_kinds g (kinds_in s0.scope) e)
+pub match_at : (g : Globals Kind) (ex : List Kind) (s0 : State) (e on : Expression) (as' : Arms) (l : ℕ) → e ≡ Match on as' l → AreAt ex s0.position (parts_kinds g (kinds_in s0.scope) e)
     → AreAt ex s0.position (kinds_at g s0 on ++ arms_kinds_at g s0 as')
 match_at g ex s0 e on as' l q h = subst (λ x. AreAt ex s0.position (parts_kinds g (kinds_in s0.scope) x)) q h
 
-pub match_smaller : (e on : Term) (as' : Arms) (l : ℕ) → e ≡ Match on as' l → suc (size on + arms_size as') ≤ size e
+pub match_smaller : (e on : Expression) (as' : Arms) (l : ℕ) → e ≡ Match on as' l → suc (size on + arms_size as') ≤ size e
 match_smaller e on as' l q = let k = ap size q in omega (arith, k)
 
-pub match_arms_at : (g : Globals Kind) (ex : List Kind) (s0 s1 : State) (on : Term) (as' : Arms) → AreAt ex s0.position (kinds_at g s0 on ++ arms_kinds_at g s0 as')
+pub match_arms_at : (g : Globals Kind) (ex : List Kind) (s0 s1 : State) (on : Expression) (as' : Arms) → AreAt ex s0.position (kinds_at g s0 on ++ arms_kinds_at g s0 as')
     → WalkedTerm g on s0 s1 → AreAt ex s1.position (arms_kinds_at g s1 as')
 match_arms_at g ex s0 s1 on as' h w =
     seq_at ex (λ s. arms_atoms known_kind g (kinds_in s) as') (flow g s0.next s0.scope on) (next_of g.types s0.next on) (length (kinds_at g s0 on)) (kinds_at g s0 on) s0 s1 w refl h
 
-pub match_walks : {A : Type 0} (g : Globals Kind) (s0 s1 s2 : State) (on : Term) (as' : Arms) (l : ℕ) (r : Result A UseFault) → WalkedTerm g on s0 s1 → WalksArms g as' s1 r s2
+pub match_walks : {A : Type 0} (g : Globals Kind) (s0 s1 s2 : State) (on : Expression) (as' : Arms) (l : ℕ) (r : Result A UseFault) → WalkedTerm g on s0 s1 → WalksArms g as' s1 r s2
     → WalksParts g (Match on as' l) s0 r s2
 match_walks g s0 s1 s2 on as' l (Ok x) w v =
     walked_count _ _ _ _ s0 s2 (sym (length-append (kinds_at g s0 on) (arms_kinds_at g s0 as')))
@@ -59,13 +59,13 @@ match_walks g s0 s1 s2 on as' l (Ok x) w v =
 match_walks g s0 s1 s2 on as' l (Err fault) w v =
     seq_tells fault (λ n s. arms_flow g n s as') (flow g s0.next s0.scope on) (next_of g.types s0.next on) (length (kinds_at g s0 on)) s0 s1 w v
 
-pub match_whole : {A : Type 0} (g : Globals Kind) (s0 s2 : State) (e on : Term) (as' : Arms) (l : ℕ) (r : Result A UseFault) → e ≡ Match on as' l → WalksParts g (Match on as' 0) s0 r s2
+pub match_whole : {A : Type 0} (g : Globals Kind) (s0 s2 : State) (e on : Expression) (as' : Arms) (l : ℕ) (r : Result A UseFault) → e ≡ Match on as' l → WalksParts g (Match on as' 0) s0 r s2
     → WalksParts g e s0 r s2
 match_whole g s0 s2 e on as' l r q w = subst (λ x. WalksParts g x s0 r s2) (sym q) w
 
 -- ---- builds
 
-build_walks : {A : Type 0} (g : Globals Kind) (s0 s1 s2 : State) (c : Name) (es : Terms) (place : Option Name) (r : Result A UseFault)
+build_walks : {A : Type 0} (g : Globals Kind) (s0 s1 s2 : State) (c : Name) (es : Expressions) (place : Option Name) (r : Result A UseFault)
     → Walked (all_flow g s0.next s0.scope es) (all_next g.types s0.next es) (length (all_kinds_at g s0 es)) s0 s1
     → Walks (place_flow g.types s1.scope place) s1.next 0 s1 r s2 → WalksParts g (Build c es place) s0 r s2
 build_walks g s0 s1 s2 c es place (Ok x) w v =
@@ -74,41 +74,41 @@ build_walks g s0 s1 s2 c es place (Ok x) w v =
 build_walks g s0 s1 s2 c es place (Err fault) w v =
     seq_tells fault (λ n s. place_flow g.types s place) (all_flow g s0.next s0.scope es) (all_next g.types s0.next es) (length (all_kinds_at g s0 es)) s0 s1 w v
 
-pub build_walked : {A : Type 0} (g : Globals Kind) (s0 s1 s2 : State) (e : Term) (c : Name) (es : Terms) (place : Option Name) (r : Result A UseFault) → e ≡ Build c es place
+pub build_walked : {A : Type 0} (g : Globals Kind) (s0 s1 s2 : State) (e : Expression) (c : Name) (es : Expressions) (place : Option Name) (r : Result A UseFault) → e ≡ Build c es place
     → Walked (all_flow g s0.next s0.scope es) (all_next g.types s0.next es) (length (all_kinds_at g s0 es)) s0 s1
     → Walks (place_flow g.types s1.scope place) s1.next 0 s1 r s2 → WalksParts g e s0 r s2
 build_walked g s0 s1 s2 e c es place r q w v = subst (λ x. WalksParts g x s0 r s2) (sym q) (build_walks g s0 s1 s2 c es place r w v)
 
 -- ---- operators and conditionals
 
-pub prim_at : (g : Globals Kind) (ex : List Kind) (s0 : State) (e a b : Term) (op : Operator) (l : ℕ) → e ≡ Prim op a b l → AreAt ex s0.position (rest_kinds g (kinds_in s0.scope) e)
+pub prim_at : (g : Globals Kind) (ex : List Kind) (s0 : State) (e a b : Expression) (op : Operator) (l : ℕ) → e ≡ Prim op a b l → AreAt ex s0.position (rest_kinds g (kinds_in s0.scope) e)
     → AreAt ex s0.position (kinds_at g s0 b)
 prim_at g ex s0 e a b op l q h =
     at_front ex s0.position (kinds_at g s0 b) (atom_of known_kind g (kinds_in s0.scope) (Prim op a b l) ∷ []) (subst (λ x. AreAt ex s0.position (rest_kinds g (kinds_in s0.scope) x)) q h)
 
-pub prim_smaller : (e a b : Term) (op : Operator) (l : ℕ) → e ≡ Prim op a b l → suc (size b) ≤ size e
+pub prim_smaller : (e a b : Expression) (op : Operator) (l : ℕ) → e ≡ Prim op a b l → suc (size b) ≤ size e
 prim_smaller e a b op l q = let k = ap size q in omega (arith, k)
 
-pub prim_walked : (g : Globals Kind) (s0 s1 s2 : State) (e a b : Term) (op : Operator) (l : ℕ) → e ≡ Prim op a b l → WalkedTerm g b s0 s1 → s2 ≡ record s1 { position = s1.position + 1 } → WalkedRest g e s0 s2
+pub prim_walked : (g : Globals Kind) (s0 s1 s2 : State) (e a b : Expression) (op : Operator) (l : ℕ) → e ≡ Prim op a b l → WalkedTerm g b s0 s1 → s2 ≡ record s1 { position = s1.position + 1 } → WalkedRest g e s0 s2
 prim_walked g s0 s1 s2 e a b op l q w f =
     let k = length-append (kinds_at g s0 b) (atom_of known_kind g (kinds_in s0.scope) (Prim op a b l) ∷ []) in
     subst (λ x. WalkedRest g x s0 s2) (sym q) (finished (flow g s0.next s0.scope b) (next_of g.types s0.next b) (length (kinds_at g s0 b)) _ s0 s1 s2 w f k)
 
-pub if_at : (g : Globals Kind) (ex : List Kind) (s0 : State) (e c a b : Term) (l : ℕ) → e ≡ If c a b l → AreAt ex s0.position (rest_kinds g (kinds_in s0.scope) e)
+pub if_at : (g : Globals Kind) (ex : List Kind) (s0 : State) (e c a b : Expression) (l : ℕ) → e ≡ If c a b l → AreAt ex s0.position (rest_kinds g (kinds_in s0.scope) e)
     → AreAt ex s0.position (kinds_at g s0 a ++ kinds_at g s0 b)
 if_at g ex s0 e c a b l q h =
     let k = atom_of known_kind g (kinds_in s0.scope) (If c a b l) ∷ [] in
     at_front ex s0.position (kinds_at g s0 a ++ kinds_at g s0 b) k
     (subst (AreAt ex s0.position) (sym (append_assoc (kinds_at g s0 a) (kinds_at g s0 b) k)) (subst (λ x. AreAt ex s0.position (rest_kinds g (kinds_in s0.scope) x)) q h))
 
-pub if_smaller : (e c a b : Term) (l : ℕ) → e ≡ If c a b l → suc (size a + size b) ≤ size e
+pub if_smaller : (e c a b : Expression) (l : ℕ) → e ≡ If c a b l → suc (size a + size b) ≤ size e
 if_smaller e c a b l q = let k = ap size q in omega (arith, k)
 
-abbrev pub WalkedBranches : Globals Kind → Term → Term → State → State → Type 0
+abbrev pub WalkedBranches : Globals Kind → Expression → Expression → State → State → Type 0
 WalkedBranches g a b s0 s1 =
     Walked (Either (flow g s0.next s0.scope a) (flow g (next_of g.types s0.next a) s0.scope b)) (next_of g.types (next_of g.types s0.next a) b) (length (kinds_at g s0 a ++ kinds_at g s0 b)) s0 s1
 
-pub if_walked : (g : Globals Kind) (s0 s1 s2 : State) (e c a b : Term) (l : ℕ) → e ≡ If c a b l
+pub if_walked : (g : Globals Kind) (s0 s1 s2 : State) (e c a b : Expression) (l : ℕ) → e ≡ If c a b l
     → WalkedBranches g a b s0 s1 → s2 ≡ record s1 { position = s1.position + 1 } → WalkedRest g e s0 s2
 if_walked g s0 s1 s2 e c a b l q w f =
     let k = atom_of known_kind g (kinds_in s0.scope) (If c a b l) ∷ [] in
@@ -118,12 +118,12 @@ if_walked g s0 s1 s2 e c a b l q w f =
 
 -- ---- the places of their own kinds
 
-pub prim_end : (g : Globals Kind) (ex : List Kind) (s0 s1 : State) (e a b : Term) (op : Operator) (l : ℕ) → e ≡ Prim op a b l → AreAt ex s0.position (rest_kinds g (kinds_in s0.scope) e) → WalkedTerm g b s0 s1
+pub prim_end : (g : Globals Kind) (ex : List Kind) (s0 s1 : State) (e a b : Expression) (op : Operator) (l : ℕ) → e ≡ Prim op a b l → AreAt ex s0.position (rest_kinds g (kinds_in s0.scope) e) → WalkedTerm g b s0 s1
     → s1.position < length ex
 prim_end g ex s0 s1 e a b op l q h w =
     end_within ex s0.position s1.position (kinds_at g s0 b) (atom_of known_kind g (kinds_in s0.scope) (Prim op a b l)) w.position (subst (λ x. AreAt ex s0.position (rest_kinds g (kinds_in s0.scope) x)) q h)
 
-pub if_end : (g : Globals Kind) (ex : List Kind) (s0 s1 : State) (e c a b : Term) (l : ℕ) → e ≡ If c a b l → AreAt ex s0.position (rest_kinds g (kinds_in s0.scope) e) → WalkedBranches g a b s0 s1
+pub if_end : (g : Globals Kind) (ex : List Kind) (s0 s1 : State) (e c a b : Expression) (l : ℕ) → e ≡ If c a b l → AreAt ex s0.position (rest_kinds g (kinds_in s0.scope) e) → WalkedBranches g a b s0 s1
     → s1.position < length ex
 if_end g ex s0 s1 e c a b l q h w =
     let k = atom_of known_kind g (kinds_in s0.scope) (If c a b l) in

@@ -4,7 +4,7 @@ use Rattle.std.specs.Prelude.{Result, Ok, Err, IsErrAnd}
 use Rattle.std.specs.Option.{option_or}
 use Rattle.camelot_values.specs.declared.kinds.Kind.{Kind}
 use Rattle.camelot_values.specs.declared.kinds.Kind.TheVariants as kind
-use Rattle.camelot_tree.specs.Tree.{Term, Num, Truth, Var, Prim, If, Let, Match, Build, Call}
+use Rattle.camelot_tree.specs.Tree.{Expression, Num, Truth, Var, Prim, If, Let, Match, Build, Call}
 use Rattle.typing_rules.specs.Kinds.{Globals, Scope, bind, or_else, atom_of, atoms_of, arms_atoms}
 use Rattle.typing_rules.specs.Typing.{known_kind}
 use Rattle.linear_use.specs.declared.fault.UseFault.{UseFault}
@@ -42,7 +42,7 @@ pub end_within : (ex : List Kind) (p q : ℕ) (xs : List Kind) (k : Kind) → q 
 end_within ex p q xs k e h = within_list ex q k (last_at ex p q xs k e h)
 
 -- the kinds of an expression are those of its parts, and its own
-pub kinds_split : (g : Globals Kind) (s : Scope Kind) (e : Term) → atoms_of known_kind g s e ≡ parts_kinds g s e ++ atom_of known_kind g s e ∷ []
+pub kinds_split : (g : Globals Kind) (s : Scope Kind) (e : Expression) → atoms_of known_kind g s e ≡ parts_kinds g s e ++ atom_of known_kind g s e ∷ []
 kinds_split g s (Num z l) = refl
 kinds_split g s (Truth b l) = refl
 kinds_split g s (Var n) = refl
@@ -58,7 +58,7 @@ kinds_split g s (Build c es place) = refl
 kinds_split g s (Call f es) = refl
 
 -- the kind of the expression that ended last
-pub last_kind : (g : Globals Kind) (ex : List Kind) (s : Scope Kind) (e : Term) (p q : ℕ) (ys : List Kind) → q ≡ p + length (atoms_of known_kind g s e)
+pub last_kind : (g : Globals Kind) (ex : List Kind) (s : Scope Kind) (e : Expression) (p q : ℕ) (ys : List Kind) → q ≡ p + length (atoms_of known_kind g s e)
     → AreAt ex p (atoms_of known_kind g s e ++ ys) → or_else (slice_get ex (q - 1)) kind.Int ≡ atom_of known_kind g s e
 last_kind g ex s e p q ys h a =
     let own : AreAt ex p (parts_kinds g s e ++ atom_of known_kind g s e ∷ []) = subst (AreAt ex p) (kinds_split g s e) (at_front ex p (atoms_of known_kind g s e) ys a) in

@@ -13,7 +13,7 @@ use Rattle.camelot_tree.specs.declared.tree.Name.{Name}
 use Rattle.camelot_tree.specs.declared.tree.Param.{Param}
 use Rattle.camelot_tree.specs.declared.tree.ArmCell.{ArmCell}
 use Rattle.camelot_tree.specs.declared.tree.ArmCell.TheVariants as cell
-use Rattle.camelot_tree.specs.Tree.{Term, Num, Truth, Var, Prim, If, Let, Match, Build, Call, Terms, NoTerms, AndTerm, Arms, NoArms, AndArm, Function, Source}
+use Rattle.camelot_tree.specs.Tree.{Expression, Num, Truth, Var, Prim, If, Let, Match, Build, Call, Expressions, NoExpressions, AndExpression, Arms, NoArms, AndArm, Function, Source}
 use Rattle.typing_rules.specs.Kinds.{Globals, Scope, bind, or_else, constructor_number, fields_of, is_inline, atom_of}
 use Rattle.typing_rules.specs.Typing.{Signature, known_kind, globals_of}
 use Rattle.camelot_tree.specs.Cells.{has_cell}
@@ -105,7 +105,7 @@ cell_flow types c x = if is_inline types (or_else (constructor_number types c.wo
 
 -- the first number that is free behind an expression
 abbrev mutual
-  pub next_of : List DataType → ℕ → Term → ℕ
+  pub next_of : List DataType → ℕ → Expression → ℕ
   next_of types next (Num z l) = next
   next_of types next (Truth b l) = next
   next_of types next (Var n) = next
@@ -116,9 +116,9 @@ abbrev mutual
   next_of types next (Build c es place) = all_next types next es
   next_of types next (Call f es) = all_next types next es
 
-  pub all_next : List DataType → ℕ → Terms → ℕ
-  all_next types next NoTerms = next
-  all_next types next (AndTerm e es) = all_next types (next_of types next e) es
+  pub all_next : List DataType → ℕ → Expressions → ℕ
+  all_next types next NoExpressions = next
+  all_next types next (AndExpression e es) = all_next types (next_of types next e) es
 
   pub arms_next : List DataType → ℕ → Arms → ℕ
   arms_next types next NoArms = next
@@ -126,7 +126,7 @@ abbrev mutual
 
 -- the flow of an expression whose variables get numbers from `next` on
 abbrev mutual
-  pub flow : Globals Kind → ℕ → Scope Variable → Term → Flow
+  pub flow : Globals Kind → ℕ → Scope Variable → Expression → Flow
   flow g next s (Num z l) = Nothing
   flow g next s (Truth b l) = Nothing
   flow g next s (Var n) = name_flow g.types s n
@@ -141,9 +141,9 @@ abbrev mutual
   flow g next s (Build c es place) = After (all_flow g next s es) (place_flow g.types s place)
   flow g next s (Call f es) = all_flow g next s es
 
-  pub all_flow : Globals Kind → ℕ → Scope Variable → Terms → Flow
-  all_flow g next s NoTerms = Nothing
-  all_flow g next s (AndTerm e es) = After (flow g next s e) (all_flow g (next_of g.types next e) s es)
+  pub all_flow : Globals Kind → ℕ → Scope Variable → Expressions → Flow
+  all_flow g next s NoExpressions = Nothing
+  all_flow g next s (AndExpression e es) = After (flow g next s e) (all_flow g (next_of g.types next e) s es)
 
   pub arms_flow : Globals Kind → ℕ → Scope Variable → Arms → Flow
   arms_flow g next s NoArms = Nothing

@@ -13,7 +13,7 @@ use Rattle.camelot_values.specs.declared.kinds.Kind.TheVariants.{Int}
 use Rattle.camelot_tree.specs.declared.tree.Name.{Name}
 use Rattle.camelot_tree.specs.declared.tree.Param.{Param}
 use Rattle.camelot_tree.specs.declared.tree.ArmCell.{ArmCell}
-use Rattle.camelot_tree.specs.Tree.{Term, Num, Truth, Var, Prim, If, Let, Match, Build, Call, Terms, NoTerms, AndTerm, Arms, NoArms, AndArm, Function, Source}
+use Rattle.camelot_tree.specs.Tree.{Expression, Num, Truth, Var, Prim, If, Let, Match, Build, Call, Expressions, NoExpressions, AndExpression, Arms, NoArms, AndArm, Function, Source}
 use Rattle.camelot_tree.specs.Cells.{has_cell}
 use Rattle.typing_rules.specs.Kinds.{Globals, Scope, bind, or_else, constructor_number, is_inline, bound_names, arm_scope, atom_of}
 use Rattle.typing_rules.specs.Typing.{Signature, known_kind, params_scope, globals_of}
@@ -33,7 +33,7 @@ place_use x (Some d) = use_of x d
 -- the uses of a variable in an expression: its occurrences, a scrutinee and the diamond that a build names included. A name that is
 -- bound anew hides it.
 abbrev mutual
-  pub uses : List ℕ → Term → ℕ
+  pub uses : List ℕ → Expression → ℕ
   uses x (Num z l) = 0
   uses x (Truth b l) = 0
   uses x (Var n) = use_of x n
@@ -44,20 +44,20 @@ abbrev mutual
   uses x (Build c es place) = all_uses x es + place_use x place
   uses x (Call f es) = all_uses x es
 
-  pub all_uses : List ℕ → Terms → ℕ
-  all_uses x NoTerms = 0
-  all_uses x (AndTerm e es) = uses x e + all_uses x es
+  pub all_uses : List ℕ → Expressions → ℕ
+  all_uses x NoExpressions = 0
+  all_uses x (AndExpression e es) = uses x e + all_uses x es
 
   pub arms_uses : List ℕ → Arms → ℕ
   arms_uses x NoArms = 0
   arms_uses x (AndArm c fs cell b as') = max (if is_bound x (bound_names fs cell) then 0 else uses x b) (arms_uses x as')
 
 -- a variable of this kind is used at most once in its scope, if that is a heap kind
-abbrev pub UsedOnce : List DataType → Kind → List ℕ → Term → Type 0
+abbrev pub UsedOnce : List DataType → Kind → List ℕ → Expression → Type 0
 UsedOnce types k x e = is_heap types k ≡ true → uses x e ≤ 1
 
 -- each name that an arm binds, with its kind in the arm's scope
-abbrev pub EachUsedOnce : List DataType → Scope Kind → List Name → Term → Type 0
+abbrev pub EachUsedOnce : List DataType → Scope Kind → List Name → Expression → Type 0
 EachUsedOnce types inner ns e = AllByRecursion (λ n. UsedOnce types (or_else (find inner n.word) Int) n.word e) ns
 
 -- an arm of a boxed constructor has an `@`
@@ -66,7 +66,7 @@ CellTaken types c x = is_inline types (or_else (constructor_number types c.word)
 
 abbrev mutual
   -- the rule holds of every variable that is bound in the expression, and of every arm
-  pub IsLinear : Globals Kind → Scope Kind → Term → Type 0
+  pub IsLinear : Globals Kind → Scope Kind → Expression → Type 0
   IsLinear g s (Num z l) = Unit {0}
   IsLinear g s (Truth b l) = Unit {0}
   IsLinear g s (Var n) = Unit {0}
@@ -78,9 +78,9 @@ abbrev mutual
   IsLinear g s (Build c es place) = AllAreLinear g s es
   IsLinear g s (Call f es) = AllAreLinear g s es
 
-  pub AllAreLinear : Globals Kind → Scope Kind → Terms → Type 0
-  AllAreLinear g s NoTerms = Unit {0}
-  AllAreLinear g s (AndTerm e es) = IsLinear g s e × AllAreLinear g s es
+  pub AllAreLinear : Globals Kind → Scope Kind → Expressions → Type 0
+  AllAreLinear g s NoExpressions = Unit {0}
+  AllAreLinear g s (AndExpression e es) = IsLinear g s e × AllAreLinear g s es
 
   pub ArmsAreLinear : Globals Kind → Scope Kind → Arms → Type 0
   ArmsAreLinear g s NoArms = Unit {0}
@@ -89,7 +89,7 @@ abbrev mutual
       × IsLinear g (arm_scope known_kind g.types c fs x s) b × ArmsAreLinear g s as'
 
 -- a function: no parameter is marked `read`, and the rule holds of each parameter and in the body
-abbrev pub ParamsUsedOnce : List DataType → List Param → List Kind → Term → Type 0
+abbrev pub ParamsUsedOnce : List DataType → List Param → List Kind → Expression → Type 0
 ParamsUsedOnce types (x ∷ xs) (k ∷ ks) e = (x.read ≡ false) × UsedOnce types k x.name.word e × ParamsUsedOnce types xs ks e
 ParamsUsedOnce types xs ks e = Unit {0}
 

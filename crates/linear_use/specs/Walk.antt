@@ -5,7 +5,7 @@ use Rattle.std.specs.Prelude.{◌≡◌, ℕ, suc, ◌+◌, Bool, true, false, i
 use Rattle.std.specs.Option.{option_or}
 use Rattle.camelot_values.specs.Kinds.{DataType}
 use Rattle.camelot_values.specs.declared.kinds.Kind.{Kind}
-use Rattle.camelot_tree.specs.Tree.{Term, Num, Truth, Var, Prim, If, Let, Match, Build, Call, Terms, Arms, Branch}
+use Rattle.camelot_tree.specs.Tree.{Expression, Num, Truth, Var, Prim, If, Let, Match, Build, Call, Expressions, Arms, Branch}
 use Rattle.camelot_tree.specs.Programs.{program_of}
 use Rattle.typing_rules.specs.Kinds.{Globals, Scope, bind, arm_scope, atom_of, atoms_of, all_atoms, arms_atoms}
 use Rattle.typing_rules.specs.Typing.{known_kind}
@@ -60,14 +60,14 @@ abbrev pub Walks : {A : Type 0} → Flow → ℕ → ℕ → State → Result A 
 Walks f free count before (Ok x) after = Walked f free count before after
 Walks f free count before (Err fault) after = is_memory fault ≡ false → first_of before.spent f ≡ Some fault
 
-abbrev pub kinds_at : Globals Kind → State → Term → List Kind
+abbrev pub kinds_at : Globals Kind → State → Expression → List Kind
 kinds_at g s e = atoms_of known_kind g (kinds_in s.scope) e
 
-abbrev pub WalksTerm : {A : Type 0} → Globals Kind → Term → State → Result A UseFault → State → Type 0
+abbrev pub WalksTerm : {A : Type 0} → Globals Kind → Expression → State → Result A UseFault → State → Type 0
 WalksTerm g e before result after = Walks (flow g before.next before.scope e) (next_of g.types before.next e) (length (kinds_at g before e)) before result after
 
 -- the kinds of an expression's parts
-abbrev pub parts_kinds : Globals Kind → Scope Kind → Term → List Kind
+abbrev pub parts_kinds : Globals Kind → Scope Kind → Expression → List Kind
 parts_kinds g s (Num z l) = []
 parts_kinds g s (Truth b l) = []
 parts_kinds g s (Var n) = []
@@ -78,45 +78,45 @@ parts_kinds g s (Match e as' l) = atoms_of known_kind g s e ++ arms_atoms known_
 parts_kinds g s (Build c es place) = all_atoms known_kind g s es
 parts_kinds g s (Call f es) = all_atoms known_kind g s es
 
-abbrev pub parts_kinds_at : Globals Kind → State → Term → List Kind
+abbrev pub parts_kinds_at : Globals Kind → State → Expression → List Kind
 parts_kinds_at g s e = parts_kinds g (kinds_in s.scope) e
 
 -- all of an expression but its own end
-abbrev pub WalksParts : {A : Type 0} → Globals Kind → Term → State → Result A UseFault → State → Type 0
+abbrev pub WalksParts : {A : Type 0} → Globals Kind → Expression → State → Result A UseFault → State → Type 0
 WalksParts g e before result after = Walks (flow g before.next before.scope e) (next_of g.types before.next e) (length (parts_kinds_at g before e)) before result after
 
 -- ---- the parts of an operator or a conditional behind its first part
 
-abbrev pub first_part : Term → Term
+abbrev pub first_part : Expression → Expression
 first_part (Prim op a b l) = a
 first_part (If c a b l) = c
 first_part e = e
 
-abbrev pub rest_flow : Globals Kind → ℕ → Scope Variable → Term → Flow
+abbrev pub rest_flow : Globals Kind → ℕ → Scope Variable → Expression → Flow
 rest_flow g next s (Prim op a b l) = flow g next s b
 rest_flow g next s (If c a b l) = Either (flow g next s a) (flow g (next_of g.types next a) s b)
 rest_flow g next s e = Nothing
 
-abbrev pub rest_next : List DataType → ℕ → Term → ℕ
+abbrev pub rest_next : List DataType → ℕ → Expression → ℕ
 rest_next types next (Prim op a b l) = next_of types next b
 rest_next types next (If c a b l) = next_of types (next_of types next a) b
 rest_next types next e = next
 
-abbrev pub rest_kinds : Globals Kind → Scope Kind → Term → List Kind
+abbrev pub rest_kinds : Globals Kind → Scope Kind → Expression → List Kind
 rest_kinds g s (Prim op a b l) = atoms_of known_kind g s b ++ atom_of known_kind g s (Prim op a b l) ∷ []
 rest_kinds g s (If c a b l) = atoms_of known_kind g s a ++ (atoms_of known_kind g s b ++ atom_of known_kind g s (If c a b l) ∷ [])
 rest_kinds g s e = []
 
-abbrev pub WalksRest : {A : Type 0} → Globals Kind → Term → State → Result A UseFault → State → Type 0
+abbrev pub WalksRest : {A : Type 0} → Globals Kind → Expression → State → Result A UseFault → State → Type 0
 WalksRest g p before result after =
     Walks (rest_flow g before.next before.scope p) (rest_next g.types before.next p) (length (rest_kinds g (kinds_in before.scope) p)) before result after
 
 -- ---- arguments and arms
 
-abbrev pub all_kinds_at : Globals Kind → State → Terms → List Kind
+abbrev pub all_kinds_at : Globals Kind → State → Expressions → List Kind
 all_kinds_at g s es = all_atoms known_kind g (kinds_in s.scope) es
 
-abbrev pub WalksAll : {A : Type 0} → Globals Kind → Terms → State → Result A UseFault → State → Type 0
+abbrev pub WalksAll : {A : Type 0} → Globals Kind → Expressions → State → Result A UseFault → State → Type 0
 WalksAll g es before result after =
     Walks (all_flow g before.next before.scope es) (all_next g.types before.next es) (length (all_kinds_at g before es)) before result after
 

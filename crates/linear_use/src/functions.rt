@@ -1,7 +1,7 @@
 //! The walk through functions and programs.
 ghost use Rattle.std.specs.Prelude.{◌≡◌, ◌≤◌, [], map, length, Some, IfOk};
 ghost use Rattle.camelot_values.specs.Kinds.{constructors};
-ghost use Rattle.camelot_tree.specs.Tree.{term_of, function_of};
+ghost use Rattle.camelot_tree.specs.Tree.{expression_of, function_of};
 ghost use Rattle.typing_rules.specs.Kinds.{atoms_of};
 ghost use Rattle.typing_rules.specs.Typing.{known_kind, params_scope};
 ghost use Rattle.typing_rules.specs.Typed.{kinds_of, signature_of};
@@ -67,7 +67,7 @@ fn walk_function<'a>(
 ) -> Result<(), UseFault>
     requires names { cons.now ≡ map (λ c. c.name) (constructors typed.now.types) }
     requires few { length (constructors typed.now.types) ≤ 4096 }
-    requires kinds { kinds.now.exprs.items ≡ atoms_of known_kind (globals_in typed.now) (params_scope decl.now.params.items kinds.now.params.items) (term_of decl.now.body) }
+    requires kinds { kinds.now.exprs.items ≡ atoms_of known_kind (globals_in typed.now) (params_scope decl.now.params.items kinds.now.params.items) (expression_of decl.now.body) }
     ensures { let f = function_of decl.now in Finds result (first_of [] (function_flow (globals_in typed.now) f (signature_of f (kinds_of kinds.now)))) }
 {
     check_read(alloc, &decl.params)?;

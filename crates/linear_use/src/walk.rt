@@ -1,6 +1,6 @@
 //! The walk through an expression.
 ghost use Rattle.std.specs.Prelude.{◌≡◌, ◌++◌, map, length};
-ghost use Rattle.camelot_tree.specs.Tree.{term_of, branch_of, terms, Let, Match};
+ghost use Rattle.camelot_tree.specs.Tree.{expression_of, branch_of, expressions, Let, Match};
 ghost use Rattle.camelot_tree.specs.Tree as tree;
 ghost use Rattle.camelot_tree.specs.Spine.{IsLeaf};
 ghost use Rattle.linear_use.specs.Flow.{kinds_in, next_of, flow, Either};
@@ -20,8 +20,8 @@ pub(crate) fn walk<'a>(
     state: &mut State<'a>,
     expr: &'a Expr,
 ) -> Result<(), UseFault>
-    requires { AreAt known.now.exprs.now state.old.position (kinds_at (globals_in known.now.typed.now) state.old (term_of expr.now)) }
-    ensures { WalksTerm (globals_in known.now.typed.now) (term_of expr.now) state.old result state.new }
+    requires { AreAt known.now.exprs.now state.old.position (kinds_at (globals_in known.now.typed.now) state.old (expression_of expr.now)) }
+    ensures { WalksTerm (globals_in known.now.typed.now) (expression_of expr.now) state.old result state.new }
 {
     let spine = left_spine(known.alloc, expr)?;
     let mut parents = spine.parents;
@@ -40,8 +40,8 @@ fn walk_rest<'a>(
     state: &mut State<'a>,
     parent: &'a Expr,
 ) -> Result<(), UseFault>
-    requires { AreAt known.now.exprs.now state.old.position (rest_kinds (globals_in known.now.typed.now) (kinds_in state.old.scope) (term_of parent.now)) }
-    ensures { WalksRest (globals_in known.now.typed.now) (term_of parent.now) state.old result state.new }
+    requires { AreAt known.now.exprs.now state.old.position (rest_kinds (globals_in known.now.typed.now) (kinds_in state.old.scope) (expression_of parent.now)) }
+    ensures { WalksRest (globals_in known.now.typed.now) (expression_of parent.now) state.old result state.new }
 {
     match parent {
         Expr::Prim { right, .. } => walk(known, state, right)?,
@@ -61,11 +61,11 @@ fn walk_branches<'a>(
     yes: &'a Expr,
     no: &'a Expr,
 ) -> Result<(), UseFault>
-    requires { let g = globals_in known.now.typed.now in AreAt known.now.exprs.now state.old.position (kinds_at g state.old (term_of yes.now) ++ kinds_at g state.old (term_of no.now)) }
+    requires { let g = globals_in known.now.typed.now in AreAt known.now.exprs.now state.old.position (kinds_at g state.old (expression_of yes.now) ++ kinds_at g state.old (expression_of no.now)) }
     ensures { let g = globals_in known.now.typed.now in
-        let first = next_of g.types state.old.next (term_of yes.now) in
-        Walks (Either (flow g state.old.next state.old.scope (term_of yes.now)) (flow g first state.old.scope (term_of no.now)))
-        (next_of g.types first (term_of no.now)) (length (kinds_at g state.old (term_of yes.now) ++ kinds_at g state.old (term_of no.now))) state.old result state.new }
+        let first = next_of g.types state.old.next (expression_of yes.now) in
+        Walks (Either (flow g state.old.next state.old.scope (expression_of yes.now)) (flow g first state.old.scope (expression_of no.now)))
+        (next_of g.types first (expression_of no.now)) (length (kinds_at g state.old (expression_of yes.now) ++ kinds_at g state.old (expression_of no.now))) state.old result state.new }
 {
     let start = state.spent.len();
     let mut held = Held::new(known.alloc);
@@ -83,9 +83,9 @@ fn walk_parts<'a>(
     state: &mut State<'a>,
     expr: &'a Expr,
 ) -> Result<(), UseFault>
-    requires leaf { IsLeaf (term_of expr.now) }
-    requires kinds { AreAt known.now.exprs.now state.old.position (parts_kinds_at (globals_in known.now.typed.now) state.old (term_of expr.now)) }
-    ensures { WalksParts (globals_in known.now.typed.now) (term_of expr.now) state.old result state.new }
+    requires leaf { IsLeaf (expression_of expr.now) }
+    requires kinds { AreAt known.now.exprs.now state.old.position (parts_kinds_at (globals_in known.now.typed.now) state.old (expression_of expr.now)) }
+    ensures { WalksParts (globals_in known.now.typed.now) (expression_of expr.now) state.old result state.new }
 {
     match expr {
         Expr::Num { .. } | Expr::Truth { .. } => Ok(()),
@@ -110,8 +110,8 @@ fn walk_match<'a>(
     on: &'a Expr,
     arms: &'a [Arm],
 ) -> Result<(), UseFault>
-    requires { AreAt known.now.exprs.now state.old.position (parts_kinds_at (globals_in known.now.typed.now) state.old (Match (term_of on.now) (tree.arms (map branch_of arms.now)) 0)) }
-    ensures { WalksParts (globals_in known.now.typed.now) (Match (term_of on.now) (tree.arms (map branch_of arms.now)) 0) state.old result state.new }
+    requires { AreAt known.now.exprs.now state.old.position (parts_kinds_at (globals_in known.now.typed.now) state.old (Match (expression_of on.now) (tree.arms (map branch_of arms.now)) 0)) }
+    ensures { WalksParts (globals_in known.now.typed.now) (Match (expression_of on.now) (tree.arms (map branch_of arms.now)) 0) state.old result state.new }
 {
     walk(known, state, on)?;
     walk_arms(known, state, arms)
@@ -126,8 +126,8 @@ fn walk_let<'a>(
     value: &'a Expr,
     body: &'a Expr,
 ) -> Result<(), UseFault>
-    requires { AreAt known.now.exprs.now state.old.position (parts_kinds_at (globals_in known.now.typed.now) state.old (Let name.now (term_of value.now) (term_of body.now))) }
-    ensures { WalksParts (globals_in known.now.typed.now) (Let name.now (term_of value.now) (term_of body.now)) state.old result state.new }
+    requires { AreAt known.now.exprs.now state.old.position (parts_kinds_at (globals_in known.now.typed.now) state.old (Let name.now (expression_of value.now) (expression_of body.now))) }
+    ensures { WalksParts (globals_in known.now.typed.now) (Let name.now (expression_of value.now) (expression_of body.now)) state.old result state.new }
 {
     walk(known, state, value)?;
     let kind = kind_behind(known.exprs, state.position);
@@ -145,8 +145,8 @@ fn walk_args<'a>(
     state: &mut State<'a>,
     args: &'a [Expr],
 ) -> Result<(), UseFault>
-    requires { AreAt known.now.exprs.now state.old.position (all_kinds_at (globals_in known.now.typed.now) state.old (terms (map term_of args.now))) }
-    ensures { WalksAll (globals_in known.now.typed.now) (terms (map term_of args.now)) state.old result state.new }
+    requires { AreAt known.now.exprs.now state.old.position (all_kinds_at (globals_in known.now.typed.now) state.old (expressions (map expression_of args.now))) }
+    ensures { WalksAll (globals_in known.now.typed.now) (expressions (map expression_of args.now)) state.old result state.new }
 {
     'args: for arg in args {
         walk(known, state, arg)?;

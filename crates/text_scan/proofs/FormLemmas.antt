@@ -11,7 +11,7 @@ use Rattle.std.proofs.Math.Seq.{take-append-add}
 use Rattle.std.proofs.lemmas.List.Sums.{prefix_len-le-length}
 use Rattle.text_scan.specs.declared.tokens.TokenKind.{TokenKind}
 use Rattle.text_scan.specs.declared.tokens.TokenKind.TheVariants.{Lower, Upper, TypeVar, Number, Keyword, Symbol}
-use Rattle.text_scan.specs.Forms.{words, symbols, is_word, is_symbol, is_white, is_name_part, is_name, is_type_variable, is_number, token_kind, HasForm}
+use Rattle.text_scan.specs.Forms.{words, symbols, is_word, is_symbol, is_white, is_name_part, is_name, is_type_variable, is_number_token, token_kind, HasForm}
 use Rattle.text_scan.specs.Comments.{opens_comment}
 use Rattle.text_scan.specs.Steps.{name_run, digit_run}
 use Rattle.text_scan.specs.Reading.{IsNextToken, BeginsNoToken}
@@ -77,7 +77,7 @@ no_word : (bytes : List ℕ) → is_name is_ascii_lowercase bytes ≡ false → 
 no_word bytes unlike = false_from_ne_true _ (λ word. absurd (false≢true (sym unlike ∙ word_is_name bytes word)))
 
 -- the kind, from the six tests
-kind_from : (bytes : List ℕ) (w l u t n s : Bool) → is_word bytes ≡ w → is_name is_ascii_lowercase bytes ≡ l → is_name is_ascii_uppercase bytes ≡ u → is_type_variable bytes ≡ t → is_number bytes ≡ n → is_symbol bytes ≡ s
+kind_from : (bytes : List ℕ) (w l u t n s : Bool) → is_word bytes ≡ w → is_name is_ascii_lowercase bytes ≡ l → is_name is_ascii_uppercase bytes ≡ u → is_type_variable bytes ≡ t → is_number_token bytes ≡ n → is_symbol bytes ≡ s
     → token_kind bytes ≡ cond w (Some Keyword) (cond l (Some Lower) (cond u (Some Upper) (cond t (Some TypeVar) (cond n (Some Number) (cond s (Some Symbol) None)))))
 unfolding token_kind
 kind_from bytes w l u t n s ew el eu et en es = cc
@@ -346,7 +346,7 @@ row_from false false false false true s k kind = subst (row_of false false false
 row_from false false false false false true k kind = subst (row_of false false false false false true) (some_kind Symbol k kind) refl
 row_from false false false false false false k kind = absurd cc
 
-form_by : (bytes : List ℕ) (k : TokenKind) → row_of (is_word bytes) (is_name is_ascii_lowercase bytes) (is_name is_ascii_uppercase bytes) (is_type_variable bytes) (is_number bytes) (is_symbol bytes) k → HasForm k bytes
+form_by : (bytes : List ℕ) (k : TokenKind) → row_of (is_word bytes) (is_name is_ascii_lowercase bytes) (is_name is_ascii_uppercase bytes) (is_type_variable bytes) (is_number_token bytes) (is_symbol bytes) k → HasForm k bytes
 form_by bytes Lower row = row
 form_by bytes Upper row = row
 form_by bytes TypeVar row = row
@@ -356,7 +356,7 @@ form_by bytes Symbol row = row
 
 pub form_from_kind : (bytes : List ℕ) (k : TokenKind) → token_kind bytes ≡ Some k → HasForm k bytes
 form_from_kind bytes k kind =
-    form_by bytes k (row_from _ _ _ _ _ _ k (sym (kind_from bytes (is_word bytes) (is_name is_ascii_lowercase bytes) (is_name is_ascii_uppercase bytes) (is_type_variable bytes) (is_number bytes) (is_symbol bytes) refl refl refl refl refl refl) ∙ kind))
+    form_by bytes k (row_from _ _ _ _ _ _ k (sym (kind_from bytes (is_word bytes) (is_name is_ascii_lowercase bytes) (is_name is_ascii_uppercase bytes) (is_type_variable bytes) (is_number_token bytes) (is_symbol bytes) refl refl refl refl refl refl) ∙ kind))
 
 untaken : (a : ℕ) (bytes : List ℕ) → is_symbol_like (a ∷ bytes) ≡ true → is_taken a ≡ false
 untaken a [] like = not-true (is_taken a) like
@@ -380,7 +380,7 @@ kind_from_form [] Number form = absurd (false≢true form)
 kind_from_form (b ∷ bytes) Number form =
     let parts = and_parts (is_ascii_digit b) (list_all is_ascii_digit bytes) form in
     digit_first b bytes parts.0 ∙ ap (λ t. cond t (Some Number) None) parts.1
-kind_from_form bytes Keyword form = kind_from bytes true (is_name is_ascii_lowercase bytes) (is_name is_ascii_uppercase bytes) (is_type_variable bytes) (is_number bytes) (is_symbol bytes) form refl refl refl refl refl
+kind_from_form bytes Keyword form = kind_from bytes true (is_name is_ascii_lowercase bytes) (is_name is_ascii_uppercase bytes) (is_type_variable bytes) (is_number_token bytes) (is_symbol bytes) form refl refl refl refl refl
 kind_from_form [] Symbol form = absurd (false≢true (symbol_is_like [] form))
 kind_from_form (b ∷ bytes) Symbol form =
     let free = untaken b bytes (symbol_is_like (b ∷ bytes) form) in
@@ -391,7 +391,7 @@ kind_from_form (b ∷ bytes) Symbol form =
     other_first b bytes after_lower.0 after_upper.0 after_digit.0 after_digit.1 ∙ ap (λ t. cond t (Some Symbol) None) form
 
 -- a number token is a number
-pub number_kind : (bytes : List ℕ) → token_kind bytes ≡ Some Number → is_number bytes ≡ true
+pub number_kind : (bytes : List ℕ) → token_kind bytes ≡ Some Number → is_number_token bytes ≡ true
 number_kind bytes kind = form_from_kind bytes Number kind
 
 -- for the functions that find a token by its first byte

@@ -6,7 +6,7 @@ use Rattle.std.proofs.lemmas.Bool.{and_parts}
 use Rattle.std.proofs.lemmas.Bool.Decides.{nat_tests}
 use Rattle.std.proofs.lemmas.List.{drop_more, drop_all}
 use Rattle.std.proofs.Math.Nat.{pow-succ'}
-use Rattle.text_scan.specs.Forms.{is_number, number_value}
+use Rattle.text_scan.specs.Forms.{is_number_token, number_value}
 
 -- The first `i` digits have this value, which is at most `most`: the places of the others make it the whole number.
 pub record NumberRead (most : ℕ) (digits : List ℕ) (i value : ℕ) : Type 0 where
@@ -18,11 +18,11 @@ pub record NumberRead (most : ℕ) (digits : List ℕ) (i value : ℕ) : Type 0 
 unfoldable pub NumberSoFar : ℕ → List ℕ → ℕ → ℕ → Type 0
 NumberSoFar most digits i value = NumberRead most digits i value
 
-digits_of_number : (digits : List ℕ) → is_number digits ≡ true → list_all is_ascii_digit digits ≡ true
+digits_of_number : (digits : List ℕ) → is_number_token digits ≡ true → list_all is_ascii_digit digits ≡ true
 digits_of_number [] number = refl
 digits_of_number (d ∷ digits) number = number
 
-pub number_begins : (most : ℕ) (digits : List ℕ) → is_number digits ≡ true → NumberSoFar most digits 0 0
+pub number_begins : (most : ℕ) (digits : List ℕ) → is_number_token digits ≡ true → NumberSoFar most digits 0 0
 unfolding NumberSoFar
 number_begins most digits number = record { small = omega arith; others = digits_of_number digits number; whole = omega arith }
 

@@ -71,10 +71,10 @@ data Front (bytes : List ℕ) (at : ℕ) : Type 0 where
   Fault_here : (f : ScanFault) → StopsAt bytes at f → Front bytes at
 
 lexeme_front : (bytes : List ℕ) (at size : ℕ) (kind : TokenKind) → IsNextToken bytes kind size → (number name : Bool) → is_long_number kind (take size bytes) ≡ number → is_long_name kind (take size bytes) ≡ name → Front bytes at
-lexeme_front bytes at size kind next true name is_number is_name = Fault_here (LongNumber at) (record { place = refl; stops = record { kind = kind; size = size; next = next; long = is_number } })
-lexeme_front bytes at size kind next false true is_number is_name = Fault_here (LongName at) (record { place = refl; stops = record { kind = kind; size = size; next = next; long = is_name } })
-lexeme_front bytes at size kind next false false is_number is_name =
-    Piece_here (Lexeme kind size) (record { next = next; no_long_number = is_number; no_long_name = is_name }) (token_nonempty bytes kind size next) next.within
+lexeme_front bytes at size kind next true name is_number_token is_name = Fault_here (LongNumber at) (record { place = refl; stops = record { kind = kind; size = size; next = next; long = is_number_token } })
+lexeme_front bytes at size kind next false true is_number_token is_name = Fault_here (LongName at) (record { place = refl; stops = record { kind = kind; size = size; next = next; long = is_name } })
+lexeme_front bytes at size kind next false false is_number_token is_name =
+    Piece_here (Lexeme kind size) (record { next = next; no_long_number = is_number_token; no_long_name = is_name }) (token_nonempty bytes kind size next) next.within
 
 token_front : (bytes : List ℕ) (at n : ℕ) → 0 < length bytes → begins_white bytes ≡ false → opens_comment bytes ≡ false → Tokens bytes n → Front bytes at
 token_front bytes at n nonempty no_white no_comment (Found kind size within token longest) =

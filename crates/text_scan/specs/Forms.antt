@@ -48,9 +48,9 @@ is_type_variable [] = false
 is_type_variable (b ∷ bytes) = b == byte "'" && is_name is_ascii_lowercase bytes
 
 -- one digit or more
-abbrev pub is_number : List ℕ → Bool
-is_number [] = false
-is_number (b ∷ bytes) = is_ascii_digit b && list_all is_ascii_digit bytes
+abbrev pub is_number_token : List ℕ → Bool
+is_number_token [] = false
+is_number_token (b ∷ bytes) = is_ascii_digit b && list_all is_ascii_digit bytes
 
 -- The kind of the token that these bytes are as a whole; None where they aren't one token. A word is a keyword and no name.
 unfoldable pub token_kind : List ℕ → Option TokenKind
@@ -59,7 +59,7 @@ token_kind bytes =
     else (if is_name is_ascii_lowercase bytes then Some Lower
     else (if is_name is_ascii_uppercase bytes then Some Upper
     else (if is_type_variable bytes then Some TypeVar
-    else (if is_number bytes then Some Number
+    else (if is_number_token bytes then Some Number
     else (if is_symbol bytes then Some Symbol
     else None)))))
 
@@ -86,6 +86,6 @@ abbrev pub HasForm : TokenKind → List ℕ → Type 0
 HasForm Lower bytes = IsTrue (is_name is_ascii_lowercase bytes) × IsFalse (is_word bytes)
 HasForm Upper bytes = IsTrue (is_name is_ascii_uppercase bytes)
 HasForm TypeVar bytes = IsTrue (is_type_variable bytes)
-HasForm Number bytes = IsTrue (is_number bytes)
+HasForm Number bytes = IsTrue (is_number_token bytes)
 HasForm Keyword bytes = IsTrue (is_word bytes)
 HasForm Symbol bytes = IsTrue (is_symbol bytes)

@@ -1,5 +1,5 @@
 ghost use Rattle.std.specs.Prelude.{◌≡◌, ◌<◌, ◌≤◌, MatchOption, IsTrue};
-ghost use Rattle.text_scan.specs.Forms.{is_number, number_value};
+ghost use Rattle.text_scan.specs.Forms.{is_number_token, number_value};
 
 /// The greatest value of a number token: the size of the least `int`.
 pub const GREATEST_NUMBER: u32 = 2_147_483_648;
@@ -8,7 +8,7 @@ pub const GREATEST_NUMBER: u32 = 2_147_483_648;
 /// [`GREATEST_NUMBER`].
 #[tactic(auto, using(crate::proofs::NumberLemmas::number_turns))]
 pub fn number_value(digits: &[u8]) -> Option<u32>
-    requires { IsTrue (is_number digits.now) }
+    requires { IsTrue (is_number_token digits.now) }
     ensures { MatchOption result (2147483648 < number_value digits.now)
         (λ value. (value ≡ number_value digits.now) × (value ≤ 2147483648)) }
 {

@@ -25,10 +25,10 @@ use Rattle.camelot_tree.specs.declared.tree.Param.{Param}
 use Rattle.camelot_tree.specs.declared.tree.ArmCell.{ArmCell}
 use Rattle.camelot_tree.specs.declared.tree.ArmCell.TheVariants as cell
 use Rattle.camelot_tree.specs.Tree as tree
-use Rattle.camelot_tree.specs.Tree.{Term, Num, Truth, Var, Prim, If, Let, Match, Build, Call, Terms, NoTerms, AndTerm, Arms, NoArms, AndArm, Function, Source}
+use Rattle.camelot_tree.specs.Tree.{Expression, Num, Truth, Var, Prim, If, Let, Match, Build, Call, Expressions, NoExpressions, AndExpression, Arms, NoArms, AndArm, Function, Source}
 use Rattle.camelot_tree.specs.Meaning as meaning
 use Rattle.camelot_tree.specs.Meaning.{Environment, put, put_field, put_fields, put_params, in_cell, placed, cell_run, is_that, on_constructor, eval, eval_all, arms_run, function_number, body_run, bodies, run_of}
-use Rattle.camelot_tree.specs.Tokens.{term_has_ints, terms_have_ints, arms_have_ints, has_ints}
+use Rattle.camelot_tree.specs.Tokens.{expression_has_ints, expressions_have_ints, arms_have_ints, has_ints}
 use Rattle.typing_rules.specs.Kinds.{Scope, bind, bind_fields, bind_cell, arm_scope, or_else, types_of, constructor_number, fields_of, is_inline, built_kind}
 use Rattle.typing_rules.specs.Typing.{Signature, known_kind, PlaceFits, arms_with, HeadFits, HasKind, HaveKinds, ArmsHaveKind, ParamsStand, params_scope, FunctionFits, FunctionsFit, globals_of, IsTyped}
 use Rattle.typing_rules.specs.NumberLaws.{number_same, At, numbered_constructor, written_constructor, head_number, signature_function, among_numbers}
@@ -234,7 +234,7 @@ arm_fits types q t con def c fs x vs s env next h head number is fit go =
     number_one a b e = cc
 
 -- the first arm, or one behind it
-by_arm : (p : Source) (enter : Enter) (c : Name) (fs : List (Option Name)) (x : ArmCell) (b : Term) (as' : Arms) (con : ℕ) (vs : Values) (fuel waits : ℕ) (tail : Bool) (env : Environment) (types : List DataType) (q : Kind)
+by_arm : (p : Source) (enter : Enter) (c : Name) (fs : List (Option Name)) (x : ArmCell) (b : Expression) (as' : Arms) (con : ℕ) (vs : Values) (fuel waits : ℕ) (tail : Bool) (env : Environment) (types : List DataType) (q : Kind)
     → constructor_number types c.word ≡ meaning.constructor_number p c → 1 ≤ arms_with types con (AndArm c fs x b as')
     → (constructor_number types c.word ≡ Some con → Yields (Fits types q) (given (put_fields env fs vs) (λ bound. cell_run x bound (λ last. eval p enter b fuel waits tail last))))
     → (1 ≤ arms_with types con as' → Yields (Fits types q) (arms_run p enter as' con vs fuel waits tail env))
@@ -271,34 +271,34 @@ on_constructor_fits types q t (value.Con c vs) next h go = by_con (constructor t
 -- ---- expressions
 
 mutual
-  pub eval_fits : (p : Source) (sigs : List Signature) (enter : Enter) → FunctionsFit p (globals_of p sigs) p.funs sigs → CallsFit p sigs enter → (e : Term) (s : Scope Kind) (q : Kind) (fuel waits : ℕ) (tail : Bool) (env : Environment)
-      → Scoped (types_of p) s env → term_has_ints e ≡ true → HasKind (globals_of p sigs) s e q → Yields (Fits (types_of p) q) (eval p enter e fuel waits tail env)
+  pub eval_fits : (p : Source) (sigs : List Signature) (enter : Enter) → FunctionsFit p (globals_of p sigs) p.funs sigs → CallsFit p sigs enter → (e : Expression) (s : Scope Kind) (q : Kind) (fuel waits : ℕ) (tail : Bool) (env : Environment)
+      → Scoped (types_of p) s env → expression_has_ints e ≡ true → HasKind (globals_of p sigs) s e q → Yields (Fits (types_of p) q) (eval p enter e fuel waits tail env)
   eval_fits p sigs enter known_funs entry (Num z l) s q fuel waits tail env h i k = (k, passing_int z i)
   eval_fits p sigs enter known_funs entry (Truth b l) s q fuel waits tail env h i k = k
   eval_fits p sigs enter known_funs entry (Var n) s q fuel waits tail env h i k = yields_known (Fits (types_of p) q) (env n.word) (h.holds n.word q k)
   eval_fits p sigs enter known_funs entry (Prim op a b l) s q fuel waits tail env h i k =
       yields_then (Fits (types_of p) kind.Int) (Fits (types_of p) q) fuel (eval p enter a fuel waits false env) (λ left u. first_then left (eval p enter b left waits false env) (λ last v. operate op u v))
-      (eval_fits p sigs enter known_funs entry a s kind.Int fuel waits false env h (both_hold (term_has_ints a) (term_has_ints b) i).0 k.0)
+      (eval_fits p sigs enter known_funs entry a s kind.Int fuel waits false env h (both_hold (expression_has_ints a) (expression_has_ints b) i).0 k.0)
       (λ left u u_fits. yields_then (Fits (types_of p) kind.Int) (Fits (types_of p) q) left (eval p enter b left waits false env) (λ last v. operate op u v)
-      (eval_fits p sigs enter known_funs entry b s kind.Int left waits false env h (both_hold (term_has_ints a) (term_has_ints b) i).1 k.1)
+      (eval_fits p sigs enter known_funs entry b s kind.Int left waits false env h (both_hold (expression_has_ints a) (expression_has_ints b) i).1 k.1)
       (λ last v v_fits. subst (λ r. Yields (Fits (types_of p) r) (operate op u v)) (sym k.2) (operate_sound (types_of p) op u v u_fits v_fits)))
   eval_fits p sigs enter known_funs entry (If c a b l) s q fuel waits tail env h i k =
       yields_then (Fits (types_of p) kind.Flag) (Fits (types_of p) q) fuel (eval p enter c fuel waits false env) (λ left v. chosen v (eval p enter a left waits tail env) (eval p enter b left waits tail env))
-      (eval_fits p sigs enter known_funs entry c s kind.Flag fuel waits false env h (both_hold (term_has_ints c) (term_has_ints a && term_has_ints b) i).0 k.0)
+      (eval_fits p sigs enter known_funs entry c s kind.Flag fuel waits false env h (both_hold (expression_has_ints c) (expression_has_ints a && expression_has_ints b) i).0 k.0)
       (λ left v v_fits. chosen_fits (types_of p) q v (eval p enter a left waits tail env) (eval p enter b left waits tail env) v_fits
-      (eval_fits p sigs enter known_funs entry a s q left waits tail env h (both_hold (term_has_ints a) (term_has_ints b) (both_hold (term_has_ints c) (term_has_ints a && term_has_ints b) i).1).0 k.1) (eval_fits p sigs enter known_funs entry b s q left waits tail env h (both_hold (term_has_ints a) (term_has_ints b) (both_hold (term_has_ints c) (term_has_ints a && term_has_ints b) i).1).1 k.2))
+      (eval_fits p sigs enter known_funs entry a s q left waits tail env h (both_hold (expression_has_ints a) (expression_has_ints b) (both_hold (expression_has_ints c) (expression_has_ints a && expression_has_ints b) i).1).0 k.1) (eval_fits p sigs enter known_funs entry b s q left waits tail env h (both_hold (expression_has_ints a) (expression_has_ints b) (both_hold (expression_has_ints c) (expression_has_ints a && expression_has_ints b) i).1).1 k.2))
   eval_fits p sigs enter known_funs entry (Let n e b) s q fuel waits tail env h i k =
       yields_then (Fits (types_of p) k.0) (Fits (types_of p) q) fuel (eval p enter e fuel waits false env) (λ left v. eval p enter b left waits tail (put env n.word v))
-      (eval_fits p sigs enter known_funs entry e s k.0 fuel waits false env h (both_hold (term_has_ints e) (term_has_ints b) i).0 k.1)
-      (λ left v v_fits. eval_fits p sigs enter known_funs entry b (bind n.word k.0 s) q left waits tail (put env n.word v) (scoped_bind (types_of p) s env n.word k.0 v h v_fits) (both_hold (term_has_ints e) (term_has_ints b) i).1 k.2)
+      (eval_fits p sigs enter known_funs entry e s k.0 fuel waits false env h (both_hold (expression_has_ints e) (expression_has_ints b) i).0 k.1)
+      (λ left v v_fits. eval_fits p sigs enter known_funs entry b (bind n.word k.0 s) q left waits tail (put env n.word v) (scoped_bind (types_of p) s env n.word k.0 v h v_fits) (both_hold (expression_has_ints e) (expression_has_ints b) i).1 k.2)
   eval_fits p sigs enter known_funs entry (Match e NoArms l) s q fuel waits tail env h i k = absurd k
   eval_fits p sigs enter known_funs entry (Match e (AndArm c fs x b as') l) s q fuel waits tail env h i k =
       yields_then (Fits (types_of p) (kind.Of k.0)) (Fits (types_of p) q) fuel (eval p enter e fuel waits false env) (λ left v. on_constructor v (λ con vs. arms_run p enter (AndArm c fs x b as') con vs left waits tail env))
-      (eval_fits p sigs enter known_funs entry e s (kind.Of k.0) fuel waits false env h (both_hold (term_has_ints e) (arms_have_ints (AndArm c fs x b as')) i).0 k.1)
+      (eval_fits p sigs enter known_funs entry e s (kind.Of k.0) fuel waits false env h (both_hold (expression_has_ints e) (arms_have_ints (AndArm c fs x b as')) i).0 k.1)
       (λ left v v_fits. on_constructor_fits (types_of p) q k.0 v (λ con vs. arms_run p enter (AndArm c fs x b as') con vs left waits tail env) v_fits
       (λ con vs def owned is fit.
       let one : arms_with (types_of p) con (AndArm c fs x b as') ≡ 1 = among_numbers (λ con. arms_with (types_of p) con (AndArm c fs x b as') ≡ 1) (types_of p) con k.0 owned k.2 in
-      arms_fit p sigs enter known_funs entry (AndArm c fs x b as') s q k.0 con def vs left waits tail env h (both_hold (term_has_ints e) (arms_have_ints (AndArm c fs x b as')) i).1 k.3 (omega (arith, one)) is fit))
+      arms_fit p sigs enter known_funs entry (AndArm c fs x b as') s q k.0 con def vs left waits tail env h (both_hold (expression_has_ints e) (arms_have_ints (AndArm c fs x b as')) i).1 k.3 (omega (arith, one)) is fit))
   eval_fits p sigs enter known_funs entry (Build c es place) s q fuel waits tail env h i k =
       yields_then (ArgumentsFit (types_of p) (fields_of (types_of p) k.0)) (Fits (types_of p) q) fuel (eval_all p enter es fuel waits env) (λ left vs. given (meaning.constructor_number p c) (λ con. placed p place env con vs))
       (all_fit p sigs enter known_funs entry es s (fields_of (types_of p) k.0) fuel waits env h i k.3)
@@ -313,16 +313,16 @@ mutual
       subst (λ o. Yields (Fits (types_of p) q) (given o (λ func. enter left waits tail func vs))) (sym n.is)
       (subst (λ r. Yields (Fits (types_of p) r) (enter left waits tail n.number vs)) k.2 (entry left waits tail n.number vs k.0 n.at vs_fit)))
 
-  pub all_fit : (p : Source) (sigs : List Signature) (enter : Enter) → FunctionsFit p (globals_of p sigs) p.funs sigs → CallsFit p sigs enter → (es : Terms) (s : Scope Kind) (ks : List Kind) (fuel waits : ℕ) (env : Environment)
-      → Scoped (types_of p) s env → terms_have_ints es ≡ true → HaveKinds (globals_of p sigs) s es ks → Yields (ArgumentsFit (types_of p) ks) (eval_all p enter es fuel waits env)
-  all_fit p sigs enter known_funs entry NoTerms s [] fuel waits env h i k = tt
-  all_fit p sigs enter known_funs entry NoTerms s (q ∷ ks) fuel waits env h i k = absurd k
-  all_fit p sigs enter known_funs entry (AndTerm e es) s [] fuel waits env h i k = absurd k
-  all_fit p sigs enter known_funs entry (AndTerm e es) s (q ∷ ks) fuel waits env h i k =
+  pub all_fit : (p : Source) (sigs : List Signature) (enter : Enter) → FunctionsFit p (globals_of p sigs) p.funs sigs → CallsFit p sigs enter → (es : Expressions) (s : Scope Kind) (ks : List Kind) (fuel waits : ℕ) (env : Environment)
+      → Scoped (types_of p) s env → expressions_have_ints es ≡ true → HaveKinds (globals_of p sigs) s es ks → Yields (ArgumentsFit (types_of p) ks) (eval_all p enter es fuel waits env)
+  all_fit p sigs enter known_funs entry NoExpressions s [] fuel waits env h i k = tt
+  all_fit p sigs enter known_funs entry NoExpressions s (q ∷ ks) fuel waits env h i k = absurd k
+  all_fit p sigs enter known_funs entry (AndExpression e es) s [] fuel waits env h i k = absurd k
+  all_fit p sigs enter known_funs entry (AndExpression e es) s (q ∷ ks) fuel waits env h i k =
       yields_then (Fits (types_of p) q) (ArgumentsFit (types_of p) (q ∷ ks)) fuel (eval p enter e fuel waits false env) (λ left v. first_then left (eval_all p enter es left waits env) (λ last vs. at_once (v ∷ vs)))
-      (eval_fits p sigs enter known_funs entry e s q fuel waits false env h (both_hold (term_has_ints e) (terms_have_ints es) i).0 k.0)
+      (eval_fits p sigs enter known_funs entry e s q fuel waits false env h (both_hold (expression_has_ints e) (expressions_have_ints es) i).0 k.0)
       (λ left v v_fits. yields_then (ArgumentsFit (types_of p) ks) (ArgumentsFit (types_of p) (q ∷ ks)) left (eval_all p enter es left waits env) (λ last vs. at_once (v ∷ vs))
-      (all_fit p sigs enter known_funs entry es s ks left waits env h (both_hold (term_has_ints e) (terms_have_ints es) i).1 k.1)
+      (all_fit p sigs enter known_funs entry es s ks left waits env h (both_hold (expression_has_ints e) (expressions_have_ints es) i).1 k.1)
       (λ last vs vs_fit. (v_fits, vs_fit)))
 
   -- some arm is for the value's constructor
@@ -333,8 +333,8 @@ mutual
   arms_fit p sigs enter known_funs entry (AndArm c fs x b as') s q t con def vs fuel waits tail env h i k some is fit =
       by_arm p enter c fs x b as' con vs fuel waits tail env (types_of p) q (number_same p c) some
       (λ number. arm_fits (types_of p) q t con def c fs x vs s env (λ last. eval p enter b fuel waits tail last) h k.0 number is fit
-      (λ last g. eval_fits p sigs enter known_funs entry b (arm_scope known_kind (types_of p) c fs x s) q fuel waits tail last g (both_hold (term_has_ints b) (arms_have_ints as') i).0 k.1))
-      (λ more. arms_fit p sigs enter known_funs entry as' s q t con def vs fuel waits tail env h (both_hold (term_has_ints b) (arms_have_ints as') i).1 k.2 more is fit)
+      (λ last g. eval_fits p sigs enter known_funs entry b (arm_scope known_kind (types_of p) c fs x s) q fuel waits tail last g (both_hold (expression_has_ints b) (arms_have_ints as') i).0 k.1))
+      (λ more. arms_fit p sigs enter known_funs entry as' s q t con def vs fuel waits tail env h (both_hold (expression_has_ints b) (arms_have_ints as') i).1 k.2 more is fit)
 
 -- ---- functions and programs
 
@@ -345,7 +345,7 @@ params_full p (x ∷ xs) [] h = absurd h
 params_full p (x ∷ xs) (k ∷ ks) h = ap suc (params_full p xs ks h.1)
 
 body_fits : (p : Source) (sigs : List Signature) (enter : Enter) → FunctionsFit p (globals_of p sigs) p.funs sigs → CallsFit p sigs enter → (f : Function) (s : Signature) (fuel waits : ℕ) (args : List Value)
-    → term_has_ints f.body ≡ true → FunctionFits p (globals_of p sigs) f s → ArgumentsFit (types_of p) s.params args → Yields (Fits (types_of p) s.result) (body_run p enter (Some f) fuel waits args)
+    → expression_has_ints f.body ≡ true → FunctionFits p (globals_of p sigs) f s → ArgumentsFit (types_of p) s.params args → Yields (Fits (types_of p) s.result) (body_run p enter (Some f) fuel waits args)
 body_fits p sigs enter known_funs entry f s fuel waits args ints fit args_fit =
     let r = params_bound (types_of p) (λ n. None) f.params s.params args (params_full p f.params s.params fit.params) fit.distinct args_fit in
     subst (λ o. Yields (Fits (types_of p) s.result) (given o (λ env. eval p enter f.body fuel waits true env))) (sym r.is)
@@ -359,7 +359,7 @@ calls_fit p sigs known_funs ints limit (suc clock) (suc k) w t i args s is fit =
     by_depth (is_too_deep limit w t)
     (subst (λ o. Yields (Fits (types_of p) s.result) (body_run p (calls (bodies p) limit clock) o k (cond t w (suc w)) args)) (sym f.is)
     (body_fits p sigs (calls (bodies p) limit clock) known_funs (calls_fit p sigs known_funs ints limit clock) f.function s k (cond t w (suc w)) args
-    (each_holds (λ f. term_has_ints f.body) p.funs i f.function ints f.is) f.fits fit))
+    (each_holds (λ f. expression_has_ints f.body) p.funs i f.function ints f.is) f.fits fit))
   where
     by_depth : (b : Bool) → Yields (Fits (types_of p) s.result) (body_run p (calls (bodies p) limit clock) (slice_get p.funs i) k (cond t w (suc w)) args)
         → Yields (Fits (types_of p) s.result) (if b then Deep 0 else entered (body_run p (calls (bodies p) limit clock) (slice_get p.funs i) k (cond t w (suc w)) args))

@@ -15,7 +15,7 @@ use Rattle.camelot_tree.specs.declared.tree.Atom.{Atom}
 use Rattle.camelot_tree.specs.declared.tree.Atom.TheVariants as atom
 use Rattle.camelot_tree.specs.declared.tree.ArmCell.{ArmCell}
 use Rattle.camelot_tree.specs.declared.tree.ArmCell.TheVariants as cell
-use Rattle.camelot_tree.specs.Tree.{Term, Num, Truth, Var, Prim, If, Let, Match, Build, Call, Terms, NoTerms, AndTerm, Arms, NoArms, AndArm, Constructor, Source}
+use Rattle.camelot_tree.specs.Tree.{Expression, Num, Truth, Var, Prim, If, Let, Match, Build, Call, Expressions, NoExpressions, AndExpression, Arms, NoArms, AndArm, Constructor, Source}
 use Rattle.camelot_tree.specs.Tree as tree
 use Rattle.camelot_values.specs.Names.{Binder, find}
 
@@ -136,7 +136,7 @@ arm_scope is types c fs x s = bind_cell is x (bind_fields is fs (fields_of types
 -- The atom of an expression, by those of names and functions: that of a conditional or a match is its first branch's. What has none, as an
 -- unknown name, gets the kind `int`; no such expression is typed.
 abbrev mutual
-  pub atom_of : {A : Type 0} → (Kind → A) → Globals A → Scope A → Term → A
+  pub atom_of : {A : Type 0} → (Kind → A) → Globals A → Scope A → Expression → A
   atom_of is g s (Num z l) = is kind.Int
   atom_of is g s (Truth b l) = is kind.Flag
   atom_of is g s (Var n) = or_else (find s n.word) (is kind.Int)
@@ -154,7 +154,7 @@ abbrev mutual
 
 -- the atoms of an expression's parts and then its own, each expression behind those that are evaluated before it
 abbrev mutual
-  pub atoms_of : {A : Type 0} → (Kind → A) → Globals A → Scope A → Term → List A
+  pub atoms_of : {A : Type 0} → (Kind → A) → Globals A → Scope A → Expression → List A
   atoms_of is g s (Num z l) = atom_of is g s (Num z l) ∷ []
   atoms_of is g s (Truth b l) = atom_of is g s (Truth b l) ∷ []
   atoms_of is g s (Var n) = atom_of is g s (Var n) ∷ []
@@ -165,9 +165,9 @@ abbrev mutual
   atoms_of is g s (Build c es place) = all_atoms is g s es ++ atom_of is g s (Build c es place) ∷ []
   atoms_of is g s (Call f es) = all_atoms is g s es ++ atom_of is g s (Call f es) ∷ []
 
-  pub all_atoms : {A : Type 0} → (Kind → A) → Globals A → Scope A → Terms → List A
-  all_atoms is g s NoTerms = []
-  all_atoms is g s (AndTerm e es) = atoms_of is g s e ++ all_atoms is g s es
+  pub all_atoms : {A : Type 0} → (Kind → A) → Globals A → Scope A → Expressions → List A
+  all_atoms is g s NoExpressions = []
+  all_atoms is g s (AndExpression e es) = atoms_of is g s e ++ all_atoms is g s es
 
   pub arms_atoms : {A : Type 0} → (Kind → A) → Globals A → Scope A → Arms → List A
   arms_atoms is g s NoArms = []

@@ -14,7 +14,7 @@ use Rattle.camelot_tree.specs.declared.tree.Atom.{Atom}
 use Rattle.camelot_tree.specs.declared.tree.Param.{Param}
 use Rattle.camelot_tree.specs.declared.tree.ArmCell.{ArmCell}
 use Rattle.camelot_tree.specs.declared.tree.ArmCell.TheVariants as cell
-use Rattle.camelot_tree.specs.Tree.{Term, Num, Truth, Var, Prim, If, Let, Match, Build, Call, Terms, NoTerms, AndTerm, Arms, NoArms, AndArm, Constructor, Function, Source}
+use Rattle.camelot_tree.specs.Tree.{Expression, Num, Truth, Var, Prim, If, Let, Match, Build, Call, Expressions, NoExpressions, AndExpression, Arms, NoArms, AndArm, Constructor, Function, Source}
 use Rattle.camelot_values.specs.Names.{find}
 use Rattle.camelot_tree.specs.Meaning.{is_that, declared_constructors}
 use Rattle.camelot_tree.specs.Tokens.{has_ints}
@@ -59,7 +59,7 @@ pub record HeadFits (types : List DataType) (t : ℕ) (c : Name) (fs : List (Opt
 
 abbrev mutual
   -- the expression has this kind
-  pub HasKind : Globals Kind → Scope Kind → Term → Kind → Type 0
+  pub HasKind : Globals Kind → Scope Kind → Expression → Kind → Type 0
   HasKind g s (Num z l) k = k ≡ kind.Int
   HasKind g s (Truth b l) k = k ≡ kind.Flag
   HasKind g s (Var n) k = find s n.word ≡ Some k
@@ -74,9 +74,9 @@ abbrev mutual
   HasKind g s (Call f es) k = (h : Signature) × (head_of g.heads f.word ≡ Some h) × (h.result ≡ k) × HaveKinds g s es h.params
 
   -- one expression of each of these kinds
-  pub HaveKinds : Globals Kind → Scope Kind → Terms → List Kind → Type 0
-  HaveKinds g s NoTerms [] = Unit {0}
-  HaveKinds g s (AndTerm e es) (k ∷ ks) = HasKind g s e k × HaveKinds g s es ks
+  pub HaveKinds : Globals Kind → Scope Kind → Expressions → List Kind → Type 0
+  HaveKinds g s NoExpressions [] = Unit {0}
+  HaveKinds g s (AndExpression e es) (k ∷ ks) = HasKind g s e k × HaveKinds g s es ks
   HaveKinds g s es ks = ⊥
 
   -- each arm is for type t, and its body has this kind

@@ -6,7 +6,7 @@ ghost use Rattle.camelot_values.specs.Lists.{is_among};
 ghost use Rattle.camelot_values.specs.Typing.{ArgumentsFit, IsSafe};
 ghost use Rattle.camelot_values.specs.declared.kinds.Kind.{Kind};
 ghost use Rattle.camelot_tree.specs.declared.tree.Name.{Name};
-ghost use Rattle.camelot_tree.specs.Tree.{Term, Source};
+ghost use Rattle.camelot_tree.specs.Tree.{Expression, Source};
 ghost use Rattle.camelot_tree.specs.Meaning.{run_of};
 ghost use Rattle.camelot_tree.specs.Meaning as meaning;
 ghost use Rattle.typing_rules.specs.Kinds.{Globals, Scope, atom_of, types_of, constructor_number, numbers_of};
@@ -26,8 +26,8 @@ pub fn law_of_typing()
 /// An expression has at most one kind in a scope, and it is the one that is computed without looking at the rules.
 #[tactic(auto, using(crate::proofs::Determined::one_kind, crate::proofs::Determined::kind_is_atom))]
 pub fn law_of_kinds()
-    ensures one { (g : Globals Kind) (s : Scope Kind) (e : Term) (k q : Kind) → HasKind g s e k → HasKind g s e q → k ≡ q }
-    ensures computed { (g : Globals Kind) (s : Scope Kind) (e : Term) (k : Kind) → HasKind g s e k → k ≡ atom_of known_kind g s e }
+    ensures one { (g : Globals Kind) (s : Scope Kind) (e : Expression) (k q : Kind) → HasKind g s e k → HasKind g s e q → k ≡ q }
+    ensures computed { (g : Globals Kind) (s : Scope Kind) (e : Expression) (k : Kind) → HasKind g s e k → k ≡ atom_of known_kind g s e }
 {}
 
 /// The kinds of a program are a function of it: it has one typing that is settled, so the kinds of its functions' parameters, of their

@@ -1,19 +1,19 @@
 use Rattle.std.proofs.Common.{◌≡◌, ◌+◌, ◌*◌, ◌++◌, drop, map, length}
-use Rattle.camelot_tree.specs.Tree.{term_of, branch_of, terms, arms}
-use Rattle.camelot_tree.specs.Spine.{around, size, terms_size, arms_size}
+use Rattle.camelot_tree.specs.Tree.{expression_of, branch_of, expressions, arms}
+use Rattle.camelot_tree.specs.Spine.{around, size, expressions_size, arms_size}
 use Rattle.camelot_tree.specs.SpineLaws.{NoLarger}
 use Rattle.camelot_tree.proofs.copy.+copy.Given as goal
 
 abbrev pub invariant-copy_args-args-2 : goal.invariant-copy_args-args-2
-invariant-copy_args-args-2 l = map term_of l.copy.items ++ map term_of (drop l.arg-index l.args) ≡ map term_of l.args
+invariant-copy_args-args-2 l = map expression_of l.copy.items ++ map expression_of (drop l.arg-index l.args) ≡ map expression_of l.args
 
 abbrev pub invariant-copy_arms-arms : goal.invariant-copy_arms-arms
 invariant-copy_arms-arms l = map branch_of l.copy.items ++ map branch_of (drop l.arm-index l.arms) ≡ map branch_of l.arms
 
 abbrev pub invariant-copy_expr-up : goal.invariant-copy_expr-up
 invariant-copy_expr-up l = record {
-  whole : around (map (λ parent. term_of parent.now) l.parents.items) (term_of l.copy) ≡ term_of l.expr;
-  few : NoLarger (size (term_of l.expr)) (map (λ parent. term_of parent.now) l.parents.items);
+  whole : around (map (λ parent. expression_of parent.now) l.parents.items) (expression_of l.copy) ≡ expression_of l.expr;
+  few : NoLarger (size (expression_of l.expr)) (map (λ parent. expression_of parent.now) l.parents.items);
 }
 
 abbrev pub decreases-copy_expr-up : goal.decreases-copy_expr-up
@@ -21,16 +21,16 @@ decreases-copy_expr-up l = length l.parents.items
 
 -- ranks: arms, one arm, arguments, an expression, and its parts
 abbrev pub decreases-copy_expr : goal.decreases-copy_expr
-decreases-copy_expr l = 4 * size (term_of l.expr.now) + 1
+decreases-copy_expr l = 4 * size (expression_of l.expr.now) + 1
 
 abbrev pub decreases-copy_around : goal.decreases-copy_around
-decreases-copy_around l = 4 * size (term_of l.parent.now)
+decreases-copy_around l = 4 * size (expression_of l.parent.now)
 
 abbrev pub decreases-copy_leaf : goal.decreases-copy_leaf
-decreases-copy_leaf l = 4 * size (term_of l.expr.now)
+decreases-copy_leaf l = 4 * size (expression_of l.expr.now)
 
 abbrev pub decreases-copy_args : goal.decreases-copy_args
-decreases-copy_args l = 4 * terms_size (terms (map term_of l.args.now)) + 2
+decreases-copy_args l = 4 * expressions_size (expressions (map expression_of l.args.now)) + 2
 
 abbrev pub decreases-copy_arm : goal.decreases-copy_arm
 decreases-copy_arm l = 4 * size (branch_of l.arm.now).body + 2

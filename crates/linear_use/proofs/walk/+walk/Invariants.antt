@@ -1,6 +1,6 @@
 use Rattle.std.proofs.Common.{◌+◌, ◌*◌, suc, drop, map, length}
-use Rattle.camelot_tree.specs.Tree.{term_of, branch_of, terms, arms}
-use Rattle.camelot_tree.specs.Spine.{size, terms_size, arms_size}
+use Rattle.camelot_tree.specs.Tree.{expression_of, branch_of, expressions, arms}
+use Rattle.camelot_tree.specs.Spine.{size, expressions_size, arms_size}
 use Rattle.linear_use.specs.Walk.{globals_in}
 use Rattle.linear_use.proofs.Climbing.{Climbed}
 use Rattle.linear_use.proofs.Lists.{AllLeft, ArmsLeft}
@@ -8,7 +8,7 @@ use Rattle.linear_use.proofs.walk.+walk.Given as goal
 
 abbrev pub invariant-walk-up : goal.invariant-walk-up
 invariant-walk-up l = record {
-  climbed : Climbed (globals_in l.known.typed.now) (term_of l.expr) (map (λ parent. term_of parent.now) l.parents.items) l.fn.state l.state;
+  climbed : Climbed (globals_in l.known.typed.now) (expression_of l.expr) (map (λ parent. expression_of parent.now) l.parents.items) l.fn.state l.state;
 }
 
 abbrev pub decreases-walk-up : goal.decreases-walk-up
@@ -16,7 +16,7 @@ decreases-walk-up l = length l.parents.items
 
 abbrev pub invariant-walk_args-args-2 : goal.invariant-walk_args-args-2
 invariant-walk_args-args-2 l = record {
-  left : AllLeft (globals_in l.known.typed.now) l.known.exprs.now (terms (map term_of l.args)) (terms (map term_of (drop l.arg-index l.args))) l.initial.state l.state;
+  left : AllLeft (globals_in l.known.typed.now) l.known.exprs.now (expressions (map expression_of l.args)) (expressions (map expression_of (drop l.arg-index l.args))) l.initial.state l.state;
 }
 
 abbrev pub invariant-walk_arms-arms : goal.invariant-walk_arms-arms
@@ -26,25 +26,25 @@ invariant-walk_arms-arms l = record {
 
 -- ranks: arms, one arm, arguments and branches, an expression, its innermost part and the parts around it, and a let or a match
 abbrev pub decreases-walk : goal.decreases-walk
-decreases-walk l = 8 * size (term_of l.expr.now) + 6
+decreases-walk l = 8 * size (expression_of l.expr.now) + 6
 
 abbrev pub decreases-walk_rest : goal.decreases-walk_rest
-decreases-walk_rest l = 8 * size (term_of l.parent.now) + 5
+decreases-walk_rest l = 8 * size (expression_of l.parent.now) + 5
 
 abbrev pub decreases-walk_parts : goal.decreases-walk_parts
-decreases-walk_parts l = 8 * size (term_of l.expr.now) + 5
+decreases-walk_parts l = 8 * size (expression_of l.expr.now) + 5
 
 abbrev pub decreases-walk_branches : goal.decreases-walk_branches
-decreases-walk_branches l = 8 * (size (term_of l.yes.now) + size (term_of l.no.now)) + 7
+decreases-walk_branches l = 8 * (size (expression_of l.yes.now) + size (expression_of l.no.now)) + 7
 
 abbrev pub decreases-walk_let : goal.decreases-walk_let
-decreases-walk_let l = 8 * suc (size (term_of l.value.now) + size (term_of l.body.now)) + 4
+decreases-walk_let l = 8 * suc (size (expression_of l.value.now) + size (expression_of l.body.now)) + 4
 
 abbrev pub decreases-walk_match : goal.decreases-walk_match
-decreases-walk_match l = 8 * suc (size (term_of l.on.now) + arms_size (arms (map branch_of l.arms.now))) + 4
+decreases-walk_match l = 8 * suc (size (expression_of l.on.now) + arms_size (arms (map branch_of l.arms.now))) + 4
 
 abbrev pub decreases-walk_args : goal.decreases-walk_args
-decreases-walk_args l = 8 * terms_size (terms (map term_of l.args.now)) + 7
+decreases-walk_args l = 8 * expressions_size (expressions (map expression_of l.args.now)) + 7
 
 abbrev pub decreases-walk_arm : goal.decreases-walk_arm
 decreases-walk_arm l = 8 * size (branch_of l.arm.now).body + 7
