@@ -9,7 +9,7 @@ abbrev pub is_nothing : {A : Type 0} → List A → Bool
 is_nothing [] = true
 is_nothing (x ∷ xs) = false
 
--- each match in it has an arm
+-- each match in it has an arm; a build or a call without arguments has no match in it, so that it keeps this trivially
 abbrev mutual
   pub has_arms : Expression → Bool
   has_arms (Num z l) = true

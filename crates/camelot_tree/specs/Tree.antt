@@ -13,10 +13,12 @@ use Rattle.camelot_tree.specs.declared.tree.PrimOp.{PrimOp}
 use Rattle.camelot_tree.specs.declared.tree.PrimOp.TheVariants as prim
 use Rattle.camelot_tree.specs.declared.tree.ArmCell.{ArmCell}
 use Rattle.camelot_tree.specs.declared.tree.Expr.{Expr}
+use Rattle.camelot_tree.specs.declared.tree.Build.{Build as BuildParts}
+use Rattle.camelot_tree.specs.declared.tree.Call.{Call as CallParts}
 use Rattle.camelot_tree.specs.declared.tree.Arm.{Arm}
-use Rattle.camelot_tree.specs.declared.tree.Expr.TheFolds.{fold-Expr, fold-Arm}
+use Rattle.camelot_tree.specs.declared.tree.Expr.TheFolds.{fold-Expr, fold-Arm, fold-Build, fold-Call}
 use Rattle.camelot_tree.specs.declared.tree.Expr.TheOpen as layer
-use Rattle.camelot_tree.specs.declared.tree.Expr.TheOpen.{Expr-F, Arm-F}
+use Rattle.camelot_tree.specs.declared.tree.Expr.TheOpen.{Expr-F, Arm-F, Build-F, Call-F}
 
 -- expressions; a number at the end is the line
 mutual
@@ -86,7 +88,7 @@ operator_of prim.Le = operator.Le
 operator_of prim.Gt = operator.Gt
 operator_of prim.Ge = operator.Ge
 
-abbrev pub expr_layer : Expr-F Expression Branch → Expression
+abbrev pub expr_layer : Expr-F Expression Branch Expression Expression → Expression
 expr_layer (layer.Num z l) = Num z l
 expr_layer (layer.Truth b l) = Truth b l
 expr_layer (layer.Var n) = Var n
@@ -94,17 +96,30 @@ expr_layer (layer.Prim o a b l) = Prim (operator_of o) a.value b.value l
 expr_layer (layer.If c a b l) = If c.value a.value b.value l
 expr_layer (layer.Let n v b) = Let n v.value b.value
 expr_layer (layer.Match e as' l) = Match e.value (arms as'.items) l
-expr_layer (layer.Build c es p) = Build c (expressions es.items) p
-expr_layer (layer.Call f es) = Call f (expressions es.items)
+expr_layer (layer.Build b) = b.value
+expr_layer (layer.Call c) = c.value
 
-abbrev pub arm_layer : Arm-F Expression Branch → Branch
+abbrev pub arm_layer : Arm-F Expression Branch Expression Expression → Branch
 arm_layer a = record { con = a.con; fields = a.fields.items; cell = a.cell; body = a.body }
 
+abbrev pub build_layer : Build-F Expression Branch Expression Expression → Expression
+build_layer b = Build b.con (expressions b.args.items) b.place
+
+abbrev pub call_layer : Call-F Expression Branch Expression Expression → Expression
+call_layer c = Call c.fun (expressions c.args.items)
+
 abbrev pub expression_of : Expr → Expression
-expression_of = fold-Expr Expression Branch expr_layer arm_layer
+expression_of = fold-Expr Expression Branch Expression Expression expr_layer arm_layer build_layer call_layer
+
+-- the expressions that the parts of a build and of a call stand for
+abbrev pub built_of : BuildParts → Expression
+built_of = fold-Build Expression Branch Expression Expression expr_layer arm_layer build_layer call_layer
+
+abbrev pub called_of : CallParts → Expression
+called_of = fold-Call Expression Branch Expression Expression expr_layer arm_layer build_layer call_layer
 
 abbrev pub branch_of : Arm → Branch
-branch_of = fold-Arm Expression Branch expr_layer arm_layer
+branch_of = fold-Arm Expression Branch Expression Expression expr_layer arm_layer build_layer call_layer
 
 abbrev pub constructor_of : ConDecl → Constructor
 constructor_of c = record { name = c.name; inline = c.inline; fields = c.fields.items }

@@ -1,13 +1,13 @@
 //! Copies of programs, in memory of their own.
 
 ghost use Rattle.std.specs.Prelude.{◌≡◌, map, IfOk};
-ghost use Rattle.camelot_tree.specs.Tree.{expression_of, branch_of, constructor_of, data_type_of, function_of};
+ghost use Rattle.camelot_tree.specs.Tree.{expression_of, branch_of, built_of, called_of, constructor_of, data_type_of, function_of};
 ghost use Rattle.camelot_tree.specs.Programs.{program_of};
 ghost use Rattle.camelot_tree.specs.Spine.{IsLeaf, with_first};
 
 use crate::program::Program;
 use crate::spine::left_spine;
-use crate::tree::{Arm, ArmCell, Atom, ConDecl, Expr, FunDecl, Name, Param, TypeDecl};
+use crate::tree::{Arm, ArmCell, Atom, Build, Call, ConDecl, Expr, FunDecl, Name, Param, TypeDecl};
 use std::alloc::{AllocError, Global};
 
 impl Name {
@@ -155,17 +155,37 @@ fn copy_leaf(alloc: Global, expr: &Expr) -> Result<Expr, AllocError>
                 line: *line,
             })
         }
-        Expr::Build { con, args, place } => Ok(Expr::Build {
-            con: con.copy(alloc)?,
-            args: copy_args(alloc, args)?,
-            place: copy_name(alloc, place)?,
-        }),
-        Expr::Call { fun, args } => Ok(Expr::Call {
-            fun: fun.copy(alloc)?,
-            args: copy_args(alloc, args)?,
-        }),
+        Expr::Build(build) => {
+            let copy = copy_build(alloc, build)?;
+            Ok(Expr::Build(Box::new(alloc, copy)?))
+        }
+        Expr::Call(call) => {
+            let copy = copy_call(alloc, call)?;
+            Ok(Expr::Call(Box::new(alloc, copy)?))
+        }
         Expr::Prim { .. } | Expr::If { .. } => unreachable!(),
     }
+}
+
+#[cycle(copy)]
+fn copy_build(alloc: Global, build: &Build) -> Result<Build, AllocError>
+    ensures { IfOk result (λ copy. built_of copy ≡ built_of build.now) }
+{
+    Ok(Build {
+        con: build.con.copy(alloc)?,
+        args: copy_args(alloc, &build.args)?,
+        place: copy_name(alloc, &build.place)?,
+    })
+}
+
+#[cycle(copy)]
+fn copy_call(alloc: Global, call: &Call) -> Result<Call, AllocError>
+    ensures { IfOk result (λ copy. called_of copy ≡ called_of call.now) }
+{
+    Ok(Call {
+        fun: call.fun.copy(alloc)?,
+        args: copy_args(alloc, &call.args)?,
+    })
 }
 
 #[cycle(copy)]

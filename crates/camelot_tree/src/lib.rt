@@ -12,4 +12,6 @@ mod tree;
 
 pub use program::Program;
 pub use spine::{Spine, left_spine};
-pub use tree::{Arm, ArmCell, Atom, ConDecl, Expr, FunDecl, Name, Param, PrimOp, TypeDecl};
+pub use tree::{
+    Arm, ArmCell, Atom, Build, Call, ConDecl, Expr, FunDecl, Name, Param, PrimOp, TypeDecl,
+};

@@ -110,16 +110,25 @@ pub enum Expr {
         arms: Vec<Arm>,
         line: u32,
     },
-    /// A constructor with its arguments, in the cell of the diamond `place` where one is named.
-    Build {
-        con: Name,
-        args: Vec<Expr>,
-        place: Option<Name>,
-    },
-    Call {
-        fun: Name,
-        args: Vec<Expr>,
-    },
+    Build(Box<Build>),
+    Call(Box<Call>),
+}
+
+/// A constructor with its arguments, in the cell of the diamond `place` where one is named.
+#[cycle(tree)]
+#[derive(Debug, Drop)]
+pub struct Build {
+    pub con: Name,
+    pub args: Vec<Expr>,
+    pub place: Option<Name>,
+}
+
+/// A function with its arguments.
+#[cycle(tree)]
+#[derive(Debug, Drop)]
+pub struct Call {
+    pub fun: Name,
+    pub args: Vec<Expr>,
 }
 
 /// An arm of a match. A field without a name is written `_`.
@@ -162,12 +171,8 @@ impl Drop for Expr {
                     arms: _,
                     line: _,
                 } => return,
-                Expr::Build {
-                    con: _,
-                    args: _,
-                    place: _,
-                } => return,
-                Expr::Call { fun: _, args: _ } => return,
+                Expr::Build(_build) => return,
+                Expr::Call(_call) => return,
             }
         }
     }

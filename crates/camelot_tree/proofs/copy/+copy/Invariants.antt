@@ -19,7 +19,7 @@ invariant-copy_expr-up l = record {
 abbrev pub decreases-copy_expr-up : goal.decreases-copy_expr-up
 decreases-copy_expr-up l = length l.parents.items
 
--- ranks: arms, one arm, arguments, an expression, and its parts
+-- ranks: a build or a call, arms, one arm, arguments, an expression, and its parts
 abbrev pub decreases-copy_expr : goal.decreases-copy_expr
 decreases-copy_expr l = 4 * size (expression_of l.expr.now) + 1
 
@@ -37,3 +37,9 @@ decreases-copy_arm l = 4 * size (branch_of l.arm.now).body + 2
 
 abbrev pub decreases-copy_arms : goal.decreases-copy_arms
 decreases-copy_arms l = 4 * arms_size (arms (map branch_of l.arms.now)) + 3
+
+abbrev pub decreases-copy_build : goal.decreases-copy_build
+decreases-copy_build l = 4 * expressions_size (expressions (map expression_of l.build.now.args.items)) + 3
+
+abbrev pub decreases-copy_call : goal.decreases-copy_call
+decreases-copy_call l = 4 * expressions_size (expressions (map expression_of l.call.now.args.items)) + 3
