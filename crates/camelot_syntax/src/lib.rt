@@ -19,6 +19,6 @@ mod words;
 
 pub use camelot_grammar::{Lexeme, Mark, ParseFault, laws};
 pub use camelot_tree::{
-    Arm, ArmCell, Atom, ConDecl, Expr, FunDecl, Name, Param, PrimOp, Program, TypeDecl,
+    Arm, ArmCell, Atom, Build, Call, ConDecl, Expr, FunDecl, Name, Param, PrimOp, Program, TypeDecl,
 };
 pub use text::parse;

@@ -18,7 +18,7 @@ use camelot_tree::Program;
 use std::alloc::Global;
 use text_scan::{ScanFault, Token, scan};
 
-/// The fault of a text that has no tokens.
+/// The fault of a text that can't be read as tokens.
 fn scan_fault(fault: ScanFault) -> ParseFault
     ensures { result ≡ scanned_fault fault }
 {
@@ -59,7 +59,7 @@ fn parse_text(alloc: Global, text: &[u8]) -> Result<Program, ParseFault>
 ///
 /// # Errors
 ///
-/// [`ParseFault::Scan`] where the text has no tokens. Otherwise the fault stands at the first token with which no program
+/// [`ParseFault::Scan`] where the text can't be read as tokens. Otherwise the fault stands at the first token with which no program
 /// goes on, or whose level is above 200: [`ParseFault::TooDeep`] where a program goes on with it; else
 /// [`ParseFault::Division`] at a `/` or `mod`, [`ParseFault::TypeParameter`] at a type variable, and
 /// [`ParseFault::Unexpected`] at any other token and at the end of the text. [`ParseFault::Memory`] where memory runs out.
@@ -71,7 +71,7 @@ pub fn parse(alloc: Global, text: &[u8]) -> Result<Program, ParseFault>
     ensures fault { IfErr result (HasCause text.now) }
 
     // Tokens that are a program are taken as this program, and tokens that aren't are refused for their fault, unless memory
-    // runs out. A text without tokens is refused for the fault of its reading.
+    // runs out. A text that can't be read as tokens is refused for the first fault of its reading.
     ensures takes { (tokens : List Token) (source : Source) → AreTokensOf text.now tokens → IsProgram (lexemes text.now tokens) source
         → MatchResult result (λ program. program_of program ≡ source) (λ found. found ≡ Memory) }
     ensures refuses { (tokens : List Token) (fault : ParseFault) → AreTokensOf text.now tokens

@@ -50,14 +50,6 @@ owned types name con h =
 
 -- ---- and that type is there
 
-pub type_least : (number : ℕ) (types : List DataType) (c t : ℕ) → type_from number types c ≡ Some t → number ≤ t
-type_least number [] c t h = absurd cc
-type_least number (d ∷ ds) c t h = by_test (type_least (suc number) ds (c - length d.cons) t) (nat_lt c (length d.cons)) h
-  where
-    by_test : (type_from (suc number) ds (c - length d.cons) ≡ Some t → suc number ≤ t) → (b : Bool) → (if b then Some number else type_from (suc number) ds (c - length d.cons)) ≡ Some t → number ≤ t
-    by_test f true k = let e : number ≡ t = cc in omega (arith, e)
-    by_test f false k = let l = f k in omega (arith, l)
-
 pub type_below : (number : ℕ) (types : List DataType) (c t : ℕ) → type_from number types c ≡ Some t → t < number + length types
 type_below number [] c t h = absurd cc
 type_below number (d ∷ ds) c t h = by_test (type_below (suc number) ds (c - length d.cons) t) (nat_lt c (length d.cons)) h

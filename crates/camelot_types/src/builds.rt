@@ -31,8 +31,8 @@ pub(crate) fn line_of(expr: &Expr) -> u32
         | Expr::Match { line, .. } => *line,
         Expr::Var(name) => name.line,
         Expr::Let { name, .. } => name.line,
-        Expr::Build { con, .. } => con.line,
-        Expr::Call { fun, .. } => fun.line,
+        Expr::Build(build) => build.con.line,
+        Expr::Call(call) => call.fun.line,
     }
 }
 

@@ -109,8 +109,8 @@ impl<'a> Walker<'a> {
             }
             Expr::Let { name, value, body } => self.bound(globals, name, value, body),
             Expr::Match { on, arms, line } => self.matched(globals, on, arms, *line),
-            Expr::Build { con, args, place } => self.built(globals, con, args, place),
-            Expr::Call { fun, args } => self.called(globals, fun, args),
+            Expr::Build(build) => self.built(globals, &build.con, &build.args, &build.place),
+            Expr::Call(call) => self.called(globals, &call.fun, &call.args),
             Expr::Prim { .. } | Expr::If { .. } => unreachable!(),
         }
     }

@@ -85,14 +85,14 @@ fn show(out: &mut String, expr: &Expr) -> Result<(), AllocError> {
             show_next(out, on)?;
             show_arms(out, arms)
         }
-        Expr::Build { con, args, place } => {
-            show_name(out, con)?;
-            show_args(out, args, "[", "]")?;
-            show_place(out, place)
+        Expr::Build(build) => {
+            show_name(out, &build.con)?;
+            show_args(out, &build.args, "[", "]")?;
+            show_place(out, &build.place)
         }
-        Expr::Call { fun, args } => {
-            show_name(out, fun)?;
-            show_args(out, args, "(", ")")
+        Expr::Call(call) => {
+            show_name(out, &call.fun)?;
+            show_args(out, &call.args, "(", ")")
         }
     }
 }

@@ -9,6 +9,7 @@ use Rattle.camelot_tree.specs.declared.tree.Expr.{Expr}
 use Rattle.camelot_tree.specs.declared.tree.Expr as code
 use Rattle.camelot_tree.specs.declared.tree.Expr.TheFolds.{the_lemmas}
 use Rattle.camelot_tree.specs.declared.tree.Arm.{Arm}
+use Rattle.camelot_tree.specs.declared.tree.Build.{Build as BuildParts}
 use Rattle.camelot_tree.specs.Tree.{Expression, Prim, If, Match, Build, Expressions, Arms, expression_of, branch_of, operator_of, expressions, arms}
 use Rattle.camelot_tree.specs.Spine.{size, arms_size}
 use Rattle.typing_rules.specs.Kinds.{Globals, atom_of, arms_atoms}
@@ -28,8 +29,8 @@ arm_is a = search (rules, the_lemmas)
 pub match_is : (on : Box Expr Global) (as' : Vec Arm Global) (l : ℕ) → expression_of (code.Match on as' l) ≡ Match (expression_of on.value) (arms (map branch_of as'.items)) l
 match_is on as' l = search (rules, the_lemmas)
 
-pub build_is : (c : Name) (es : Vec Expr Global) (place : Option Name) → expression_of (code.Build c es place) ≡ Build c (expressions (map expression_of es.items)) place
-build_is c es place = search (rules, the_lemmas)
+pub build_is : (b : Box BuildParts Global) → expression_of (code.Build b) ≡ Build b.value.con (expressions (map expression_of b.value.args.items)) b.value.place
+build_is b = search (rules, the_lemmas)
 
 pub prim_is : (op : PrimOp) (a b : Box Expr Global) (l : ℕ) → expression_of (code.Prim op a b l) ≡ Prim (operator_of op) (expression_of a.value) (expression_of b.value) l
 prim_is op a b l = search (rules, the_lemmas)

@@ -92,11 +92,11 @@ fn walk_parts<'a>(
         Expr::Var(name) => use_name(known, state, name),
         Expr::Let { name, value, body } => walk_let(known, state, name, value, body),
         Expr::Match { on, arms, .. } => walk_match(known, state, on, arms),
-        Expr::Build { args, place, .. } => {
-            walk_args(known, state, args)?;
-            use_place(known, state, place)
+        Expr::Build(build) => {
+            walk_args(known, state, &build.args)?;
+            use_place(known, state, &build.place)
         }
-        Expr::Call { args, .. } => walk_args(known, state, args),
+        Expr::Call(call) => walk_args(known, state, &call.args),
         Expr::Prim { .. } | Expr::If { .. } => unreachable!(),
     }
 }

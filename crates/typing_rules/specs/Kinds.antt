@@ -152,7 +152,7 @@ abbrev mutual
   arms_atom is g s NoArms = is kind.Int
   arms_atom is g s (AndArm c fs x b as') = atom_of is g (arm_scope is g.types c fs x s) b
 
--- the atoms of an expression's parts and then its own, each expression behind those that are evaluated before it
+-- the atoms of an expression's parts in text order, and then its own
 abbrev mutual
   pub atoms_of : {A : Type 0} → (Kind → A) → Globals A → Scope A → Expression → List A
   atoms_of is g s (Num z l) = atom_of is g s (Num z l) ∷ []

@@ -1,10 +1,11 @@
 use Rattle.std.proofs.Common.{◌≡◌, ◌+◌, ◌≤◌, ◌<◌, [], ◌++◌, map, length, drop, refl, sym, ap, ◌∙◌, subst, arith, None}
-use Rattle.camelot_tree.specs.Tree.{Expression, Prim, If, Match, Build, Arms, expression_of, branch_of, operator_of, expressions, arms}
+use Rattle.camelot_tree.specs.declared.tree.Build.{Build as BuildParts}
+use Rattle.camelot_tree.specs.Tree.{Expression, Expressions, Prim, If, Match, Build, Arms, expression_of, branch_of, operator_of, expressions, arms}
 use Rattle.camelot_tree.specs.Spine.{size, expressions_size, arms_size}
 use Rattle.camelot_tree.specs.SpineLaws.{leaf_smaller, argument_smaller, arm_smaller}
 use Rattle.linear_use.specs.declared.state.State.{State}
-use Rattle.linear_use.specs.Flow.{flow, all_flow, all_next, kinds_in, cell_flow}
-use Rattle.linear_use.specs.Walk.{globals_in, first_of, AreAt, Walked, WalksParts, kinds_at, all_kinds_at, arms_kinds_at}
+use Rattle.linear_use.specs.Flow.{flow, all_flow, all_next, kinds_in, cell_flow, place_flow}
+use Rattle.linear_use.specs.Walk.{globals_in, first_of, AreAt, Walked, Walks, WalksParts, kinds_at, all_kinds_at, arms_kinds_at}
 use Rattle.linear_use.proofs.Walking.{Tells, err_walks, with_scope, with_spent, with_end, at_front}
 use Rattle.linear_use.proofs.Climbing.{WalkedTerm, climb_begun, leaf_at, leaf_tells, leaf_end, climb_smaller, climb_at, climb_tells, climbed_on}
 use Rattle.linear_use.proofs.Lists.{all_at, all_step, left_expressions, arms_at, arms_step, left_arms}
@@ -132,11 +133,14 @@ walk_parts-returns-in-Match t c =
 
 pub walk_parts-returns-in_ok-walk_args-in-Build : goal.walk_parts-returns-in_ok-walk_args-in-Build
 walk_parts-returns-in_ok-walk_args-in-Build t c =
-    let is : (expression_of c.args.expr.now) ≡ Build c.in-Build.con (expressions (map expression_of c.in-Build.args.items)) c.in-Build.place = ap expression_of c.in-Build.is ∙ build_is c.in-Build.con c.in-Build.args c.in-Build.place in
-    let same : expressions (map expression_of c.deref-in-Build.result.now) ≡ (expressions (map expression_of c.in-Build.args.items)) = ap (λ l. expressions (map expression_of l)) c.deref-in-Build.ensures.value in
-    build_walked (globals_in c.args.known.now.typed.now) c.args.state.now c.walk_args.new.state c.use_place.new.state (expression_of c.args.expr.now) c.in-Build.con (expressions (map expression_of c.in-Build.args.items)) c.in-Build.place c.use_place.result is
+    let build : BuildParts = c.in-Build.build.value in
+    let es : Expressions = expressions (map expression_of build.args.items) in
+    let is : expression_of c.args.expr.now ≡ Build build.con es build.place = ap expression_of c.in-Build.is ∙ build_is c.in-Build.build in
+    let same : expressions (map expression_of c.deref-in-Build-2.result.now) ≡ es =
+        ap (λ l. expressions (map expression_of l)) c.deref-in-Build-2.ensures.value ∙ ap (λ b. expressions (map expression_of b.args.items)) c.deref-in-Build.ensures in
+    build_walked (globals_in c.args.known.now.typed.now) c.args.state.now c.walk_args.new.state c.use_place.new.state (expression_of c.args.expr.now) build.con es build.place c.use_place.result is
     (subst (λ x. Walked (all_flow (globals_in c.args.known.now.typed.now) c.args.state.now.next c.args.state.now.scope x) (all_next c.args.known.now.typed.now.types c.args.state.now.next x) (length (all_kinds_at (globals_in c.args.known.now.typed.now) c.args.state.now x)) c.args.state.now c.walk_args.new.state) same c.in_ok-walk_args-in-Build.ensures)
-    c.use_place.ensures
+    (subst (λ b. Walks (place_flow c.args.known.now.typed.now.types c.walk_args.new.state.scope b.place) c.walk_args.new.state.next 0 c.walk_args.new.state c.use_place.result c.use_place.new.state) c.deref-in-Build-3.ensures c.use_place.ensures)
 
 pub walk_rest-walk-requires : goal.walk_rest-walk-requires
 walk_rest-walk-requires t c =
