@@ -11,7 +11,7 @@ use crate::parser::Parser;
 use crate::state::{Building, Callee, ExprState, Frame, Halt, Operand, Spot, State};
 use crate::words::{TokenView, to_name};
 use camelot_grammar::Mark;
-use camelot_tree::{Expr, Name};
+use camelot_tree::{Build, Call, Expr, Name};
 use std::alloc::Global;
 
 /// Whether a unit that isn't a name begins with this token.
@@ -69,7 +69,8 @@ fn built(
 {
     args.shrink_to_fit();
     let line = con.line;
-    leaf(alloc, Expr::Build { con, args, place }, line)
+    let build = Box::new(alloc, Build { con, args, place })?;
+    leaf(alloc, Expr::Build(build), line)
 }
 
 /// One more of these expressions.
@@ -106,14 +107,12 @@ impl Callee {
             return leaf(alloc, Expr::Var(self.fun), line);
         }
         self.args.shrink_to_fit();
-        leaf(
-            alloc,
-            Expr::Call {
-                fun: self.fun,
-                args: self.args,
-            },
-            line,
-        )
+        let call = Call {
+            fun: self.fun,
+            args: self.args,
+        };
+        let call = Box::new(alloc, call)?;
+        leaf(alloc, Expr::Call(call), line)
     }
 }
 

@@ -3,7 +3,7 @@ ghost use Rattle.std.specs.Prelude.{ℕ, ◌<◌, ◌^◌, length};
 use crate::cases::Case;
 use crate::tree::show_program;
 use camelot_syntax::parse;
-use camelot_types::check;
+use camelot_types::check_program;
 use camelot_values::{Kind, Types};
 use linear_use::check_use;
 use std::alloc::AllocError;
@@ -71,7 +71,7 @@ fn answer_check(rt: &HostRuntime, text: &[u8], with_expressions: bool) -> io::Re
         Ok(program) => program,
         Err(fault) => return println!(rt; " {fault}"),
     };
-    let typed = match check(rt.alloc(), &program) {
+    let typed = match check_program(rt.alloc(), program) {
         Ok(typed) => typed,
         Err(fault) => return println!(rt; " {fault}"),
     };
