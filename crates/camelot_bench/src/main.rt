@@ -145,6 +145,16 @@ fn checks_table(rt: &HostRuntime, timed: bool, sizes: &[usize]) -> io::Result<()
         report_checks(rt, timed, "lets", &texts::lets(alloc, *size)?)?;
     }
     for size in sizes {
+        report_checks(
+            rt,
+            timed,
+            "dense sums",
+            &texts::sums_of_products(alloc, *size)?,
+        )?;
+        report_checks(rt, timed, "dense truths", &texts::truths(alloc, *size)?)?;
+        report_checks(rt, timed, "dense calls", &texts::calls(alloc, *size)?)?;
+    }
+    for size in sizes {
         report_checks(rt, timed, "wide", &texts::wide(alloc, *size)?)?;
     }
     for size in sizes {

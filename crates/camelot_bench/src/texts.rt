@@ -276,12 +276,13 @@ pub(crate) fn links(alloc: Global, size: usize) -> Result<Vec<u8>, AllocError> {
     Ok(text)
 }
 
-/// An expression of 10 `let`s, whose values are chains of 50 operators: 2,131 bytes.
-fn ten_lets(text: &mut Vec<u8>) -> Result<(), AllocError> {
+/// An expression of 10 `let`s, whose values are an operand with 50 of these links behind it.
+fn ten_lets(text: &mut Vec<u8>, operand: &[u8], link: &[u8]) -> Result<(), AllocError> {
     for _ in 0..10 {
-        text.extend_from_slice(b"let x = x")?;
+        text.extend_from_slice(b"let x = ")?;
+        text.extend_from_slice(operand)?;
         for _ in 0..50 {
-            text.extend_from_slice(b" + x")?;
+            text.extend_from_slice(link)?;
         }
         text.extend_from_slice(b" in ")?;
     }
@@ -289,20 +290,41 @@ fn ten_lets(text: &mut Vec<u8>) -> Result<(), AllocError> {
     Ok(())
 }
 
-/// As many functions as the checks allow, of one parameter, with chains in `let`s in `let`s.
-pub(crate) fn lets(alloc: Global, size: usize) -> Result<Vec<u8>, AllocError> {
+/// As many functions as the checks allow, of one parameter, with chains of these links in `let`s in `let`s. The chains begin with this operand.
+fn linked(alloc: Global, size: usize, operand: &[u8], link: &[u8]) -> Result<Vec<u8>, AllocError> {
+    let mut part = Vec::from_slice(alloc, b"let x = (")?;
+    ten_lets(&mut part, operand, link)?;
+    part.extend_from_slice(b") in ")?;
     let mut text = Vec::new(alloc);
     for fun in 0..MOST {
         numbered(&mut text, b"let f", fun)?;
         text.extend_from_slice(b" x = ")?;
-        for _ in 0..size / (MOST * 2_145) {
-            text.extend_from_slice(b"let x = (")?;
-            ten_lets(&mut text)?;
-            text.extend_from_slice(b") in ")?;
+        for _ in 0..size / MOST / part.len().max(1) {
+            text.extend_from_slice(&part)?;
         }
         text.extend_from_slice(b"x\n")?;
     }
     Ok(text)
+}
+
+/// Sums with white space in `let`s in `let`s.
+pub(crate) fn lets(alloc: Global, size: usize) -> Result<Vec<u8>, AllocError> {
+    linked(alloc, size, b"x", b" + x")
+}
+
+/// Sums of products without white space in `let`s in `let`s: nearly each byte is a token.
+pub(crate) fn sums_of_products(alloc: Global, size: usize) -> Result<Vec<u8>, AllocError> {
+    linked(alloc, size, b"x", b"+x*x")
+}
+
+/// Chains of `&&` without white space in `let`s in `let`s.
+pub(crate) fn truths(alloc: Global, size: usize) -> Result<Vec<u8>, AllocError> {
+    linked(alloc, size, b"x", b"&&x")
+}
+
+/// Chains of calls with an argument of one byte in `let`s in `let`s.
+pub(crate) fn calls(alloc: Global, size: usize) -> Result<Vec<u8>, AllocError> {
+    linked(alloc, size, b"x", b"+f00 x")
 }
 
 /// The index that a table of names by hash, of so many groups, begins to look at for this name: the hash of the kit's maps, whose seed is fixed.
