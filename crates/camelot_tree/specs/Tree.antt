@@ -94,8 +94,8 @@ expr_layer (layer.Truth b l) = Truth b l
 expr_layer (layer.Var n) = Var n
 expr_layer (layer.Prim o a b l) = Prim (operator_of o) a.value b.value l
 expr_layer (layer.If c a b l) = If c.value a.value b.value l
-expr_layer (layer.Let n v b) = Let n v.value b.value
-expr_layer (layer.Match e as' l) = Match e.value (arms as'.items) l
+expr_layer (layer.Let n v b) = Let n.value v.value b.value
+expr_layer (layer.Match l e as') = Match e.value (arms as'.items) l
 expr_layer (layer.Build b) = b.value
 expr_layer (layer.Call c) = c.value
 

@@ -141,7 +141,7 @@ fn copy_leaf(alloc: Global, expr: &Expr) -> Result<Expr, AllocError>
         }),
         Expr::Var(name) => Ok(Expr::Var(name.copy(alloc)?)),
         Expr::Let { name, value, body } => {
-            let name = name.copy(alloc)?;
+            let name = Box::new(alloc, name.copy(alloc)?)?;
             let value = Box::new(alloc, copy_expr(alloc, value)?)?;
             let body = Box::new(alloc, copy_expr(alloc, body)?)?;
             Ok(Expr::Let { name, value, body })

@@ -14,13 +14,16 @@ pub struct Spine<'a> {
     pub leaf: &'a Expr,
 }
 
-/// The left end of an expression; `AllocError` where memory runs out.
-pub fn left_spine(alloc: Global, expr: &Expr) -> Result<Spine<'_>, AllocError>
+/// The left end of an expression, with its parents in this vector in place of what stood there; `AllocError` where memory runs out.
+pub fn left_spine_in<'a>(
+    mut parents: Vec<&'a Expr>,
+    expr: &'a Expr,
+) -> Result<Spine<'a>, AllocError>
     ensures parents { IfOk result (λ spine. map (λ parent. expression_of parent.now) spine.parents.items ≡ spine_of (expression_of expr.now)) }
     ensures leaf { IfOk result (λ spine. expression_of spine.leaf.now ≡ leaf_of (expression_of expr.now)) }
     ensures is_leaf { IfOk result (λ spine. IsLeaf (expression_of spine.leaf.now)) }
 {
-    let mut parents = Vec::new(alloc);
+    parents.clear();
     let mut leaf = expr;
     'down: loop {
         match leaf {
@@ -35,4 +38,13 @@ pub fn left_spine(alloc: Global, expr: &Expr) -> Result<Spine<'_>, AllocError>
             _ => return Ok(Spine { parents, leaf }),
         }
     }
+}
+
+/// The left end of an expression; `AllocError` where memory runs out.
+pub fn left_spine(alloc: Global, expr: &Expr) -> Result<Spine<'_>, AllocError>
+    ensures parents { IfOk result (λ spine. map (λ parent. expression_of parent.now) spine.parents.items ≡ spine_of (expression_of expr.now)) }
+    ensures leaf { IfOk result (λ spine. expression_of spine.leaf.now ≡ leaf_of (expression_of expr.now)) }
+    ensures is_leaf { IfOk result (λ spine. IsLeaf (expression_of spine.leaf.now)) }
+{
+    left_spine_in(Vec::new(alloc), expr)
 }

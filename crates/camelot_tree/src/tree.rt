@@ -76,6 +76,8 @@ pub enum ArmCell {
 }
 
 /// An expression. A `line` is that of the expression's first token, parentheses around it left out.
+///
+/// What is large stands in boxes, and lines in front of what they would pad, so that an expression takes 40 bytes.
 #[cycle(tree)]
 #[derive(Debug)]
 pub enum Expr {
@@ -101,14 +103,14 @@ pub enum Expr {
         line: u32,
     },
     Let {
-        name: Name,
+        name: Box<Name>,
         value: Box<Expr>,
         body: Box<Expr>,
     },
     Match {
+        line: u32,
         on: Box<Expr>,
         arms: Vec<Arm>,
-        line: u32,
     },
     Build(Box<Build>),
     Call(Box<Call>),

@@ -1,7 +1,7 @@
 use Rattle.std.proofs.Common.{◌≡◌, ◌++◌, map}
 use Rattle.camelot_tree.specs.Tree.{expression_of}
 use Rattle.camelot_tree.specs.Spine.{spine_of, leaf_of}
-use Rattle.camelot_tree.proofs.spine.left_spine.Given as goal
+use Rattle.camelot_tree.proofs.spine.left_spine_in.Given as goal
 
 abbrev pub invariant-down : goal.invariant-down
 invariant-down l = record {
