@@ -51,7 +51,7 @@ fn whole_match(alloc: Global, matching: Box<Matching>) -> Result<Box<Expr>, Halt
         mut arms,
     } = Box::into_inner(matching);
     arms.shrink_to_fit();
-    Ok(Box::new(alloc, Expr::Match { on, arms, line })?)
+    Ok(Box::new(alloc, Expr::Match { line, on, arms })?)
 }
 
 /// The `let` or `if` that ends with this expression, or else the frame that goes on behind it.
@@ -61,7 +61,6 @@ fn enclose(alloc: Global, frame: Frame, tree: Box<Expr>) -> Result<Enclosed, Hal
 {
     match frame {
         Frame::LetBody { name, value } => {
-            let name = Box::into_inner(name);
             Ok(Enclosed::Whole(let_tree(alloc, name, value, tree)?))
         }
         Frame::IfElse { line, cond, yes } => {

@@ -89,11 +89,11 @@ pub fn if_tree(
 
 pub fn let_tree(
     alloc: Global,
-    name: Name,
+    name: Box<Name>,
     value: Box<Expr>,
     body: Box<Expr>,
 ) -> Result<Box<Expr>, Halt>
-    ensures { MatchResult result (λ tree. expression_of tree.value ≡ Let name (expression_of value.value) (expression_of body.value)) (λ halt. halt ≡ Memory) }
+    ensures { MatchResult result (λ tree. expression_of tree.value ≡ Let name.value (expression_of value.value) (expression_of body.value)) (λ halt. halt ≡ Memory) }
 {
     Ok(Box::new(alloc, Expr::Let { name, value, body })?)
 }

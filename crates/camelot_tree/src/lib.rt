@@ -11,7 +11,7 @@ mod spine;
 mod tree;
 
 pub use program::Program;
-pub use spine::{Spine, left_spine, left_spine_in};
+pub use spine::{Rooms, Spine, left_spine};
 pub use tree::{
     Arm, ArmCell, Atom, Build, Call, ConDecl, Expr, FunDecl, Name, Param, PrimOp, TypeDecl,
 };

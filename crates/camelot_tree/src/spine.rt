@@ -15,10 +15,7 @@ pub struct Spine<'a> {
 }
 
 /// The left end of an expression, with its parents in this vector in place of what stood there; `AllocError` where memory runs out.
-pub fn left_spine_in<'a>(
-    mut parents: Vec<&'a Expr>,
-    expr: &'a Expr,
-) -> Result<Spine<'a>, AllocError>
+fn left_spine_in<'a>(mut parents: Vec<&'a Expr>, expr: &'a Expr) -> Result<Spine<'a>, AllocError>
     ensures parents { IfOk result (λ spine. map (λ parent. expression_of parent.now) spine.parents.items ≡ spine_of (expression_of expr.now)) }
     ensures leaf { IfOk result (λ spine. expression_of spine.leaf.now ≡ leaf_of (expression_of expr.now)) }
     ensures is_leaf { IfOk result (λ spine. IsLeaf (expression_of spine.leaf.now)) }
@@ -47,4 +44,39 @@ pub fn left_spine(alloc: Global, expr: &Expr) -> Result<Spine<'_>, AllocError>
     ensures is_leaf { IfOk result (λ spine. IsLeaf (expression_of spine.leaf.now)) }
 {
     left_spine_in(Vec::new(alloc), expr)
+}
+
+/// Room for left ends, from those that have been walked.
+#[derive(Drop)]
+pub struct Rooms<'a> {
+    alloc: Global,
+    spares: Vec<Vec<&'a Expr>>,
+}
+
+impl<'a> Rooms<'a> {
+    /// No room yet, which takes no memory.
+    pub fn new(alloc: Global) -> Rooms<'a> {
+        Rooms {
+            alloc,
+            spares: Vec::new(alloc),
+        }
+    }
+
+    /// The left end of an expression, as [`left_spine`] has it.
+    pub fn left_spine(&mut self, expr: &'a Expr) -> Result<Spine<'a>, AllocError>
+        ensures parents { IfOk result (λ spine. map (λ parent. expression_of parent.now) spine.parents.items ≡ spine_of (expression_of expr.now)) }
+        ensures leaf { IfOk result (λ spine. expression_of spine.leaf.now ≡ leaf_of (expression_of expr.now)) }
+        ensures is_leaf { IfOk result (λ spine. IsLeaf (expression_of spine.leaf.now)) }
+    {
+        match self.spares.pop() {
+            Some(room) => left_spine_in(room, expr),
+            None => left_spine_in(Vec::new(self.alloc), expr),
+        }
+    }
+
+    /// Keeps the room of parents that aren't needed any more.
+    pub fn keep(&mut self, parents: Vec<&'a Expr>) {
+        // Without room for it the vector is let go.
+        let _ = self.spares.push(parents);
+    }
 }

@@ -14,7 +14,7 @@ use crate::globals::{FunHead, Globals};
 use crate::guess::Guess;
 use crate::walker::Walker;
 use camelot_names::Scope;
-use camelot_tree::{FunDecl, Param};
+use camelot_tree::{FunDecl, Param, Rooms};
 use std::alloc::Global;
 
 /// The table behind a body, and the atoms of its expressions.
@@ -67,6 +67,7 @@ fn walk_body(
         scope: Scope::new(alloc),
         table,
         atoms: Vec::new(alloc),
+        rooms: Rooms::new(alloc),
     };
     walker.bind_params(&fun.params, &head.params)?;
     let guess = walker.expr(globals, &fun.body)?;

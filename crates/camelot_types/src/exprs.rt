@@ -20,7 +20,7 @@ use crate::globals::Globals;
 use crate::guess::Guess;
 use crate::table::word;
 use crate::walker::Walker;
-use camelot_tree::{Arm, Expr, Name, PrimOp, left_spine};
+use camelot_tree::{Arm, Expr, Name, PrimOp};
 use camelot_values::Kind;
 
 /// The kind of what an operator gives.
@@ -45,7 +45,7 @@ impl<'a> Walker<'a> {
         ensures found { Finds (walk (globals_view globals.now) self.old.scope (work_of self.old) (expression_of expr.now)) (work_of self.new) result }
         ensures scope { OnOk result (self.new.scope ≡ self.old.scope) }
     {
-        let spine = left_spine(self.alloc, expr)?;
+        let spine = self.rooms.left_spine(expr)?;
         let mut parents = spine.parents;
         let mut guess = self.leaf(globals, spine.leaf)?;
         'up: while let Some(parent) = parents.pop() {
@@ -54,6 +54,7 @@ impl<'a> Walker<'a> {
                 Err(fault) => return Err(fault),
             }
         }
+        self.rooms.keep(parents);
         Ok(guess)
     }
 

@@ -13,16 +13,17 @@ use crate::guess::Guess;
 use crate::names::unknown_name;
 use crate::table::make_same;
 use camelot_names::Scope;
-use camelot_tree::Name;
+use camelot_tree::{Name, Rooms};
 use std::alloc::Global;
 
-/// The walk between two expressions: the names in scope, the table of unknowns, and the atoms of the expressions so far.
+/// The walk between two expressions: the names in scope, the table of unknowns, the atoms of the expressions so far, and room for left ends.
 #[derive(Drop)]
 pub(crate) struct Walker<'a> {
     pub(crate) alloc: Global,
     pub(crate) scope: Scope<'a, Guess>,
     pub(crate) table: Vec<Guess>,
     pub(crate) atoms: Vec<Guess>,
+    pub(crate) rooms: Rooms<'a>,
 }
 
 impl<'a> Walker<'a> {

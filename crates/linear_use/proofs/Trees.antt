@@ -26,7 +26,7 @@ use Rattle.linear_use.proofs.Climbing.{WalkedTerm, WalkedRest}
 pub arm_is : (a : Arm) → branch_of a ≡ record { con = a.con; fields = a.fields.items; cell = a.cell; body = expression_of a.body }
 arm_is a = search (rules, the_lemmas)
 
-pub match_is : (on : Box Expr Global) (as' : Vec Arm Global) (l : ℕ) → expression_of (code.Match on as' l) ≡ Match (expression_of on.value) (arms (map branch_of as'.items)) l
+pub match_is : (on : Box Expr Global) (as' : Vec Arm Global) (l : ℕ) → expression_of (code.Match l on as') ≡ Match (expression_of on.value) (arms (map branch_of as'.items)) l
 match_is on as' l = search (rules, the_lemmas)
 
 pub build_is : (b : Box BuildParts Global) → expression_of (code.Build b) ≡ Build b.value.con (expressions (map expression_of b.value.args.items)) b.value.place

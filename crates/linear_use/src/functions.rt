@@ -19,7 +19,7 @@ use crate::state::State;
 use crate::variable::Variable;
 use crate::walk::walk;
 use camelot_names::{Names, Scope};
-use camelot_tree::{FunDecl, Param};
+use camelot_tree::{FunDecl, Param, Rooms};
 use camelot_values::Kind;
 use std::alloc::{AllocError, Global};
 use typing_rules::{FunKinds, Typed};
@@ -83,7 +83,8 @@ fn walk_function<'a>(
         next: decl.params.len(),
         position: 0,
     };
-    walk(&known, &mut state, &decl.body)
+    let mut rooms = Rooms::new(alloc);
+    walk(&known, &mut state, &mut rooms, &decl.body)
 }
 
 /// The first fault of a typed program.

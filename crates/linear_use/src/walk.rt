@@ -11,25 +11,27 @@ use crate::known::Known;
 use crate::parts::{bind_arm, check_cell, kind_behind, use_name, use_place};
 use crate::spent::Held;
 use crate::state::State;
-use camelot_tree::{Arm, Expr, Name, left_spine};
+use camelot_tree::{Arm, Expr, Name, Rooms};
 
 /// Walks through an expression, along its left end.
 #[cycle(walk)]
 pub(crate) fn walk<'a>(
     known: &Known<'a, '_>,
     state: &mut State<'a>,
+    rooms: &mut Rooms<'a>,
     expr: &'a Expr,
 ) -> Result<(), UseFault>
     requires { AreAt known.now.exprs.now state.old.position (kinds_at (globals_in known.now.typed.now) state.old (expression_of expr.now)) }
     ensures { WalksTerm (globals_in known.now.typed.now) (expression_of expr.now) state.old result state.new }
 {
-    let spine = left_spine(known.alloc, expr)?;
+    let spine = rooms.left_spine(expr)?;
     let mut parents = spine.parents;
-    walk_parts(known, state, spine.leaf)?;
+    walk_parts(known, state, rooms, spine.leaf)?;
     state.finish(known.exprs);
     'up: while let Some(parent) = parents.pop() {
-        walk_rest(known, state, parent)?;
+        walk_rest(known, state, rooms, parent)?;
     }
+    rooms.keep(parents);
     Ok(())
 }
 
@@ -38,14 +40,15 @@ pub(crate) fn walk<'a>(
 fn walk_rest<'a>(
     known: &Known<'a, '_>,
     state: &mut State<'a>,
+    rooms: &mut Rooms<'a>,
     parent: &'a Expr,
 ) -> Result<(), UseFault>
     requires { AreAt known.now.exprs.now state.old.position (rest_kinds (globals_in known.now.typed.now) (kinds_in state.old.scope) (expression_of parent.now)) }
     ensures { WalksRest (globals_in known.now.typed.now) (expression_of parent.now) state.old result state.new }
 {
     match parent {
-        Expr::Prim { right, .. } => walk(known, state, right)?,
-        Expr::If { yes, no, .. } => walk_branches(known, state, yes, no)?,
+        Expr::Prim { right, .. } => walk(known, state, rooms, right)?,
+        Expr::If { yes, no, .. } => walk_branches(known, state, rooms, yes, no)?,
         _ => return Ok(()),
     }
     state.finish(known.exprs);
@@ -58,6 +61,7 @@ fn walk_rest<'a>(
 fn walk_branches<'a>(
     known: &Known<'a, '_>,
     state: &mut State<'a>,
+    rooms: &mut Rooms<'a>,
     yes: &'a Expr,
     no: &'a Expr,
 ) -> Result<(), UseFault>
@@ -69,9 +73,9 @@ fn walk_branches<'a>(
 {
     let start = state.spent.len();
     let mut held = Held::new(known.alloc);
-    walk(known, state, yes)?;
+    walk(known, state, rooms, yes)?;
     state.spent.hold(start, &mut held)?;
-    walk(known, state, no)?;
+    walk(known, state, rooms, no)?;
     state.spent.put_back(held)?;
     Ok(())
 }
@@ -81,6 +85,7 @@ fn walk_branches<'a>(
 fn walk_parts<'a>(
     known: &Known<'a, '_>,
     state: &mut State<'a>,
+    rooms: &mut Rooms<'a>,
     expr: &'a Expr,
 ) -> Result<(), UseFault>
     requires leaf { IsLeaf (expression_of expr.now) }
@@ -90,13 +95,13 @@ fn walk_parts<'a>(
     match expr {
         Expr::Num { .. } | Expr::Truth { .. } => Ok(()),
         Expr::Var(name) => use_name(known, state, name),
-        Expr::Let { name, value, body } => walk_let(known, state, name, value, body),
-        Expr::Match { on, arms, .. } => walk_match(known, state, on, arms),
+        Expr::Let { name, value, body } => walk_let(known, state, rooms, name, value, body),
+        Expr::Match { on, arms, .. } => walk_match(known, state, rooms, on, arms),
         Expr::Build(build) => {
-            walk_args(known, state, &build.args)?;
+            walk_args(known, state, rooms, &build.args)?;
             use_place(known, state, &build.place)
         }
-        Expr::Call(call) => walk_args(known, state, &call.args),
+        Expr::Call(call) => walk_args(known, state, rooms, &call.args),
         Expr::Prim { .. } | Expr::If { .. } => unreachable!(),
     }
 }
@@ -107,14 +112,15 @@ fn walk_parts<'a>(
 fn walk_match<'a>(
     known: &Known<'a, '_>,
     state: &mut State<'a>,
+    rooms: &mut Rooms<'a>,
     on: &'a Expr,
     arms: &'a [Arm],
 ) -> Result<(), UseFault>
     requires { AreAt known.now.exprs.now state.old.position (parts_kinds_at (globals_in known.now.typed.now) state.old (Match (expression_of on.now) (tree.arms (map branch_of arms.now)) 0)) }
     ensures { WalksParts (globals_in known.now.typed.now) (Match (expression_of on.now) (tree.arms (map branch_of arms.now)) 0) state.old result state.new }
 {
-    walk(known, state, on)?;
-    walk_arms(known, state, arms)
+    walk(known, state, rooms, on)?;
+    walk_arms(known, state, rooms, arms)
 }
 
 // A local's value, and what it is for.
@@ -122,6 +128,7 @@ fn walk_match<'a>(
 fn walk_let<'a>(
     known: &Known<'a, '_>,
     state: &mut State<'a>,
+    rooms: &mut Rooms<'a>,
     name: &'a Name,
     value: &'a Expr,
     body: &'a Expr,
@@ -129,11 +136,11 @@ fn walk_let<'a>(
     requires { AreAt known.now.exprs.now state.old.position (parts_kinds_at (globals_in known.now.typed.now) state.old (Let name.now (expression_of value.now) (expression_of body.now))) }
     ensures { WalksParts (globals_in known.now.typed.now) (Let name.now (expression_of value.now) (expression_of body.now)) state.old result state.new }
 {
-    walk(known, state, value)?;
+    walk(known, state, rooms, value)?;
     let kind = kind_behind(known.exprs, state.position);
     let len = state.scope.len();
     state.bind(name, kind)?;
-    walk(known, state, body)?;
+    walk(known, state, rooms, body)?;
     state.scope.leave(len);
     Ok(())
 }
@@ -143,27 +150,33 @@ fn walk_let<'a>(
 fn walk_args<'a>(
     known: &Known<'a, '_>,
     state: &mut State<'a>,
+    rooms: &mut Rooms<'a>,
     args: &'a [Expr],
 ) -> Result<(), UseFault>
     requires { AreAt known.now.exprs.now state.old.position (all_kinds_at (globals_in known.now.typed.now) state.old (expressions (map expression_of args.now))) }
     ensures { WalksAll (globals_in known.now.typed.now) (expressions (map expression_of args.now)) state.old result state.new }
 {
     'args: for arg in args {
-        walk(known, state, arg)?;
+        walk(known, state, rooms, arg)?;
     }
     Ok(())
 }
 
 // An arm, whose variables are bound in it alone.
 #[cycle(walk)]
-fn walk_arm<'a>(known: &Known<'a, '_>, state: &mut State<'a>, arm: &'a Arm) -> Result<(), UseFault>
+fn walk_arm<'a>(
+    known: &Known<'a, '_>,
+    state: &mut State<'a>,
+    rooms: &mut Rooms<'a>,
+    arm: &'a Arm,
+) -> Result<(), UseFault>
     requires { AreAt known.now.exprs.now state.old.position (arm_kinds_at (globals_in known.now.typed.now) state.old (branch_of arm.now)) }
     ensures { WalksArm (globals_in known.now.typed.now) (branch_of arm.now) state.old result state.new }
 {
     check_cell(known, &arm.con, &arm.cell)?;
     let len = state.scope.len();
     bind_arm(known, state, arm)?;
-    walk(known, state, &arm.body)?;
+    walk(known, state, rooms, &arm.body)?;
     state.scope.leave(len);
     Ok(())
 }
@@ -173,6 +186,7 @@ fn walk_arm<'a>(known: &Known<'a, '_>, state: &mut State<'a>, arm: &'a Arm) -> R
 fn walk_arms<'a>(
     known: &Known<'a, '_>,
     state: &mut State<'a>,
+    rooms: &mut Rooms<'a>,
     arms: &'a [Arm],
 ) -> Result<(), UseFault>
     requires { AreAt known.now.exprs.now state.old.position (arms_kinds_at (globals_in known.now.typed.now) state.old (tree.arms (map branch_of arms.now))) }
@@ -181,7 +195,7 @@ fn walk_arms<'a>(
     let start = state.spent.len();
     let mut held = Held::new(known.alloc);
     'arms: for arm in arms {
-        walk_arm(known, state, arm)?;
+        walk_arm(known, state, rooms, arm)?;
         state.spent.hold(start, &mut held)?;
     }
     state.spent.put_back(held)?;

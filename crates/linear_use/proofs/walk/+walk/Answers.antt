@@ -137,7 +137,7 @@ walk_parts-returns-in_ok-walk_args-in-Build t c =
     let es : Expressions = expressions (map expression_of build.args.items) in
     let is : expression_of c.args.expr.now ≡ Build build.con es build.place = ap expression_of c.in-Build.is ∙ build_is c.in-Build.build in
     let same : expressions (map expression_of c.deref-in-Build-2.result.now) ≡ es =
-        ap (λ l. expressions (map expression_of l)) c.deref-in-Build-2.ensures.value ∙ ap (λ b. expressions (map expression_of b.args.items)) c.deref-in-Build.ensures in
+    ap (λ l. expressions (map expression_of l)) c.deref-in-Build-2.ensures.value ∙ ap (λ b. expressions (map expression_of b.args.items)) c.deref-in-Build.ensures in
     build_walked (globals_in c.args.known.now.typed.now) c.args.state.now c.walk_args.new.state c.use_place.new.state (expression_of c.args.expr.now) build.con es build.place c.use_place.result is
     (subst (λ x. Walked (all_flow (globals_in c.args.known.now.typed.now) c.args.state.now.next c.args.state.now.scope x) (all_next c.args.known.now.typed.now.types c.args.state.now.next x) (length (all_kinds_at (globals_in c.args.known.now.typed.now) c.args.state.now x)) c.args.state.now c.walk_args.new.state) same c.in_ok-walk_args-in-Build.ensures)
     (subst (λ b. Walks (place_flow c.args.known.now.typed.now.types c.walk_args.new.state.scope b.place) c.walk_args.new.state.next 0 c.walk_args.new.state c.use_place.result c.use_place.new.state) c.deref-in-Build-3.ensures c.use_place.ensures)
