@@ -95,7 +95,13 @@ fn table(rt: &HostRuntime, timed: bool, sizes: &[usize]) -> io::Result<()> {
 }
 
 /// What the check of uses answers, with the seconds of both checks.
-fn report_uses(rt: &HostRuntime, timed: bool, typed: Typed, checking: u128) -> io::Result<()> {
+fn report_uses(
+    rt: &HostRuntime,
+    timed: bool,
+    typed: Typed,
+    parsing: u128,
+    checking: u128,
+) -> io::Result<()> {
     let start = Instant::now(rt)?;
     let used = check_use(rt.alloc(), typed);
     let using = start.elapsed(rt)?.as_micros();
@@ -103,20 +109,22 @@ fn report_uses(rt: &HostRuntime, timed: bool, typed: Typed, checking: u128) -> i
         Ok(_) => print!(rt; " ok |")?,
         Err(fault) => print!(rt; " {fault} |")?,
     }
+    cell(rt, timed, parsing)?;
     cell(rt, timed, checking)?;
     cell(rt, timed, using)?;
     println!(rt; "")
 }
 
 /// What the checks answer to a program.
-fn report_types(rt: &HostRuntime, timed: bool, program: Program) -> io::Result<()> {
+fn report_types(rt: &HostRuntime, timed: bool, program: Program, parsing: u128) -> io::Result<()> {
     let start = Instant::now(rt)?;
     let checked = check_program(rt.alloc(), program);
     let checking = start.elapsed(rt)?.as_micros();
     match checked {
-        Ok(typed) => report_uses(rt, timed, typed, checking),
+        Ok(typed) => report_uses(rt, timed, typed, parsing, checking),
         Err(fault) => {
             print!(rt; " {fault} |")?;
+            cell(rt, timed, parsing)?;
             cell(rt, timed, checking)?;
             println!(rt; " |")
         }
@@ -128,11 +136,14 @@ fn report_checks(rt: &HostRuntime, timed: bool, family: &str, text: &[u8]) -> io
     let size = text.len();
     print!(rt; "| {family} | {size} |")?;
     if size >= 1 << 32 {
-        return println!(rt; " too long a text | | |");
+        return println!(rt; " too long a text | | | |");
     }
-    match parse(rt.alloc(), text) {
-        Ok(program) => report_types(rt, timed, program),
-        Err(fault) => println!(rt; " {fault} | | |"),
+    let start = Instant::now(rt)?;
+    let read = parse(rt.alloc(), text);
+    let parsing = start.elapsed(rt)?.as_micros();
+    match read {
+        Ok(program) => report_types(rt, timed, program, parsing),
+        Err(fault) => println!(rt; " {fault} | | | |"),
     }
 }
 
@@ -152,7 +163,14 @@ fn checks_table(rt: &HostRuntime, timed: bool, sizes: &[usize]) -> io::Result<()
             &texts::sums_of_products(alloc, *size)?,
         )?;
         report_checks(rt, timed, "dense truths", &texts::truths(alloc, *size)?)?;
+        report_checks(rt, timed, "dense choices", &texts::choices(alloc, *size)?)?;
         report_checks(rt, timed, "dense calls", &texts::calls(alloc, *size)?)?;
+        report_checks(
+            rt,
+            timed,
+            "dense builds",
+            &texts::nested_builds(alloc, *size)?,
+        )?;
     }
     for size in sizes {
         report_checks(rt, timed, "wide", &texts::wide(alloc, *size)?)?;
@@ -187,8 +205,10 @@ fn checks_table(rt: &HostRuntime, timed: bool, sizes: &[usize]) -> io::Result<()
 
 fn heading(rt: &HostRuntime) -> io::Result<()> {
     println!(rt; "")?;
-    println!(rt; "| family | bytes | answer | seconds to check types | seconds to check uses |")?;
-    println!(rt; "|---|---|---|---|---|")
+    println!(rt;
+        "| family | bytes | answer | seconds to parse | seconds to check types | seconds to check uses |"
+    )?;
+    println!(rt; "|---|---|---|---|---|---|")
 }
 
 fn main(rt: HostRuntime) -> io::Result<()> {

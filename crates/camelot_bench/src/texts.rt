@@ -276,6 +276,27 @@ pub(crate) fn links(alloc: Global, size: usize) -> Result<Vec<u8>, AllocError> {
     Ok(text)
 }
 
+/// Functions of builds within the limits: 40 builds, one the argument of the next, in `let`s in `let`s.
+pub(crate) fn nested_builds(alloc: Global, size: usize) -> Result<Vec<u8>, AllocError> {
+    let mut link = Vec::from_slice(alloc, b"let y = ")?;
+    for _ in 0..40 {
+        link.extend_from_slice(b"C(")?;
+    }
+    link.push(b'D')?;
+    for _ in 0..40 {
+        link.push(b')')?;
+    }
+    link.extend_from_slice(b" in ")?;
+    let mut part = Vec::from_slice(alloc, b"let x = (")?;
+    for _ in 0..30 {
+        part.extend_from_slice(&link)?;
+    }
+    part.extend_from_slice(b"x) in ")?;
+    let mut text = Vec::from_slice(alloc, b"type t = D | C of t\n")?;
+    within_functions(&mut text, size, &part)?;
+    Ok(text)
+}
+
 /// An expression of 10 `let`s, whose values are an operand with 50 of these links behind it.
 fn ten_lets(text: &mut Vec<u8>, operand: &[u8], link: &[u8]) -> Result<(), AllocError> {
     for _ in 0..10 {
@@ -296,15 +317,21 @@ fn linked(alloc: Global, size: usize, operand: &[u8], link: &[u8]) -> Result<Vec
     ten_lets(&mut part, operand, link)?;
     part.extend_from_slice(b") in ")?;
     let mut text = Vec::new(alloc);
+    within_functions(&mut text, size, &part)?;
+    Ok(text)
+}
+
+/// As many functions as the checks allow, of one parameter, with so many of these parts before it that they have about this size together.
+fn within_functions(text: &mut Vec<u8>, size: usize, part: &[u8]) -> Result<(), AllocError> {
     for fun in 0..MOST {
-        numbered(&mut text, b"let f", fun)?;
+        numbered(text, b"let f", fun)?;
         text.extend_from_slice(b" x = ")?;
         for _ in 0..size / MOST / part.len().max(1) {
-            text.extend_from_slice(&part)?;
+            text.extend_from_slice(part)?;
         }
         text.extend_from_slice(b"x\n")?;
     }
-    Ok(text)
+    Ok(())
 }
 
 /// Sums with white space in `let`s in `let`s.
@@ -320,6 +347,11 @@ pub(crate) fn sums_of_products(alloc: Global, size: usize) -> Result<Vec<u8>, Al
 /// Chains of `&&` without white space in `let`s in `let`s.
 pub(crate) fn truths(alloc: Global, size: usize) -> Result<Vec<u8>, AllocError> {
     linked(alloc, size, b"x", b"&&x")
+}
+
+/// Chains of both, in which each operand ends a chain.
+pub(crate) fn choices(alloc: Global, size: usize) -> Result<Vec<u8>, AllocError> {
+    linked(alloc, size, b"x", b"&&x||x")
 }
 
 /// Chains of calls with an argument of one byte in `let`s in `let`s.
