@@ -1,11 +1,15 @@
 -- The code's stack grows at its end, and the machine's at its head.
-use Rattle.std.proofs.Common.{◌≡◌, ℕ, List, [], ◌∷◌, ◌++◌, refl, ap}
+use Rattle.std.proofs.Common.{◌≡◌, ℕ, List, [], ◌∷◌, ◌++◌, Box, Global, Option, refl, ap, rules}
 use Rattle.camelot_tree.specs.declared.tree.Name.{Name}
 use Rattle.camelot_grammar.specs.declared.lexeme.Lexeme.{Lexeme}
-use Rattle.camelot_tree.specs.Tree.{Expression}
+use Rattle.camelot_tree.specs.declared.tree.Expr.{Expr}
+use Rattle.camelot_tree.specs.declared.tree.Expr as code
+use Rattle.camelot_tree.specs.declared.tree.Expr.TheFolds.{the_lemmas}
+use Rattle.camelot_tree.specs.declared.tree.Build.{Build as BuildParts}
+use Rattle.camelot_tree.specs.Tree.{Expression, Build, expression_of, expressions}
 use Rattle.camelot_syntax.specs.declared.state.Frame.{Frame}
 use Rattle.camelot_grammar.specs.Machine as mc
-use Rattle.camelot_syntax.specs.States.{frame_of, stacked, stack_of, upside, nots_of}
+use Rattle.camelot_syntax.specs.States.{frame_of, stacked, stack_of, upside, nots_of, expressions_of}
 
 stacked_push : (fs : List Frame) (f : Frame) (below : List mc.Frame) → stacked (fs ++ f ∷ []) below ≡ frame_of f ∷ stacked fs below
 stacked_push [] f below = refl
@@ -33,3 +37,9 @@ let_stuck n v e t st = refl
 pub else_stuck : (l : ℕ) (c a e : Expression) (t : Lexeme) (st : List mc.Frame) → mc.close_in (mc.IfElse l c a) e t st ≡ mc.Stuck
 unfolding mc.close_in
 else_stuck l c a e t st = refl
+
+pub build_is : (b : Box BuildParts Global) (c : Name) (es : List Expr) (place : Option Name) → b.value.con ≡ c → b.value.args.items ≡ es → b.value.place ≡ place
+    → expression_of (code.Build b) ≡ Build c (expressions (expressions_of es)) place
+build_is b c es place hc hes hp =
+    let whole : expression_of (code.Build b) ≡ Build b.value.con (expressions (expressions_of b.value.args.items)) b.value.place = search (rules, the_lemmas) in
+    cc

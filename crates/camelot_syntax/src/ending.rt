@@ -9,13 +9,13 @@ ghost use Rattle.camelot_syntax.specs.States.{Does, seen, stack_of, fun_draft_of
 use crate::operand::{if_tree, let_tree};
 use crate::parser::Parser;
 use crate::state::{
-    ArmHead, ArmState, Building, Enclosed, ExprState, Frame, FunDraft, Halt, Matching, Operand,
-    Outer, Spot, State,
+    ArmHead, ArmState, Enclosed, ExprState, Frame, FunDraft, Halt, Matching, Operand, Outer, Spot,
+    State,
 };
 use crate::units::push_tree;
 use crate::words::TokenView;
 use camelot_grammar::Mark;
-use camelot_tree::{Arm, Expr, FunDecl, Name};
+use camelot_tree::{Arm, Build, Expr, FunDecl, Name};
 use std::alloc::Global;
 
 /// The match with one more arm.
@@ -123,7 +123,7 @@ impl Parser {
     fn close_args(
         &mut self,
         spot: Box<Spot>,
-        mut build: Box<Building>,
+        mut build: Box<Build>,
         tree: Box<Expr>,
         lexeme: &TokenView<'_>,
     ) -> Result<(), Halt>

@@ -4,7 +4,9 @@
 ghost use Rattle.std.specs.Prelude.{◌≡◌};
 ghost use Rattle.camelot_syntax.specs.declared.state.Halt.TheVariants.{Memory};
 
-use camelot_tree::{Arm, ArmCell, Atom, ConDecl, Expr, FunDecl, Name, Param, PrimOp, TypeDecl};
+use camelot_tree::{
+    Arm, ArmCell, Atom, Build, ConDecl, Expr, FunDecl, Name, Param, PrimOp, TypeDecl,
+};
 use std::alloc::{AllocError, AllocFailed};
 
 /// An operand, with the line of its first token.
@@ -61,13 +63,6 @@ pub struct Spot {
     /// The level of the operand's own tokens. Where none is read yet, the level around the operand.
     pub level: u32,
     pub call: Option<Callee>,
-}
-
-/// A constructor with the arguments so far.
-#[derive(Drop)]
-pub struct Building {
-    pub con: Name,
-    pub args: Vec<Expr>,
 }
 
 /// A match with the arms so far.
@@ -131,7 +126,7 @@ pub enum Frame {
     },
     Args {
         spot: Box<Spot>,
-        build: Box<Building>,
+        build: Box<Build>,
     },
     LetValue {
         level: u32,
@@ -214,8 +209,8 @@ pub enum ExprState {
     Negative(Box<Spot>, u32),
     Have(Box<Spot>, Operand),
     Con(Box<Spot>, Name),
-    Full(Box<Spot>, Box<Building>),
-    Placed(Box<Spot>, Box<Building>),
+    Full(Box<Spot>, Box<Build>),
+    Placed(Box<Spot>, Box<Build>),
     Whole(Box<Expr>),
 }
 

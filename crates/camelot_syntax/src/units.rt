@@ -8,7 +8,7 @@ ghost use Rattle.camelot_syntax.specs.States.{Does, seen, IsSmall, stack_of, exp
 
 use crate::operand::leaf;
 use crate::parser::Parser;
-use crate::state::{Building, Callee, ExprState, Frame, Halt, Operand, Spot, State};
+use crate::state::{Callee, ExprState, Frame, Halt, Operand, Spot, State};
 use crate::words::{TokenView, to_name};
 use camelot_grammar::Mark;
 use camelot_tree::{Build, Call, Expr, Name};
@@ -58,18 +58,24 @@ pub fn negative(value: u32, line: u32) -> Expr
     }
 }
 
-/// The constructor with its arguments, in the cell of the diamond `place` where one is named.
-fn built(
-    alloc: Global,
-    con: Name,
-    mut args: Vec<Expr>,
-    place: Option<Name>,
-) -> Result<Operand, Halt>
-    ensures { MatchResult result (λ operand. operand_of operand ≡ built con (expressions_of args.items) place) (λ halt. halt ≡ Memory) }
+/// The build, in the cell of the diamond `place` where one is named.
+fn with_place(mut build: Box<Build>, place: Option<Name>) -> Box<Build>
+    ensures con { result.value.con ≡ build.value.con }
+    ensures args { result.value.args.items ≡ build.value.args.items }
+    ensures place { result.value.place ≡ place }
 {
-    args.shrink_to_fit();
-    let line = con.line;
-    let build = Box::new(alloc, Build { con, args, place })?;
+    build.args.shrink_to_fit();
+    build.place = place;
+    build
+}
+
+/// The constructor with its arguments, in the cell of the diamond `place` where one is named.
+#[tactic(auto, using(crate::proofs::StackLemmas::build_is))]
+fn built(alloc: Global, build: Box<Build>, place: Option<Name>) -> Result<Operand, Halt>
+    ensures { MatchResult result (λ operand. operand_of operand ≡ built build.value.con (expressions_of build.value.args.items) place) (λ halt. halt ≡ Memory) }
+{
+    let build = with_place(build, place);
+    let line = build.con.line;
     leaf(alloc, Expr::Build(build), line)
 }
 
@@ -238,22 +244,25 @@ impl Parser {
         ensures { Does (con_unit_step (spot_of spot.value) con (seen lexeme.now) (stack_of self.old.stack.items)) self.new result }
     {
         let level = spot.level;
-        let args = Vec::new(self.alloc);
+        let build = Build {
+            con,
+            args: Vec::new(self.alloc),
+            place: None,
+        };
+        let build = Box::new(self.alloc, build)?;
         match *lexeme {
             TokenView::Mark {
                 mark: Mark::Open,
                 ..
             } => {
-                let build = Box::new(self.alloc, Building { con, args })?;
                 self.stack.push(Frame::Args { spot, build })?;
                 self.go(level, State::InExpr(ExprState::Want(level)))
             }
             TokenView::Mark { mark: Mark::At, .. } => {
-                let build = Box::new(self.alloc, Building { con, args })?;
                 self.go(level, State::InExpr(ExprState::Placed(spot, build)))
             }
             _ => {
-                let operand = built(self.alloc, con, args, None)?;
+                let operand = built(self.alloc, build, None)?;
                 self.after_unit(spot, operand, lexeme)
             }
         }
@@ -264,7 +273,7 @@ impl Parser {
     pub fn full(
         &mut self,
         spot: Box<Spot>,
-        build: Box<Building>,
+        build: Box<Build>,
         lexeme: &TokenView<'_>,
     ) -> Result<(), Halt>
         requires { IsSmall (seen lexeme.now) }
@@ -276,8 +285,7 @@ impl Parser {
                 self.go(level, State::InExpr(ExprState::Placed(spot, build)))
             }
             _ => {
-                let Building { con, args } = Box::into_inner(build);
-                let operand = built(self.alloc, con, args, None)?;
+                let operand = built(self.alloc, build, None)?;
                 self.after_unit(spot, operand, lexeme)
             }
         }
@@ -288,7 +296,7 @@ impl Parser {
     pub fn placed(
         &mut self,
         spot: Box<Spot>,
-        build: Box<Building>,
+        build: Box<Build>,
         lexeme: &TokenView<'_>,
     ) -> Result<(), Halt>
         ensures { Does (placed_step (spot_of spot.value) build.value.con (expressions_of build.value.args.items) (seen lexeme.now) (stack_of self.old.stack.items)) self.new result }
@@ -296,8 +304,7 @@ impl Parser {
         match *lexeme {
             TokenView::Lower { word, line } => {
                 let diamond = to_name(self.alloc, word, line)?;
-                let Building { con, args } = Box::into_inner(build);
-                let operand = built(self.alloc, con, args, Some(diamond))?;
+                let operand = built(self.alloc, build, Some(diamond))?;
                 self.take_unit(spot, operand)
             }
             _ => Err(Halt::Stuck),
