@@ -1,5 +1,8 @@
 -- Values, their text, operators, and what a run comes to.
 pub mod Value
+pub mod Counts
+pub mod CountLaws
+pub mod Nodes
 pub mod Items
 pub mod Kinds
 pub mod Names

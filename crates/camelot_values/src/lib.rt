@@ -1,9 +1,12 @@
 //! Kinds and values of Camelot and Grail, and values as text.
 #![tactic(auto)]
 
+mod counts;
+mod fits;
 mod kinds;
 pub mod laws;
 mod reach;
+mod reached;
 mod text;
 mod value;
 
