@@ -1,4 +1,4 @@
-//! Kinds and values of Camelot and Grail, and values as text.
+//! Kinds and values of Camelot and Grail.
 #![tactic(auto)]
 
 mod counts;
@@ -7,10 +7,8 @@ mod kinds;
 pub mod laws;
 mod reach;
 mod reached;
-mod text;
 mod value;
 
 pub use kinds::{Con, Kind, TypeDef, Types, Word};
 pub use laws::law_of_sequence;
-pub use text::print;
 pub use value::{Flat, Item};
