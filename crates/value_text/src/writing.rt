@@ -24,7 +24,7 @@ fn push_node(out: &mut Vec<u8>, types: &Types, item: &Item) -> Result<(), AllocE
 }
 
 // The number of the node's parts.
-fn parts_of(item: &Item) -> u8
+pub(crate) fn parts_of(item: &Item) -> u8
     ensures { result ≡ parts_of item.now }
 {
     match *item {
