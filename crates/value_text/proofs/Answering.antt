@@ -1,15 +1,15 @@
 -- What was read of a text is what is answered.
-use Rattle.std.proofs.Common.{◌≡◌, ℕ, zero, suc, ◌+◌, ◌-◌, ◌<◌, ◌≤◌, Bool, true, false, List, [], ◌∷◌, ◌++◌, length, take, refl, sym, ap, ◌∙◌, subst, arith, inl, inr}
-use Rattle.std.specs.Prelude.{◌⊎◌, IsTrue, ⊤}
+use Rattle.std.proofs.Common.{◌≡◌, ℕ, suc, ◌<◌, ◌≤◌, Bool, true, false, List, [], ◌∷◌, ◌++◌, length, take, refl, sym, ap, ◌∙◌, subst, arith, inl, inr}
+use Rattle.std.specs.Prelude.{◌⊎◌}
 use Rattle.std.specs.List.{list_all}
-use Rattle.camelot_values.specs.Value.{Value, Values, parts, part_count}
+use Rattle.camelot_values.specs.Value.{Value, parts, part_count}
 use Rattle.camelot_values.specs.Items.{nodes_all}
 use Rattle.camelot_values.specs.Counts.{size_all}
 use Rattle.camelot_values.specs.Kinds.{DataType}
 use Rattle.camelot_values.specs.declared.kinds.Kind.{Kind}
 use Rattle.camelot_values.specs.declared.value.Item.{Item}
 use Rattle.value_text.specs.Grammar.{IsTextOf, IsRead, IsTooLong, IsBadShape, Begins}
-use Rattle.value_text.specs.Due.{Possible, Whole, HaveValues, Stops, first_due}
+use Rattle.value_text.specs.Due.{Possible, Whole, first_due}
 use Rattle.value_text.specs.Finite.{Exact, has_value}
 use Rattle.value_text.specs.Values.{OfValues}
 use Rattle.value_text.specs.Only.{OnlyRead, OnlyLong, OnlyText, OnlyFault, IsBad}
@@ -18,7 +18,7 @@ use Rattle.value_text.specs.declared.asking.ValueFault.{ValueFault}
 use Rattle.value_text.specs.declared.asking.ValueFault.TheVariants as fault
 use Rattle.value_text.proofs.Words.{true_false}
 use Rattle.value_text.proofs.Finiteness.{values_of_kinds, kinds_of_values}
-use Rattle.value_text.proofs.Texts.{TextOf, text_accepted, accepts_text, one_text, size_of, bad_shape, no_values, possible_first, nodes_all_same, parts_same, fit_count}
+use Rattle.value_text.proofs.Texts.{TextOf, text_accepted, one_text, size_of, no_values, possible_first, nodes_all_same, parts_same, fit_count}
 
 pub all_possible : (types : List DataType) (marks : List Bool) (kinds : List Kind) (b : Bool) → Exact types marks → b ≡ list_all (has_value marks) kinds → b ≡ true → Possible types (first_due kinds)
 all_possible types marks kinds b e h t = possible_first types kinds (values_of_kinds types marks e.sound kinds (sym h ∙ t))

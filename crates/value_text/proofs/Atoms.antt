@@ -1,27 +1,26 @@
 -- Which words are those of ints, truth values and diamonds.
-use Rattle.std.proofs.Common.{◌≡◌, ℕ, zero, suc, ◌+◌, ◌-◌, ◌*◌, ◌^◌, ◌<◌, ◌≤◌, Bool, true, false, List, [], ◌∷◌, ◌++◌, length, take, drop, get_or, Option, Some, None, refl, sym, ap, ◌∙◌, subst, arith, append_assoc, append-nil, length-append, inl, inr, pos}
-use Rattle.std.specs.Prelude.{◌⊎◌, IsTrue, decimal, max, cond, codes, ℤ, neg_ℤ, negsuc, ◌==◌, ◌&&◌, if◌then◌else◌}
+use Rattle.std.proofs.Common.{◌≡◌, ℕ, zero, suc, ◌+◌, ◌^◌, ◌<◌, ◌≤◌, Bool, true, false, List, [], ◌∷◌, ◌++◌, length, take, drop, Option, Some, None, refl, sym, ap, ◌∙◌, subst, arith, append-nil, inl, inr, pos}
+use Rattle.std.specs.Prelude.{◌⊎◌, IsTrue, decimal, max, cond, codes, ℤ, neg_ℤ}
 use Rattle.std.specs.Option.{option_map}
 use Rattle.std.specs.List.{list_all}
 use Rattle.std.proofs.lemmas.Bool.{cases_lt}
-use Rattle.std.proofs.lemmas.Bool.Decides.{nat_tests}
-use Rattle.std.proofs.lemmas.List.{take-append-drop, length-take-le, take_all}
+use Rattle.std.proofs.lemmas.List.{take-append-drop, length-take-le}
 use Rattle.camelot_values.specs.Value as value
 use Rattle.camelot_values.specs.Value.{IsInt32}
 use Rattle.camelot_values.specs.Names.{is_digit}
-use Rattle.camelot_values.specs.Kinds.{DataType, Constructor, constructor_name, type_of}
+use Rattle.camelot_values.specs.Kinds.{DataType, constructor_name, type_of}
 use Rattle.camelot_values.specs.declared.kinds.Kind.{Kind}
 use Rattle.camelot_values.specs.declared.kinds.Kind.TheVariants as kind
 use Rattle.camelot_values.specs.declared.value.Item.{Item}
 use Rattle.camelot_values.specs.declared.value.Item.TheVariants as item
-use Rattle.value_text.specs.Grammar.{IsNodeText, IsIntText, is_word, is_word_byte}
+use Rattle.value_text.specs.Grammar.{IsNodeText, IsIntText, is_word}
 use Rattle.value_text.specs.Due.{IsNode, HaveValues, IsWordFront, Named, Unnamed}
 use Rattle.value_text.specs.Grammar.{AreNamed}
 use Rattle.value_text.specs.Finite.{HasValue}
 use Rattle.value_text.specs.Choosing.{common, DigitsRead}
-use Rattle.value_text.proofs.Words.{and_parts, and_both, true_false, word_all, same_tail}
+use Rattle.value_text.proofs.Words.{and_parts, word_all, same_tail}
 use Rattle.value_text.proofs.Lives.{decimal_fine}
-use Rattle.value_text.proofs.Naming.{unnamed_by, Reached, word_front_of, of_type}
+use Rattle.value_text.proofs.Naming.{unnamed_by, Reached, word_front_of}
 use Rattle.value_text.proofs.Digits.{decimal_one, decimal_digits}
 
 -- ---- nodes of the simple kinds

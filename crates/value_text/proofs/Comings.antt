@@ -1,21 +1,19 @@
 -- What is due and what comes of it: values by their first nodes.
-use Rattle.std.proofs.Common.{◌≡◌, ℕ, zero, suc, ◌+◌, ◌<◌, ◌≤◌, Bool, true, false, List, [], ◌∷◌, ◌++◌, length, Option, Some, None, refl, sym, ap, ◌∙◌, subst, arith, append_assoc, append-nil, inl, inr}
-use Rattle.std.specs.Prelude.{◌⊎◌, IsTrue, IsFalse, IsSomeAnd}
-use Rattle.std.specs.Option.{option_map}
+use Rattle.std.proofs.Common.{◌≡◌, ℕ, suc, List, [], ◌∷◌, ◌++◌, length, Option, Some, None, refl, sym, ap, ◌∙◌, subst}
+use Rattle.std.specs.Prelude.{IsSomeAnd}
 use Rattle.camelot_values.specs.Value as value
 use Rattle.camelot_values.specs.Value.{Value, Values, part_count, IsInt32}
 use Rattle.camelot_values.specs.Items.{nodes, nodes_all}
-use Rattle.camelot_values.specs.Kinds.{DataType, Constructor, constructor, type_of, constructor_name}
+use Rattle.camelot_values.specs.Kinds.{DataType, constructor}
 use Rattle.camelot_values.specs.Typing.{Fits, FitAll}
 use Rattle.camelot_values.specs.declared.kinds.Kind.{Kind}
-use Rattle.camelot_values.specs.declared.kinds.Kind.TheVariants as kind
 use Rattle.camelot_values.specs.declared.value.Item.{Item}
 use Rattle.camelot_values.specs.declared.value.Item.TheVariants as item
 use Rattle.value_text.specs.Grammar as g
 use Rattle.value_text.specs.Grammar.{Piece, pieces, further_pieces, Spelled, Ends, IsNodeText, is_word}
 use Rattle.value_text.specs.declared.due.Due.{Due}
 use Rattle.value_text.specs.declared.due.Due.TheVariants as due
-use Rattle.value_text.specs.Due.{Comes, Accepts, Possible, IsNode, HaveValues, further_due, parts_due}
+use Rattle.value_text.specs.Due.{Comes, Possible, IsNode, HaveValues, further_due, parts_due}
 
 pub fit_length : (types : List DataType) (qs : List Kind) (vs : Values) → FitAll types qs vs → length qs ≡ part_count vs
 fit_length types [] value.End h = refl

@@ -1,15 +1,15 @@
 -- Fronts of numbers in decimal.
-use Rattle.std.proofs.Common.{◌≡◌, ℕ, zero, suc, ◌+◌, ◌-◌, ◌*◌, ◌/◌, ◌%◌, ◌^◌, ◌<◌, ◌≤◌, Bool, true, false, List, [], ◌∷◌, ◌++◌, length, take, drop, get_or, refl, sym, ap, ◌∙◌, subst, arith, append_assoc, append-nil, length-append, inl, inr}
-use Rattle.std.specs.Prelude.{◌⊎◌, IsTrue, decimal, ℤ, pos, neg_ℤ}
+use Rattle.std.proofs.Common.{◌≡◌, ℕ, zero, suc, ◌+◌, ◌-◌, ◌*◌, ◌/◌, ◌%◌, ◌^◌, ◌<◌, ◌≤◌, true, false, List, [], ◌∷◌, ◌++◌, length, take, drop, get_or, refl, sym, ap, ◌∙◌, subst, arith, append_assoc, append-nil, length-append, inl, inr}
+use Rattle.std.specs.Prelude.{◌⊎◌, decimal, ℤ, pos, neg_ℤ}
 use Rattle.std.specs.List.{list_all}
 use Rattle.std.proofs.lemmas.Bool.{cases_lt}
 use Rattle.std.proofs.lemmas.Bool.Decides.{nat_tests}
 use Rattle.std.proofs.lemmas.Fmt.{decimal_digit, decimal_step, decimal_by_steps, signed_decimal_injective}
-use Rattle.std.proofs.lemmas.List.{take-append-drop, length-take-le, take_all}
+use Rattle.std.proofs.lemmas.List.{length-take-le, take_all}
 use Rattle.std.proofs.Math.Seq.{take-suc}
 use Rattle.camelot_values.specs.Names.{is_digit}
 use Rattle.value_text.specs.Choosing.{DigitsRead, IntRead, IntRefused, NoDigit, NextDigit, IsPlain}
-use Rattle.value_text.proofs.Words.{and_parts, and_both, true_false, same_tail, front_cases, Longer, Beyond}
+use Rattle.value_text.proofs.Words.{and_parts, and_both, true_false, same_tail}
 
 -- what is written with one byte more ends with it, or with nothing
 last_byte : (xs p s : List ℕ) (c : ℕ) → xs ++ c ∷ [] ≡ p ++ s → (s ≡ []) ⊎ ((t : List ℕ) × (s ≡ t ++ c ∷ []) × (xs ≡ p ++ t))

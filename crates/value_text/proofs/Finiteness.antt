@@ -1,20 +1,20 @@
 -- The types that have a value are those that the marks say.
-use Rattle.std.proofs.Common.{◌≡◌, ℕ, zero, suc, ◌+◌, ◌-◌, ◌<◌, ◌≤◌, Bool, true, false, List, [], ◌∷◌, ◌++◌, length, take, drop, get_or, map, Option, Some, None, refl, sym, ap, ◌∙◌, subst, arith, append_assoc, append-nil, length-append, inl, inr, pos}
-use Rattle.std.specs.Prelude.{◌⊎◌, IsTrue, slice_get, slice_set, nat_lt, if◌then◌else◌, IsSomeAnd, ◌==◌, ◌||◌, ◌&&◌}
+use Rattle.std.proofs.Common.{◌≡◌, ℕ, zero, suc, ◌+◌, ◌-◌, ◌<◌, Bool, true, false, List, [], ◌∷◌, length, Option, Some, None, refl, sym, ap, ◌∙◌, subst, arith, inl, inr, pos}
+use Rattle.std.specs.Prelude.{◌⊎◌, slice_get, slice_set, nat_lt, if◌then◌else◌, ◌||◌}
 use Rattle.std.specs.List.{list_all, list_any}
-use Rattle.std.specs.Option.{option_map, option_map_or}
+use Rattle.std.specs.Option.{option_map}
 use Rattle.std.proofs.lemmas.Bool.Decides.{nat_tests}
 use Rattle.camelot_values.specs.Value as value
 use Rattle.camelot_values.specs.Value.{Value, Values, parts, part_count}
 use Rattle.camelot_values.specs.Kinds.{DataType, Constructor, constructors, constructor, type_from, type_of}
-use Rattle.camelot_values.specs.KindLaws.{located, Located, slice_get_front, slice_get_behind}
+use Rattle.camelot_values.specs.KindLaws.{located, slice_get_front, slice_get_behind}
 use Rattle.camelot_values.specs.Typing.{Fits, FitAll}
 use Rattle.camelot_values.specs.declared.kinds.Kind.{Kind}
 use Rattle.camelot_values.specs.declared.kinds.Kind.TheVariants.{Int, Flag, Dia, Of}
 use Rattle.value_text.specs.Due.{HaveValues}
 use Rattle.value_text.specs.Finite.{is_marked, has_value, is_ready, HasValue, Sound, NoneReady, Exact}
 use Rattle.value_text.specs.Choosing.{first_con}
-use Rattle.value_text.proofs.Words.{and_parts, and_both, true_false}
+use Rattle.value_text.proofs.Words.{and_parts, and_both}
 use Rattle.value_text.proofs.Comings.{some_is, is_some}
 
 -- ---- numbers of constructors

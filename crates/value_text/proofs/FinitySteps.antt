@@ -1,10 +1,10 @@
 -- Steps of the loops that look for types with a value.
-use Rattle.std.proofs.Common.{◌≡◌, ℕ, zero, suc, ◌+◌, ◌-◌, ◌<◌, ◌≤◌, Bool, true, false, List, [], ◌∷◌, ◌++◌, length, take, drop, get_or, map, Option, Some, None, refl, sym, ap, ◌∙◌, subst, arith, drop-cons, drop_of_length-le, add-one, inl, inr}
-use Rattle.std.specs.Prelude.{◌⊎◌, IsTrue, slice_get, slice_set, not, ◌&&◌, ◌||◌, replicate}
+use Rattle.std.proofs.Common.{◌≡◌, ℕ, zero, suc, ◌+◌, ◌<◌, ◌≤◌, Bool, true, false, List, [], ◌∷◌, length, drop, get_or, map, Some, refl, sym, ap, ◌∙◌, subst, arith, drop-cons, add-one, inl, inr}
+use Rattle.std.specs.Prelude.{◌⊎◌, slice_get, slice_set, not, ◌&&◌, ◌||◌, replicate}
 use Rattle.std.specs.List.{list_all, list_any}
 use Rattle.std.proofs.lemmas.List.{length-map}
 use Rattle.std.proofs.lemmas.Bool.{cases_lt}
-use Rattle.camelot_values.specs.Kinds.{DataType, Constructor, data_type_of, constructor_of, AreTypes}
+use Rattle.camelot_values.specs.Kinds.{DataType, data_type_of, constructor_of, AreTypes}
 use Rattle.camelot_values.specs.declared.kinds.Kind.{Kind}
 use Rattle.camelot_values.specs.declared.kinds.Con.{Con}
 use Rattle.camelot_values.specs.declared.kinds.TypeDef.{TypeDef}

@@ -1,26 +1,24 @@
 -- What the code has read of a text, step by step.
-use Rattle.std.proofs.Common.{◌≡◌, ℕ, zero, suc, ◌+◌, ◌-◌, ◌<◌, ◌≤◌, Bool, true, false, List, [], ◌∷◌, ◌++◌, length, take, drop, get_or, refl, sym, ap, ◌∙◌, subst, arith, length-append, reverse, inl, inr}
+use Rattle.std.proofs.Common.{◌≡◌, ℕ, suc, ◌+◌, ◌-◌, ◌<◌, ◌≤◌, Bool, true, false, List, [], ◌∷◌, ◌++◌, length, refl, sym, ap, ◌∙◌, subst, arith, length-append, reverse, inl, inr}
 use Rattle.std.specs.Prelude.{◌⊎◌, IsTrue, ◌==◌, if◌then◌else◌, decimal, ℤ, pos, neg_ℤ}
-use Rattle.std.specs.List.{list_all}
 use Rattle.std.proofs.lemmas.Bool.Decides.{nat_tests}
 use Rattle.std.proofs.lemmas.List.{reverse-append}
-use Rattle.camelot_values.specs.Kinds.{DataType, Constructor, constructor_name}
+use Rattle.camelot_values.specs.Kinds.{DataType}
 use Rattle.camelot_values.specs.Value.{IsInt32}
 use Rattle.value_text.proofs.Atoms.{pos_small, neg_small}
 use Rattle.camelot_values.specs.declared.kinds.Kind.{Kind}
-use Rattle.camelot_values.specs.declared.kinds.Kind.TheVariants as kind
 use Rattle.camelot_values.specs.declared.value.Item.{Item}
 use Rattle.camelot_values.specs.declared.value.Item.TheVariants as item
-use Rattle.value_text.specs.Grammar.{AreNamed, Ends, IsNodeText, IsIntText, is_word, is_word_byte}
+use Rattle.value_text.specs.Grammar.{AreNamed, is_word}
 use Rattle.value_text.specs.declared.due.Due.{Due}
 use Rattle.value_text.specs.declared.due.Due.TheVariants as due
-use Rattle.value_text.specs.Due.{Reading, Named, Unnamed, Stops, Whole, IsNode, Possible, first_due, parts_due}
+use Rattle.value_text.specs.Due.{Reading, Named, Stops, Whole, Possible, first_due, parts_due}
 use Rattle.value_text.specs.Finite.{HasValue}
-use Rattle.value_text.specs.Splitting.{skip, before_mark, NotFirst, IsSplit, NodeRead, NodeRefused}
+use Rattle.value_text.specs.Splitting.{skip, before_mark, NotFirst, NodeRead, NodeRefused}
 use Rattle.value_text.proofs.Words.{word_all}
-use Rattle.value_text.proofs.Lives.{con_fine, int_fine, decimal_fine}
+use Rattle.value_text.proofs.Lives.{con_fine, decimal_fine}
 use Rattle.value_text.proofs.Steps.{NoSpace, read_space, read_mark, read_word}
-use Rattle.value_text.proofs.Stopping.{NotSpace, Refuses, stops_at_byte, stops_at_end, stops_at_word}
+use Rattle.value_text.proofs.Stopping.{NotSpace, stops_at_byte, stops_at_end, stops_at_word}
 use Rattle.value_text.proofs.Texts.{reading_starts, reading_ends}
 
 -- ---- spaces

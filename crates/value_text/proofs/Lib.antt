@@ -17,3 +17,4 @@ pub mod Following
 pub mod StackSteps
 pub mod ValueSteps
 pub mod Answering
+pub mod RoundTrip

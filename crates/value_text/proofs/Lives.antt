@@ -1,25 +1,23 @@
 -- What is due has a text: its pieces, each after a space.
-use Rattle.std.proofs.Common.{◌≡◌, ℕ, zero, suc, ◌+◌, ◌-◌, ◌%◌, ◌^◌, ◌<◌, ◌≤◌, Bool, true, false, List, [], ◌∷◌, ◌++◌, length, map, Option, Some, None, refl, sym, ap, ◌∙◌, subst, arith, append_assoc, append-nil, length-append, inl, inr, codes}
-use Rattle.std.specs.Prelude.{◌⊎◌, IsTrue, IsFalse, ◌&&◌, slice_get, ℤ, pos, negsuc, neg_ℤ, IsSomeAnd, decimal}
-use Rattle.std.specs.Option.{option_map}
+use Rattle.std.proofs.Common.{◌≡◌, ℕ, zero, suc, ◌+◌, ◌%◌, ◌^◌, ◌<◌, ◌≤◌, true, false, List, [], ◌∷◌, ◌++◌, Some, refl, sym, subst, arith, inl, inr}
+use Rattle.std.specs.Prelude.{IsTrue, slice_get, ℤ, pos, negsuc, decimal}
 use Rattle.std.proofs.lemmas.Bool.Decides.{nat_tests}
 use Rattle.std.proofs.lemmas.Fmt.{decimal_by_steps}
 use Rattle.std.specs.Fmt.{signed_decimal}
 use Rattle.std.specs.List.{list_all, AllByRecursion}
 use Rattle.camelot_values.specs.Value as value
 use Rattle.camelot_values.specs.Value.{Value, Values, part_count, IsInt32}
-use Rattle.camelot_values.specs.Kinds.{DataType, Constructor, constructor, constructors, type_of, constructor_name}
-use Rattle.camelot_values.specs.Names.{is_upper, is_lower, is_digit, is_tail, has_form, IsUpperName}
+use Rattle.camelot_values.specs.Kinds.{DataType, Constructor, constructor, constructors, constructor_name}
+use Rattle.camelot_values.specs.Names.{is_upper, is_tail, IsUpperName}
 use Rattle.camelot_values.specs.Typing.{Fits, FitAll}
 use Rattle.camelot_values.specs.declared.kinds.Kind.{Kind}
 use Rattle.camelot_values.specs.declared.value.Item.{Item}
-use Rattle.camelot_values.specs.declared.value.Item.TheVariants as item
 use Rattle.value_text.specs.Grammar as g
 use Rattle.value_text.specs.Grammar.{Piece, pieces, further_pieces, Spelled, Ends, IsNodeText, IsIntText, is_word, is_word_byte}
 use Rattle.value_text.specs.Printing.{node_text}
 use Rattle.value_text.specs.declared.due.Due.{Due}
 use Rattle.value_text.specs.declared.due.Due.TheVariants as due
-use Rattle.value_text.specs.Due.{Comes, Accepts, Possible}
+use Rattle.value_text.specs.Due.{Comes}
 use Rattle.value_text.specs.Grammar.{AreNamed}
 use Rattle.value_text.proofs.Words.{and_parts, and_both, word_all}
 use Rattle.value_text.proofs.Steps.{put_word}
@@ -82,7 +80,7 @@ int_text (negsuc n) = record { size = suc n; is = inr (refl, refl) }
 pub con_fine : (types : List DataType) (c : ℕ) (con : Constructor) → AreNamed types → constructor types c ≡ Some con → IsTrue (is_word (constructor_name types c))
 con_fine types c con names e = subst (λ w. IsTrue (is_word w)) (sym (named_con types c con e)) (name_fine con.name (at_place (λ c. IsUpperName c.name) (constructors types) c con names e))
 
-first_part : (types : List DataType) (qs : List Kind) (v : Value) (vs : Values) → FitAll types qs (value.And v vs) → (q : Kind) × (rest : List Kind) × Fits types q v × FitAll types rest vs
+pub first_part : (types : List DataType) (qs : List Kind) (v : Value) (vs : Values) → FitAll types qs (value.And v vs) → (q : Kind) × (rest : List Kind) × Fits types q v × FitAll types rest vs
 first_part types [] v vs f = absurd f
 first_part types (q ∷ qs) v vs f = (q, qs, f.0, f.1)
 

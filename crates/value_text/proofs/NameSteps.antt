@@ -1,19 +1,18 @@
 -- Steps of the loops over the constructors of a type.
-use Rattle.std.proofs.Common.{◌≡◌, ℕ, zero, suc, ◌+◌, ◌-◌, ◌*◌, ◌<◌, ◌≤◌, Bool, true, false, List, [], ◌∷◌, ◌++◌, length, take, drop, get_or, map, Option, Some, None, refl, sym, ap, ◌∙◌, subst, arith, drop-cons, drop_of_length-le, add-one, inl, inr}
-use Rattle.std.specs.Prelude.{◌⊎◌, IsTrue, slice_get, ◌&&◌, ◌||◌, if◌then◌else◌, max, vec_len}
+use Rattle.std.proofs.Common.{◌≡◌, ℕ, zero, suc, ◌+◌, ◌<◌, ◌≤◌, Bool, true, false, List, [], ◌∷◌, length, drop, get_or, map, Option, Some, None, refl, sym, ap, ◌∙◌, arith, drop-cons, drop_of_length-le, add-one}
+use Rattle.std.specs.Prelude.{◌&&◌, if◌then◌else◌, max, vec_len}
 use Rattle.std.specs.List.{AllByRecursion}
 use Rattle.std.specs.Option.{option_map}
 use Rattle.std.specs.Str.{bytes_eq}
 use Rattle.std.proofs.lemmas.List.{length-map}
-use Rattle.camelot_values.specs.NameLaws.{same_name, name_itself}
+use Rattle.camelot_values.specs.NameLaws.{same_name}
 use Rattle.camelot_values.specs.Kinds.{DataType, Constructor, IsDataType, AreTypes, data_type_of, constructor_of}
 use Rattle.camelot_values.specs.declared.kinds.Con.{Con}
 use Rattle.camelot_values.specs.declared.kinds.TypeDef.{TypeDef}
 use Rattle.value_text.specs.Finite.{is_ready}
 use Rattle.value_text.specs.Choosing.{common, choose, best, first_con, Looked}
-use Rattle.value_text.specs.declared.names.Look.{Look}
 use Rattle.value_text.specs.declared.names.Look.TheVariants as look
-use Rattle.value_text.proofs.Words.{and_parts, and_both, true_false}
+use Rattle.value_text.proofs.Words.{and_both}
 
 not_same : (v w : List ℕ) → (v ≡ w → ⊥) → bytes_eq v w ≡ false
 not_same v w n = by_test (bytes_eq v w) refl

@@ -1,18 +1,14 @@
 -- Which node a word of a kind is that of.
-use Rattle.std.proofs.Common.{◌≡◌, ℕ, zero, suc, ◌+◌, ◌-◌, ◌*◌, ◌^◌, ◌<◌, ◌≤◌, Bool, true, false, List, [], ◌∷◌, ◌++◌, length, take, drop, get_or, map, Option, Some, None, refl, sym, ap, ◌∙◌, subst, arith, append_assoc, append-nil, length-append, inl, inr, pos}
-use Rattle.std.specs.Prelude.{◌⊎◌, IsTrue, slice_get, decimal, max, cond, codes, ℤ, neg_ℤ, if◌then◌else◌, ◌==◌, ◌&&◌}
-use Rattle.std.specs.Int.{w32}
-use Rattle.std.specs.List.{list_all, list_any, AllByRecursion}
+use Rattle.std.proofs.Common.{◌≡◌, ℕ, zero, suc, ◌+◌, ◌<◌, ◌≤◌, Bool, true, false, List, [], ◌∷◌, ◌++◌, length, map, Option, Some, None, refl, sym, ap, ◌∙◌, subst, arith, inl, inr}
+use Rattle.std.specs.Prelude.{◌⊎◌, IsTrue, slice_get, max, if◌then◌else◌, ◌==◌, ◌&&◌}
 use Rattle.std.specs.Option.{option_map}
 use Rattle.std.specs.Str.{bytes_eq}
 use Rattle.std.proofs.lemmas.Bool.{cases_lt}
 use Rattle.std.proofs.lemmas.Bool.Decides.{nat_tests}
-use Rattle.std.proofs.lemmas.List.{take-append-drop, length-take-le, take_all}
-use Rattle.camelot_values.specs.Value.{IsInt32}
 use Rattle.camelot_values.specs.Names.{AreDistinct, IsUpperName}
 use Rattle.camelot_values.specs.NameLaws.{same_name, name_itself}
 use Rattle.camelot_values.specs.Items.{nodes}
-use Rattle.camelot_values.specs.KindLaws.{located, Located}
+use Rattle.camelot_values.specs.KindLaws.{located}
 use Rattle.camelot_values.specs.Kinds.{DataType, Constructor, constructors, constructor, type_of, constructor_name}
 use Rattle.camelot_values.specs.declared.kinds.Kind.{Kind}
 use Rattle.camelot_values.specs.declared.kinds.Kind.TheVariants as kind
@@ -24,13 +20,12 @@ use Rattle.value_text.specs.Grammar.{pieces, IsNodeText, IsIntText, is_word, is_
 use Rattle.value_text.specs.Printing.{node_text}
 use Rattle.value_text.specs.Due.{Comes, IsNode, HaveValues, IsWordFront, Named, Unnamed}
 use Rattle.value_text.specs.Grammar.{AreNamed, DistinctNames}
-use Rattle.value_text.specs.Finite.{is_marked, has_value, is_ready, HasValue, Exact}
+use Rattle.value_text.specs.Finite.{is_ready, HasValue, Exact}
 use Rattle.value_text.specs.Choosing.{common, choose, best, first_con}
 use Rattle.value_text.proofs.Words.{and_parts, and_both, true_false}
-use Rattle.value_text.proofs.Lives.{AllFine, fine_comes, int_fine, decimal_fine, named_con, con_fine, at_place, name_fine}
+use Rattle.value_text.proofs.Lives.{AllFine, fine_comes, named_con, at_place, name_fine}
 use Rattle.value_text.proofs.Finiteness.{con_at, type_at, values_of_kinds, kinds_of_values}
 use Rattle.value_text.proofs.Comings.{unfold_node, parts_have}
-use Rattle.value_text.proofs.Digits.{decimal_one, cut, Cut}
 
 -- ---- names that are one
 

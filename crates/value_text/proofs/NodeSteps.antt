@@ -1,12 +1,11 @@
 -- From constructors in the code's lists to nodes and their words.
-use Rattle.std.proofs.Common.{◌≡◌, ℕ, zero, suc, ◌+◌, ◌-◌, ◌*◌, ◌<◌, ◌≤◌, Bool, true, false, List, [], ◌∷◌, ◌++◌, length, take, drop, get_or, map, Option, Some, None, refl, sym, ap, ◌∙◌, subst, arith, inl, inr, length-append, to_z, of_z, w32}
+use Rattle.std.proofs.Common.{◌≡◌, ℕ, zero, suc, ◌+◌, ◌-◌, ◌<◌, ◌≤◌, Bool, List, [], ◌∷◌, length, take, drop, get_or, map, Some, None, refl, sym, ap, ◌∙◌, subst, arith, inl, inr, length-append, to_z, of_z, w32}
 use Rattle.std.proofs.lemmas.Int.{to_z-of_z}
 use Rattle.std.specs.Prelude.{◌⊎◌, slice_get, vec_len, ℤ, pos, neg_ℤ, decimal, codes}
 use Rattle.std.specs.List.{AllByRecursion}
-use Rattle.std.specs.Option.{option_map}
 use Rattle.std.proofs.lemmas.List.{length-map, take_all}
-use Rattle.camelot_values.specs.Kinds.{DataType, Constructor, IsConstructor, IsDataType, AreTypes, data_type_of, constructor_of, type_of}
-use Rattle.camelot_values.specs.KindLaws.{located, Located}
+use Rattle.camelot_values.specs.Kinds.{DataType, IsConstructor, IsDataType, AreTypes, data_type_of, constructor_of, type_of}
+use Rattle.camelot_values.specs.KindLaws.{located}
 use Rattle.camelot_values.specs.Value as value
 use Rattle.camelot_values.specs.Value.{Value, IsInt32}
 use Rattle.camelot_values.specs.Typing.{Fits, FitAll}
@@ -18,7 +17,7 @@ use Rattle.camelot_values.specs.declared.value.Item.{Item}
 use Rattle.camelot_values.specs.declared.value.Item.TheVariants as item
 use Rattle.value_text.specs.Due.{Named, Unnamed}
 use Rattle.value_text.specs.Grammar.{AreNamed, DistinctNames}
-use Rattle.value_text.specs.Finite.{Exact, HasValue, has_value, is_marked}
+use Rattle.value_text.specs.Finite.{Exact, HasValue}
 use Rattle.value_text.specs.Choosing.{choose, best, first_con, HasPlace, IsConNode, IntRead, IntRefused, DigitsRead, IsPlain, common, IsFlag, NoFlag}
 use Rattle.value_text.specs.Splitting.{skip, IsSplit, NodeRead, NodeRefused, NotFirst}
 use Rattle.value_text.proofs.Comings.{some_is}

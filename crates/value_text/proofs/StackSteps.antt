@@ -1,8 +1,7 @@
 -- Steps of what puts kinds on the stack.
-use Rattle.std.proofs.Common.{◌≡◌, ℕ, zero, suc, ◌+◌, ◌-◌, ◌<◌, ◌≤◌, List, [], ◌∷◌, ◌++◌, length, take, drop, get_or, reverse, refl, sym, ap, ◌∙◌, subst, arith, append_assoc, append-nil, drop-cons, drop_of_length-le}
+use Rattle.std.proofs.Common.{◌≡◌, ℕ, suc, ◌-◌, ◌<◌, ◌≤◌, List, [], ◌∷◌, ◌++◌, length, drop, get_or, reverse, refl, sym, ap, ◌∙◌, arith, append-nil, drop-cons, drop_of_length-le}
 use Rattle.std.proofs.Common.{false}
 use Rattle.std.specs.Prelude.{◌==◌}
-use Rattle.std.proofs.lemmas.List.{reverse-append}
 use Rattle.camelot_values.specs.declared.kinds.Kind.{Kind}
 use Rattle.value_text.specs.declared.due.Due.{Due}
 use Rattle.value_text.specs.declared.due.Due.TheVariants as due

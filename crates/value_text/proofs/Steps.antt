@@ -1,7 +1,6 @@
 -- One step of reading: a space, a mark, or the word of a node.
-use Rattle.std.proofs.Common.{◌≡◌, ℕ, zero, suc, ◌+◌, ◌-◌, ◌<◌, ◌≤◌, Bool, true, false, List, [], ◌∷◌, ◌++◌, length, take, drop, Option, Some, None, refl, sym, ap, ◌∙◌, subst, arith, append_assoc, append-nil, length-append, inl, inr}
-use Rattle.std.specs.Prelude.{◌⊎◌, IsTrue, IsFalse, ◌&&◌}
-use Rattle.std.specs.List.{list_all}
+use Rattle.std.proofs.Common.{◌≡◌, ℕ, Bool, true, false, List, [], ◌∷◌, ◌++◌, refl, sym, ap, ◌∙◌, subst, append_assoc, append-nil, inl, inr}
+use Rattle.std.specs.Prelude.{IsTrue}
 use Rattle.camelot_values.specs.Kinds.{DataType, constructor_name}
 use Rattle.camelot_values.specs.declared.kinds.Kind.{Kind}
 use Rattle.camelot_values.specs.declared.value.Item.{Item}
@@ -9,9 +8,9 @@ use Rattle.value_text.specs.Grammar as g
 use Rattle.value_text.specs.Grammar.{Piece, Spelled, AfterSpaces, MarkThen, WordThen, Ends, IsNodeText, is_word, is_word_byte}
 use Rattle.value_text.specs.declared.due.Due.{Due}
 use Rattle.value_text.specs.declared.due.Due.TheVariants as due
-use Rattle.value_text.specs.Due.{Comes, Accepts, Rest, After, Leads, Possible, Reading, IsNode, Named, HaveValues, parts_due}
-use Rattle.value_text.proofs.Words.{and_parts, true_false, word_all, same_tail, word_split}
-use Rattle.value_text.proofs.Comings.{fold_node, unfold_node, ByNode, possible_parts}
+use Rattle.value_text.specs.Due.{Comes, Accepts, Rest, After, Leads, Possible, Reading, IsNode, Named, parts_due}
+use Rattle.value_text.proofs.Words.{and_parts, word_all, same_tail, word_split}
+use Rattle.value_text.proofs.Comings.{fold_node, unfold_node, possible_parts}
 
 -- ---- spaces
 

@@ -1,9 +1,9 @@
 -- Where reading stops: the front that was read, with what is good of the next word, is the longest that begins a text.
-use Rattle.std.proofs.Common.{◌≡◌, ℕ, zero, suc, ◌+◌, ◌-◌, ◌<◌, ◌≤◌, Bool, true, false, List, [], ◌∷◌, ◌++◌, length, take, drop, Option, Some, None, refl, sym, ap, ◌∙◌, subst, arith, append_assoc, append-nil, length-append, inl, inr}
-use Rattle.std.specs.Prelude.{◌⊎◌, IsTrue, IsFalse, ◌&&◌}
+use Rattle.std.proofs.Common.{◌≡◌, ℕ, ◌+◌, ◌-◌, ◌<◌, ◌≤◌, Bool, true, false, List, [], ◌∷◌, ◌++◌, length, take, drop, refl, sym, ap, ◌∙◌, subst, arith, append_assoc, length-append, inl, inr}
+use Rattle.std.specs.Prelude.{◌⊎◌, IsTrue}
 use Rattle.std.specs.List.{list_all}
 use Rattle.std.proofs.Math.Seq.{take-append-add}
-use Rattle.std.proofs.lemmas.List.{take-append-drop, take-append-le, length-take-le}
+use Rattle.std.proofs.lemmas.List.{take-append-drop, length-take-le}
 use Rattle.std.proofs.lemmas.Bool.{cases_lt}
 use Rattle.camelot_values.specs.Kinds.{DataType, constructor_name}
 use Rattle.camelot_values.specs.Items.{nodes_all}
@@ -13,12 +13,12 @@ use Rattle.value_text.specs.Grammar as g
 use Rattle.value_text.specs.Grammar.{Piece, Spelled, AfterSpaces, MarkThen, WordThen, Ends, IsNodeText, is_word, is_word_byte}
 use Rattle.value_text.specs.declared.due.Due.{Due}
 use Rattle.value_text.specs.declared.due.Due.TheVariants as due
-use Rattle.value_text.specs.Due.{Comes, Accepts, Rest, After, Leads, Possible, Reading, IsNode, HaveValues, Unnamed, IsWordFront, Stops, parts_due}
+use Rattle.value_text.specs.Due.{Accepts, Rest, After, Possible, Reading, IsNode, HaveValues, Unnamed, IsWordFront, Stops, parts_due}
 use Rattle.value_text.specs.Grammar.{AreNamed}
-use Rattle.value_text.proofs.Words.{and_parts, true_false, word_all, all_front, same_tail, word_split, word_front, front_cases, Longer, Beyond}
-use Rattle.value_text.proofs.Comings.{fold_node, unfold_node, ByNode, possible_parts, parts_have, comes_parts, part_pieces}
+use Rattle.value_text.proofs.Words.{word_all, all_front, same_tail, word_split, word_front, front_cases, Longer, Beyond}
+use Rattle.value_text.proofs.Comings.{fold_node, unfold_node, parts_have, comes_parts, part_pieces}
 use Rattle.value_text.proofs.Steps.{put_word, same_after}
-use Rattle.value_text.proofs.Lives.{AllFine, fine_comes, spaced, spaced_ends, spelled_spaced}
+use Rattle.value_text.proofs.Lives.{fine_comes, spaced, spaced_ends, spelled_spaced}
 
 -- some text with this front is of what is due
 pub record Live (types : List DataType) (ds : List Due) (g : List ℕ) : Type 0 where

@@ -1,23 +1,20 @@
 -- Texts of lists of values are texts of what is due at first.
-use Rattle.std.proofs.Common.{◌≡◌, ℕ, zero, suc, ◌+◌, ◌-◌, ◌<◌, ◌≤◌, Bool, true, false, List, [], ◌∷◌, ◌++◌, length, take, drop, Option, Some, None, refl, sym, ap, ◌∙◌, subst, arith, append_assoc, append-nil, length-append, inl, inr}
-use Rattle.std.specs.Prelude.{◌⊎◌, IsTrue}
+use Rattle.std.proofs.Common.{◌≡◌, ℕ, suc, false, List, [], ◌∷◌, ◌++◌, length, take, refl, sym, ap, ◌∙◌, subst, arith, append-nil, length-append, inl, inr}
 use Rattle.std.proofs.Math.Seq.{take-append_seam}
-use Rattle.std.proofs.lemmas.Bool.{cases_lt}
 use Rattle.camelot_values.specs.Value as value
 use Rattle.camelot_values.specs.Value.{Value, Values, parts, part_count}
 use Rattle.camelot_values.specs.Items.{nodes, nodes_all}
 use Rattle.camelot_values.specs.Counts.{size_all}
 use Rattle.camelot_values.specs.CountLaws.{length_nodes_all}
 use Rattle.camelot_values.specs.Kinds.{DataType, constructor_name}
-use Rattle.camelot_values.specs.Typing.{Fits, FitAll}
+use Rattle.camelot_values.specs.Typing.{FitAll}
 use Rattle.camelot_values.specs.declared.kinds.Kind.{Kind}
 use Rattle.camelot_values.specs.declared.value.Item.{Item}
 use Rattle.camelot_values.specs.declared.value.Item.TheVariants as item
 use Rattle.value_text.specs.Grammar as g
 use Rattle.value_text.specs.Grammar.{Piece, pieces, other_pieces, list_pieces, Spelled, IsTextOf, Begins, IsRead, IsTooLong, IsBadShape}
 use Rattle.value_text.specs.declared.due.Due.{Due}
-use Rattle.value_text.specs.declared.due.Due.TheVariants as due
-use Rattle.value_text.specs.Due.{Comes, Accepts, Rest, Leads, Possible, Reading, Stops, Whole, HaveValues, first_due, others_due}
+use Rattle.value_text.specs.Due.{Comes, Accepts, Rest, Possible, Reading, Stops, Whole, HaveValues, first_due, others_due}
 
 -- ---- nodes give their values back
 

@@ -1,7 +1,6 @@
 -- Cited by contracts.
 -- What each answer of reading says of the text.
 use Rattle.std.specs.Prelude.{◌≡◌, ℕ, List}
-use Rattle.camelot_values.specs.Value.{Value}
 use Rattle.camelot_values.specs.Kinds.{DataType}
 use Rattle.camelot_values.specs.declared.kinds.Kind.{Kind}
 use Rattle.value_text.specs.Grammar.{IsTooLong, IsBadShape}

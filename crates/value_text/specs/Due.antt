@@ -1,8 +1,7 @@
 -- Private: words for functions of this crate.
 -- What is still to come in a text of values, and what has been read of it.
-use Rattle.std.specs.Prelude.{◌≡◌, ◌≤◌, ℕ, zero, suc, take, IsTrue, Bool, true, false, List, [], ◌∷◌, ◌++◌, length, Option, Some, None}
+use Rattle.std.specs.Prelude.{◌≡◌, ◌≤◌, ℕ, take, IsTrue, Bool, true, false, List, [], ◌∷◌, ◌++◌, length, Some}
 use Rattle.std.specs.Option.{option_map}
-use Rattle.camelot_values.specs.Value as value
 use Rattle.camelot_values.specs.Value.{Value, Values, IsInt32}
 use Rattle.camelot_values.specs.Items.{nodes}
 use Rattle.camelot_values.specs.Kinds.{DataType, Constructor, constructor, type_of, constructor_name}

@@ -1,13 +1,13 @@
 -- Private: words for functions of this crate.
 -- Which types have a value: a type has one where a constructor of it has none but fields that have.
-use Rattle.std.specs.Prelude.{◌≡◌, ℕ, ◌≤◌, Bool, true, false, List, length, slice_get, Option, Some, None, IsTrue, ◌==◌, ◌&&◌, not}
+use Rattle.std.specs.Prelude.{◌≡◌, ℕ, Bool, true, false, List, slice_get, Some, ◌&&◌, not}
 use Rattle.std.specs.List.{list_all, list_any}
 use Rattle.std.specs.Option.{option_map_or}
 use Rattle.camelot_values.specs.Value.{Value}
 use Rattle.camelot_values.specs.Kinds.{DataType, Constructor}
 use Rattle.camelot_values.specs.Typing.{Fits}
 use Rattle.camelot_values.specs.declared.kinds.Kind.{Kind}
-use Rattle.camelot_values.specs.declared.kinds.Kind.TheVariants.{Int, Flag, Dia, Of}
+use Rattle.camelot_values.specs.declared.kinds.Kind.TheVariants.{Of}
 
 -- the type is marked
 abbrev pub is_marked : List Bool → ℕ → Bool

@@ -1,7 +1,7 @@
 -- Cited by contracts.
 -- Texts of lists of values: words and marks in order, with any number of spaces before each of them and at the end. What is printed is
 -- one text of a value among many.
-use Rattle.std.specs.Prelude.{◌≡◌, ℕ, zero, suc, ◌≤◌, ◌<◌, ◌==◌, ◌||◌, ◌&&◌, ◌⊎◌, not, Bool, true, false, cond, ℤ, pos, neg_ℤ, List, [], ◌∷◌, ◌++◌, length, map, take, codes, decimal, IsTrue, IsFalse}
+use Rattle.std.specs.Prelude.{◌≡◌, ℕ, suc, ◌≤◌, ◌<◌, ◌==◌, ◌||◌, ◌&&◌, ◌⊎◌, not, Bool, false, cond, ℤ, pos, neg_ℤ, List, [], ◌∷◌, ◌++◌, length, map, take, codes, decimal, IsTrue, IsFalse}
 use Rattle.std.specs.List.{list_all, AllByRecursion}
 use Rattle.camelot_values.specs.Value as value
 use Rattle.camelot_values.specs.Value.{Value, Values, parts, part_count}

@@ -6,6 +6,7 @@ mod cutting;
 mod due;
 mod finite;
 mod ints;
+pub mod laws;
 mod names;
 mod nodes;
 mod reading;

@@ -1,5 +1,4 @@
-use Rattle.std.proofs.Common.{arith, sym, subst, ◌∙◌}
-use Rattle.value_text.specs.Values.{OfValues}
+use Rattle.std.proofs.Common.{arith, sym, ◌∙◌}
 use Rattle.value_text.proofs.Answering.{too_long, of_values, only_read}
 use Rattle.value_text.proofs.asking.read_whole.Goals as goal
 

@@ -1,4 +1,4 @@
-use Rattle.std.proofs.Common.{reverse, length, ◌+◌}
+use Rattle.std.proofs.Common.{reverse, length}
 use Rattle.value_text.specs.Due.{Reading, first_due}
 use Rattle.value_text.proofs.reading.read_items.Given as goal
 

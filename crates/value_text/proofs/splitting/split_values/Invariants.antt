@@ -6,5 +6,5 @@ abbrev pub invariant-loop-value : goal.invariant-loop-value
 invariant-loop-value l = record {
   cuts : Cuts l.items l.count l.values.items l.rest;
   few : length l.rest ≤ 65536;
-  turn : length l.values.items ≡ l._value
+  turn : length l.values.items ≡ l._value;
 }
