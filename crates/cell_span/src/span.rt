@@ -1,4 +1,4 @@
-ghost use Rattle.std.specs.Prelude.{◌≡◌, ℕ, ◌<◌, ◌≤◌, length, slice_get, Some, MatchResult, IfOk};
+ghost use Rattle.std.specs.Prelude.{◌≡◌, ◌<◌, ◌≤◌, length, slice_get, Some, MatchResult, IfOk};
 ghost use Rattle.cell_span.specs.Range.{Range, IsRange, Meet, IsWhole, new_arena, front, back, joined, written};
 
 use super::cell::Cell;

@@ -1,5 +1,4 @@
 //! What is answered to a command.
-ghost use Rattle.std.specs.Prelude.{◌<◌, length};
 ghost use Rattle.value_text.specs.Grammar.{AreNamed, DistinctNames};
 
 use super::table::Table;

@@ -1,4 +1,4 @@
-ghost use Rattle.std.specs.Prelude.{◌≡◌, ℕ, List, ◌<◌, length, MatchResult, IfOk, IfErr};
+ghost use Rattle.std.specs.Prelude.{◌≡◌, ℕ, List, ◌<◌, length, MatchResult};
 ghost use Rattle.std.specs.List.{list_all};
 ghost use Rattle.camelot_values.specs.Value.{Value};
 ghost use Rattle.value_text.specs.Grammar.{AreNamed, DistinctNames, IsRead, IsTooLong, IsBadShape};

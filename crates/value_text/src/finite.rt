@@ -1,4 +1,4 @@
-ghost use Rattle.std.specs.Prelude.{◌≡◌, ◌<◌, ◌≤◌, map, length, IfSome, IsNone, MatchOption};
+ghost use Rattle.std.specs.Prelude.{◌≡◌, ◌<◌, ◌≤◌, map, length, MatchOption};
 ghost use Rattle.std.specs.List.{list_any};
 ghost use Rattle.camelot_values.specs.Kinds.{data_type_of, constructor_of};
 ghost use Rattle.value_text.specs.Finite.{is_marked, has_value, is_ready, Sound, NoneReady, ReadyAt, Exact, is_next};

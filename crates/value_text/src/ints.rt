@@ -1,4 +1,4 @@
-ghost use Rattle.std.specs.Prelude.{◌≡◌, ℕ, ◌+◌, ◌≤◌, ◌<◌, ◌∷◌, neg_ℤ, pos, MatchResult, MatchOption};
+ghost use Rattle.std.specs.Prelude.{◌≡◌, ◌+◌, ◌≤◌, ◌<◌, ◌∷◌, neg_ℤ, pos, MatchResult, MatchOption};
 ghost use Rattle.camelot_values.specs.Names.{is_digit};
 ghost use Rattle.value_text.specs.Choosing.{DigitsRead, IntRead, IntRefused, NoDigit, NextDigit, IsPlain};
 

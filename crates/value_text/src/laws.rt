@@ -1,5 +1,5 @@
 //! Laws of texts of values, as the contract of a function that does nothing.
-ghost use Rattle.std.specs.Prelude.{◌≡◌, ◌∷◌, [], ◌≤◌, List};
+ghost use Rattle.std.specs.Prelude.{◌∷◌, [], ◌≤◌, List};
 ghost use Rattle.camelot_values.specs.Value.{Value};
 ghost use Rattle.camelot_values.specs.Counts.{size};
 ghost use Rattle.camelot_values.specs.Kinds.{DataType, constructor_name};

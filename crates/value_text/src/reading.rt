@@ -1,7 +1,5 @@
-ghost use Rattle.std.specs.Prelude.{◌≡◌, ◌∷◌, [], ◌≤◌, ◌<◌, length, reverse, IfOk, IfErr, MatchResult};
-ghost use Rattle.std.specs.List.{list_all};
-ghost use Rattle.camelot_values.specs.declared.kinds.Kind.{Kind as DeclaredKind};
-ghost use Rattle.value_text.specs.Grammar.{AreNamed, DistinctNames, IsRead, IsTooLong, IsBadShape};
+ghost use Rattle.std.specs.Prelude.{◌∷◌, [], ◌<◌, length, reverse, IfOk, MatchResult};
+ghost use Rattle.value_text.specs.Grammar.{AreNamed, DistinctNames};
 ghost use Rattle.value_text.specs.Due.{Reading, Possible, Whole, first_due, IsStop};
 ghost use Rattle.value_text.specs.Finite.{Exact, has_value};
 ghost use Rattle.value_text.specs.declared.due.Due.TheVariants.{Value, Mark as MarkDue};

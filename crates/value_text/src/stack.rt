@@ -1,4 +1,4 @@
-ghost use Rattle.std.specs.Prelude.{◌≡◌, ◌++◌, ◌∷◌, ◌<◌, length, reverse, drop, IfOk, OnOk};
+ghost use Rattle.std.specs.Prelude.{◌≡◌, ◌++◌, ◌<◌, reverse, drop, IfOk, OnOk};
 ghost use Rattle.value_text.specs.Due.{parts_due, first_due, each_due};
 
 use super::due::Due;
