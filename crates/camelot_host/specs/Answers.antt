@@ -9,7 +9,7 @@ use Rattle.camelot_host.specs.FirstScript.{Script, IsFirstScript}
 use Rattle.camelot_values.specs.Value as value
 use Rattle.camelot_values.specs.Outcome.{Done}
 use Rattle.camelot_host.specs.Lines.{accepted_line, done_line, outcome_of, report_of, refusal}
-use Rattle.camelot_values.specs.Text.{value_text}
+use Rattle.value_text.specs.Text.{value_text}
 use Rattle.camelot_host.specs.declared.status.Status.{Status}
 use Rattle.camelot_host.specs.declared.status.Status.TheVariants as status
 

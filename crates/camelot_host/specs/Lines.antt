@@ -5,7 +5,7 @@ use Rattle.std.specs.Fmt.{decimal}
 use Rattle.camelot_values.specs.Value as value
 use Rattle.camelot_values.specs.Value.{Value}
 use Rattle.camelot_values.specs.Outcome.{Outcome, Done, Fuel, Deep, Stuck}
-use Rattle.camelot_values.specs.Text.{value_text}
+use Rattle.value_text.specs.Text.{value_text}
 use Rattle.camelot_tree.specs.Meaning.{run_of}
 use Rattle.camelot_host.specs.FirstScript.{Script, source_of}
 

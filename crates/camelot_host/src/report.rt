@@ -5,9 +5,10 @@ ghost use Rattle.camelot_values.specs.Outcome.{Done};
 ghost use Rattle.camelot_host.specs.Lines.{accepted_line, done_line, job_line};
 
 use super::script::Script;
-use camelot_values::{Flat, Item, Types, print};
+use camelot_values::{Flat, Item, Types};
 use itoa::Buffer;
 use std::alloc::{AllocError, Global};
+use value_text::print;
 
 // Writes a label and a text at the end.
 #[tactic(auto, using(crate::proofs::Joining::two))]

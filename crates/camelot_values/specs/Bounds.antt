@@ -12,7 +12,8 @@ Yields P (Deep peak) = Unit {0}
 Yields P Stuck = ⊥
 
 -- With so many units to begin with: the peak costs no more, and at a value the net and what is left for the value cost no more
--- together. The net is the peak without `low`, so the second stands with `low` on the other side.
+-- together. The net is the peak without `low`, so the second stands with `low` on the other side. Of a stuck run this says nothing: that
+-- there is none is said apart (Yields).
 abbrev pub IsPaidBy : {A : Type 0} → (unit units : ℕ) → (A → ℕ) → Outcome A → Type 0
 IsPaidBy unit units left (Done v calls peak low) = (unit * peak ≤ units) × (unit * peak + left v ≤ units + unit * low)
 IsPaidBy unit units left (Fuel calls peak) = unit * peak ≤ units

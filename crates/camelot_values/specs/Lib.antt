@@ -1,5 +1,8 @@
--- Values, their text, operators, and what a run comes to.
+-- Values, operators, and what a run comes to.
 pub mod Value
+pub mod Counts
+pub mod CountLaws
+pub mod Nodes
 pub mod Items
 pub mod Kinds
 pub mod Names
@@ -8,7 +11,6 @@ pub mod Search
 pub mod Operator
 pub mod Outcome
 pub mod Runs
-pub mod Text
 pub mod Typing
 pub mod Fuel
 pub mod NameLaws

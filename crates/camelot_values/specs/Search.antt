@@ -1,8 +1,9 @@
 -- Private: words for functions of this crate.
 -- What the private search for the types in a type does to its marks.
-use Rattle.std.specs.Prelude.{◌≡◌, ℕ, List, length, [], ◌∷◌, slice_get, slice_set, Option, Some}
+use Rattle.std.specs.Prelude.{◌≡◌, ℕ, suc, List, length, [], ◌∷◌, slice_get, slice_set, Option, Some, Bool, cond, ◌&&◌, ◌+◌, ◌++◌}
+use Rattle.std.specs.List.{range_with_len}
 use Rattle.camelot_values.specs.Kinds.{DataType}
-use Rattle.camelot_values.specs.Heap.{HoldsType, IsLedTo}
+use Rattle.camelot_values.specs.Heap.{HoldsType, IsLedTo, is_heap_type, leads_by}
 use Rattle.camelot_values.specs.declared.kinds.Kind.{Kind}
 use Rattle.camelot_values.specs.declared.kinds.Kind.TheVariants.{Of}
 use Rattle.camelot_values.specs.declared.reach.Mark.{Mark}
@@ -30,3 +31,12 @@ pub record Searched (types : List DataType) (first : ℕ) (marks : List Mark) : 
   pub begun : slice_get marks first ≡ Some New → ⊥
   pub sound : (u : ℕ) (m : Mark) → slice_get marks u ≡ Some m → (m ≡ New → ⊥) → IsLedTo types first u
   pub closed : (t u : ℕ) → slice_get marks t ≡ Some Seen → HoldsType types t u → slice_get marks u ≡ Some New → ⊥
+
+-- the type is a heap type that stands in type t
+abbrev pub passes : List DataType → ℕ → ℕ → Bool
+passes types t u = is_heap_type types u && leads_by types (length types) t u
+
+-- the numbers of the constructors of the types that pass, where the first type has this number and its first constructor is `next`
+abbrev pub numbers_where : (ℕ → Bool) → ℕ → ℕ → List DataType → List ℕ
+numbers_where q number next [] = []
+numbers_where q number next (d ∷ ds) = cond (q number) (range_with_len next (length d.cons)) [] ++ numbers_where q (suc number) (next + length d.cons) ds

@@ -1,11 +1,13 @@
 //! Laws of runs and of kinds, as the contracts of functions that do nothing.
-ghost use Rattle.std.specs.Prelude.{◌≡◌, ◌↔◌, ℕ, ◌+◌, pos, ◌+ℤ◌, List, IsTrue};
+ghost use Rattle.std.specs.Prelude.{◌≡◌, ◌↔◌, ℕ, ◌+◌, pos, ◌+ℤ◌, ◌≤◌, List, ◌++◌, length, IsTrue};
 ghost use Rattle.std.specs.Int.{int_max};
 ghost use Rattle.camelot_values.specs.Value.{Value};
 ghost use Rattle.camelot_values.specs.Outcome.{Outcome, Done, Stuck, calls_of, net, peak_of, net_of, after, first_then};
 ghost use Rattle.camelot_values.specs.Bounds.{IsPaidBy, IsStop, same_stop};
 ghost use Rattle.camelot_values.specs.Operator.{Operator, operate};
 ghost use Rattle.camelot_values.specs.Kinds.{DataType};
+ghost use Rattle.camelot_values.specs.Items.{items_of};
+ghost use Rattle.camelot_values.specs.Counts.{count, count_among, cells, cells_among, size};
 ghost use Rattle.camelot_values.specs.Lists.{Ascend, is_among};
 ghost use Rattle.camelot_values.specs.Heap.{Reaches, reached};
 ghost use Rattle.camelot_values.specs.Typing.{Fits, IsSafe, operator_kind};
@@ -49,4 +51,15 @@ pub fn law_of_operators()
 pub fn law_of_reach()
     ensures reached { (types : List DataType) (kind : Kind) (con : ℕ) → IsTrue (is_among (reached types kind) con) ↔ Reaches types kind con }
     ensures ascends { (types : List DataType) (kind : Kind) → Ascend (reached types kind) }
+{}
+
+/// A value has as many nodes in prefix order as its tree has; neither the nodes of one constructor nor the cells are more; and for
+/// lists of arguments, one behind the other, both counts add up.
+#[tactic(auto, using(crate::specs::CountLaws::length_items, crate::specs::CountLaws::count_within, crate::specs::CountLaws::cells_within, crate::specs::CountLaws::count_among_append, crate::specs::CountLaws::cells_among_append))]
+pub fn law_of_counts()
+    ensures nodes { (v : Value) → length (items_of v) ≡ size v }
+    ensures count { (con : ℕ) (v : Value) → count con v ≤ size v }
+    ensures cells { (types : List DataType) (v : Value) → cells types v ≤ size v }
+    ensures counts_add { (con : ℕ) (us vs : List Value) → count_among con (us ++ vs) ≡ count_among con us + count_among con vs }
+    ensures cells_add { (types : List DataType) (us vs : List Value) → cells_among types (us ++ vs) ≡ cells_among types us + cells_among types vs }
 {}

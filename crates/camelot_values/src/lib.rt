@@ -1,13 +1,14 @@
-//! Kinds and values of Camelot and Grail, and values as text.
+//! Kinds and values of Camelot and Grail.
 #![tactic(auto)]
 
+mod counts;
+mod fits;
 mod kinds;
 pub mod laws;
 mod reach;
-mod text;
+mod reached;
 mod value;
 
 pub use kinds::{Con, Kind, TypeDef, Types, Word};
 pub use laws::law_of_sequence;
-pub use text::print;
 pub use value::{Flat, Item};

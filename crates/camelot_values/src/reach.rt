@@ -97,6 +97,30 @@ fn search(types: &[TypeDef], first: usize, marks: &mut [Mark])
     }
 }
 
+// The marks after a search from type `first`. There are at most 64 types.
+pub(crate) fn search_from(types: &[TypeDef], first: usize) -> [Mark; MOST_TYPES]
+    requires few { length types.now ≤ 64 }
+    requires first { first < MOST_TYPES }
+    ensures searched { Searched (map data_type_of types.now) first result }
+    ensures done { NoneWaits result }
+{
+    let mut marks = [Mark::New; MOST_TYPES];
+    marks[first] = Mark::Waiting;
+    search(types, first, &mut marks);
+    marks
+}
+
+// Whether type `last` stands in type `first` itself or in its fields, followed to the end, by the marks of a search from there.
+pub(crate) fn is_led_to(types: &[TypeDef], first: usize, marks: &[Mark], last: usize) -> bool
+    requires few { length types.now ≤ 64 }
+    requires last { last < MOST_TYPES }
+    requires searched { Searched (map data_type_of types.now) first marks.now }
+    requires done { NoneWaits marks.now }
+    ensures { IsTrue result ↔ IsLedTo (map data_type_of types.now) first last }
+{
+    is_met(marks, last)
+}
+
 /// Whether type `last` stands in type `first` itself or in its fields, followed to the end. There are at most 64 types.
 pub(crate) fn leads(types: &[TypeDef], first: usize, last: usize) -> bool
     requires few { length types.now ≤ 64 }
@@ -104,8 +128,6 @@ pub(crate) fn leads(types: &[TypeDef], first: usize, last: usize) -> bool
     requires last { last < MOST_TYPES }
     ensures { IsTrue result ↔ IsLedTo (map data_type_of types.now) first last }
 {
-    let mut marks = [Mark::New; MOST_TYPES];
-    marks[first] = Mark::Waiting;
-    search(types, first, &mut marks);
-    is_met(&marks, last)
+    let marks = search_from(types, first);
+    is_led_to(types, first, &marks, last)
 }

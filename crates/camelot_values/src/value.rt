@@ -1,6 +1,7 @@
-ghost use Rattle.std.specs.Prelude.{◌≡◌, List, vec_items};
+ghost use Rattle.std.specs.Prelude.{◌≡◌, List, vec_items, IfOk};
 ghost use Rattle.camelot_values.specs.Items.{items_of, value_of, IsOneValue};
 
+use std::alloc::{AllocError, Global};
 use std::marker::Model;
 
 /// One node of a value.
@@ -55,5 +56,14 @@ impl Flat {
         ensures { result.now ≡ items_of self.now }
     {
         &self.items
+    }
+
+    /// The same value in memory of its own; `AllocError` where memory runs out.
+    pub fn copy(&self, alloc: Global) -> Result<Flat, AllocError>
+        ensures { IfOk result (λ copy. copy ≡ self.now) }
+    {
+        Ok(Flat {
+            items: Vec::from_slice(alloc, &self.items)?,
+        })
     }
 }

@@ -18,8 +18,3 @@ abbrev mutual
   pub further_text : (ℕ → List ℕ) → Values → List ℕ
   further_text names End = []
   further_text names (And v vs) = codes "," ++ value_text names v ++ further_text names vs
-
--- the value is an int
-abbrev pub IsInt : Value → Type 0
-IsInt (Int z) = Unit {0}
-IsInt v = ⊥

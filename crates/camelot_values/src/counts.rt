@@ -1,0 +1,64 @@
+ghost use Rattle.std.specs.Prelude.{◌≡◌};
+ghost use Rattle.camelot_values.specs.Counts.{count, cells};
+ghost use Rattle.camelot_values.specs.Nodes.{is_node_of, needs_cell};
+
+use super::kinds::Types;
+use super::value::{Flat, Item};
+
+// Whether the node is one of this constructor.
+fn is_node_of(item: &Item, con: u32) -> bool
+    ensures { result ≡ is_node_of con item.now }
+{
+    match *item {
+        Item::Con {
+            con: number,
+            parts: _,
+        } => number == con,
+        _ => false,
+    }
+}
+
+// Whether the node needs a cell.
+fn needs_cell(item: &Item, types: &Types) -> bool
+    ensures { result ≡ needs_cell types.now item.now }
+{
+    match *item {
+        Item::Dia => true,
+        Item::Con { con, parts: _ } => match types.con(con) {
+            Some(con) => !con.inline,
+            None => false,
+        },
+        _ => false,
+    }
+}
+
+impl Flat {
+    /// How many nodes of the constructor of this number the value has.
+    #[tactic(auto, using(crate::proofs::CountSteps::node_more))]
+    pub fn count(&self, con: u32) -> u64
+        ensures { result ≡ count con self.now }
+    {
+        let mut total = 0;
+        'items: for item in self.items() {
+            if is_node_of(item, con) {
+                total += 1;
+            }
+        }
+        total
+    }
+
+    /// How many cells a machine needs to hold the value: one for each boxed node and one for each diamond. A constructor that
+    /// isn't there needs none.
+    #[tactic(auto, using(crate::proofs::CountSteps::node_more))]
+    pub fn cells(&self, types: &Types) -> u64
+        ensures { result ≡ cells types.now self.now }
+    {
+        let mut total = 0;
+        'items: for item in self.items() {
+            if needs_cell(item, types) {
+                total += 1;
+            }
+        }
+        total
+    }
+}

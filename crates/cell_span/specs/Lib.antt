@@ -1,0 +1,3 @@
+-- Runs of cells of one arena.
+pub mod Range
+pub mod RangeLaws

@@ -1,0 +1,12 @@
+//! Laws of runs, as the contract of a function that does nothing.
+ghost use Rattle.std.specs.Prelude.{◌≡◌, ℕ, ◌+◌, ◌<◌, ◌≤◌, length};
+ghost use Rattle.cell_span.specs.declared.cell.Cell.{Cell};
+ghost use Rattle.cell_span.specs.Range.{Range, front, back, joined, written};
+
+/// A run that is split, written in either part and joined is the run, written at that place.
+#[tactic(auto, using(crate::specs::RangeLaws::joined_parts, crate::specs::RangeLaws::joined_front, crate::specs::RangeLaws::joined_back))]
+pub fn law_of_parts()
+    ensures whole { (r : Range) (at : ℕ) → joined (front r at) (back r at) ≡ r }
+    ensures first { (r : Range) (at i : ℕ) (cell : Cell) → i < at → at ≤ length r.cells → joined (written (front r at) i cell) (back r at) ≡ written r i cell }
+    ensures second { (r : Range) (at i : ℕ) (cell : Cell) → at ≤ length r.cells → joined (front r at) (written (back r at) i cell) ≡ written r (at + i) cell }
+{}

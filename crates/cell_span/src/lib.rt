@@ -1,0 +1,9 @@
+//! Runs of cells of one arena: an arena is made whole, its runs are split and joined, and each cell has one owner.
+#![tactic(auto)]
+
+mod cell;
+pub mod laws;
+mod span;
+
+pub use cell::Cell;
+pub use span::{JoinRefused, Span, SplitRefused};

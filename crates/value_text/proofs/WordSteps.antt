@@ -1,0 +1,67 @@
+-- Steps of the loops over spaces, words and common fronts.
+use Rattle.std.proofs.Common.{◌≡◌, ℕ, suc, ◌+◌, ◌-◌, ◌<◌, ◌≤◌, true, false, List, [], ◌∷◌, ◌++◌, length, take, drop, get_or, refl, sym, ap, ◌∙◌, subst, arith, drop-cons, drop_of_length-le, add-one, inl, inr}
+use Rattle.std.specs.Prelude.{◌⊎◌, IsTrue, ◌==◌, if◌then◌else◌}
+use Rattle.std.specs.List.{list_all}
+use Rattle.std.proofs.Math.Seq.{take-suc}
+use Rattle.std.proofs.lemmas.List.{take-append-drop, take_all, length-drop}
+use Rattle.std.proofs.lemmas.Bool.Decides.{nat_tests}
+use Rattle.value_text.specs.Grammar.{is_word_byte, Ends}
+use Rattle.value_text.specs.Choosing.{common}
+use Rattle.value_text.specs.Splitting.{skip, IsSplit, IsWordLength}
+use Rattle.value_text.proofs.Words.{and_parts, and_both}
+
+pub skip_here : (text all : List ℕ) (at : ℕ) → at < length text → get_or text at 0 ≡ 32 → skip (drop at text) ≡ all → skip (drop (at + 1) text) ≡ all
+skip_here text all at h is e =
+    ap (λ n. skip (drop n text)) (add-one at) ∙ ap (λ b. if b then skip (drop (suc at) text) else get_or text at 0 ∷ drop (suc at) text) (let t : true ≡ (get_or text at 0 == 32) = grind (arith, nat_tests, is) in t)
+    ∙ ap skip (sym (drop-cons text at 0 h)) ∙ e
+
+pub skip_done : (text all result : List ℕ) (at : ℕ) → at < length text → (get_or text at 0 ≡ 32 → ⊥) → result ≡ take (length text - at) (drop at text) → skip (drop at text) ≡ all → result ≡ all
+skip_done text all result at h not is e =
+    is ∙ take_all (length text - at) (drop at text) (omega (arith, length-drop at text)) ∙ drop-cons text at 0 h
+    ∙ ap (λ b. if b then skip (drop (suc at) text) else get_or text at 0 ∷ drop (suc at) text) (let t : false ≡ (get_or text at 0 == 32) = grind (arith, nat_tests, not) in t)
+    ∙ ap skip (sym (drop-cons text at 0 h)) ∙ e
+
+pub skip_end : (text all : List ℕ) (at : ℕ) → length text ≤ at → skip (drop at text) ≡ all → [] ≡ all
+skip_end text all at h e = ap skip (sym (drop_of_length-le text {i = at} h)) ∙ e
+
+all_more : (xs : List ℕ) (c : ℕ) → IsTrue (list_all is_word_byte xs) → is_word_byte c ≡ true → IsTrue (list_all is_word_byte (xs ++ c ∷ []))
+all_more [] c h k = and_both (is_word_byte c) true k refl
+all_more (d ∷ xs) c h k = let p = and_parts (is_word_byte d) _ h in and_both (is_word_byte d) _ p.0 (all_more xs c p.1 k)
+
+pub word_here : (text : List ℕ) (at : ℕ) → at < length text → is_word_byte (get_or text at 0) ≡ true → IsTrue (list_all is_word_byte (take at text)) → IsTrue (list_all is_word_byte (take (at + 1) text))
+word_here text at h is all =
+    subst (λ n. IsTrue (list_all is_word_byte (take n text))) (sym (add-one at)) (subst (λ l. IsTrue (list_all is_word_byte l)) (sym (take-suc text at 0 h)) (all_more (take at text) (get_or text at 0) all is))
+
+pub word_done : (text : List ℕ) (at : ℕ) → at < length text → is_word_byte (get_or text at 0) ≡ false → IsTrue (list_all is_word_byte (take at text)) → IsWordLength text at
+word_done text at h is all = record { within = omega (arith, h); all = all; ends = subst Ends (sym (drop-cons text at 0 h)) is }
+
+pub word_end : (text : List ℕ) (at : ℕ) → length text ≤ at → at ≤ length text → IsTrue (list_all is_word_byte (take at text)) → IsWordLength text at
+word_end text at h k all = record { within = k; all = all; ends = subst Ends (sym (drop_of_length-le text {i = at} h)) tt }
+
+pub split_there : (text word rest : List ℕ) (at : ℕ) → IsWordLength text at → word ≡ take at text → rest ≡ take (length text - at) (drop at text) → IsSplit text word rest
+split_there text word rest at w e f =
+    let r : rest ≡ drop at text = f ∙ take_all (length text - at) (drop at text) (omega (arith, length-drop at text)) in
+    record { parts = sym (ap (λ l. l ++ rest) e ∙ ap (λ l. take at text ++ l) r ∙ take-append-drop at text); all = subst (λ l. IsTrue (list_all is_word_byte l)) (sym e) w.all; ends = subst Ends (sym r) w.ends }
+
+pub common_here : (xs ys : List ℕ) (at all : ℕ) → at < length xs → at < length ys → get_or xs at 0 ≡ get_or ys at 0 → at + common (drop at xs) (drop at ys) ≡ all → at + 1 + common (drop (at + 1) xs) (drop (at + 1) ys) ≡ all
+common_here xs ys at all h k same e =
+    let s : common (drop at xs) (drop at ys) ≡ suc (common (drop (suc at) xs) (drop (suc at) ys)) =
+    ap (λ l. common l (drop at ys)) (drop-cons xs at 0 h) ∙ ap (common (get_or xs at 0 ∷ drop (suc at) xs)) (drop-cons ys at 0 k)
+    ∙ ap (λ b. if b then suc (common (drop (suc at) xs) (drop (suc at) ys)) else 0) (let t : (get_or xs at 0 == get_or ys at 0) ≡ true = grind (arith, nat_tests, same) in t) in
+    let n : common (drop (at + 1) xs) (drop (at + 1) ys) ≡ common (drop (suc at) xs) (drop (suc at) ys) = ap (λ n. common (drop n xs) (drop n ys)) (add-one at) in
+    omega (arith, e, s, n)
+
+pub common_done : (xs ys : List ℕ) (at all : ℕ) → at < length xs → at < length ys → (get_or xs at 0 ≡ get_or ys at 0 → ⊥) → at + common (drop at xs) (drop at ys) ≡ all → at ≡ all
+common_done xs ys at all h k not e =
+    let s : common (drop at xs) (drop at ys) ≡ 0 =
+    ap (λ l. common l (drop at ys)) (drop-cons xs at 0 h) ∙ ap (common (get_or xs at 0 ∷ drop (suc at) xs)) (drop-cons ys at 0 k)
+    ∙ ap (λ b. if b then suc (common (drop (suc at) xs) (drop (suc at) ys)) else 0) (let t : (get_or xs at 0 == get_or ys at 0) ≡ false = grind (arith, nat_tests, not) in t) in
+    omega (arith, e, s)
+
+common_none : (xs : List ℕ) → common xs [] ≡ 0
+common_none [] = refl
+common_none (x ∷ xs) = refl
+
+pub common_end : (xs ys : List ℕ) (at all : ℕ) → (length xs ≤ at) ⊎ (length ys ≤ at) → at + common (drop at xs) (drop at ys) ≡ all → at ≡ all
+common_end xs ys at all (inl h) e = let s : common (drop at xs) (drop at ys) ≡ 0 = ap (λ l. common l (drop at ys)) (drop_of_length-le xs {i = at} h) in omega (arith, e, s)
+common_end xs ys at all (inr h) e = let s : common (drop at xs) (drop at ys) ≡ 0 = ap (common (drop at xs)) (drop_of_length-le ys {i = at} h) ∙ common_none (drop at xs) in omega (arith, e, s)

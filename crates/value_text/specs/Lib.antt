@@ -1,0 +1,11 @@
+-- Values as text.
+pub mod Text
+pub mod Printing
+pub mod Grammar
+pub mod Due
+pub mod Finite
+pub mod Choosing
+pub mod Splitting
+pub mod Values
+pub mod Answers
+pub mod Only

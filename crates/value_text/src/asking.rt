@@ -1,0 +1,116 @@
+ghost use Rattle.std.specs.Prelude.{◌≡◌, ℕ, List, ◌<◌, length, MatchResult};
+ghost use Rattle.std.specs.List.{list_all};
+ghost use Rattle.camelot_values.specs.Value.{Value};
+ghost use Rattle.value_text.specs.Grammar.{AreNamed, DistinctNames, IsRead, IsTooLong, IsBadShape};
+ghost use Rattle.value_text.specs.Answers.{IsFault, IsMemory, IsBadAt, IsLongBy};
+ghost use Rattle.value_text.specs.Finite.{has_value};
+ghost use Rattle.value_text.specs.Due.{Whole, first_due};
+ghost use Rattle.value_text.specs.Only.{OnlyRead, OnlyFault, IsBad};
+
+use super::finite::{finite_types, has_value};
+use super::reading::{Stop, read_items};
+use super::splitting::split_values;
+use camelot_values::{Flat, Item, Kind, Types};
+use std::alloc::Global;
+use thiserror::Error;
+
+/// How many nodes the values of a text may have in all.
+const MOST_ITEMS: usize = 65_536;
+
+/// Why a text is refused.
+#[derive(Clone, Copy, Debug, PartialEq, Eq, Error)]
+pub enum ValueFault {
+    /// The text isn't of values of the kinds. `at` is the length of its longest front that begins such a text; 0 where nothing is one.
+    #[error("no values of these kinds at byte {at}")]
+    BadShape { at: u64 },
+    /// The values have so many nodes in all, more than 65,536.
+    #[error("the values have {items} nodes")]
+    TooLong { items: u64 },
+    /// Memory ran out.
+    #[error("out of memory")]
+    Memory,
+}
+
+// Whether each of these kinds has a value.
+#[tactic(auto, using(crate::proofs::FinitySteps::all_here, crate::proofs::FinitySteps::all_not))]
+fn all_have_values(marks: &[bool], kinds: &[Kind]) -> bool
+    ensures { result ≡ list_all (has_value marks.now) kinds.now }
+{
+    'kinds: for kind in kinds {
+        if !has_value(marks, *kind) {
+            return false;
+        }
+    }
+    true
+}
+
+// The nodes that the text is of.
+fn read_nodes(
+    alloc: Global,
+    text: &[u8],
+    types: &Types,
+    kinds: &[Kind],
+) -> Result<Vec<Item>, ValueFault>
+    requires named { AreNamed types.now }
+    requires distinct { DistinctNames types.now }
+    ensures { MatchResult result (λ items. Whole types.now (first_due kinds.now) text.now items.items) (λ fault. IsBad types.now kinds.now text.now fault) }
+{
+    let marks = finite_types(types);
+    if !all_have_values(&marks, kinds) {
+        return Err(ValueFault::BadShape { at: 0 });
+    }
+    match read_items(alloc, types, &marks, kinds, text) {
+        Ok(items) => Ok(items),
+        Err(Stop::Memory) => Err(ValueFault::Memory),
+        Err(Stop::At(at)) => Err(ValueFault::BadShape { at: at as u64 }),
+    }
+}
+
+// What the text is read as, with the law that it is nothing else.
+#[tactic(auto, using(crate::proofs::Answering::bad_fault))]
+fn read_whole(
+    alloc: Global,
+    text: &[u8],
+    types: &Types,
+    kinds: &[Kind],
+) -> Result<Vec<Flat>, ValueFault>
+    requires named { AreNamed types.now }
+    requires distinct { DistinctNames types.now }
+    ensures { MatchResult result (λ values. OnlyRead types.now kinds.now text.now values.items) (λ fault. OnlyFault types.now kinds.now text.now fault) }
+{
+    let items = read_nodes(alloc, text, types, kinds)?;
+    if items.len() > MOST_ITEMS {
+        return Err(ValueFault::TooLong {
+            items: items.len() as u64,
+        });
+    }
+    match split_values(alloc, &items, kinds.len()) {
+        Ok(values) => Ok(values),
+        Err(_) => Err(ValueFault::Memory),
+    }
+}
+
+/// Reads a text of one value for each of these kinds, at least one space between two values, and any number of spaces before, after, and around
+/// `(`, `,` and `)`. An int is `-` or nothing and then `0` or digits without a leading zero, from -2147483648 to 2147483647; `-0` is 0.
+/// The names of constructors are upper names, and no two are the same. `BadShape` comes exactly where the text isn't of such values, and `TooLong`
+/// exactly where it is, and they have more than 65,536 nodes in all.
+#[tactic(auto, using(crate::proofs::Answering::read_found, crate::proofs::Answering::fault_found, crate::proofs::Answering::read_same, crate::proofs::Answering::read_fault, crate::proofs::Answering::read_bad, crate::proofs::Answering::fault_bad, crate::proofs::Answering::read_long, crate::proofs::Answering::fault_long))]
+pub fn read(
+    alloc: Global,
+    text: &[u8],
+    types: &Types,
+    kinds: &[Kind],
+) -> Result<Vec<Flat>, ValueFault>
+    requires short { length text.now < 4294967296 }
+    requires named { AreNamed types.now }
+    requires distinct { DistinctNames types.now }
+    ensures found { MatchResult result (λ values. IsRead types.now kinds.now text.now values.items) (λ fault. IsFault types.now kinds.now text.now fault) }
+    ensures read { (values : List Value) → IsRead types.now kinds.now text.now values → MatchResult result (λ found. found.items ≡ values) (λ fault. IsMemory fault) }
+    ensures bad { (at : ℕ) → IsBadShape types.now kinds.now text.now at → MatchResult result (λ found. ⊥) (λ fault. IsBadAt at fault) }
+    ensures long { (items : ℕ) → IsTooLong types.now kinds.now text.now items → MatchResult result (λ found. ⊥) (λ fault. IsLongBy items fault) }
+{
+    match read_whole(alloc, text, types, kinds) {
+        Ok(values) => Ok(values),
+        Err(fault) => Err(fault),
+    }
+}

@@ -1,0 +1,65 @@
+ghost use Rattle.std.specs.Prelude.{◌≡◌};
+ghost use Rattle.value_text.specs.Grammar.{is_word_byte};
+ghost use Rattle.value_text.specs.Choosing.{common};
+ghost use Rattle.value_text.specs.Splitting.{skip, IsSplit, IsWordLength};
+
+// The text without the spaces in front.
+#[tactic(auto, using(crate::proofs::WordSteps::skip_here, crate::proofs::WordSteps::skip_done, crate::proofs::WordSteps::skip_end))]
+pub(crate) fn skip_spaces(text: &[u8]) -> &[u8]
+    ensures { result.now ≡ skip text.now }
+{
+    let mut at = 0;
+    'spaces: while at < text.len() {
+        if text[at] != b' ' {
+            return &text[at..];
+        }
+        at += 1;
+    }
+    &[]
+}
+
+// Whether the byte is no space, parenthesis or comma.
+fn is_word_byte(byte: u8) -> bool
+    ensures { result ≡ is_word_byte byte }
+{
+    !(byte == b' ' || byte == b'(' || byte == b')' || byte == b',')
+}
+
+// The length of the word in front.
+#[tactic(auto, using(crate::proofs::WordSteps::word_here, crate::proofs::WordSteps::word_done, crate::proofs::WordSteps::word_end))]
+fn word_length(text: &[u8]) -> usize
+    ensures { IsWordLength text.now result }
+{
+    let mut at = 0;
+    'word: while at < text.len() {
+        if !is_word_byte(text[at]) {
+            return at;
+        }
+        at += 1;
+    }
+    at
+}
+
+// The word in front, as far as it goes, and the rest.
+#[tactic(auto, using(crate::proofs::WordSteps::split_there))]
+pub(crate) fn split_word(text: &[u8]) -> (&[u8], &[u8])
+    ensures { IsSplit text.now result.0.now result.1.now }
+{
+    let at = word_length(text);
+    (&text[..at], &text[at..])
+}
+
+// How many bytes two words have in common at their fronts.
+#[tactic(auto, using(crate::proofs::WordSteps::common_here, crate::proofs::WordSteps::common_done, crate::proofs::WordSteps::common_end))]
+pub(crate) fn common(name: &[u8], word: &[u8]) -> usize
+    ensures { result ≡ common name.now word.now }
+{
+    let mut at = 0;
+    'bytes: while at < name.len() && at < word.len() {
+        if name[at] != word[at] {
+            return at;
+        }
+        at += 1;
+    }
+    at
+}

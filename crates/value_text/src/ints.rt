@@ -1,0 +1,104 @@
+ghost use Rattle.std.specs.Prelude.{◌≡◌, ◌+◌, ◌≤◌, ◌<◌, ◌∷◌, neg_ℤ, pos, MatchResult, MatchOption};
+ghost use Rattle.camelot_values.specs.Names.{is_digit};
+ghost use Rattle.value_text.specs.Choosing.{DigitsRead, IntRead, IntRefused, NoDigit, NextDigit, IsPlain};
+
+// Whether the byte is a digit.
+fn is_digit(byte: u8) -> bool
+    ensures { result ≡ is_digit byte }
+{
+    byte >= b'0' && byte <= b'9'
+}
+
+// The number with one digit more; None where the byte is no digit, stands behind a leading zero, or makes the number larger than `most`.
+#[tactic(auto, using(crate::proofs::Digits::not_digit, crate::proofs::Digits::behind_zero, crate::proofs::Digits::above_most, crate::proofs::Digits::next_first, crate::proofs::Digits::next_later))]
+fn add_digit(value: u32, at: usize, byte: u8, most: u32) -> Option<u32>
+    requires { value ≤ most }
+    ensures { MatchOption result (NoDigit most value at byte) (λ next. NextDigit most value at byte next) }
+{
+    if !is_digit(byte) {
+        return None;
+    }
+    let next = value as u64 * 10 + (byte - b'0') as u64;
+    if next > most as u64 {
+        return None;
+    }
+    if at == 0 {
+        return Some(next as u32);
+    }
+    if value == 0 {
+        return None;
+    }
+    Some(next as u32)
+}
+
+// The number of the digits in front, and how many of them it has: as many as make a number without a leading zero of at most `most`.
+#[tactic(auto, using(crate::proofs::Digits::no_digits, crate::proofs::Digits::digits_on, crate::proofs::Digits::digits_off, crate::proofs::Digits::all_digits))]
+fn read_digits(word: &[u8], most: u32) -> (u32, usize)
+    ensures { DigitsRead most word.now result.0 result.1 }
+{
+    let mut value = 0;
+    let mut at = 0;
+    'digits: while at < word.len() {
+        match add_digit(value, at, word[at], most) {
+            Some(next) => value = next,
+            None => return (value, at),
+        }
+        at += 1;
+    }
+    (value, at)
+}
+
+// The number below 0, or 0.
+fn negated(value: u32) -> i32
+    requires { value ≤ 2147483648 }
+    ensures { result ≡ neg_ℤ (pos value) }
+{
+    (0 - value as i64) as i32
+}
+
+// The int that the digits are with `-` before them.
+#[tactic(auto, using(crate::proofs::Digits::minus_read, crate::proofs::Digits::minus_part, crate::proofs::Digits::minus_none))]
+fn read_minus(digits: &[u8]) -> Result<i32, usize>
+    ensures { MatchResult result (λ z. IntRead (45 ∷ digits.now) z) (λ good. IntRefused (45 ∷ digits.now) good) }
+{
+    let (value, good) = read_digits(digits, 2147483648);
+    if good == 0 {
+        return Err(1);
+    }
+    if good < digits.len() {
+        return Err(good + 1);
+    }
+    Ok(negated(value))
+}
+
+// The int that the digits are.
+#[tactic(auto, using(crate::proofs::Digits::plus_read, crate::proofs::Digits::plus_part, crate::proofs::Digits::plus_none))]
+fn read_plus(word: &[u8]) -> Result<i32, usize>
+    requires { IsPlain word.now }
+    ensures { MatchResult result (λ z. IntRead word.now z) (λ good. IntRefused word.now good) }
+{
+    let (value, good) = read_digits(word, 2147483647);
+    if good == 0 {
+        return Err(0);
+    }
+    if good < word.len() {
+        return Err(good);
+    }
+    Ok(value as i32)
+}
+
+// The int that the word is: digits without a leading zero, with or without `-` before them, from -2147483648 to 2147483647. Else how many
+// bytes of the word begin an int.
+#[tactic(auto, using(crate::proofs::Digits::minus_tail, crate::proofs::Digits::plain_head, crate::proofs::Digits::empty_refused))]
+pub(crate) fn read_int(word: &[u8]) -> Result<i32, usize>
+    ensures { MatchResult result (λ z. IntRead word.now z) (λ good. IntRefused word.now good) }
+{
+    if word.is_empty() {
+        return Err(0);
+    }
+    if word[0] == b'-' {
+        read_minus(&word[1..])
+    } else {
+        read_plus(word)
+    }
+}

@@ -1,0 +1,59 @@
+ghost use Rattle.std.specs.Prelude.{◌≡◌, ◌+◌, ◌≤◌, ◌<◌, Some, None, map, length, vec_len, MatchResult, IfOk};
+ghost use Rattle.camelot_values.specs.Kinds.{data_type_of, constructor_of, AreTypes};
+ghost use Rattle.value_text.specs.Choosing.{choose, best, first_con, Looked};
+
+use super::cutting::common;
+use super::finite::is_ready;
+use camelot_values::{Con, TypeDef};
+
+// What one constructor says of a word: its name is the word, or it has so many bytes in common with it. A constructor with a field that has no value
+// says nothing.
+enum Look {
+    Found,
+    Common(usize),
+}
+
+// Compares the word with the constructor's name.
+#[tactic(auto, using(crate::proofs::NameSteps::look_unready, crate::proofs::NameSteps::look_same, crate::proofs::NameSteps::look_other))]
+fn compare(marks: &[bool], word: &[u8], con: &Con) -> Look
+    ensures { Looked marks.now word.now (constructor_of con.now) result }
+{
+    if !is_ready(marks, con) {
+        return Look::Common(0);
+    }
+    if con.name.bytes() == word {
+        return Look::Found;
+    }
+    Look::Common(common(con.name.bytes(), word))
+}
+
+// The place of the type's constructor with this name, whose fields all have values. Else how many bytes of the word begin such a name.
+#[tactic(auto, using(crate::proofs::NameSteps::chosen_here, crate::proofs::NameSteps::chosen_later, crate::proofs::NameSteps::best_later, crate::proofs::NameSteps::chosen_none, crate::proofs::NameSteps::best_end))]
+pub(crate) fn choose(marks: &[bool], word: &[u8], def: &TypeDef) -> Result<usize, usize>
+    ensures within { IfOk result (λ place. place < vec_len def.now.cons) }
+    ensures chosen { MatchResult result (λ place. choose marks.now word.now (data_type_of def.now).cons ≡ Some place) (λ good. (choose marks.now word.now (data_type_of def.now).cons ≡ None) × (good ≡ best marks.now word.now (data_type_of def.now).cons)) }
+{
+    let mut good = 0;
+    for (place, con) in def.cons.iter().enumerate() {
+        match compare(marks, word, con) {
+            Look::Found => return Ok(place),
+            Look::Common(count) => good = good.max(count),
+        }
+    }
+    Err(good)
+}
+
+// The number of the type's first constructor.
+#[tactic(auto, using(crate::proofs::NameSteps::first_later, crate::proofs::NameSteps::first_zero, crate::proofs::NameSteps::few_cons, crate::proofs::NameSteps::few_list))]
+pub(crate) fn first_con(types: &[TypeDef], number: usize) -> u32
+    requires types { AreTypes (map data_type_of types.now) }
+    requires within { number < length types.now }
+    ensures number { result ≡ first_con (map data_type_of types.now) number }
+    ensures few { result ≤ 4096 }
+{
+    let mut first = 0;
+    for place in 0..number {
+        first += types[place].cons.len() as u32;
+    }
+    first
+}

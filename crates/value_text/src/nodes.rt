@@ -1,0 +1,154 @@
+ghost use Rattle.std.specs.Prelude.{◌≡◌, ◌∷◌, map, length, MatchResult};
+ghost use Rattle.camelot_values.specs.Kinds.{data_type_of, AreTypes};
+ghost use Rattle.camelot_values.specs.declared.kinds.Kind.TheVariants.{Of};
+ghost use Rattle.value_text.specs.Due.{Named, Unnamed};
+ghost use Rattle.value_text.specs.Grammar.{AreNamed, DistinctNames};
+ghost use Rattle.value_text.specs.Finite.{Exact, HasValue};
+ghost use Rattle.value_text.specs.Choosing.{HasPlace, IsConNode, IsFlag, NoFlag};
+ghost use Rattle.value_text.specs.Splitting.{NodeRead, NodeRefused, NotFirst, before_mark};
+
+use super::cutting::{common, skip_spaces, split_word};
+use super::ints::read_int;
+use super::names::{choose, first_con};
+use camelot_values::{Item, Kind, TypeDef, Types};
+
+// The node of the constructor at this place of the type, and the kinds of its fields.
+#[tactic(auto, using(crate::proofs::NodeSteps::node_here, crate::proofs::NodeSteps::number_within, crate::proofs::NodeSteps::place_within, crate::proofs::NodeSteps::few_fields, crate::proofs::NodeSteps::few_places))]
+fn con_node<'a>(defs: &'a [TypeDef], number: usize, place: usize) -> (Item, &'a [Kind])
+    requires types { AreTypes (map data_type_of defs.now) }
+    requires place { HasPlace (map data_type_of defs.now) number place }
+    ensures { IsConNode (map data_type_of defs.now) number place result.0 result.1.now }
+{
+    let con = &defs[number].cons[place];
+    let item = Item::Con {
+        con: first_con(defs, number) + place as u32,
+        parts: con.fields.len() as u8,
+    };
+    (item, &con.fields)
+}
+
+// The constructor of the type that the word names, whose fields all have values. Else how many bytes of the word begin such a name.
+#[tactic(auto, using(crate::proofs::NodeSteps::named_node, crate::proofs::NodeSteps::unnamed_node, crate::proofs::NodeSteps::absent_node, crate::proofs::NodeSteps::has_place))]
+fn find_con<'a>(
+    types: &'a Types,
+    marks: &[bool],
+    number: u32,
+    word: &[u8],
+) -> Result<(Item, &'a [Kind]), usize>
+    requires named { AreNamed types.now }
+    requires distinct { DistinctNames types.now }
+    requires exact { Exact types.now marks.now }
+    requires value { HasValue types.now (Of number) }
+    ensures { MatchResult result (λ node. Named types.now (Of number) word.now node.0 node.1.now) (λ good. Unnamed types.now (Of number) word.now good) }
+{
+    types.limits();
+    let defs = types.defs();
+    let place = number as usize;
+    if place >= defs.len() {
+        return Err(0);
+    }
+    match choose(marks, word, &defs[place]) {
+        Ok(chosen) => Ok(con_node(defs, place, chosen)),
+        Err(good) => Err(good),
+    }
+}
+
+// The truth value that the word is. Else how many bytes of the word begin one.
+fn find_flag(word: &[u8]) -> Result<bool, usize>
+    ensures { MatchResult result (λ flag. IsFlag word.now flag) (λ good. NoFlag word.now good) }
+{
+    if word == b"true".as_slice() {
+        return Ok(true);
+    }
+    if word == b"false".as_slice() {
+        return Ok(false);
+    }
+    Err(common(b"true", word).max(common(b"false", word)))
+}
+
+// The node of this kind whose word this is, and the kinds of its parts, all of which have values. Else how many bytes of the word begin a word of
+// such a node.
+#[tactic(auto, using(crate::proofs::NodeSteps::int_named, crate::proofs::NodeSteps::int_unnamed, crate::proofs::NodeSteps::flag_is, crate::proofs::NodeSteps::flag_not, crate::proofs::NodeSteps::dia_is, crate::proofs::NodeSteps::dia_not))]
+fn find_node<'a>(
+    types: &'a Types,
+    marks: &[bool],
+    kind: Kind,
+    word: &[u8],
+) -> Result<(Item, &'a [Kind]), usize>
+    requires named { AreNamed types.now }
+    requires distinct { DistinctNames types.now }
+    requires exact { Exact types.now marks.now }
+    requires value { HasValue types.now kind }
+    ensures { MatchResult result (λ node. Named types.now kind word.now node.0 node.1.now) (λ good. Unnamed types.now kind word.now good) }
+{
+    match kind {
+        Kind::Int => match read_int(word) {
+            Ok(number) => Ok((Item::Int(number), &[])),
+            Err(good) => Err(good),
+        },
+        Kind::Flag => match find_flag(word) {
+            Ok(flag) => Ok((Item::Flag(flag), &[])),
+            Err(good) => Err(good),
+        },
+        Kind::Dia => {
+            if word == b"<>".as_slice() {
+                Ok((Item::Dia, &[]))
+            } else {
+                Err(common(b"<>", word))
+            }
+        }
+        Kind::Of(number) => find_con(types, marks, number, word),
+    }
+}
+
+/// What was read of a value: a node, the kinds of its parts, and the text behind its word.
+#[derive(Drop)]
+pub(crate) struct Read<'a, 'b> {
+    pub item: Item,
+    pub fields: &'a [Kind],
+    pub rest: &'b [u8],
+}
+
+/// Reads the word of a node of this kind, behind spaces. Else how many bytes are left from the first bad one on.
+#[tactic(auto, using(crate::proofs::NodeSteps::node_read, crate::proofs::NodeSteps::node_refused, crate::proofs::NodeSteps::good_within))]
+pub(crate) fn read_node<'a, 'b>(
+    types: &'a Types,
+    marks: &[bool],
+    kind: Kind,
+    text: &'b [u8],
+) -> Result<Read<'a, 'b>, usize>
+    requires named { AreNamed types.now }
+    requires distinct { DistinctNames types.now }
+    requires exact { Exact types.now marks.now }
+    requires value { HasValue types.now kind }
+    ensures { MatchResult result (λ node. NodeRead types.now kind text.now node.item node.fields.now node.rest.now) (λ left. NodeRefused types.now kind text.now left) }
+{
+    let text = skip_spaces(text);
+    let (word, rest) = split_word(text);
+    match find_node(types, marks, kind, word) {
+        Ok((item, fields)) => Ok(Read { item, fields, rest }),
+        Err(good) => Err(text.len() - good),
+    }
+}
+
+/// Reads a mark: behind spaces, unless it is a space itself. Else how many bytes are left from the first bad one on.
+#[tactic(auto, using(crate::proofs::NodeSteps::mark_here, crate::proofs::NodeSteps::mark_other, crate::proofs::NodeSteps::mark_none))]
+pub(crate) fn read_mark(text: &[u8], mark: u8) -> Result<&[u8], usize>
+    ensures { MatchResult result (λ rest. before_mark mark text.now ≡ mark ∷ rest.now) (λ left. (left ≡ length (before_mark mark text.now)) × NotFirst mark (before_mark mark text.now)) }
+{
+    let text = if mark == b' ' {
+        text
+    } else {
+        skip_spaces(text)
+    };
+    match text {
+        [first, rest @ ..] => {
+            if *first == mark {
+                Ok(rest)
+            } else {
+                Err(text.len())
+            }
+        }
+        [] => Err(0),
+    }
+}

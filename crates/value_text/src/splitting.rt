@@ -1,0 +1,58 @@
+ghost use Rattle.std.specs.Prelude.{◌≡◌, ◌≤◌, [], length, IfOk};
+ghost use Rattle.camelot_values.specs.Value.{parts};
+ghost use Rattle.camelot_values.specs.Items.{nodes, nodes_all};
+ghost use Rattle.value_text.specs.Values.{BeginsValue, OfValues, ValueLength};
+
+use super::writing::parts_of;
+use camelot_values::{Flat, Item};
+use std::alloc::{AllocError, Global};
+
+// How many nodes the first value has.
+#[tactic(auto, using(crate::proofs::ValueSteps::length_start, crate::proofs::ValueSteps::length_more, crate::proofs::ValueSteps::length_done))]
+fn value_length(items: &[Item]) -> usize
+    requires value { BeginsValue items.now }
+    requires few { length items.now ≤ 65536 }
+    ensures { ValueLength items.now result }
+{
+    let mut due = 1;
+    let mut at = 0;
+    'nodes: while due > 0 && at < items.len() {
+        due = due - 1 + parts_of(&items[at]) as u32;
+        at += 1;
+    }
+    at
+}
+
+// Cuts the first value off, and gives it with the nodes behind it.
+#[tactic(auto, using(crate::proofs::ValueSteps::one_value, crate::proofs::ValueSteps::cut_there))]
+fn cut_value<'a>(alloc: Global, items: &'a [Item]) -> Result<(Flat, &'a [Item]), AllocError>
+    requires value { BeginsValue items.now }
+    requires few { length items.now ≤ 65536 }
+    ensures { IfOk result (λ cut. items.now ≡ nodes cut.0 cut.1.now) }
+{
+    let length = value_length(items);
+    let value = Flat::of(Vec::from_slice(alloc, &items[..length])?);
+    Ok((value, &items[length..]))
+}
+
+/// The values whose nodes these are, one after the other.
+#[tactic(auto, using(crate::proofs::ValueSteps::cuts_first, crate::proofs::ValueSteps::cuts_begin, crate::proofs::ValueSteps::cuts_more, crate::proofs::ValueSteps::cuts_few, crate::proofs::ValueSteps::cuts_done))]
+pub(crate) fn split_values(
+    alloc: Global,
+    items: &[Item],
+    count: usize,
+) -> Result<Vec<Flat>, AllocError>
+    requires values { OfValues items.now count }
+    requires few { length items.now ≤ 65536 }
+    ensures nodes { IfOk result (λ values. items.now ≡ nodes_all (parts values.items) []) }
+    ensures count { IfOk result (λ values. length values.items ≡ count) }
+{
+    let mut values = Vec::new(alloc);
+    let mut rest = items;
+    for _value in 0..count {
+        let (value, after) = cut_value(alloc, rest)?;
+        values.push(value)?;
+        rest = after;
+    }
+    Ok(values)
+}
