@@ -1,0 +1,17 @@
+//! The machine that runs Grail code in the cells of one range.
+#![tactic(auto)]
+
+mod drive;
+mod exits;
+mod frames;
+mod functions;
+mod homes;
+pub mod laws;
+mod loading;
+mod machine;
+mod room;
+mod state;
+mod steps;
+
+pub use machine::{Ending, Machine, Ran, Stack, run};
+pub use room::Room;
