@@ -3,6 +3,7 @@ ghost use Rattle.std.specs.Prelude.{◌≡◌, ℕ, ◌+◌, ◌-◌, ◌*◌, �
 ghost use Rattle.cell_span.specs.declared.cell.Cell.{Cell};
 ghost use Rattle.camelot_values.specs.Value.{Value, parts};
 ghost use Rattle.camelot_values.specs.Items.{items_of};
+ghost use Rattle.camelot_values.specs.Counts.{cells_among};
 ghost use Rattle.camelot_values.specs.Kinds.{DataType, AreTypes};
 ghost use Rattle.camelot_values.specs.Outcome.{Outcome, peak_of};
 ghost use Rattle.camelot_values.specs.Typing.{Fits, ArgumentsFit};
@@ -48,7 +49,7 @@ pub fn law_of_reuse()
 {}
 
 /// Words in cells. Kind, word and cells determine a value. A value that takes no cell twice takes at most as many as there
-/// are, and has at most four nodes for each of them, and one.
+/// are, and has at most four nodes for each of them, and one. Arguments take as many cells as are counted in them.
 pub fn law_of_words()
     ensures one_value { (types : List DataType) (cells : List Cell) (kind : Kind) (v other : Value) (word : ℕ) → length cells ≤ inline_base → AreTypes types
         → Fits types kind v → Fits types kind other → Stands types cells v word → Stands types cells other word → v ≡ other }
@@ -56,4 +57,6 @@ pub fn law_of_words()
         → length (footprint types cells v word) ≤ length cells }
     ensures few_nodes { (types : List DataType) (cells : List Cell) (kind : Kind) (v : Value) (word : ℕ) → AreTypes types → Fits types kind v → Stands types cells v word
         → RepeatsNone (footprint types cells v word) → length (items_of v) ≤ 4 * length cells + 1 }
+    ensures argument_cells { (types : List DataType) (kinds : List Kind) (args : List Value) → AreTypes types → ArgumentsFit types kinds args
+        → length (cells_from types 0 (parts args)) ≡ cells_among types args }
 {}
