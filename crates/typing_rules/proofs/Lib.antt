@@ -1,4 +1,3 @@
--- Typed programs don't get stuck, and the kind of an expression is the one that is computed.
+-- The kind of an expression is the one that is computed, and a program has one typing.
 pub mod Determined
-pub mod Preserving
 pub mod OneTyping

@@ -5,3 +5,5 @@ pub mod Typed
 pub mod TypedPrograms
 pub mod Settled
 pub mod NumberLaws
+pub mod Fitting
+pub mod TypingLaws

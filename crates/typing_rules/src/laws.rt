@@ -1,17 +1,21 @@
 //! Laws of typing, as the contracts of functions that do nothing.
-ghost use Rattle.std.specs.Prelude.{◌≡◌, ℕ, List, Some, slice_get, IsTrue};
+ghost use Rattle.std.specs.Prelude.{◌≡◌, ℕ, Bool, true, List, Some, slice_get, IsTrue};
 ghost use Rattle.camelot_values.specs.Value.{Value};
 ghost use Rattle.camelot_values.specs.Kinds.{DataType, type_of};
 ghost use Rattle.camelot_values.specs.Lists.{is_among};
-ghost use Rattle.camelot_values.specs.Typing.{ArgumentsFit, IsSafe};
+ghost use Rattle.camelot_values.specs.Typing.{ArgumentsFit, Fits, IsSafe};
+ghost use Rattle.camelot_values.specs.Bounds.{Yields};
+ghost use Rattle.camelot_values.specs.Runs.{Enter, calls};
 ghost use Rattle.camelot_values.specs.declared.kinds.Kind.{Kind};
 ghost use Rattle.camelot_tree.specs.declared.tree.Name.{Name};
-ghost use Rattle.camelot_tree.specs.Tree.{Expression, Source};
-ghost use Rattle.camelot_tree.specs.Meaning.{run_of};
+ghost use Rattle.camelot_tree.specs.Tree.{Expression, Expressions, Source};
+ghost use Rattle.camelot_tree.specs.Tokens.{expression_has_ints, expressions_have_ints, has_ints};
+ghost use Rattle.camelot_tree.specs.Meaning.{Environment, bodies, eval, eval_all, run_of};
 ghost use Rattle.camelot_tree.specs.Meaning as meaning;
 ghost use Rattle.typing_rules.specs.Kinds.{Globals, Scope, atom_of, types_of, constructor_number, numbers_of};
-ghost use Rattle.typing_rules.specs.Typing.{HasKind, IsTyped, Signature, known_kind};
+ghost use Rattle.typing_rules.specs.Typing.{FunctionsFit, HasKind, HaveKinds, IsTyped, Signature, globals_of, known_kind};
 ghost use Rattle.typing_rules.specs.Typed.{Typing, typing_kinds, IsTyping};
+ghost use Rattle.typing_rules.specs.Fitting.{CallsFit, Scoped};
 ghost use Rattle.typing_rules.specs.Settled.{IsSettled};
 
 /// A typed program on fitting arguments is never stuck, whatever the fuel and the limit of waiting calls: a run comes to a
@@ -21,6 +25,19 @@ ghost use Rattle.typing_rules.specs.Settled.{IsSettled};
 pub fn law_of_typing()
     ensures { (p : Source) (sigs : List Signature) (limit func fuel : ℕ) (args : List Value) (s : Signature) → IsTyped p sigs
         → slice_get sigs func ≡ Some s → ArgumentsFit (types_of p) s.params args → IsSafe (types_of p) s.result (run_of p limit func fuel args) }
+{}
+
+/// The same of each expression, and of arguments: where each name in scope has a value of its kind and calls come to values of theirs, an
+/// expression comes to a value of its kind, or stops; and calls do come to such values.
+pub fn law_of_expressions()
+    ensures expression { (p : Source) (sigs : List Signature) (enter : Enter) (e : Expression) (s : Scope Kind) (k : Kind) (fuel waits : ℕ) (tail : Bool) (env : Environment)
+        → FunctionsFit p (globals_of p sigs) p.funs sigs → CallsFit p sigs enter → Scoped (types_of p) s env → expression_has_ints e ≡ true
+        → HasKind (globals_of p sigs) s e k → Yields (Fits (types_of p) k) (eval p enter e fuel waits tail env) }
+    ensures arguments { (p : Source) (sigs : List Signature) (enter : Enter) (es : Expressions) (s : Scope Kind) (kinds : List Kind) (fuel waits : ℕ) (env : Environment)
+        → FunctionsFit p (globals_of p sigs) p.funs sigs → CallsFit p sigs enter → Scoped (types_of p) s env → expressions_have_ints es ≡ true
+        → HaveKinds (globals_of p sigs) s es kinds → Yields (ArgumentsFit (types_of p) kinds) (eval_all p enter es fuel waits env) }
+    ensures calls { (p : Source) (sigs : List Signature) (limit clock : ℕ) → FunctionsFit p (globals_of p sigs) p.funs sigs → IsTrue (has_ints p)
+        → CallsFit p sigs (calls (bodies p) limit clock) }
 {}
 
 /// An expression has at most one kind in a scope, and it is the one that is computed without looking at the rules.

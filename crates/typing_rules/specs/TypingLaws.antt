@@ -1,3 +1,4 @@
+-- Laws, for the proofs of this crate and of those above it.
 -- A typed program on fitting arguments doesn't get stuck, and what it comes to is of the function's result kind.
 use Rattle.std.proofs.Common.{◌≡◌, ℕ, zero, suc, ◌+◌, ◌≤◌, Bool, true, false, List, [], ◌∷◌, ◌++◌, length, map, Option, Some, None, refl, sym, ap, ◌∙◌, subst, arith}
 use Rattle.std.specs.Prelude.{cond, ◌&&◌, if◌then◌else◌, slice_get, IsSomeAnd, IsTrue}
@@ -31,6 +32,7 @@ use Rattle.camelot_tree.specs.Meaning.{Environment, put, put_field, put_fields, 
 use Rattle.camelot_tree.specs.Tokens.{expression_has_ints, expressions_have_ints, arms_have_ints, has_ints}
 use Rattle.typing_rules.specs.Kinds.{Scope, bind, bind_fields, bind_cell, arm_scope, or_else, types_of, constructor_number, fields_of, is_inline, built_kind}
 use Rattle.typing_rules.specs.Typing.{Signature, known_kind, PlaceFits, arms_with, HeadFits, HasKind, HaveKinds, ArmsHaveKind, ParamsStand, params_scope, FunctionFits, FunctionsFit, globals_of, IsTyped}
+use Rattle.typing_rules.specs.Fitting.{Scoped, CallsFit}
 use Rattle.typing_rules.specs.NumberLaws.{number_same, At, numbered_constructor, written_constructor, head_number, signature_function, among_numbers}
 
 -- ---- outcomes
@@ -45,22 +47,18 @@ yields_given P Q (Some v) next h go = go v h
 
 -- ---- literals
 
-both_hold : (a b : Bool) → (a && b) ≡ true → (a ≡ true) × (b ≡ true)
+pub both_hold : (a b : Bool) → (a && b) ≡ true → (a ≡ true) × (b ≡ true)
 both_hold true b h = (refl, h)
 both_hold false b h = absurd cc
 
-each_holds : {A : Type 0} (test : A → Bool) (xs : List A) (i : ℕ) (x : A) → list_all test xs ≡ true → slice_get xs i ≡ Some x → test x ≡ true
+pub each_holds : {A : Type 0} (test : A → Bool) (xs : List A) (i : ℕ) (x : A) → list_all test xs ≡ true → slice_get xs i ≡ Some x → test x ≡ true
 each_holds test [] i x h e = absurd cc
 each_holds test (y ∷ ys) zero x h e = let same : y ≡ x = cc in subst (λ z. test z ≡ true) same (both_hold (test y) (list_all test ys) h).0
 each_holds test (y ∷ ys) (suc i) x h e = each_holds test ys i x (both_hold (test y) (list_all test ys) h).1 e
 
 -- ---- names
 
--- each name in scope has a value of its kind
-pub record Scoped (types : List DataType) (s : Scope Kind) (env : Environment) : Type 0 where
-  pub holds : (name : List ℕ) (k : Kind) → find s name ≡ Some k → IsSomeAnd (env name) (Fits types k)
-
-kind_same : (k q : Kind) → ◌≡◌ {A = Option Kind} (Some k) (Some q) → k ≡ q
+pub kind_same : (k q : Kind) → ◌≡◌ {A = Option Kind} (Some k) (Some q) → k ≡ q
 kind_same k q e = cc
 
 pub scoped_bind : (types : List DataType) (s : Scope Kind) (env : Environment) (n : List ℕ) (k : Kind) (v : Value) → Scoped types s env → Fits types k v → Scoped types (bind n k s) (put env n v)
@@ -91,15 +89,15 @@ fields_bound types s env (Some n ∷ fs) (k ∷ ks) (value.And v vs) h full fit 
 -- ---- parameters
 
 -- a name stands in a list
-record Among (names : List (List ℕ)) (name : List ℕ) : Type 0 where
-  before : List (List ℕ)
-  rest : List (List ℕ)
-  is : names ≡ before ++ name ∷ rest
+pub record Among (names : List (List ℕ)) (name : List ℕ) : Type 0 where
+  pub before : List (List ℕ)
+  pub rest : List (List ℕ)
+  pub is : names ≡ before ++ name ∷ rest
 
-abbrev param_names : List Param → List (List ℕ)
+abbrev pub param_names : List Param → List (List ℕ)
 param_names xs = map (λ x. x.name.word) xs
 
-found_among : (xs : List Param) (ks : List Kind) (name : List ℕ) (q : Kind) → find (params_scope xs ks) name ≡ Some q → Among (param_names xs) name
+pub found_among : {A : Type 0} (xs : List Param) (ks : List A) (name : List ℕ) (q : A) → find (params_scope xs ks) name ≡ Some q → Among (param_names xs) name
 found_among [] ks name q e = absurd cc
 found_among (x ∷ xs) [] name q e = absurd cc
 found_among (x ∷ xs) (k ∷ ks) name q e = by_test (bytes_eq x.name.word name) refl (λ h. found_among xs ks name q h) e
@@ -110,13 +108,13 @@ found_among (x ∷ xs) (k ∷ ks) name q e = by_test (bytes_eq x.name.word name)
     by_test false b rec e = let r = rec e in record { before = x.name.word ∷ r.before; rest = r.rest; is = ap (λ l. x.name.word ∷ l) r.is }
 
 -- parameters are bound to values of their kinds, and no other name is bound
-record ParamsBound (types : List DataType) (env : Environment) (xs : List Param) (ks : List Kind) (vs : List Value) : Type 0 where
-  bound : Environment
-  is : put_params env xs vs ≡ Some bound
-  fits : Scoped types (params_scope xs ks) bound
-  others : (name : List ℕ) → find (params_scope xs ks) name ≡ None → bound name ≡ env name
+pub record ParamsBound (types : List DataType) (env : Environment) (xs : List Param) (ks : List Kind) (vs : List Value) : Type 0 where
+  pub bound : Environment
+  pub is : put_params env xs vs ≡ Some bound
+  pub fits : Scoped types (params_scope xs ks) bound
+  pub others : (name : List ℕ) → find (params_scope xs ks) name ≡ None → bound name ≡ env name
 
-params_bound : (types : List DataType) (env : Environment) (xs : List Param) (ks : List Kind) (vs : List Value) → length xs ≡ length ks → AreDistinct (param_names xs) → FitAll types ks (parts vs) → ParamsBound types env xs ks vs
+pub params_bound : (types : List DataType) (env : Environment) (xs : List Param) (ks : List Kind) (vs : List Value) → length xs ≡ length ks → AreDistinct (param_names xs) → FitAll types ks (parts vs) → ParamsBound types env xs ks vs
 params_bound types env [] [] [] full distinct fit = record { bound = env; is = refl; fits = record { holds = λ name k e. absurd cc }; others = λ name e. refl }
 params_bound types env [] [] (v ∷ vs) full distinct fit = absurd fit
 params_bound types env [] (k ∷ ks) vs full distinct fit = absurd (omega (arith, full))
@@ -154,21 +152,17 @@ params_bound types env (x ∷ xs) (k ∷ ks) (v ∷ vs) full distinct fit =
 
 -- ---- steps
 
--- the calls of the program's functions on fitting arguments come to values of the results' kinds
-abbrev pub CallsFit : Source → List Signature → Enter → Type 0
-CallsFit p sigs enter = (k w : ℕ) (t : Bool) (i : ℕ) (args : List Value) (s : Signature) → slice_get sigs i ≡ Some s → ArgumentsFit (types_of p) s.params args → Yields (Fits (types_of p) s.result) (enter k w t i args)
-
-not_built : (o : Option ℕ) (k : Kind) → ((t : ℕ) → kind.Of t ≡ k → ⊥) → option_map kind.Of o ≡ Some k → ⊥
+pub not_built : (o : Option ℕ) (k : Kind) → ((t : ℕ) → kind.Of t ≡ k → ⊥) → option_map kind.Of o ≡ Some k → ⊥
 not_built None k none e = cc
 not_built (Some t) k none e = none t (kind_same (kind.Of t) k e)
 
-no_int : (t : ℕ) → kind.Of t ≡ kind.Int → ⊥
+pub no_int : (t : ℕ) → kind.Of t ≡ kind.Int → ⊥
 no_int t e = cc
 
-no_flag : (t : ℕ) → kind.Of t ≡ kind.Flag → ⊥
+pub no_flag : (t : ℕ) → kind.Of t ≡ kind.Flag → ⊥
 no_flag t e = cc
 
-no_dia : (t : ℕ) → kind.Of t ≡ kind.Dia → ⊥
+pub no_dia : (t : ℕ) → kind.Of t ≡ kind.Dia → ⊥
 no_dia t e = cc
 
 pub chosen_fits : (types : List DataType) (q : Kind) (v : Value) (a b : Outcome Value) → Fits types kind.Flag v → Yields (Fits types q) a → Yields (Fits types q) b → Yields (Fits types q) (chosen v a b)
@@ -193,7 +187,7 @@ in_cell_fits types q c v h = by_test c.inline
     by_test true = h
     by_test false = h
 
-placed_fits : (p : Source) (s : Scope Kind) (q : Kind) (place : Option Name) (inline : Bool) (env : Environment) (con : ℕ) (vs : List Value) → Scoped (types_of p) s env → At (meaning.declared_constructors p) con → PlaceFits s inline place
+pub placed_fits : (p : Source) (s : Scope Kind) (q : Kind) (place : Option Name) (inline : Bool) (env : Environment) (con : ℕ) (vs : List Value) → Scoped (types_of p) s env → At (meaning.declared_constructors p) con → PlaceFits s inline place
     → Fits (types_of p) q (value.Con con (parts vs)) → Yields (Fits (types_of p) q) (placed p place env con vs)
 placed_fits p s q None inline env con vs h at place fit =
     subst (λ o. Yields (Fits (types_of p) q) (in_cell o (value.Con con (parts vs)))) (sym at.is) (in_cell_fits (types_of p) q at.item (value.Con con (parts vs)) fit)
@@ -202,14 +196,14 @@ placed_fits p s q (Some d) inline env con vs h at place fit =
     (λ v g. on_diamond_fits (types_of p) q v (at_once (value.Con con (parts vs))) g fit)
 
 -- a constructor's value, from values of its fields' kinds
-con_fits : (types : List DataType) (q : Kind) (con : ℕ) (vs : List Value) → At (values.constructors types) con → built_kind types con ≡ Some q → ArgumentsFit types (fields_of types con) vs → Fits types q (value.Con con (parts vs))
+pub con_fits : (types : List DataType) (q : Kind) (con : ℕ) (vs : List Value) → At (values.constructors types) con → built_kind types con ≡ Some q → ArgumentsFit types (fields_of types con) vs → Fits types q (value.Con con (parts vs))
 con_fits types q con vs at built fit =
     let fields : fields_of types con ≡ at.item.fields = ap (λ o. option_map_or (λ c. c.fields) o []) at.is in
     (built, subst (λ o. IsSomeAnd o (λ c. FitAll types c.fields (parts vs))) (sym at.is) (subst (λ ks. FitAll types ks (parts vs)) fields fit))
 
 -- ---- arms
 
-cell_fits : (types : List DataType) (q : Kind) (s : Scope Kind) (x : ArmCell) (env : Environment) (next : Environment → Outcome Value) → Scoped types s env
+pub cell_fits : (types : List DataType) (q : Kind) (s : Scope Kind) (x : ArmCell) (env : Environment) (next : Environment → Outcome Value) → Scoped types s env
     → ((last : Environment) → Scoped types (bind_cell known_kind x s) last → Yields (Fits types q) (next last)) → Yields (Fits types q) (cell_run x env next)
 cell_fits types q s cell.Plain env next h go = go env h
 cell_fits types q s cell.Free env next h go = yields_after (Fits types q) 0 0 1 (next env) (go env h)
@@ -338,7 +332,7 @@ mutual
 
 -- ---- functions and programs
 
-params_full : (p : Source) (xs : List Param) (ks : List Kind) → ParamsStand p xs ks → length xs ≡ length ks
+pub params_full : (p : Source) (xs : List Param) (ks : List Kind) → ParamsStand p xs ks → length xs ≡ length ks
 params_full p [] [] h = refl
 params_full p [] (k ∷ ks) h = absurd h
 params_full p (x ∷ xs) [] h = absurd h

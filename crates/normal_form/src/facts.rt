@@ -1,0 +1,36 @@
+//! Facts of the normal form, as the contracts of functions that do nothing.
+ghost use Rattle.std.specs.List.{AllByRecursion};
+ghost use Rattle.typing_rules.specs.Kinds.{types_of};
+ghost use Rattle.typing_rules.specs.Typed.{IsTyping, Typing};
+ghost use Rattle.linear_use.specs.Answers.{KeepsRule};
+ghost use Rattle.normal_form.specs.Normal.{normal_form};
+ghost use Rattle.normal_form.specs.Coded.{BlockParams};
+ghost use Rattle.normal_form.specs.Facts.{AreCounted, FitsAsCode, TablesFit, UsesFairly};
+
+use typing_rules::laws::law_of_kinds;
+
+/// The normal form of a typed program that keeps the rule of use reads no local before it is bound, and uses none of a heap kind twice.
+pub fn law_of_use()
+    ensures { (t : Typing) → IsTyping t → KeepsRule t → AllByRecursion (UsesFairly (types_of t.source)) (normal_form t).functions }
+{
+    law_of_kinds();
+}
+
+/// It fits as code, whatever the parameters of its blocks: all that the rules of well-formed code say but for the uses of locals.
+pub fn law_of_fits()
+    ensures { (takes : BlockParams) (t : Typing) → IsTyping t → KeepsRule t → AllByRecursion (FitsAsCode takes (normal_form t)) (normal_form t).functions }
+{
+    law_of_kinds();
+}
+
+/// Its tables are those of the program, so that no name stands twice and each field's type is there.
+pub fn law_of_tables()
+    ensures { (t : Typing) → IsTyping t → TablesFit (normal_form t) }
+{}
+
+/// It has as many locals and blocks as are counted beforehand, and few lets in a block.
+pub fn law_of_sizes()
+    ensures { (t : Typing) → IsTyping t → AreCounted t.source t.source.funs (normal_form t).functions }
+{
+    law_of_kinds();
+}

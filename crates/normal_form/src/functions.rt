@@ -1,0 +1,117 @@
+//! Functions in normal form.
+ghost use Rattle.std.specs.Prelude.{◌≡◌, ◌≤◌, length, IfOk};
+ghost use Rattle.camelot_tree.specs.Tree.{expression_of, function_of};
+ghost use Rattle.typing_rules.specs.Kinds.{numbered};
+ghost use Rattle.typing_rules.specs.Typing.{params_scope};
+ghost use Rattle.typing_rules.specs.Typed.{kinds_of, signature_of};
+ghost use Rattle.normal_form.specs.Answers.{Finds, fault_of};
+ghost use Rattle.normal_form.specs.Normal.{normal_function, tail_ends, tail_made};
+ghost use Rattle.normal_form.specs.Programs.{normal_function_of};
+ghost use Rattle.normal_form.specs.Tables.{signatures_in, source_in};
+
+use crate::count_tail::count_tail;
+use crate::cut::cut_lines;
+use crate::fault::NormalFault;
+use crate::known::Known;
+use crate::part::At;
+use crate::program::NormalFunction;
+use crate::tail::tail;
+use crate::tail_kinds::tail_kinds;
+use camelot_names::Scope;
+use camelot_tree::{FunDecl, Param};
+use camelot_values::Kind;
+use std::alloc::{AllocError, Global};
+use typing_rules::FunKinds;
+
+// Refuses a function that is too large.
+fn check_size(known: &Known<'_, '_>, decl: &FunDecl) -> Result<(), NormalFault>
+    ensures { Finds result (fault_of (source_in known.now.typed.now) (function_of decl.now)) }
+{
+    let counts = count_tail(known, &decl.body)?;
+    if counts.locals > 240 {
+        return Err(NormalFault::TooManyLocals {
+            name: decl.name.word.copy(known.alloc)?,
+            have: counts.locals,
+        });
+    }
+    if counts.blocks > 256 {
+        return Err(NormalFault::TooManyBlocks {
+            name: decl.name.word.copy(known.alloc)?,
+            have: counts.blocks,
+        });
+    }
+    Ok(())
+}
+
+// The parameters in scope with their locals, the first of them innermost.
+fn bind_locals<'a>(alloc: Global, params: &'a [Param]) -> Result<Scope<'a, u32>, AllocError>
+    requires { length params.now ≤ 16 }
+    ensures { IfOk result (λ scope. scope ≡ params_scope params.now (numbered 0 params.now)) }
+{
+    let mut scope = Scope::new(alloc);
+    let mut number = params.len();
+    while number > 0 {
+        number -= 1;
+        scope.bind(params[number].name.word.bytes(), number as u32)?;
+    }
+    Ok(scope)
+}
+
+// The parameters in scope with their kinds, the first of them innermost.
+fn bind_kinds<'a>(
+    alloc: Global,
+    params: &'a [Param],
+    kinds: &[Kind],
+) -> Result<Scope<'a, Kind>, AllocError>
+    ensures { IfOk result (λ scope. scope ≡ params_scope params.now kinds.now) }
+{
+    let mut scope = Scope::new(alloc);
+    let mut number = params.len().min(kinds.len());
+    while number > 0 {
+        number -= 1;
+        scope.bind(params[number].name.word.bytes(), kinds[number])?;
+    }
+    Ok(scope)
+}
+
+// A function that isn't too large.
+fn make_function(
+    known: &Known<'_, '_>,
+    decl: &FunDecl,
+    kinds: &FunKinds,
+) -> Result<NormalFunction, AllocError>
+    requires params { length decl.now.params.items ≤ 16 }
+    requires locals { tail_made (source_in known.now.typed.now) (expression_of decl.now.body) ≤ 240 }
+    requires ended { tail_ends (source_in known.now.typed.now) (expression_of decl.now.body) ≤ 256 }
+    ensures { IfOk result (λ f. normal_function_of f ≡ normal_function (source_in known.now.typed.now) (signatures_in known.now.typed.now) (function_of decl.now) (signature_of (function_of decl.now) (kinds_of kinds.now))) }
+{
+    let mut scope = bind_locals(known.alloc, &decl.params)?;
+    let at = At {
+        next: decl.params.len() as u32,
+        number: 0,
+    };
+    let code = tail(known, &mut scope, at, &decl.body)?;
+    let mut kinds_in_scope = bind_kinds(known.alloc, &decl.params, &kinds.params)?;
+    let locals = tail_kinds(known, &mut kinds_in_scope, &decl.body)?;
+    Ok(NormalFunction {
+        name: decl.name.word.copy(known.alloc)?,
+        params: Vec::from_slice(known.alloc, &kinds.params)?,
+        result: kinds.result,
+        locals,
+        blocks: cut_lines(known.alloc, code.lines)?,
+    })
+}
+
+/// A function in normal form, or the fault where it is too large.
+pub(crate) fn function_form(
+    known: &Known<'_, '_>,
+    decl: &FunDecl,
+    kinds: &FunKinds,
+) -> Result<NormalFunction, NormalFault>
+    requires { length decl.now.params.items ≤ 16 }
+    ensures function { IfOk result (λ f. normal_function_of f ≡ normal_function (source_in known.now.typed.now) (signatures_in known.now.typed.now) (function_of decl.now) (signature_of (function_of decl.now) (kinds_of kinds.now))) }
+    ensures finds { Finds result (fault_of (source_in known.now.typed.now) (function_of decl.now)) }
+{
+    check_size(known, decl)?;
+    Ok(make_function(known, decl, kinds)?)
+}
