@@ -1,0 +1,10 @@
+pub mod Sorted
+pub mod Ready
+pub mod Bodies
+pub mod Compiled
+pub mod Spelled
+pub mod Marking
+pub mod Seeing
+pub mod BlockCode
+pub mod Props
+mod Rows

@@ -1,0 +1,3 @@
+-- The code of programs in normal form.
+pub mod Generated
+pub mod Marked
