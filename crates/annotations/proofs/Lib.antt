@@ -1,0 +1,4 @@
+pub mod Lookups
+pub mod Walks
+pub mod Nodes
+pub mod Rows
