@@ -1,0 +1,19 @@
+-- Certificates of heap bounds, and their text.
+pub mod Certificates
+pub mod Numbers
+pub mod Text
+pub mod Answers
+pub mod Words
+pub mod Reading
+pub mod Steps
+pub mod Faults
+pub mod Writing
+pub mod OptionLaws
+pub mod CutLaws
+pub mod NumberLaws
+pub mod VectorLaws
+pub mod PartLaws
+pub mod GrowingLaws
+pub mod AddingLaws
+pub mod LineLaws
+pub mod TextLaws

@@ -1,0 +1,91 @@
+ghost use Rattle.std.specs.Prelude.{◌≡◌, ◌≤◌, ◌+◌, ◌-◌, ◌*◌, ℕ, true, length};
+ghost use Rattle.std.specs.Option.{option_map};
+ghost use Rattle.camelot_values.specs.Names.{is_digit};
+ghost use Rattle.certificate.specs.Reading.{capped, digits_on, number_of, digits_below, is_before, is_after};
+
+/// More than each limit of a certificate's numbers. Larger numbers are read as this one.
+pub(crate) const MOST: u64 = 2_199_023_255_552;
+
+// Whether the byte is a digit.
+fn is_digit(byte: u8) -> bool
+    ensures { result ≡ is_digit byte }
+{
+    byte >= b'0' && byte <= b'9'
+}
+
+// The number with one digit more.
+#[tactic(auto, using(crate::specs::NumberLaws::digit_range))]
+fn add_digit(value: u64, digit: u8) -> u64
+    requires small { value ≤ 2199023255552 }
+    requires digit { is_digit digit ≡ true }
+    ensures { result ≡ capped (value * 10 + (digit - 48)) }
+{
+    (value * 10 + (digit - b'0') as u64).min(MOST)
+}
+
+// The number of these digits; None where there is another byte.
+#[tactic(auto, using(crate::proofs::Caps::digit_on, crate::proofs::Caps::digit_off, crate::proofs::Caps::digits_done, crate::proofs::Caps::first_small))]
+fn read_digits(word: &[u8]) -> Option<u64>
+    ensures { result ≡ option_map capped (digits_on 0 word.now) }
+{
+    let mut value = 0;
+    let mut at = 0;
+    'digits: while at < word.len() {
+        if !is_digit(word[at]) {
+            return None;
+        }
+        value = add_digit(value, word[at]);
+        at += 1;
+    }
+    Some(value)
+}
+
+/// The number that is written so, without leading zeros; `MOST` where it is larger. None where it is no number.
+#[tactic(auto, using(crate::proofs::Caps::no_digits, crate::proofs::Caps::leading_zero, crate::proofs::Caps::other_digits))]
+pub(crate) fn number(word: &[u8]) -> Option<u64>
+    ensures { result ≡ option_map capped (number_of word.now) }
+{
+    if word.is_empty() {
+        return None;
+    }
+    if word[0] == b'0' && word.len() > 1 {
+        return None;
+    }
+    read_digits(word)
+}
+
+// Whether the left has the smaller digit where they first differ.
+#[tactic(auto, using(crate::proofs::Caps::below_same, crate::proofs::Caps::below_differ, crate::proofs::Caps::below_end))]
+fn digits_below(left: &[u8], right: &[u8]) -> bool
+    ensures { result ≡ digits_below left.now right.now }
+{
+    let mut at = 0;
+    'digits: while at < left.len() && at < right.len() {
+        if left[at] != right[at] {
+            return left[at] < right[at];
+        }
+        at += 1;
+    }
+    false
+}
+
+/// Whether the left number is smaller, both written without leading zeros.
+pub(crate) fn is_before(left: &[u8], right: &[u8]) -> bool
+    ensures { result ≡ is_before left.now right.now }
+{
+    if left.len() != right.len() {
+        return left.len() < right.len();
+    }
+    digits_below(left, right)
+}
+
+/// Whether there is no last number, or a smaller one.
+#[tactic(auto, using(crate::proofs::Caps::after_capped))]
+pub(crate) fn is_after(last: Option<u32>, number: u64) -> bool
+    ensures { (n : ℕ) → number ≡ capped n → result ≡ is_after last n }
+{
+    match last {
+        None => true,
+        Some(last) => (last as u64) < number,
+    }
+}
