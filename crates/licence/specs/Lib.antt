@@ -1,0 +1,10 @@
+-- Certificates that grant their code, and licences.
+pub mod Books
+pub mod Rules
+pub mod Fitting
+pub mod Checks
+pub mod Bound
+pub mod Licensed
+pub mod CheckLaws
+pub mod PotentialLaws
+pub mod theory

@@ -1,0 +1,32 @@
+//! Laws of annotated code, as the contracts of functions that do nothing.
+ghost use Rattle.std.specs.Prelude.{◌≡◌, ◌+◌, ◌≤◌, ◌↔◌, ℕ, List, Some, slice_get};
+ghost use Rattle.camelot_values.specs.Value.{Value};
+ghost use Rattle.camelot_values.specs.Kinds.{AreTypes};
+ghost use Rattle.camelot_values.specs.Typing.{ArgumentsFit};
+ghost use Rattle.camelot_values.specs.Bounds.{IsPaidBy};
+ghost use Rattle.grail_code.specs.Code.{Code, Func};
+ghost use Rattle.grail_code.specs.Meaning.{run_of};
+ghost use Rattle.grail_code.specs.Soundness.{HaveBlocks};
+ghost use Rattle.grail_code.specs.WellFormed.{IsWellFormed};
+ghost use Rattle.annotations.specs.Vectors.{potential};
+ghost use Rattle.licence.specs.Books.{Book};
+ghost use Rattle.licence.specs.Rules.{Pays};
+ghost use Rattle.licence.specs.Checks.{AllHold, checks_of, in_integers, integers};
+ghost use Rattle.licence.specs.Bound.{units_at};
+
+/// Potential soundness (Hofmann and Jost 2003), with amounts of any size: where the rules hold of well-formed code, every run from a
+/// function on fitting arguments, with any fuel and any limit of waiting calls, ended or stopped, is paid for by what the function needs
+/// and its arguments carry. The peak costs no more, and at a value the net, what is given back and what the result carries cost no
+/// more together.
+#[tactic(auto, using(crate::specs::PotentialLaws::run_paid))]
+pub fn law_of_potential()
+    ensures { (p : Code) (book : Book ℕ) → IsWellFormed p → HaveBlocks p → AreTypes p.types → Pays p book → (limit entry fuel : ℕ) (args : List Value) (f : Func)
+        → slice_get p.funcs entry ≡ Some f → ArgumentsFit p.types f.params args
+        → IsPaidBy book.unit (units_at p book entry args) (λ v. book.back entry + potential p.types (book.result entry) v) (run_of p limit entry fuel args) }
+{}
+
+/// The rules, which have no order, hold exactly where a cell costs something and every check of the list holds.
+#[tactic(auto, using(crate::specs::CheckLaws::pays_by_checks))]
+pub fn law_of_checks()
+    ensures { (p : Code) (book : Book ℕ) → Pays p book ↔ ((1 ≤ book.unit) × AllHold (checks_of integers p (in_integers book))) }
+{}
