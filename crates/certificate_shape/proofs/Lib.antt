@@ -1,0 +1,4 @@
+pub mod Params
+pub mod Order
+pub mod Walking
+pub mod Functions

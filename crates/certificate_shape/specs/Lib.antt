@@ -1,0 +1,3 @@
+-- The lines of a certificate, block by block.
+pub mod Shapes
+pub mod ShapeLaws
