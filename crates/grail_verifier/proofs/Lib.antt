@@ -1,0 +1,12 @@
+pub mod Composing
+pub mod Carrying
+pub mod Lines
+pub mod Exact
+pub mod Facts
+pub mod Judging
+pub mod Stepping
+pub mod Ending
+pub mod Walking
+pub mod Numbers
+pub mod Reached
+pub mod Begun

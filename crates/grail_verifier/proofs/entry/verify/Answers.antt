@@ -1,0 +1,5 @@
+use Rattle.grail_verifier.proofs.Exact.{accepted}
+use Rattle.grail_verifier.proofs.entry.verify.Goals as goal
+
+pub returns-clause-accepts : goal.returns-clause-accepts
+returns-clause-accepts c = accepted c.args.code.now c.args.cert.now c.verify_bytes.result c.verify_bytes.ensures.exact

@@ -1,0 +1,9 @@
+use Rattle.grail_code.specs.Code.{code_of}
+use Rattle.grail_verifier.proofs.Exact.{cert_exact, cert_unread}
+use Rattle.grail_verifier.proofs.entry.verify_cert.Goals as goal
+
+pub returns-in-Ok-clause-exact : goal.returns-in-Ok-clause-exact
+returns-in-Ok-clause-exact c = cert_exact (code_of c.args.code) c.args.cert.now c.in-Ok.read c.judge.result c.in-Ok.ensures.read c.in-Ok.ensures.line c.in-Ok.ensures.number c.judge.ensures.exact
+
+pub returns-in-Err-clause-exact : goal.returns-in-Err-clause-exact
+returns-in-Err-clause-exact c = cert_unread (code_of c.args.code) c.args.cert.now c.in-Err.fault c.in-Err.ensures.read c.in-Err.ensures.line c.in-Err.ensures.number c.cert_refusal.result c.cert_refusal.ensures

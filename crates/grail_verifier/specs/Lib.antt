@@ -1,0 +1,5 @@
+-- What the verifier answers, and its check of certificates as a walk.
+pub mod Finding
+pub mod Settling
+pub mod Verdicts
+pub mod Walk

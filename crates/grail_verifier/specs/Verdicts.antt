@@ -1,0 +1,84 @@
+-- Cited by contracts.
+-- What the verifier answers of bytes, and why: the first of these that is so. The bytes spell no code; the code isn't well formed; the
+-- bytes of the certificate are no certificate's text; the certificate doesn't fit the code; a check of its list fails.
+use Rattle.std.specs.Prelude.{◌≡◌, ℕ, ◌<◌, ℤ, pos, List, Option, Some, None, Result, Ok, Err}
+use Rattle.grail_code.specs.Code.{Code}
+use Rattle.grail_code.specs.Spelling.{IsSpelling, IsFront, IsLongestBegin}
+use Rattle.grail_code.specs.WellFormed.{IsWellFormed}
+use Rattle.grail_code.specs.declared.fault.DecodeFault.{DecodeFault}
+use Rattle.grail_code.specs.declared.fault.DecodeFault.TheVariants as code_fault
+use Rattle.grail_check.specs.Walk.{FirstFault, walk}
+use Rattle.certificate.specs.Certificates.{Cert, IsCert}
+use Rattle.certificate.specs.Text.{text_of, IsLineFault, IsNumberFault}
+use Rattle.certificate.specs.declared.reading.CertFault.{CertFault}
+use Rattle.certificate.specs.declared.reading.CertFault.TheVariants as cert_fault
+use Rattle.licence.specs.Books.{book_of}
+use Rattle.licence.specs.Checks.{Check, checks_of, integers, in_integers, FirstFails}
+use Rattle.licence.specs.Fitting.{Fits, IsMisfit, Grants}
+use Rattle.licence.specs.Licensed.{Licensed}
+use Rattle.grail_verifier.specs.declared.refusal.Refusal.{Refusal}
+use Rattle.grail_verifier.specs.declared.refusal.Refusal.TheVariants as refusal
+
+-- the same check, in numbers that may be negative
+abbrev pub in_numbers : Check ℕ → Check ℤ
+in_numbers c = record { func = c.func; block = c.block; place = c.place; con = c.con; have = pos c.have; need = pos c.need }
+
+-- the certificate fits, and this is the first check of the list that fails; less is there than is asked
+pub record IsShort (p : Code) (c : Cert) (check : Check ℕ) : Type 0 where
+  pub fits : Fits p c
+  pub first : FirstFails (checks_of integers p (in_integers (book_of c))) (in_numbers check)
+  pub less : check.have < check.need
+
+-- of well-formed code and a certificate
+abbrev pub IsRefused : Code → Cert → Refusal → Type 0
+IsRefused p c (refusal.Shape func block) = IsMisfit p c func block
+IsRefused p c (refusal.Need func block place have need) = IsShort p c (record { func = func; block = block; place = place; con = None; have = have; need = need })
+IsRefused p c (refusal.Weak func block place con have need) = IsShort p c (record { func = func; block = block; place = place; con = Some con; have = have; need = need })
+IsRefused p c r = ⊥
+
+abbrev pub IsJudged : Code → Cert → Result Licensed Refusal → Type 0
+IsJudged p c (Ok l) = (l ≡ record { code = p; cert = c }) × Grants p c
+IsJudged p c (Err r) = IsRefused p c r
+
+-- of well-formed code and the bytes of a certificate
+abbrev pub IsCertFault : List ℕ → CertFault → Type 0
+IsCertFault bytes (cert_fault.Line number) = IsLineFault bytes number
+IsCertFault bytes (cert_fault.Number line) = IsNumberFault bytes line
+IsCertFault bytes cert_fault.Memory = ⊥
+
+-- the bytes are the text of this certificate, of which this is said
+pub record OfCert (bytes : List ℕ) (Says : Cert → Type 0) : Type 0 where
+  pub cert : Cert
+  pub right : IsCert cert
+  pub text : text_of cert ≡ bytes
+  pub says : Says cert
+
+abbrev pub IsRead : Code → List ℕ → Result Licensed Refusal → Type 0
+IsRead p cert (Err (refusal.Cert fault)) = IsCertFault cert fault
+IsRead p cert r = OfCert cert (λ c. IsJudged p c r)
+
+-- of code and the bytes of a certificate
+abbrev pub IsChecked : Code → List ℕ → Result Licensed Refusal → Type 0
+IsChecked p cert (Err (refusal.Kinds fault)) = FirstFault (walk p) fault
+IsChecked p cert r = IsWellFormed p × IsRead p cert r
+
+-- of bytes
+abbrev pub IsCodeFault : List ℕ → DecodeFault → Type 0
+IsCodeFault bytes code_fault.Short = IsFront bytes
+IsCodeFault bytes (code_fault.Bad at) = IsLongestBegin bytes at
+IsCodeFault bytes code_fault.Memory = ⊥
+
+-- the bytes spell this code, of which this is said
+pub record OfCode (bytes : List ℕ) (Says : Code → Type 0) : Type 0 where
+  pub code : Code
+  pub spelled : IsSpelling code bytes
+  pub says : Says code
+
+abbrev pub IsVerdict : (code cert : List ℕ) → Result Licensed Refusal → Type 0
+IsVerdict code cert (Err (refusal.Code fault)) = IsCodeFault code fault
+IsVerdict code cert r = OfCode code (λ p. IsChecked p cert r)
+
+-- nothing is said where memory ran out
+abbrev pub OrMemory : Result Licensed Refusal → Type 0 → Type 0
+OrMemory (Err refusal.Memory) P = Unit {0}
+OrMemory r P = P

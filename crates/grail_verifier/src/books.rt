@@ -1,0 +1,32 @@
+ghost use Rattle.std.specs.Prelude.{◌≡◌};
+ghost use Rattle.annotations.specs.Tables.{table_of};
+
+use super::short::Site;
+use annotations::{ReachTable, Vector};
+use certificate::{Cert, FuncCert};
+use grail_code::{Code, Func};
+
+/// What is walked: code with its certificate, and the table of its types. `none` is no units, for locals and builds without a line.
+#[derive(Clone, Copy)]
+pub(crate) struct Books<'a> {
+    pub(crate) code: &'a Code,
+    pub(crate) cert: &'a Cert,
+    pub(crate) table: &'a ReachTable,
+    pub(crate) none: &'a Vector,
+    pub(crate) ghost reaches: { table.now ≡ table_of code.now.types },
+}
+
+/// A function with its lines.
+#[derive(Clone, Copy)]
+pub(crate) struct Body<'a> {
+    pub(crate) func: &'a Func,
+    pub(crate) own: &'a FuncCert,
+}
+
+/// Where the walk is in a function, and how many units are left there.
+#[derive(Clone, Copy)]
+pub(crate) struct Here<'a> {
+    pub(crate) func: &'a Func,
+    pub(crate) site: Site,
+    pub(crate) left: u64,
+}

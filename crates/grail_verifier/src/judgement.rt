@@ -1,0 +1,106 @@
+ghost use Rattle.std.specs.Prelude.{◌≡◌, [], Result};
+ghost use Rattle.grail_code.specs.Code.{code_of};
+ghost use Rattle.grail_code.specs.WellFormed.{IsWellFormed};
+ghost use Rattle.licence.specs.Fitting.{Fits};
+ghost use Rattle.licence.specs.Licensed.{Licensed};
+ghost use Rattle.grail_verifier.specs.declared.refusal.Refusal.{Refusal as PlainRefusal};
+ghost use Rattle.grail_verifier.specs.Finding.{short_of, refusal_of};
+ghost use Rattle.grail_verifier.specs.Settling.{Settles};
+ghost use Rattle.grail_verifier.specs.Verdicts.{IsJudged, OrMemory};
+
+use super::books::Books;
+use super::refusal::Refusal;
+use super::short::Short;
+use super::walk::check_funcs;
+use annotations::{ReachTable, Vector};
+use certificate::Cert;
+use certificate_shape::check_fit;
+use grail_code::Code;
+use licence::Licence;
+use std::alloc::Global;
+
+// The refusal of a check that fails.
+fn refusal_of(short: Short) -> Refusal
+    ensures { result ≡ refusal_of (short_of short) }
+{
+    match short.con {
+        None => Refusal::Need {
+            func: u64::from(short.func),
+            block: u64::from(short.block),
+            place: u64::from(short.place),
+            have: short.have,
+            need: short.need,
+        },
+        Some(con) => Refusal::Weak {
+            func: u64::from(short.func),
+            block: u64::from(short.block),
+            place: u64::from(short.place),
+            con: u64::from(con),
+            have: short.have,
+            need: short.need,
+        },
+    }
+}
+
+// The walk over a certificate that fits.
+fn walk_all(books: Books<'_>) -> Result<(), Refusal>
+    requires well { IsWellFormed (code_of books.code.now) }
+    requires fits { Fits (code_of books.code.now) books.cert.now }
+    requires none { books.none.now ≡ [] }
+    ensures { Settles (code_of books.entry.code.now) books.entry.cert.now result }
+{
+    books.code.limits();
+    books.cert.limits();
+    match check_funcs(books) {
+        Ok(()) => Ok(()),
+        Err(short) => Err(refusal_of(short)),
+    }
+}
+
+// The first thing that is wrong with a certificate of well-formed code.
+fn find_refusal(alloc: Global, code: &Code, cert: &Cert) -> Result<(), Refusal>
+    requires { IsWellFormed (code_of code.now) }
+    ensures { Settles (code_of code.now) cert.now result }
+{
+    let table = match ReachTable::new(alloc, &code.types) {
+        Ok(table) => table,
+        Err(_) => return Err(Refusal::Memory),
+    };
+    if let Err(misfit) = check_fit(code, cert, &table) {
+        return Err(Refusal::Shape {
+            func: u64::from(misfit.func),
+            block: u64::from(misfit.block),
+        });
+    }
+    let none = Vector::none(alloc);
+    walk_all(Books {
+        code,
+        cert,
+        table: &table,
+        none: &none,
+    })
+}
+
+// The licence of this code with this certificate.
+fn judge_once(alloc: Global, code: Code, cert: Cert) -> Result<Licence, Refusal>
+    requires { IsWellFormed (code_of code) }
+    ensures { OrMemory result (IsJudged (code_of code) cert result) }
+{
+    match find_refusal(alloc, &code, &cert) {
+        Ok(()) => Ok(Licence::seal(code, cert)),
+        Err(refusal) => Err(refusal),
+    }
+}
+
+/// The licence of well-formed code with a certificate, where the certificate grants it. Else `Shape`, `Need` or `Weak`, whichever comes first;
+/// `Memory` where memory runs out.
+#[tactic(auto, using(crate::proofs::Judging::judged_exactly))]
+pub fn judge(alloc: Global, code: Code, cert: Cert) -> Result<Licence, Refusal>
+    requires { IsWellFormed (code_of code) }
+    // What is answered is so.
+    ensures found { OrMemory result (IsJudged (code_of code) cert result) }
+    // What is so is answered, unless memory runs out.
+    ensures exact { (verdict : Result Licensed PlainRefusal) → IsJudged (code_of code) cert verdict → OrMemory result (result ≡ verdict) }
+{
+    judge_once(alloc, code, cert)
+}

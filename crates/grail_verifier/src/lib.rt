@@ -1,0 +1,16 @@
+//! The verifier of certificates: code and certificate from bytes to a licence.
+#![tactic(auto)]
+
+mod books;
+mod ends;
+mod entry;
+mod judgement;
+mod lets;
+mod refusal;
+mod short;
+mod values;
+mod walk;
+
+pub use entry::verify;
+pub use judgement::judge;
+pub use refusal::Refusal;
