@@ -9,7 +9,10 @@ pub mod Homes
 pub mod Kept
 pub mod Laid
 pub mod Loading
+pub mod MachineLaws
 pub mod Nodes
+pub mod Owners
+pub mod Plans
 pub mod Running
 pub mod Safe
 pub mod Sound
@@ -18,3 +21,4 @@ pub mod State
 pub mod Steps
 pub mod Stopped
 pub mod Stops
+pub mod theory

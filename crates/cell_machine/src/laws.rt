@@ -15,6 +15,8 @@ ghost use Rattle.grail_code.specs.WellFormed.{IsWellFormed};
 ghost use Rattle.cell_machine.specs.Cells.{inline_base};
 ghost use Rattle.cell_machine.specs.Coming.{IsWithinRoom, IsOnCourse, IsOnWay, KeepsCourse, EndsAsMeant};
 ghost use Rattle.cell_machine.specs.Loading.{cells_from, begun, steps};
+ghost use Rattle.cell_machine.specs.Owners.{TwoTake, OneTakesTwice, FreeIsTaken};
+ghost use Rattle.cell_machine.specs.Sound.{IsSound};
 ghost use Rattle.cell_machine.specs.Stands.{Stands, footprint, RepeatsNone};
 ghost use Rattle.cell_machine.specs.State.{State, Running};
 ghost use Rattle.cell_machine.specs.Steps.{step};
@@ -59,4 +61,12 @@ pub fn law_of_words()
         → RepeatsNone (footprint types cells v word) → length (items_of v) ≤ 4 * length cells + 1 }
     ensures argument_cells { (types : List DataType) (kinds : List Kind) (args : List Value) → AreTypes types → ArgumentsFit types kinds args
         → length (cells_from types 0 (parts args)) ≡ cells_among types args }
+{}
+
+/// Each cell has one owner. A state is not sound where the values of two ready locals take the same cell, where the value of one takes a cell
+/// twice, or where it takes a cell of the free list.
+pub fn law_of_owners()
+    ensures two { (program : Code) (s : State) → AreTypes program.types → TwoTake program s → ¬ (IsSound program s) }
+    ensures twice { (program : Code) (s : State) → AreTypes program.types → OneTakesTwice program s → ¬ (IsSound program s) }
+    ensures free { (program : Code) (s : State) → AreTypes program.types → FreeIsTaken program s → ¬ (IsSound program s) }
 {}

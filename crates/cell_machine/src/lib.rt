@@ -7,11 +7,13 @@ mod frames;
 mod functions;
 mod homes;
 pub mod laws;
+mod licensed;
 mod loading;
 mod machine;
 mod room;
 mod state;
 mod steps;
 
-pub use machine::{Ending, Machine, Ran, Stack, run};
+pub use licensed::run;
+pub use machine::{Ending, Machine, Ran, Stack, run_code};
 pub use room::Room;

@@ -5,7 +5,7 @@ ghost use Rattle.cell_machine.specs.Cells.{inline_base};
 ghost use Rattle.cell_machine.specs.Stands.{Stands, footprint, RepeatsNone};
 ghost use Rattle.cell_machine.specs.Homes.{HomesAre};
 ghost use Rattle.cell_machine.specs.Nodes.{node_of, IsReading};
-ghost use Rattle.cell_machine.specs.Due.{kinds_due, words_due, HasRoom, IsRead, SameItems, HoldsValue, con_node};
+ghost use Rattle.cell_machine.specs.Due.{kinds_due, words_due, HasRoom, HasJustRoom, IsRead, SameItems, HoldsValue, con_node};
 
 use crate::homes::Homes;
 use crate::state::INLINE_BASE;
@@ -32,7 +32,8 @@ impl Room {
     /// Room for the value of a run in `lease` cells. `AllocError` where memory runs out.
     pub fn new(alloc: Global, lease: u32) -> Result<Room, AllocError>
         requires { lease ≤ 2147483648 }
-        ensures { IfOk result (HasRoom lease) }
+        ensures room { IfOk result (HasRoom lease) }
+        ensures just { IfOk result (HasJustRoom lease) }
     {
         let most = 4 * lease as usize + 1;
         Ok(Room {

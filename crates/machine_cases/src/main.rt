@@ -5,8 +5,8 @@
 //!
 //! - `run CODE FUNCTION LEASE FUEL |ARGUMENTS|`: how the function of this number ends in so many cells, with so much fuel.
 //! - `cells CODE FUNCTION LEASE FUEL |ARGUMENTS|`: the same, and the tag and the words of each cell behind it.
-//! - `time CODE FUNCTION LEASE FUEL TIMES |ARGUMENTS|`: the same so many times, in one range, and how long they took in all. It is for
-//!   `bench/machine`, which has no answers to compare.
+//! - `time CODE FUNCTION LEASE FUEL TIMES |ARGUMENTS|`: how it ends, and then the calls and the nanoseconds of so many more of the same
+//!   run, in one range. It is for `bench/machine`.
 //!
 //! A run is made only where it is proved that the cells are enough: by the lets of the code that build in new cells, or by the evaluator.
 #![tactic(auto)]

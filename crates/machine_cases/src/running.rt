@@ -7,7 +7,7 @@ ghost use Rattle.machine_cases.specs.Jobs.{IsReady};
 
 use crate::jobs::{Job, Numbers, job_of};
 use camelot_values::Types;
-use cell_machine::{Ending, Ran, Room, Stack, run};
+use cell_machine::{Ending, Ran, Room, Stack, run_code};
 use cell_span::Span;
 use std::alloc::{AllocError, Global};
 use std::io;
@@ -40,7 +40,7 @@ fn run_job(job: &Job, place: Place, room: Room) -> Ran
     ensures lease { length result.span.cells ≡ job.now.lease }
     ensures stack { IsStackFor (code_of job.now.code) result.stack }
 {
-    run(
+    run_code(
         &job.code,
         job.entry,
         &job.args,
@@ -94,8 +94,20 @@ pub(crate) fn answer_run(
     Ok(())
 }
 
-/// Makes the run so many times in the same range, and prints how it ends each time and the nanoseconds of all, with loading and reading
-/// back.
+// How many functions were entered, where the run was done.
+fn calls_of(ending: &Ending) -> u64 {
+    match ending {
+        Ending::Done {
+            value: _,
+            calls,
+            peak: _,
+        } => *calls,
+        _ => 0,
+    }
+}
+
+/// Makes the run once, so that its memory was used before, and prints how it ends; then so many times more in the same range, and prints the
+/// calls and the nanoseconds of all these, with loading and reading back.
 pub(crate) fn answer_time(
     rt: &HostRuntime,
     bytes: &[u8],
@@ -108,18 +120,25 @@ pub(crate) fn answer_time(
         Some(job) => job,
         None => return Ok(()),
     };
-    let mut place = place_of(alloc, &job)?;
+    let room = Room::new(alloc, job.lease)?;
+    let first = run_job(&job, place_of(alloc, &job)?, room);
+    print_ending(rt, &job.code.types, &first.ending)?;
+    let mut place = Place {
+        span: first.span,
+        stack: first.stack,
+    };
+    let mut calls: u64 = 0;
     let mut nanos = 0;
     'times: for _ in 0..times {
         let room = Room::new(alloc, job.lease)?;
         let start = Instant::now(rt)?;
         let ran = run_job(&job, place, room);
         nanos = start.elapsed(rt)?.as_nanos().saturating_add(nanos);
-        print_ending(rt, &job.code.types, &ran.ending)?;
+        calls = calls_of(&ran.ending).saturating_add(calls);
         place = Place {
             span: ran.span,
             stack: ran.stack,
         };
     }
-    print!(rt; " nanos {nanos}")
+    print!(rt; " in all calls {calls} nanos {nanos}")
 }

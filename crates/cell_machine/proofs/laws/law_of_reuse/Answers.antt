@@ -1,4 +1,4 @@
-use Rattle.cell_machine.proofs.WholeRuns.{ends_as_meant, each_on_way}
+use Rattle.cell_machine.specs.MachineLaws.{ends_as_meant, each_on_way}
 use Rattle.cell_machine.proofs.laws.law_of_reuse.Goals as goal
 
 pub returns-clause-ends : goal.returns-clause-ends

@@ -1,6 +1,5 @@
-use Rattle.cell_machine.proofs.Keeping.{step_goes}
-use Rattle.cell_machine.proofs.Beginning.{begins_on_course}
-use Rattle.cell_machine.proofs.Stepping.{few_counters}
+use Rattle.cell_machine.specs.MachineLaws.{step_goes, begins_on_course}
+use Rattle.cell_machine.specs.theory.Stepping.{few_counters}
 use Rattle.cell_machine.proofs.laws.law_of_steps.Goals as goal
 
 pub returns-clause-step : goal.returns-clause-step
