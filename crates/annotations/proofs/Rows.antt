@@ -18,7 +18,7 @@ use Rattle.camelot_values.specs.Lists.{Ascend, is_among}
 use Rattle.camelot_values.specs.ReachLaws.{reached_is, reached_ascends}
 use Rattle.camelot_values.specs.declared.kinds.Kind.{Kind}
 use Rattle.camelot_values.specs.declared.kinds.Kind.TheVariants.{Int, Flag, Dia, Of}
-use Rattle.annotations.specs.Tables.{Table, reached_from, owners_from, table_of, IsRow, is_heap_in, is_heap_con_in, is_in, AreIn, ReachesEach}
+use Rattle.annotations.specs.Tables.{Table, reached_from, owners_from, table_of, IsRow, is_heap_in, is_heap_con_in, is_in, row_in, AreIn, ReachesEach}
 use Rattle.annotations.specs.Vectors.{Vector, is_heap_con}
 
 -- ---- a search among numbers that ascend
@@ -120,6 +120,34 @@ exactly types table q con b e same =
     let r = reached_is types q con in
     let says : b ≡ is_among (reached types q) con = e ∙ ap (λ t. is_in t q con) same ∙ table_says types q con in
     (λ h. r.0 (sym says ∙ h), λ h. says ∙ r.1 h)
+
+-- a list that no number is among is empty
+empty : (xs : List ℕ) → ((x : ℕ) → is_among xs x ≡ true → ⊥) → [] ≡ xs
+empty [] h = refl
+empty (x ∷ xs) h = absurd (h x (among_at (x ∷ xs) x 0 (omega arith) refl))
+
+nothing_reached : (types : List DataType) (q : Kind) → ((con : ℕ) → Reaches types q con → ⊥) → [] ≡ reached types q
+nothing_reached types q h = empty (reached types q) (λ con e. h con ((reached_is types q con).0 e))
+
+-- The row of the table is the list of what is reached.
+pub row_says : (types : List DataType) (q : Kind) → row_in (table_of types) q ≡ reached types q
+row_says types Int = nothing_reached types Int (λ con r. r)
+row_says types Flag = nothing_reached types Flag (λ con r. r)
+row_says types Dia = nothing_reached types Dia (λ con r. r)
+row_says types (Of t) = by_order (cases_lt t (length types))
+  where
+    out_of_range : {A : Type 0} (xs : List (List A)) (i : ℕ) → length xs ≤ i → get_or xs i [] ≡ []
+    out_of_range [] i l = refl
+    out_of_range (x ∷ xs) zero l = absurd (omega (arith, l))
+    out_of_range (x ∷ xs) (suc i) l = out_of_range xs i (omega (arith, l))
+
+    by_order : (t < length types) ⊎ (length types ≤ t) → row_in (table_of types) (Of t) ≡ reached types (Of t)
+    by_order (inl less) = get_or-map-range_with_len (reached_from types) 0 (length types) t t [] less (omega arith)
+    by_order (inr more) = out_of_range (table_of types).rows t (omega (arith, length-map-range_with_len (reached_from types) 0 (length types), more))
+        ∙ nothing_reached types (Of t) (λ con. nothing_from types t con more)
+
+pub table_reached : (types : List DataType) (table : Table) (q : Kind) (row : List ℕ) → row ≡ row_in table q → table ≡ table_of types → row ≡ reached types q
+table_reached types table q row e same = e ∙ ap (λ t. row_in t q) same ∙ row_says types q
 
 -- each constructor
 pub each_exactly : (types : List DataType) (table : Table) (q : Kind) (vector : Vector) (b : Bool) → IsTrue b ↔ AreIn table q vector → table ≡ table_of types → IsTrue b ↔ ReachesEach types q vector

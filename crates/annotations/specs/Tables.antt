@@ -57,6 +57,13 @@ is_in table Int con = false
 is_in table Flag con = false
 is_in table Dia con = false
 
+-- the constructors that the kind reaches
+abbrev pub row_in : Table → Kind → List ℕ
+row_in table (Of t) = get_or table.rows t []
+row_in table Int = []
+row_in table Flag = []
+row_in table Dia = []
+
 -- the same of each constructor of the vector
 abbrev pub AreIn : Table → Kind → Vector → Type 0
 AreIn table q vector = AllByRecursion (λ e. IsTrue (is_in table q e.0)) vector

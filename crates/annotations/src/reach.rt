@@ -1,9 +1,9 @@
 ghost use Rattle.std.specs.Prelude.{◌≡◌, ◌↔◌, ◌&&◌, ◌++◌, nat_lt, List, length, map, replicate, slice_get, get_or, IfOk, OnOk, IsTrue, false, MatchOption, None};
 ghost use Rattle.camelot_values.specs.Kinds.{DataType, type_of};
-ghost use Rattle.camelot_values.specs.Heap.{is_heap, Reaches};
+ghost use Rattle.camelot_values.specs.Heap.{is_heap, reached, Reaches};
 ghost use Rattle.camelot_values.specs.Lists.{Ascend, is_among};
 ghost use Rattle.annotations.specs.Vectors.{at, is_heap_con, AtLeast, IsFirstBelow};
-ghost use Rattle.annotations.specs.Tables.{table_of, IsRow, is_heap_in, is_heap_con_in, is_in, AreIn, ReachesEach};
+ghost use Rattle.annotations.specs.Tables.{table_of, IsRow, is_heap_in, is_heap_con_in, is_in, row_in, AreIn, ReachesEach};
 ghost use Rattle.annotations.specs.Steps.{first_below};
 
 use super::compare::{in_front, pairs_from};
@@ -202,6 +202,24 @@ impl ReachTable {
         ensures { (types : List DataType) → self.now ≡ table_of types → (IsTrue result ↔ Reaches types kind con) }
     {
         self.is_in(kind, con)
+    }
+
+    // The kind's row.
+    fn row_of(&self, kind: Kind) -> &[u32]
+        ensures { result.now ≡ row_in self.now kind }
+    {
+        match kind {
+            Kind::Int | Kind::Flag | Kind::Dia => &[],
+            Kind::Of(number) => self.row(number),
+        }
+    }
+
+    /// The constructors that the kind reaches, ascending, as `Types::reached` lists them, in the types of the table. It takes a constant
+    /// time, and no memory.
+    pub fn reached(&self, kind: Kind) -> &[u32]
+        ensures { (types : List DataType) → self.now ≡ table_of types → result.now ≡ reached types kind }
+    {
+        self.row_of(kind)
     }
 
     // Whether each constructor of the vector stands in the kind's row.

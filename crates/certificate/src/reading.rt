@@ -24,7 +24,7 @@ pub enum CertFault {
     #[error("line {number}")]
     Line { number: u64 },
     /// The line of this number is the first that isn't of the text form, and that only because a number is above its limit.
-    #[error("a number in line {line}")]
+    #[error("number line {line}")]
     Number { line: u64 },
     /// Memory ran out.
     #[error("out of memory")]

@@ -20,7 +20,7 @@ use Rattle.grail_verifier.specs.Verdicts.{IsShort, IsRefused, IsJudged, OrMemory
 use Rattle.grail_verifier.specs.Settling.{IsRefusedOrMemory}
 use Rattle.grail_verifier.proofs.Facts.{Known}
 use Rattle.grail_verifier.proofs.Walking.{walk_found}
-use Rattle.licence.specs.CheckLaws.{pays_by_checks}
+use Rattle.licence.specs.CheckLaws.{pays_by_checks, rule_fails}
 
 -- ---- what the walk finds
 
@@ -47,6 +47,7 @@ module _ (p : Code) (c : Cert) (well : IsWellFormed p) (fits : Fits p c) (limits
       let first : FirstFails (checks_of integers p (in_integers (book_of c))) (in_numbers k) = one_fails (checks_of integers p (in_integers (book_of c))) k (subst (Found (checks_of integers p (in_integers (book_of c)))) e (walk_found p c known)) in
       record {
         fits = fits;
+        rule = rule_fails p (book_of c) (in_numbers k) first;
         first = first;
         less = by_order (cases_lt k.have k.need) first.wrong;
       }

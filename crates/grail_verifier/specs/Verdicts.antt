@@ -14,6 +14,7 @@ use Rattle.certificate.specs.declared.reading.CertFault.{CertFault}
 use Rattle.certificate.specs.declared.reading.CertFault.TheVariants as cert_fault
 use Rattle.licence.specs.Books.{book_of}
 use Rattle.licence.specs.Checks.{Check, checks_of, integers, in_integers, FirstFails}
+use Rattle.licence.specs.Failing.{RuleFails}
 use Rattle.licence.specs.Fitting.{Fits, IsMisfit, Grants}
 use Rattle.licence.specs.Licensed.{Licensed}
 use Rattle.grail_verifier.specs.declared.refusal.Refusal.{Refusal}
@@ -23,9 +24,10 @@ use Rattle.grail_verifier.specs.declared.refusal.Refusal.TheVariants as refusal
 abbrev pub in_numbers : Check ℕ → Check ℤ
 in_numbers c = record { func = c.func; block = c.block; place = c.place; con = c.con; have = pos c.have; need = pos c.need }
 
--- the certificate fits, and this is the first check of the list that fails; less is there than is asked
+-- The certificate fits, and this is the first check of the list that fails; less is there than is asked, and the rule of this place fails.
 pub record IsShort (p : Code) (c : Cert) (check : Check ℕ) : Type 0 where
   pub fits : Fits p c
+  pub rule : RuleFails p (book_of c) check.func check.block check.place
   pub first : FirstFails (checks_of integers p (in_integers (book_of c))) (in_numbers check)
   pub less : check.have < check.need
 

@@ -88,10 +88,10 @@ fn given(unit: u64, cell: CaseCell, left: u64) -> u64
 }
 
 // What is left where what the matched node carries is there too.
-fn left_with(types: &Types, left: u64, matched: &Vector, con: u32) -> u64
-    ensures { result ≡ cond (is_heap_con types.now con) (capped (left + at matched.now con)) left }
+fn left_with(books: Books<'_>, left: u64, matched: &Vector, con: u32) -> u64
+    ensures { result ≡ cond (is_heap_con (code_of books.entry.code.now).types con) (capped (left + at matched.now con)) left }
 {
-    if is_heap_con(types, con) {
+    if is_heap_con(books, con) {
         left.saturating_add(matched.at(con))
     } else {
         left
@@ -110,7 +110,7 @@ fn check_arm<'a>(
 ) -> Result<(), Short>
     ensures { Finds result (jump_short (code_of books.entry.code.now).types (body_of here.entry.func.now) (func_of own.now) (site_of here.entry.site) (left_in_arm (code_of books.entry.code.now).types books.entry.cert.now.unit here.entry.left matched.now con arm.now.cell) (bound (map (λ v. v.now) slots.now) (arm_of arm.now).fields matched.now) arm.now.target) }
 {
-    let left = left_with(&books.code.types, here.left, matched, con);
+    let left = left_with(books, here.left, matched, con);
     let left = given(books.cert.unit(), arm.cell, left);
     let here = Here {
         func: here.func,

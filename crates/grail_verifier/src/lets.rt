@@ -11,18 +11,14 @@ use super::books::{Books, Here};
 use super::short::{Short, Site};
 use super::values::{check_all, check_arguments, check_left, slot};
 use annotations::Vector;
-use camelot_values::{Kind, Types};
 use certificate::FuncCert;
 use grail_code::{Let, Op, Place};
 
 /// Whether the constructor belongs to a heap type.
-pub(crate) fn is_heap_con(types: &Types, con: u32) -> bool
-    ensures { result ≡ is_heap_con types.now con }
+pub(crate) fn is_heap_con(books: Books<'_>, con: u32) -> bool
+    ensures { result ≡ is_heap_con (code_of books.entry.code.now).types con }
 {
-    match types.type_of(con) {
-        Some(number) => types.is_heap(Kind::Of(number)),
-        None => false,
-    }
+    books.table.is_heap_con(con)
 }
 
 // What a build takes: what its node is to carry, and a cell's price where it takes a new cell.
@@ -110,7 +106,7 @@ fn check_make(
     ensures found { Finds result (make_short (code_of books.entry.code.now).types books.entry.cert.now.unit (body_of here.entry.func.now) (site_of here.entry.site) here.entry.left (map (λ v. v.now) slots.now) made.now con args.now place) }
     ensures left { IfOk result (λ left. left ≡ left_behind_make (code_of books.entry.code.now).types books.entry.cert.now.unit here.entry.left made.now con place) }
 {
-    if !is_heap_con(&books.code.types, con) {
+    if !is_heap_con(books, con) {
         return Ok(here.left);
     }
     let cost = cost(books.cert.unit(), place, made.at(con));
@@ -151,7 +147,7 @@ pub(crate) fn bind<'a>(books: Books<'a>, slots: &mut [&'a Vector], made: &'a Vec
     match &binding.op {
         Op::Copy(source) => copy(slots, binding.target, *source),
         Op::Make { con, .. } => {
-            if is_heap_con(&books.code.types, *con) {
+            if is_heap_con(books, *con) {
                 put(slots, binding.target, made);
             }
         }

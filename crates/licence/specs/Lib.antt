@@ -5,6 +5,7 @@ pub mod Fitting
 pub mod Checks
 pub mod Bound
 pub mod Licensed
+pub mod Failing
 pub mod CheckLaws
 pub mod PotentialLaws
 pub mod theory

@@ -6,3 +6,4 @@ pub mod Carrying
 pub mod Steps
 pub mod Sound
 pub mod Walks
+pub mod Failing

@@ -1,5 +1,5 @@
 //! Laws of annotated code, as the contracts of functions that do nothing.
-ghost use Rattle.std.specs.Prelude.{◌≡◌, ◌+◌, ◌≤◌, ◌↔◌, ℕ, List, Some, slice_get};
+ghost use Rattle.std.specs.Prelude.{◌≡◌, ◌+◌, ◌≤◌, ◌↔◌, ℕ, ℤ, List, Some, slice_get};
 ghost use Rattle.camelot_values.specs.Value.{Value};
 ghost use Rattle.camelot_values.specs.Kinds.{AreTypes};
 ghost use Rattle.camelot_values.specs.Typing.{ArgumentsFit};
@@ -11,7 +11,8 @@ ghost use Rattle.grail_code.specs.WellFormed.{IsWellFormed};
 ghost use Rattle.annotations.specs.Vectors.{potential};
 ghost use Rattle.licence.specs.Books.{Book};
 ghost use Rattle.licence.specs.Rules.{Pays};
-ghost use Rattle.licence.specs.Checks.{AllHold, checks_of, in_integers, integers};
+ghost use Rattle.licence.specs.Checks.{Check, AllHold, FirstFails, checks_of, in_integers, integers};
+ghost use Rattle.licence.specs.Failing.{RuleFails};
 ghost use Rattle.licence.specs.Bound.{units_at};
 
 /// Potential soundness (Hofmann and Jost 2003), with amounts of any size: where the rules hold of well-formed code, every run from a
@@ -29,4 +30,10 @@ pub fn law_of_potential()
 #[tactic(auto, using(crate::specs::CheckLaws::pays_by_checks))]
 pub fn law_of_checks()
     ensures { (p : Code) (book : Book ℕ) → Pays p book ↔ ((1 ≤ book.unit) × AllHold (checks_of integers p (in_integers book))) }
+{}
+
+/// At the place of the first check that fails, the rule of that let or end fails.
+#[tactic(auto, using(crate::specs::CheckLaws::rule_fails))]
+pub fn law_of_failing()
+    ensures { (p : Code) (book : Book ℕ) (c : Check ℤ) → FirstFails (checks_of integers p (in_integers book)) c → RuleFails p book c.func c.block c.place }
 {}

@@ -64,7 +64,7 @@ one s have need have' need' e d = (
 -- ---- values
 
 -- the same units, as whole numbers
-abbrev SameUnits : Units ℕ → Units ℤ → Type 0
+abbrev pub SameUnits : Units ℕ → Units ℤ → Type 0
 SameUnits units units' = (c : ℕ) → units' c ≡ pos (units c)
 
 -- the same lists of units
@@ -110,7 +110,7 @@ value_same types s (Some q) have need have' need' e d = (
 )
 
 -- what locals carry is the same
-abbrev SameCarried : Carried ℕ → Carried ℤ → Type 0
+abbrev pub SameCarried : Carried ℕ → Carried ℤ → Type 0
 SameCarried carried carried' = (x : ℕ) → SameUnits (carried x) (carried' x)
 
 locals_same : (types : List DataType) (f : Func) (s : Site) (carried : Carried ℕ) (carried' : Carried ℤ) (xs : List ℕ) (asked : List (Units ℕ)) (asked' : List (Units ℤ)) → SameCarried carried carried' → SameLists asked asked'
@@ -128,9 +128,9 @@ same_lists (x ∷ xs) units units' e = (e x, same_lists xs units units' e)
 
 -- ---- accounts
 
-record Same (a : Account ℕ) (b : Account ℤ) : Type 0 where
-  left : b.left ≡ pos a.left
-  carried : SameCarried a.carried b.carried
+pub record Same (a : Account ℕ) (b : Account ℤ) : Type 0 where
+  pub left : b.left ≡ pos a.left
+  pub carried : SameCarried a.carried b.carried
 
 carrying_same : (carried : Carried ℕ) (carried' : Carried ℤ) (x : ℕ) (units : Units ℕ) (units' : Units ℤ) → SameCarried carried carried' → SameUnits units units' → SameCarried (carrying carried x units) (carrying carried' x units')
 carrying_same carried carried' x units units' e d = λ y c. by_test y c (x == y)
@@ -148,12 +148,12 @@ cost_same unit made place.New = sym (plus_is made unit)
 cost_same unit made place.Inline = refl
 cost_same unit made (place.Reuse d) = refl
 
-start_same : (book : Book ℕ) (func block : ℕ) → Same (account_at book func block) (account_at (in_integers book) func block)
+pub start_same : (book : Book ℕ) (func block : ℕ) → Same (account_at book func block) (account_at (in_integers book) func block)
 start_same book func zero = record { left = refl; carried = λ x c. refl }
 start_same book func (suc n) = record { left = refl; carried = λ x c. refl }
 
 -- behind a let that pays
-after_same : (p : Code) (f : Func) (book : Book ℕ) (func block at : ℕ) (a : Account ℕ) (b : Account ℤ) (x : ℕ) (op : Op) → Same a b → LetPays p f book func block at a op
+pub after_same : (p : Code) (f : Func) (book : Book ℕ) (func block at : ℕ) (a : Account ℕ) (b : Account ℤ) (x : ℕ) (op : Op) → Same a b → LetPays p f book func block at a op
     → Same (after_op naturals p.types book func block at a x op) (after_op integers p.types (in_integers book) func block at b x op)
 after_same p f book func block at a b x (Lit z) e pays = e
 after_same p f book func block at a b x (Flag z) e pays = e
@@ -188,7 +188,7 @@ arguments_same p f book s a b callee args e = by_func (slice_get p.funcs callee)
     by_func (Some g) = locals_same p.types f s a.carried b.carried args (asked_by book callee g) (asked_by (in_integers book) callee g) e.carried
         (same_lists (range_with_len 0 (length g.params)) (book.param callee) (λ x c. pos (book.param callee x c)) (λ x c. refl))
 
-op_same : (p : Code) (f : Func) (book : Book ℕ) (s : Site) (a : Account ℕ) (b : Account ℤ) (op : Op) → Same a b → LetPays p f book s.func s.block s.place a op ↔ AllHold (op_checks integers p f (in_integers book) s b op)
+pub op_same : (p : Code) (f : Func) (book : Book ℕ) (s : Site) (a : Account ℕ) (b : Account ℤ) (op : Op) → Same a b → LetPays p f book s.func s.block s.place a op ↔ AllHold (op_checks integers p f (in_integers book) s b op)
 op_same p f book s a b (Lit z) e = (λ h. tt, λ h. tt)
 op_same p f book s a b (Flag z) e = (λ h. tt, λ h. tt)
 op_same p f book s a b (Copy x) e = (λ h. tt, λ h. tt)
@@ -285,7 +285,7 @@ tail_same p f book s a b callee args e = (
     back need = one s (a.left - book.need callee + book.back callee) (book.back s.func) ((b.left -ℤ pos (book.need callee)) +ℤ pos (book.back callee)) (pos (book.back s.func))
         (ap (λ m. (m -ℤ pos (book.need callee)) +ℤ pos (book.back callee)) e.left ∙ ap (λ m. m +ℤ pos (book.back callee)) (sym (minus_is a.left (book.need callee) need)) ∙ sym (plus_is (a.left - book.need callee) (book.back callee))) refl
 
-term_same : (p : Code) (f : Func) (book : Book ℕ) (s : Site) (a : Account ℕ) (b : Account ℤ) (t : Term) → Same a b → TermPays p f book s.func a t ↔ AllHold (term_checks integers p f (in_integers book) s b t)
+pub term_same : (p : Code) (f : Func) (book : Book ℕ) (s : Site) (a : Account ℕ) (b : Account ℤ) (t : Term) → Same a b → TermPays p f book s.func a t ↔ AllHold (term_checks integers p f (in_integers book) s b t)
 term_same p f book s a b (Ret x) e =
     both (value_checks p.types s (kind_of f x) (b.carried x) (λ c. pos (book.result s.func c))) (left_check s b.left (pos (book.back s.func)) ∷ [])
     (value_same p.types s (kind_of f x) (a.carried x) (book.result s.func) (b.carried x) (λ c. pos (book.result s.func c)) (e.carried x) (λ c. refl)) (one s a.left (book.back s.func) b.left (pos (book.back s.func)) e.left refl)
