@@ -8,6 +8,8 @@ pub mod Misusing
 pub mod NameLaws
 pub mod Playing
 pub mod ProgramLaws
+pub mod ReadyLaws
+pub mod SetLaws
 pub mod Tracking
 pub mod Agreeing
 pub mod WalkLaws

@@ -2,4 +2,5 @@
 pub mod Finding
 pub mod Misuse
 pub mod Faulting
+pub mod Sets
 pub mod Walk

@@ -3,10 +3,12 @@ ghost use Rattle.grail_code.specs.Code.{let_of, block_of, func_of, code_of};
 ghost use Rattle.grail_check.specs.Finding.{Finds};
 ghost use Rattle.grail_check.specs.Faulting.{ascends_from, counts_from, entry_fits, block_header_fault, lets_fault, after_lets, block_fault, blocks_fault};
 
+use super::body::Body;
 use super::exits::check_exit;
 use super::fault::{CodeFault, CodeKind};
 use super::lets::{are_locals, check_let};
-use super::locals::{Local, Mark, bind_all, require};
+use super::locals::{Local, bind_all, require};
+use super::marks::Marks;
 use grail_code::{Block, Code, Func, Let};
 
 // Whether each number is less than the next.
@@ -57,7 +59,7 @@ fn check_lets(
     locals: &[Local],
     func: u32,
     number: u32,
-    marks: &mut [Mark],
+    marks: &mut Marks,
     lets: &[Let],
 ) -> Result<(), CodeFault>
     requires { length lets.now ≤ 256 }
@@ -78,17 +80,19 @@ fn check_lets(
 }
 
 // One block.
+#[tactic(auto, using(crate::proofs::MarkLaws::length_at_end))]
 fn check_block(
     code: &Code,
-    func: &Func,
+    body: Body<'_>,
     locals: &[Local],
     func_number: u32,
     number: u32,
-    marks: &mut [Mark],
+    marks: &mut Marks,
     block: &Block,
 ) -> Result<(), CodeFault>
     requires { length marks.old ≡ length locals.now }
-    ensures { Finds result (block_fault (code_of code.now) (func_of func.now) locals.now func_number number (block_of block.now)) }
+    ensures found { Finds result (block_fault (code_of code.now) (func_of body.entry.func.now) locals.now func_number number (block_of block.now)) }
+    ensures kept { OnOk result (length marks.new ≡ length marks.old) }
 {
     let at = |place, kind| CodeFault {
         func: func_number,
@@ -96,28 +100,28 @@ fn check_block(
         place,
         kind,
     };
-    check_params(func, locals, number, &block.params).map_err(|kind| at(0, kind))?;
-    marks.fill(Mark::Unbound);
+    check_params(body.func, locals, number, &block.params).map_err(|kind| at(0, kind))?;
+    marks.clear();
     bind_all(marks, &block.params);
     check_lets(code, locals, func_number, number, marks, &block.lets)?;
     let end = block.lets.len() as u32 + 1;
-    check_exit(code, func, locals, number, marks, &block.term).map_err(|kind| at(end, kind))
+    check_exit(code, body, locals, number, marks, &block.term).map_err(|kind| at(end, kind))
 }
 
 /// Checks the blocks of a function, which has this number.
 pub(crate) fn check_blocks(
     code: &Code,
-    func: &Func,
+    body: Body<'_>,
     locals: &[Local],
     func_number: u32,
-    marks: &mut [Mark],
+    marks: &mut Marks,
 ) -> Result<(), CodeFault>
     requires { length marks.old ≡ length locals.now }
-    ensures { Finds result (blocks_fault (code_of code.now) (func_of func.now) locals.now func_number 0 (map block_of func.now.blocks.items)) }
+    ensures { Finds result (blocks_fault (code_of code.now) (func_of body.entry.func.now) locals.now func_number 0 (map block_of body.entry.func.now.blocks.items)) }
 {
     let mut number = 0;
-    'walk: for block in &func.blocks {
-        check_block(code, func, locals, func_number, number, marks, block)?;
+    'walk: for block in &body.func.blocks {
+        check_block(code, body, locals, func_number, number, marks, block)?;
         number += 1;
     }
     Ok(())

@@ -5,8 +5,10 @@ ghost use Rattle.grail_check.specs.Finding.{Finds, Answers};
 ghost use Rattle.grail_check.specs.Faulting.{is_known, local_of, locals_of, header_fault, function_fault, functions_fault};
 
 use super::blocks::check_blocks;
+use super::body::{Body, params_of};
 use super::fault::{CodeFault, CodeKind, Stop};
-use super::locals::{Local, Mark, require};
+use super::locals::{Local, require};
+use super::marks::Marks;
 use super::names::is_new;
 use camelot_values::{Kind, Types};
 use grail_code::{Code, Func};
@@ -84,8 +86,13 @@ fn check_function(
         kind,
     })?;
     let locals = locals_of(alloc, &code.types, func)?;
-    let mut marks = vec![in alloc; Mark::Unbound; locals.len()]?;
-    Ok(check_blocks(code, func, &locals, number, &mut marks)?)
+    let mut marks = Marks::new(alloc, locals.len())?;
+    let params = params_of(alloc, &func.blocks)?;
+    let body = Body {
+        func,
+        params: &params,
+    };
+    Ok(check_blocks(code, body, &locals, number, &mut marks)?)
 }
 
 /// Checks the functions one after the other.

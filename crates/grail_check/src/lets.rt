@@ -10,9 +10,10 @@ ghost use Rattle.grail_check.specs.Faulting.{is_local, place_fits, copy_fault, o
 
 use super::fault::CodeKind;
 use super::locals::{
-    Local, Mark, bind, check_arguments, check_mark, check_operand, is_local, kind_at, require,
+    Local, bind, check_arguments, check_mark, check_operand, is_local, kind_at, require,
     same_kinds, spend,
 };
+use super::marks::Marks;
 use camelot_values::{Con, Kind};
 use grail_code::{Code, Func, Let, Op, Place, PrimCode};
 
@@ -80,7 +81,7 @@ fn place_fits(inline: bool, place: Place) -> bool
 }
 
 // The diamond that a build takes.
-fn check_taken(locals: &[Local], marks: &mut [Mark], place: Place) -> Result<(), CodeKind>
+fn check_taken(locals: &[Local], marks: &mut Marks, place: Place) -> Result<(), CodeKind>
     ensures found { Finds result (taken_fault locals.now marks.old place) }
     ensures marks { OnOk result (marks.new ≡ spend_all locals.now marks.old (taken place)) }
 {
@@ -94,7 +95,7 @@ fn check_taken(locals: &[Local], marks: &mut [Mark], place: Place) -> Result<(),
 #[tactic(auto, using(crate::proofs::MarkLaws::spend_both))]
 fn check_make(
     locals: &[Local],
-    marks: &mut [Mark],
+    marks: &mut Marks,
     target: u32,
     con: &Con,
     owner: Option<Kind>,
@@ -113,7 +114,7 @@ fn check_make(
 // A call of a function.
 fn check_call(
     locals: &[Local],
-    marks: &mut [Mark],
+    marks: &mut Marks,
     target: u32,
     callee: &Func,
     args: &[u32],
@@ -128,7 +129,7 @@ fn check_call(
 // An operator on two ints.
 fn check_operator(
     locals: &[Local],
-    marks: &mut [Mark],
+    marks: &mut Marks,
     target: u32,
     op: PrimCode,
     left: u32,
@@ -143,12 +144,7 @@ fn check_operator(
 }
 
 // A copy of a local.
-fn check_copy(
-    locals: &[Local],
-    marks: &mut [Mark],
-    target: u32,
-    source: u32,
-) -> Result<(), CodeKind>
+fn check_copy(locals: &[Local], marks: &mut Marks, target: u32, source: u32) -> Result<(), CodeKind>
     ensures found { Finds result (copy_fault locals.now marks.old target source) }
     ensures marks { OnOk result (marks.new ≡ spend_all locals.now marks.old (source ∷ [])) }
 {
@@ -180,7 +176,7 @@ fn fits_32_bits(value: i32)
 fn check_operation(
     code: &Code,
     locals: &[Local],
-    marks: &mut [Mark],
+    marks: &mut Marks,
     target: u32,
     op: &Op,
 ) -> Result<(), CodeKind>
@@ -215,7 +211,7 @@ fn check_operation(
 pub(crate) fn check_let(
     code: &Code,
     locals: &[Local],
-    marks: &mut [Mark],
+    marks: &mut Marks,
     binding: &Let,
 ) -> Result<(), CodeKind>
     ensures found { Finds result (let_fault (code_of code.now) locals.now marks.old (let_of binding.now)) }

@@ -3,13 +3,16 @@
 
 mod arms;
 mod blocks;
+mod body;
 mod check;
 mod exits;
 mod fault;
 mod functions;
 pub mod laws;
 mod lets;
+mod local_set;
 mod locals;
+mod marks;
 mod names;
 mod types;
 

@@ -1,8 +1,9 @@
-ghost use Rattle.std.specs.Prelude.{◌≡◌, slice_get, slice_set, Some, OnOk};
+ghost use Rattle.std.specs.Prelude.{◌≡◌, slice_get, Some, OnOk};
 ghost use Rattle.grail_check.specs.Finding.{Finds};
 ghost use Rattle.grail_check.specs.Faulting.{unless, is_local, kind_at, is_heap_at, same_kind, same_kinds, has_kind, bind, bind_all, spend, spend_all, mark_fault, operand_fault, operands_fault, arguments_fault};
 
 use super::fault::CodeKind;
+use super::marks::Marks;
 use camelot_values::Kind;
 
 /// A local of a function: its kind, and whether values of that kind take cells.
@@ -82,35 +83,25 @@ pub(crate) fn is_heap_at(locals: &[Local], local: u32) -> bool
 }
 
 /// Refuses a local that isn't bound, or was used up.
-pub(crate) fn check_mark(marks: &[Mark], local: u32) -> Result<(), CodeKind>
+pub(crate) fn check_mark(marks: &Marks, local: u32) -> Result<(), CodeKind>
     ensures { Finds result (mark_fault (slice_get marks.now local)) }
 {
-    match marks.get(local as usize) {
+    match marks.get(local) {
         Some(Mark::Ready) => Ok(()),
         Some(Mark::Spent) => Err(CodeKind::Spent),
         _ => Err(CodeKind::Unbound),
     }
 }
 
-// A local that isn't there stays so.
-#[tactic(auto, using(std::proofs::lemmas::List::set_past))]
-fn set_mark(marks: &mut [Mark], local: u32, mark: Mark)
-    ensures { marks.new ≡ slice_set marks.old local mark }
-{
-    if (local as usize) < marks.len() {
-        marks[local as usize] = mark;
-    }
-}
-
 /// The local has a new value.
-pub(crate) fn bind(marks: &mut [Mark], local: u32)
+pub(crate) fn bind(marks: &mut Marks, local: u32)
     ensures { marks.new ≡ bind marks.old local }
 {
-    set_mark(marks, local, Mark::Ready);
+    marks.set_ready(local);
 }
 
 /// Each of these locals has a new value.
-pub(crate) fn bind_all(marks: &mut [Mark], locals: &[u32])
+pub(crate) fn bind_all(marks: &mut Marks, locals: &[u32])
     ensures { marks.new ≡ bind_all marks.old locals.now }
 {
     'locals: for local in locals {
@@ -119,18 +110,18 @@ pub(crate) fn bind_all(marks: &mut [Mark], locals: &[u32])
 }
 
 /// A local that was used is used up, if it is of a heap kind.
-pub(crate) fn spend(locals: &[Local], marks: &mut [Mark], local: u32)
+pub(crate) fn spend(locals: &[Local], marks: &mut Marks, local: u32)
     ensures { marks.new ≡ spend locals.now marks.old local }
 {
     if is_heap_at(locals, local) {
-        set_mark(marks, local, Mark::Spent);
+        marks.set_spent(local);
     }
 }
 
 /// Checks one operand, which is then used.
 pub(crate) fn check_operand(
     locals: &[Local],
-    marks: &mut [Mark],
+    marks: &mut Marks,
     operand: u32,
     kind: Kind,
 ) -> Result<(), CodeKind>
@@ -146,7 +137,7 @@ pub(crate) fn check_operand(
 /// Checks that there are as many operands as kinds, and then one operand after the other.
 pub(crate) fn check_arguments(
     locals: &[Local],
-    marks: &mut [Mark],
+    marks: &mut Marks,
     operands: &[u32],
     kinds: &[Kind],
 ) -> Result<(), CodeKind>

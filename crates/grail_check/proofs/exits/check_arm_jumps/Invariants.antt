@@ -4,4 +4,4 @@ use Rattle.grail_check.specs.Faulting.{arms_jump_fault}
 use Rattle.grail_check.proofs.exits.check_arm_jumps.Given as goal
 
 abbrev pub invariant-arms : goal.invariant-arms
-invariant-arms l = arms_jump_fault (func_of l.func) l.marks (map arm_of (drop l.arm-index l.arms)) ≡ arms_jump_fault (func_of l.func) l.marks (map arm_of l.arms)
+invariant-arms l = arms_jump_fault (func_of l.body.func.now) l.marks (map arm_of (drop l.arm-index l.arms)) ≡ arms_jump_fault (func_of l.body.func.now) l.marks (map arm_of l.arms)
