@@ -1,5 +1,5 @@
 -- The blocks of code, one by one.
-use Rattle.std.proofs.Common.{◌≡◌, ℕ, zero, suc, ◌+◌, ◌≤◌, Bool, List, [], ◌∷◌, ◌++◌, length, map, refl, sym, ap, ◌∙◌, subst, arith}
+use Rattle.std.proofs.Common.{◌≡◌, ℕ, zero, suc, ◌+◌, ◌≤◌, List, [], ◌∷◌, ◌++◌, length, map, refl, sym, ap, ◌∙◌, arith}
 use Rattle.std.specs.List.{AllByRecursion, filter, range_with_len}
 use Rattle.grail_code.specs.Code as code
 use Rattle.grail_code.specs.declared.code.Block.{Block as DeclaredCodeBlock}
@@ -10,7 +10,8 @@ use Rattle.normal_form.specs.Programs.{block_of, normal_function_of}
 use Rattle.normal_form.specs.Coded.{coded, coded_blocks}
 use Rattle.code_gen.specs.Generated.{live_params}
 use Rattle.grail_code.specs.Limits.{FuncIsWithin}
-use Rattle.code_gen.specs.Marked.{AreSeen, marks_at, tells, told_params}
+use Rattle.code_gen.specs.declared.local_set.LocalSet.{LocalSet}
+use Rattle.code_gen.specs.Marked.{AreSeen, has, marks_at, told_params}
 use Rattle.code_gen.proofs.Bodies.{length_coded}
 use Rattle.code_gen.proofs.Seeing.{blocks_same, map_length}
 
@@ -24,14 +25,14 @@ one_local_more n =
     let same : 0 + n ≡ n = omega arith in
     ap (range_with_len 0) more ∙ ends_with 0 n ∙ ap (λ k. range_with_len 0 n ++ k ∷ []) same
 
-pub first_params : (own : ℕ) (seen : List (List Bool)) (number : ℕ) (xs : List ℕ) → number ≡ 0 → xs ≡ range_with_len 0 own → xs ≡ told_params own seen number
-first_params own seen zero xs e h = h
-first_params own seen (suc n) xs e h = absurd (omega (arith, e))
+pub first_params : (own size : ℕ) (seen : List LocalSet) (number : ℕ) (xs : List ℕ) → number ≡ 0 → xs ≡ range_with_len 0 own → xs ≡ told_params own size seen number
+first_params own size seen zero xs e h = h
+first_params own size seen (suc n) xs e h = absurd (omega (arith, e))
 
-pub later_params : (own : ℕ) (seen : List (List Bool)) (number count : ℕ) (marks : List Bool) (xs : List ℕ) → (number ≡ 0 → ⊥) → count ≡ length seen → marks ≡ marks_at seen count number
-    → xs ≡ filter (tells marks) (range_with_len 0 (length marks)) → xs ≡ told_params own seen number
-later_params own seen zero count marks xs n full is h = absurd (n refl)
-later_params own seen (suc k) count marks xs n full is h = h ∙ ap (λ ms. filter (tells ms) (range_with_len 0 (length ms))) (is ∙ ap (λ c. marks_at seen c (suc k)) full)
+pub later_params : (own size : ℕ) (seen : List LocalSet) (number count : ℕ) (marks : LocalSet) (xs : List ℕ) → (number ≡ 0 → ⊥) → count ≡ length seen → marks ≡ marks_at seen count number
+    → xs ≡ filter (has marks) (range_with_len 0 size) → xs ≡ told_params own size seen number
+later_params own size seen zero count marks xs n full is h = absurd (n refl)
+later_params own size seen (suc k) count marks xs n full is h = h ∙ ap (λ ms. filter (has ms) (range_with_len 0 size)) (is ∙ ap (λ c. marks_at seen c (suc k)) full)
 
 -- ---- functions
 
@@ -53,14 +54,18 @@ few_blocks_of f w =
 pub few_lets_of : (f : DeclaredFunction) → FuncIsWithin (code_for f) → AllByRecursion (λ (b : NormalBlock). length b.lets ≤ 256) (map block_of f.blocks.items)
 few_lets_of f w = few_back (live_params (normal_function_of f)) 0 (map block_of f.blocks.items) w.few_lets
 
+-- a function within the limits of code has few locals
+pub few_locals_of : (f : DeclaredFunction) → FuncIsWithin (code_for f) → length f.params.items + length f.locals.items ≤ 256
+few_locals_of f w = let params = w.few_params in let locals = w.few_locals in omega (arith, params, locals)
+
 -- the function with these blocks is its code
-pub is_coded : (f : DeclaredFunction) (blocks : List code.Block) (seen : List (List Bool)) (own size : ℕ) → own ≡ length f.params.items → size ≡ length f.params.items + length f.locals.items
-    → AreSeen size (map block_of f.blocks.items) 0 seen → blocks ≡ coded_blocks (told_params own seen) 0 (map block_of f.blocks.items)
+pub is_coded : (f : DeclaredFunction) (blocks : List code.Block) (seen : List LocalSet) (own size : ℕ) → own ≡ length f.params.items → size ≡ length f.params.items + length f.locals.items → FuncIsWithin (code_for f)
+    → AreSeen (map block_of f.blocks.items) 0 seen → blocks ≡ coded_blocks (told_params own size seen) 0 (map block_of f.blocks.items)
     → ◌≡◌ {A = code.Func} (record { name = f.name; params = f.params.items; result = f.result; locals = f.locals.items; blocks = blocks }) (code_for f)
-is_coded f blocks seen own size first all s e =
+is_coded f blocks seen own size first all within s e =
     let n = normal_function_of f in
     let same : blocks ≡ coded_blocks (live_params n) 0 n.blocks =
-    e ∙ ap (λ k. coded_blocks (told_params k seen) 0 n.blocks) first ∙ blocks_same n seen (subst (λ k. AreSeen k n.blocks 0 seen) all s) in
+    e ∙ ap (λ k. coded_blocks (told_params k size seen) 0 n.blocks) first ∙ ap (λ k. coded_blocks (told_params (length f.params.items) k seen) 0 n.blocks) all ∙ blocks_same n seen (few_locals_of f within) s in
     λ i. record { name = f.name; params = f.params.items; result = f.result; locals = f.locals.items; blocks = same i }
 
 -- how many blocks are made

@@ -3,6 +3,7 @@ pub mod Ready
 pub mod Bodies
 pub mod Compiled
 pub mod Spelled
+pub mod Bits
 pub mod Marking
 pub mod Seeing
 pub mod BlockCode

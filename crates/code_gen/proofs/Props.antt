@@ -1,18 +1,13 @@
--- The limits of code and the ranges of its spelling are propositions, and so is an equation between outcomes.
-use Rattle.std.proofs.Common.{◌≡◌, ℕ, true, List, [], length, refl, inl, inr}
-use Rattle.std.specs.Prelude.{◌⊎◌, ◌≤◌}
-use Rattle.std.specs.Coded.{Coded, Coded-set, Unit-prop, ×_prop, code_by, coded_list, coded_ℕ, coded×, coded⊎, le_prop}
+-- The limits of code and the ranges of its spelling are propositions.
+use Rattle.std.proofs.Common.{◌≡◌, ℕ, true, List, [], length}
+use Rattle.std.specs.Prelude.{◌≤◌}
+use Rattle.std.specs.Coded.{Coded-set, Unit-prop, ×_prop, coded_list, le_prop}
 use Rattle.std.specs.List.{AllByRecursion-prop}
 use Rattle.std.proofs.Math.Bool.{Bool-set}
 use Rattle.std.proofs.Math.Path.{fun_ext}
 use Rattle.camelot_values.specs.Kinds.{AreTypes, Constructor, DataType, IsConstructor, IsDataType}
 use Rattle.camelot_values.specs.declared.kinds.Kind.{Kind}
 use Rattle.camelot_values.specs.contracts.kinds.Kind as kind
-use Rattle.camelot_values.specs.Value.{Value}
-use Rattle.camelot_values.specs.Items.{items_of, value_of, value_of-items_of}
-use Rattle.camelot_values.specs.declared.value.Item.{Item}
-use Rattle.camelot_values.specs.contracts.value.Item as item
-use Rattle.camelot_values.specs.Outcome.{Outcome, Done, Fuel, Deep, Stuck}
 use Rattle.grail_blocks.specs.declared.blocks.Place.{Place}
 use Rattle.grail_blocks.specs.declared.blocks.Place.TheVariants as place
 use Rattle.grail_blocks.specs.declared.blocks.CaseCell.{CaseCell}
@@ -111,33 +106,3 @@ func_prop f =
 
 pub fits_prop : (p : Code) → IsProp (FitsCode p)
 fits_prop p = let types = counted_prop FitsType 0 64 type_fits_prop p.types in let funcs = counted_prop FitsFunc 0 64 func_prop p.funcs in hlevel (types, funcs, less_prop)
-
--- ---- outcomes
-
-coded_value : Coded Value
-coded_value = code_by (List Item) (coded_list item.the_row.coded) items_of value_of value_of-items_of
-
--- the four cases of an outcome
-abbrev Cases : Type 0
-Cases = (Value × (ℕ × (ℕ × ℕ))) ⊎ ((ℕ × ℕ) ⊎ (ℕ ⊎ ℕ))
-
-abbrev to : Outcome Value → Cases
-to (Done v c p l) = inl (v, (c, (p, l)))
-to (Fuel c p) = inr (inl (c, p))
-to (Deep p) = inr (inr (inl p))
-to Stuck = inr (inr (inr 0))
-
-abbrev from : Cases → Outcome Value
-from (inl (v, (c, (p, l)))) = Done v c p l
-from (inr (inl (c, p))) = Fuel c p
-from (inr (inr (inl p))) = Deep p
-from (inr (inr (inr n))) = Stuck
-
-back : (o : Outcome Value) → from (to o) ≡ o
-back (Done v c p l) = refl
-back (Fuel c p) = refl
-back (Deep p) = refl
-back Stuck = refl
-
-pub outcome_set : IsSet (Outcome Value)
-outcome_set = Coded-set (code_by Cases (coded⊎ (coded× coded_value (coded× coded_ℕ (coded× coded_ℕ coded_ℕ))) (coded⊎ (coded× coded_ℕ coded_ℕ) (coded⊎ coded_ℕ coded_ℕ))) to from back)

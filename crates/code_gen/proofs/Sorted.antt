@@ -17,6 +17,16 @@ same_or_not x y = by_test (x == y) refl
     by_test true t = inl (grind (arith, nat_tests, t))
     by_test false t = inr (λ e. let k : (x == y) ≡ true = grind (arith, nat_tests, e) in let c : false ≡ true = sym t ∙ k in absurd cc)
 
+pub same_test : (x y : ℕ) → x ≡ y → (x == y) ≡ true
+same_test x y e = grind (arith, nat_tests, e)
+
+pub other_test : (x y : ℕ) → (x ≡ y → ⊥) → (x == y) ≡ false
+other_test x y n = by_value (x == y) refl
+  where
+    by_value : (b : Bool) → (x == y) ≡ b → b ≡ false
+    by_value true e = absurd (n (grind (arith, nat_tests, e)))
+    by_value false e = refl
+
 -- the numbers from `a` on, `n` of them, that pass
 abbrev pub passing : (ℕ → Bool) → ℕ → ℕ → List ℕ
 passing p a n = filter p (range_with_len a n)

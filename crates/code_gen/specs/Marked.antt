@@ -1,17 +1,33 @@
 -- Private: words for functions of this crate.
--- What is live at a place, as one truth value for each local.
-use Rattle.std.specs.Global.{Global}
-use Rattle.std.specs.Prelude.{◌≡◌, ℕ, zero, suc, ◌+◌, ◌-◌, ◌<◌, nat_lt, ◌==◌, ◌||◌, ◌&&◌, not, if◌then◌else◌, Bool, false, List, [], map, length, get_or, drop, Vec}
+-- What is live at a place, as a set of locals.
+use Rattle.std.specs.Prelude.{◌≡◌, ℕ, zero, suc, ◌+◌, ◌-◌, ◌<◌, ◌≤◌, nat_lt, ◌==◌, ◌||◌, ◌&&◌, not, if◌then◌else◌, Bool, true, false, List, length, get_or, drop}
+use Rattle.std.specs.Int.{bit_at}
 use Rattle.camelot_values.specs.Lists.{is_among}
 use Rattle.std.specs.List.{filter, list_any, range_with_len}
 use Rattle.grail_blocks.specs.Blocks.{CaseArm, Let}
 use Rattle.grail_blocks.specs.Events.{bound_by, operands_of}
 use Rattle.normal_form.specs.Normal.{NormalBlock}
 use Rattle.normal_form.specs.Live.{LaterMarks, Marks, live_from, unless_bound}
+use Rattle.code_gen.specs.declared.local_set.LocalSet.{LocalSet}
 
--- these truth values tell what is live of the locals that they are for
-pub record IsMarked (marks : List Bool) (live : Marks) : Type 0 where
-  pub each : (y : ℕ) → y < length marks → get_or marks y false ≡ live y
+-- whether this bit of a word is set
+abbrev pub is_set : ℕ → ℕ → Bool
+is_set word y = bit_at word y == 1
+
+-- whether a set has this local
+abbrev pub has : LocalSet → Marks
+has s y = if nat_lt y 128 then is_set s.low y else is_set s.high (y - 128)
+
+-- the set tells what is live of the locals below 256
+pub record IsMarked (marks : LocalSet) (live : Marks) : Type 0 where
+  pub each : (y : ℕ) → y < 256 → has marks y ≡ live y
+
+-- the first number from `first` on that passes, or `end` if none below it does
+pub record IsNext (passes : ℕ → Bool) (first end found : ℕ) : Type 0 where
+  pub since : first ≤ found
+  pub until : found ≤ end
+  pub none : (y : ℕ) → first ≤ y → y < found → passes y ≡ false
+  pub passing : found < end → passes found ≡ true
 
 -- with one local, or with these
 abbrev pub with_one : ℕ → Marks → Marks
@@ -28,23 +44,21 @@ before_let l live = with_these (operands_of l.op) (unless_bound l.target live)
 abbrev pub either_live : Marks → Marks → Marks
 either_live first second y = first y || second y
 
--- what these truth values tell, and what is live behind an arm that binds these
-abbrev pub tells : List Bool → Marks
-tells marks y = get_or marks y false
-
+-- what is live behind an arm that binds these
 abbrev pub unless_among : List ℕ → Marks → Marks
 unless_among bound live y = not (is_among bound y) && live y
 
--- the marks of later blocks, the last one's first
-abbrev pub all_marks : List (Vec Bool Global) → List (List Bool)
-all_marks vs = map (λ v. v.items) vs
+-- no local
+abbrev pub no_locals : LocalSet
+no_locals = record { low = 0; high = 0 }
 
--- those of this block, where a function has `count` blocks; of a block that isn't later there are none
-abbrev pub marks_at : List (List Bool) → ℕ → ℕ → List Bool
-marks_at seen count b = if nat_lt b count then get_or seen (count - 1 - b) [] else []
+-- The sets of later blocks, the last one's first: that of this block, where a function has `count` blocks. Of a block that isn't later there is
+-- none.
+abbrev pub marks_at : List LocalSet → ℕ → ℕ → LocalSet
+marks_at seen count b = if nat_lt b count then get_or seen (count - 1 - b) no_locals else no_locals
 
-abbrev pub told : List (List Bool) → ℕ → LaterMarks
-told seen count b = tells (marks_at seen count b)
+abbrev pub told : List LocalSet → ℕ → LaterMarks
+told seen count b = has (marks_at seen count b)
 
 -- on some way on through these arms
 abbrev pub arms_live : LaterMarks → List CaseArm → Marks
@@ -55,14 +69,13 @@ arms_live later arms y = list_any (λ a. not (is_among (bound_by a) y) && later 
 abbrev pub none_live : Marks
 none_live y = false
 
--- Of the blocks from this number on, there is one list of marks each, the last block's first. It has a mark for each of so many locals, which tells
--- whether that one is live at the block's beginning.
-pub record AreSeen (size : ℕ) (blocks : List NormalBlock) (number : ℕ) (seen : List (List Bool)) : Type 0 where
+-- Of the blocks from this number on, there is one set each, the last block's first. It tells of each local below 256 whether it is live at the
+-- block's beginning.
+pub record AreSeen (blocks : List NormalBlock) (number : ℕ) (seen : List LocalSet) : Type 0 where
   pub count : length seen + number ≡ length blocks
-  pub sizes : (i : ℕ) → i < length seen → length (get_or seen i []) ≡ size
-  pub tells : (b y : ℕ) → y < size → told seen (length blocks) b y ≡ live_from number (drop number blocks) b y
+  pub tells : (b y : ℕ) → y < 256 → told seen (length blocks) b y ≡ live_from number (drop number blocks) b y
 
--- the parameters of a function's block of this number, where the function has so many, and these marks for all its blocks
-abbrev pub told_params : ℕ → List (List Bool) → ℕ → List ℕ
-told_params own seen zero = range_with_len 0 own
-told_params own seen (suc n) = filter (tells (marks_at seen (length seen) (suc n))) (range_with_len 0 (length (marks_at seen (length seen) (suc n))))
+-- the parameters of a function's block of this number, where the function has so many, so many locals, and these sets for all its blocks
+abbrev pub told_params : ℕ → ℕ → List LocalSet → ℕ → List ℕ
+told_params own size seen zero = range_with_len 0 own
+told_params own size seen (suc n) = filter (has (marks_at seen (length seen) (suc n))) (range_with_len 0 size)

@@ -6,10 +6,11 @@ ghost use Rattle.grail_code.specs.Limits.{FuncIsWithin};
 ghost use Rattle.normal_form.specs.Coded.{coded, coded_blocks};
 ghost use Rattle.normal_form.specs.Programs.{block_of, normal_function_of};
 ghost use Rattle.code_gen.specs.Generated.{live_params};
-ghost use Rattle.code_gen.specs.Marked.{all_marks, marks_at, told_params};
+ghost use Rattle.code_gen.specs.Marked.{told_params};
 
 use crate::liveness::live_at_blocks;
-use crate::marks::{marked, marks_of};
+use crate::local_set::LocalSet;
+use crate::marks::marks_of;
 use grail_code::{Block, Func};
 use normal_form::{NormalBlock, NormalFunction};
 use std::alloc::{AllocError, Global};
@@ -32,36 +33,38 @@ fn first_locals(alloc: Global, count: usize) -> Result<Vec<u32>, AllocError>
 fn block_params(
     alloc: Global,
     own: usize,
-    live: &[Vec<bool>],
+    size: u32,
+    live: &[LocalSet],
     number: u32,
 ) -> Result<Vec<u32>, AllocError>
     requires own { own ≤ 16 }
-    requires sizes { length (marks_at (all_marks live.now) (length live.now) number) ≤ 256 }
-    ensures { IfOk result (λ params. params.items ≡ told_params own (all_marks live.now) number) }
+    requires size { size ≤ 256 }
+    ensures { IfOk result (λ params. params.items ≡ told_params own size live.now number) }
 {
     if number == 0 {
         return first_locals(alloc, own);
     }
-    marked(alloc, marks_of(live, live.len(), number))
+    marks_of(live, live.len(), number).locals(alloc, size)
 }
 
-// The blocks of a function with `own` parameters, each with its own parameters.
+// The blocks of a function with `own` parameters and `size` locals, each with its own parameters.
 fn code_blocks(
     alloc: Global,
     own: usize,
-    live: &[Vec<bool>],
+    size: u32,
+    live: &[LocalSet],
     blocks: Vec<NormalBlock>,
 ) -> Result<Vec<Block>, AllocError>
     requires own { own ≤ 16 }
-    requires sizes { (number : ℕ) → length (marks_at (all_marks live.now) (length live.now) number) ≤ 256 }
+    requires size { size ≤ 256 }
     requires few { length blocks.items ≤ 256 }
     requires few_lets { AllByRecursion (λ b. length b.lets ≤ 256) (map block_of blocks.items) }
-    ensures { IfOk result (λ all. map code.block_of all.items ≡ coded_blocks (told_params own (all_marks live.now)) 0 (map block_of blocks.items)) }
+    ensures { IfOk result (λ all. map code.block_of all.items ≡ coded_blocks (told_params own size live.now) 0 (map block_of blocks.items)) }
 {
-    let mut all = Vec::new(alloc);
+    let mut all = Vec::with_capacity(alloc, blocks.len())?;
     let mut number = 0;
     'each_block: for block in blocks {
-        let params = block_params(alloc, own, live, number)?;
+        let params = block_params(alloc, own, size, live, number)?;
         all.push(Block {
             params,
             lets: block.lets,
@@ -78,8 +81,9 @@ pub fn code_function(alloc: Global, function: NormalFunction) -> Result<Func, Al
     ensures { IfOk result (λ func. code.func_of func ≡ coded live_params (normal_function_of function)) }
 {
     let own = function.params.len();
-    let live = live_at_blocks(alloc, own + function.locals.len(), &function.blocks)?;
-    let blocks = code_blocks(alloc, own, &live, function.blocks)?;
+    let size = (own + function.locals.len()) as u32;
+    let live = live_at_blocks(alloc, &function.blocks)?;
+    let blocks = code_blocks(alloc, own, size, &live, function.blocks)?;
     Ok(Func {
         name: function.name,
         params: function.params,

@@ -6,6 +6,7 @@ mod compiling;
 mod generating;
 pub mod laws;
 mod liveness;
+mod local_set;
 mod marks;
 
 pub use compiling::compile;

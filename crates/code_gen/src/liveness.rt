@@ -1,50 +1,36 @@
 //! What is live at the beginning of each block of a function: one pass over its blocks, from the last to the first.
-ghost use Rattle.std.specs.Prelude.{◌≡◌, false, length, map, replicate, IfOk};
+ghost use Rattle.std.specs.Prelude.{◌≡◌, map, IfOk};
 ghost use Rattle.normal_form.specs.Live.{lets_live, term_live};
 ghost use Rattle.normal_form.specs.Programs.{block_of};
-ghost use Rattle.code_gen.specs.Marked.{AreSeen, IsMarked, all_marks, told};
+ghost use Rattle.code_gen.specs.Marked.{AreSeen, IsMarked, told};
 
+use crate::local_set::LocalSet;
 use crate::marks::mark_block;
 use normal_form::NormalBlock;
 use std::alloc::{AllocError, Global};
 
-// Marks for so many locals, of which none is live.
-fn no_marks(alloc: Global, size: usize) -> Result<Vec<bool>, AllocError>
-    ensures { IfOk result (λ marks. marks.items ≡ replicate size false) }
+// What is live at the beginning of a block.
+fn live_at(block: &NormalBlock, later: &[LocalSet], count: usize) -> LocalSet
+    ensures { IsMarked result (lets_live (block_of block.now).lets (term_live (told later.now count) (block_of block.now).term)) }
 {
-    Ok(vec![in alloc; false; size]?)
-}
-
-// What is live at the beginning of a block, of so many locals.
-fn live_at(
-    alloc: Global,
-    size: usize,
-    block: &NormalBlock,
-    later: &[Vec<bool>],
-    count: usize,
-) -> Result<Vec<bool>, AllocError>
-    ensures size { IfOk result (λ marks. length marks.items ≡ size) }
-    ensures marked { IfOk result (λ marks. IsMarked marks.items (lets_live (block_of block.now).lets (term_live (told (all_marks later.now) count) (block_of block.now).term))) }
-{
-    let mut marks = no_marks(alloc, size)?;
+    let mut marks = LocalSet::new();
     mark_block(&mut marks, block, later, count);
-    Ok(marks)
+    marks
 }
 
-/// A truth value for each of so many locals, for each block: whether it is live at the block's beginning. The last block's come first.
+/// For each block, which locals are live at its beginning. The last block's come first.
 #[tactic(auto, using(crate::proofs::Seeing::seen_start, crate::proofs::Seeing::seen_all))]
-pub fn live_at_blocks(
+pub(crate) fn live_at_blocks(
     alloc: Global,
-    size: usize,
     blocks: &[NormalBlock],
-) -> Result<Vec<Vec<bool>>, AllocError>
-    ensures { IfOk result (λ seen. AreSeen size (map block_of blocks.now) 0 (all_marks seen.items)) }
+) -> Result<Vec<LocalSet>, AllocError>
+    ensures { IfOk result (λ seen. AreSeen (map block_of blocks.now) 0 seen.items) }
 {
-    let mut seen = Vec::new(alloc);
+    let mut seen = Vec::with_capacity(alloc, blocks.len())?;
     let mut left = blocks.len();
     while left > 0 {
         left -= 1;
-        let marks = live_at(alloc, size, &blocks[left], &seen, blocks.len())?;
+        let marks = live_at(&blocks[left], &seen, blocks.len());
         seen.push(marks)?;
     }
     Ok(seen)

@@ -1,72 +1,61 @@
-ghost use Rattle.std.specs.Prelude.{◌≡◌, ◌≤◌, length, map, IfOk};
-ghost use Rattle.std.specs.List.{filter, range_with_len};
+ghost use Rattle.std.specs.Prelude.{◌≡◌, map};
 ghost use Rattle.normal_form.specs.Programs.{block_of};
-ghost use Rattle.normal_form.specs.Live.{Marks, lets_live, term_live, unless_bound};
-ghost use Rattle.camelot_values.specs.Lists.{is_among};
+ghost use Rattle.normal_form.specs.Live.{Marks, lets_live, term_live};
 ghost use Rattle.grail_blocks.specs.Blocks.{arm_of, let_of, term_of};
-ghost use Rattle.grail_blocks.specs.Events.{bound_by};
-ghost use Rattle.code_gen.specs.Marked.{IsMarked, all_marks, arms_live, before_let, either_live, marks_at, tells, told, unless_among, with_one, with_these};
+ghost use Rattle.grail_blocks.specs.Events.{bound_by, taken};
+ghost use Rattle.code_gen.specs.Marked.{IsMarked, arms_live, before_let, either_live, has, marks_at, told, unless_among, with_these};
 
+use crate::local_set::LocalSet;
 use grail_blocks::{CaseArm, CaseCell, Let, Op, Place, Term};
 use normal_form::NormalBlock;
-use std::alloc::{AllocError, Global};
 
-// Marks a local, if it is there.
-#[tactic(auto, using(crate::proofs::Marking::marked_one, crate::proofs::Marking::marked_beyond))]
-pub fn mark(marks: &mut [bool], local: u32)
-    ensures size { length marks.new ≡ length marks.old }
-    ensures marked { (live : Marks) → IsMarked marks.old live → IsMarked marks.new (with_one local live) }
-{
-    let at = local as usize;
-    if at < marks.len() {
-        marks[at] = true;
-    }
-}
-
-// Takes the mark from a local, if it is there.
-#[tactic(auto, using(crate::proofs::Marking::cleared_one, crate::proofs::Marking::cleared_beyond))]
-pub fn clear(marks: &mut [bool], local: u32)
-    ensures size { length marks.new ≡ length marks.old }
-    ensures marked { (live : Marks) → IsMarked marks.old live → IsMarked marks.new (unless_bound local live) }
-{
-    let at = local as usize;
-    if at < marks.len() {
-        marks[at] = false;
-    }
-}
-
-// Marks these locals, those of them that are there.
+// Marks these locals.
 #[tactic(auto, using(crate::proofs::Marking::marked_none, crate::proofs::Marking::marked_more, crate::proofs::Marking::marked_all))]
-pub fn mark_all(marks: &mut [bool], locals: &[u32])
-    ensures size { length marks.new ≡ length marks.old }
-    ensures marked { (live : Marks) → IsMarked marks.old live → IsMarked marks.new (with_these locals.now live) }
+pub fn mark_all(marks: &mut LocalSet, locals: &[u32])
+    ensures { (live : Marks) → IsMarked marks.old live → IsMarked marks.new (with_these locals.now live) }
 {
     for local in locals {
-        mark(marks, *local);
+        marks.insert(*local);
+    }
+}
+
+// Takes the marks from these locals.
+pub fn clear_all(marks: &mut LocalSet, locals: &[u32])
+    ensures { (live : Marks) → IsMarked marks.old live → IsMarked marks.new (unless_among locals.now live) }
+{
+    for local in locals {
+        marks.remove(*local);
+    }
+}
+
+// Marks the diamond that a build takes.
+fn mark_place(marks: &mut LocalSet, place: &Place)
+    ensures { (live : Marks) → IsMarked marks.old live → IsMarked marks.new (with_these (taken place.now) live) }
+{
+    match place {
+        Place::Reuse(diamond) => marks.insert(*diamond),
+        Place::Inline | Place::New => {}
     }
 }
 
 // From what is live behind a let to what is live in front of it.
-pub fn mark_let(marks: &mut [bool], l: &Let)
-    ensures size { length marks.new ≡ length marks.old }
-    ensures marked { (live : Marks) → IsMarked marks.old live → IsMarked marks.new (before_let (let_of l.now) live) }
+pub fn mark_let(marks: &mut LocalSet, l: &Let)
+    ensures { (live : Marks) → IsMarked marks.old live → IsMarked marks.new (before_let (let_of l.now) live) }
 {
-    clear(marks, l.target);
+    marks.remove(l.target);
     match &l.op {
         Op::Lit(_) | Op::Flag(_) => {}
-        Op::Copy(local) => mark(marks, *local),
+        Op::Copy(local) => marks.insert(*local),
         Op::Prim { op: _, left, right } => {
-            mark(marks, *right);
-            mark(marks, *left);
+            marks.insert(*right);
+            marks.insert(*left);
         }
         Op::Make {
             con: _,
             args,
             place,
         } => {
-            if let Place::Reuse(diamond) = place {
-                mark(marks, *diamond);
-            }
+            mark_place(marks, place);
             mark_all(marks, args);
         }
         Op::Call { func: _, args } => mark_all(marks, args),
@@ -74,9 +63,8 @@ pub fn mark_let(marks: &mut [bool], l: &Let)
 }
 
 // From what is live behind lets to what is live in front of them.
-pub fn mark_lets(marks: &mut [bool], lets: &[Let])
-    ensures size { length marks.new ≡ length marks.old }
-    ensures marked { (live : Marks) → IsMarked marks.old live → IsMarked marks.new (lets_live (map let_of lets.now) live) }
+pub fn mark_lets(marks: &mut LocalSet, lets: &[Let])
+    ensures { (live : Marks) → IsMarked marks.old live → IsMarked marks.new (lets_live (map let_of lets.now) live) }
 {
     let mut left = lets.len();
     while left > 0 {
@@ -85,61 +73,46 @@ pub fn mark_lets(marks: &mut [bool], lets: &[Let])
     }
 }
 
-// Whether an arm binds this local.
-fn binds(arm: &CaseArm, local: usize) -> bool
-    ensures { result ≡ is_among (bound_by (arm_of arm.now)) local }
+// Of what is live at the beginning of a later block, what is live behind an arm that leads there.
+fn behind_arm(later: LocalSet, arm: &CaseArm) -> LocalSet
+    ensures { IsMarked result (unless_among (bound_by (arm_of arm.now)) (has later)) }
 {
-    for field in &arm.fields {
-        if *field as usize == local {
-            return true;
-        }
-    }
+    let mut wanted = later;
     match arm.cell {
-        CaseCell::Keep(diamond) => diamond as usize == local,
-        CaseCell::Inline | CaseCell::Free => false,
-    }
-}
-
-// Marks what is live at the beginning of a later block.
-pub fn mark_later(marks: &mut [bool], later: &[bool])
-    ensures size { length marks.new ≡ length marks.old }
-    ensures marked { (live : Marks) → IsMarked marks.old live → IsMarked marks.new (either_live (tells later.now) live) }
-{
-    for (at, wanted) in later.iter().enumerate() {
-        if *wanted && at < marks.len() {
-            marks[at] = true;
+        CaseCell::Keep(diamond) => {
+            wanted.remove(diamond);
+            clear_all(&mut wanted, &arm.fields);
+            wanted
+        }
+        CaseCell::Inline | CaseCell::Free => {
+            clear_all(&mut wanted, &arm.fields);
+            wanted
         }
     }
 }
 
-// The same where an arm leads there, but for what the arm binds.
-pub fn mark_arm(marks: &mut [bool], arm: &CaseArm, later: &[bool])
-    ensures size { length marks.new ≡ length marks.old }
-    ensures marked { (live : Marks) → IsMarked marks.old live
-        → IsMarked marks.new (either_live (unless_among (bound_by (arm_of arm.now)) (tells later.now)) live) }
+// Marks what is live where an arm leads, but for what the arm binds.
+pub fn mark_arm(marks: &mut LocalSet, arm: &CaseArm, later: LocalSet)
+    ensures { (live : Marks) → IsMarked marks.old live → IsMarked marks.new (either_live (unless_among (bound_by (arm_of arm.now)) (has later)) live) }
 {
-    for (at, wanted) in later.iter().enumerate() {
-        if *wanted && at < marks.len() && !binds(arm, at) {
-            marks[at] = true;
-        }
-    }
+    let wanted = behind_arm(later, arm);
+    marks.join(wanted);
 }
 
-// The marks of a later block; of a block that isn't later, none.
-pub fn marks_of<'a>(later: &'a [Vec<bool>], count: usize, block: u32) -> &'a [bool]
-    ensures { result.now ≡ marks_at (all_marks later.now) count block }
+// The set of a later block; of a block that isn't later, no locals.
+pub fn marks_of(later: &[LocalSet], count: usize, block: u32) -> LocalSet
+    ensures { result ≡ marks_at later.now count block }
 {
     let at = block as usize;
     if at < count && count - 1 - at < later.len() {
-        return &later[count - 1 - at];
+        return later[count - 1 - at];
     }
-    &[]
+    LocalSet::new()
 }
 
 // What is live on some way on through these arms is marked.
-fn mark_arms(marks: &mut [bool], arms: &[CaseArm], later: &[Vec<bool>], count: usize)
-    ensures size { length marks.new ≡ length marks.old }
-    ensures marked { (live : Marks) → IsMarked marks.old live → IsMarked marks.new (either_live (arms_live (told (all_marks later.now) count) (map arm_of arms.now)) live) }
+fn mark_arms(marks: &mut LocalSet, arms: &[CaseArm], later: &[LocalSet], count: usize)
+    ensures { (live : Marks) → IsMarked marks.old live → IsMarked marks.new (either_live (arms_live (told later.now count) (map arm_of arms.now)) live) }
 {
     let mut left = arms.len();
     while left > 0 {
@@ -150,45 +123,28 @@ fn mark_arms(marks: &mut [bool], arms: &[CaseArm], later: &[Vec<bool>], count: u
 }
 
 // What is live in front of the end of a block is marked.
-pub fn mark_term(marks: &mut [bool], term: &Term, later: &[Vec<bool>], count: usize)
-    ensures size { length marks.new ≡ length marks.old }
-    ensures marked { (live : Marks) → IsMarked marks.old live → IsMarked marks.new (either_live (term_live (told (all_marks later.now) count) (term_of term.now)) live) }
+pub fn mark_term(marks: &mut LocalSet, term: &Term, later: &[LocalSet], count: usize)
+    ensures { (live : Marks) → IsMarked marks.old live → IsMarked marks.new (either_live (term_live (told later.now count) (term_of term.now)) live) }
 {
     match term {
-        Term::Ret(local) => mark(marks, *local),
+        Term::Ret(local) => marks.insert(*local),
         Term::Tail { func: _, args } => mark_all(marks, args),
-        Term::Goto(block) => mark_later(marks, marks_of(later, count, *block)),
+        Term::Goto(block) => marks.join(marks_of(later, count, *block)),
         Term::If { cond, yes, no } => {
-            mark_later(marks, marks_of(later, count, *no));
-            mark_later(marks, marks_of(later, count, *yes));
-            mark(marks, *cond);
+            marks.join(marks_of(later, count, *no));
+            marks.join(marks_of(later, count, *yes));
+            marks.insert(*cond);
         }
         Term::Case { on, arms } => {
             mark_arms(marks, arms, later, count);
-            mark(marks, *on);
+            marks.insert(*on);
         }
     }
-}
-
-// The locals that are marked, in ascending order.
-#[tactic(auto, using(crate::proofs::Marking::marked_next, crate::proofs::Marking::kept_next))]
-pub fn marked(alloc: Global, marks: &[bool]) -> Result<Vec<u32>, AllocError>
-    requires { length marks.now ≤ 256 }
-    ensures { IfOk result (λ locals. locals.items ≡ filter (tells marks.now) (range_with_len 0 (length marks.now))) }
-{
-    let mut locals = Vec::new(alloc);
-    for (at, live) in marks.iter().enumerate() {
-        if *live {
-            locals.push(at as u32)?;
-        }
-    }
-    Ok(locals)
 }
 
 // What is live at the beginning of a block is marked, where nothing was.
-pub fn mark_block(marks: &mut [bool], block: &NormalBlock, later: &[Vec<bool>], count: usize)
-    ensures size { length marks.new ≡ length marks.old }
-    ensures marked { (live : Marks) → IsMarked marks.old live → IsMarked marks.new (lets_live (block_of block.now).lets (either_live (term_live (told (all_marks later.now) count) (block_of block.now).term) live)) }
+pub fn mark_block(marks: &mut LocalSet, block: &NormalBlock, later: &[LocalSet], count: usize)
+    ensures { (live : Marks) → IsMarked marks.old live → IsMarked marks.new (lets_live (block_of block.now).lets (either_live (term_live (told later.now count) (block_of block.now).term) live)) }
 {
     mark_term(marks, &block.term, later, count);
     mark_lets(marks, &block.lets);

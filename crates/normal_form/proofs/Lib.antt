@@ -6,7 +6,6 @@ pub mod Stands
 pub mod Turns
 pub mod Values
 pub mod Tails
-pub mod Sets
 pub mod Programs
 pub mod Tables
 pub mod Naming

@@ -28,7 +28,7 @@ use Rattle.normal_form.specs.Running.{everything, body_run, bodies, run_of}
 use Rattle.normal_form.proofs.Lines.{here, blocks_are_lines, ends_is_closed}
 use Rattle.normal_form.proofs.Ends.{tail_closed}
 use Rattle.normal_form.proofs.Stands.{CallsAgree, Setting, seen}
-use Rattle.normal_form.proofs.Sets.{outcome_set}
+use Rattle.normal_form.specs.SetLaws.{outcome_set}
 use Rattle.normal_form.proofs.Tails.{tail_runs}
 
 -- ---- parameters

@@ -10,3 +10,4 @@ pub mod Facts
 pub mod Parts
 pub mod KindParts
 pub mod Programs
+pub mod SetLaws

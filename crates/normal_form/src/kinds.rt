@@ -9,6 +9,7 @@ ghost use Rattle.normal_form.specs.KindParts.{arms_kinds, branch_kinds, kinds_of
 ghost use Rattle.normal_form.specs.Parts.{first_part};
 ghost use Rattle.normal_form.specs.Tables.{signatures_in, source_in};
 
+use crate::appending::appended;
 use crate::known::Known;
 use crate::known_kinds::{bind_arm_kinds, bound_kinds, build_kind, call_kind, operator_kind};
 use crate::order::arms_in_order;
@@ -46,23 +47,23 @@ fn branching(on: PartKinds, mut branches: PartKinds) -> Result<PartKinds, AllocE
 }
 
 // One part and then another, which has the value.
-fn following(mut first: PartKinds, mut second: PartKinds) -> Result<PartKinds, AllocError>
+fn following(first: PartKinds, second: PartKinds) -> Result<PartKinds, AllocError>
     ensures { IfOk result (λ all. kinds_of all ≡ record { kinds = first.kinds.items ++ second.kinds.items; kind = second.kind }) }
 {
-    first.kinds.append(&mut second.kinds)?;
+    let kinds = appended(first.kinds, second.kinds)?;
     Ok(PartKinds {
-        kinds: first.kinds,
+        kinds,
         kind: second.kind,
     })
 }
 
 // Two branches, of which the first gives the kind.
-fn either(mut first: PartKinds, mut second: PartKinds) -> Result<PartKinds, AllocError>
+fn either(first: PartKinds, second: PartKinds) -> Result<PartKinds, AllocError>
     ensures { IfOk result (λ all. kinds_of all ≡ record { kinds = first.kinds.items ++ second.kinds.items; kind = first.kind }) }
 {
-    first.kinds.append(&mut second.kinds)?;
+    let kinds = appended(first.kinds, second.kinds)?;
     Ok(PartKinds {
-        kinds: first.kinds,
+        kinds,
         kind: first.kind,
     })
 }
@@ -177,8 +178,8 @@ pub(crate) fn args_kinds<'a>(
 {
     let mut all = Vec::new(known.alloc);
     'args: for arg in args {
-        let mut next = kinds(known, scope, arg)?;
-        all.append(&mut next.kinds)?;
+        let next = kinds(known, scope, arg)?;
+        all = appended(all, next.kinds)?;
     }
     Ok(all)
 }

@@ -1,6 +1,7 @@
 //! The normal form of Camelot programs: lets over locals, in basic blocks (`specs/Normal.antt`), which means what the program means.
 #![tactic(auto)]
 
+mod appending;
 mod copying;
 mod count;
 mod count_tail;

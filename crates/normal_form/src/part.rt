@@ -4,6 +4,7 @@ ghost use Rattle.grail_blocks.specs.Blocks.{arm_of, op_of, operator_of, term_of}
 ghost use Rattle.normal_form.specs.Normal.{case_arm, joining};
 ghost use Rattle.normal_form.specs.Parts.{args_and, before_tail, closed_piece, divided, no_tails, parted, tail_and, tail_of, tails_of, arms_of, body_and, body_of, bound_piece, conditional, joined_bodies, line_of, matched, no_args, no_arms, operated, piece_of, pieces_of, sequenced};
 
+use crate::appending::appended;
 use grail_blocks::{CaseArm, CaseCell, Let, Op, PrimCode, Term};
 use std::alloc::{AllocError, Global};
 
@@ -50,13 +51,13 @@ impl Args {
     }
 
     /// One argument more.
-    pub(crate) fn and(mut self, mut part: Part) -> Result<Args, AllocError>
+    pub(crate) fn and(mut self, part: Part) -> Result<Args, AllocError>
         ensures { IfOk result (λ args. pieces_of args ≡ args_and (pieces_of self) (piece_of part)) }
     {
-        self.lines.append(&mut part.lines)?;
+        let lines = appended(self.lines, part.lines)?;
         self.locals.push(part.local)?;
         Ok(Args {
-            lines: self.lines,
+            lines,
             end: part.end,
             locals: self.locals,
         })
@@ -83,7 +84,7 @@ pub(crate) fn bound(mut lines: Vec<Line>, at: At, op: Op) -> Result<Part, AllocE
 }
 
 /// An operator on the values of two parts.
-pub(crate) fn operator(mut left: Part, mut right: Part, op: PrimCode) -> Result<Part, AllocError>
+pub(crate) fn operator(left: Part, right: Part, op: PrimCode) -> Result<Part, AllocError>
     requires { right.end.next < 4294967295 }
     ensures { IfOk result (λ part. piece_of part ≡ operated (operator_of op) (piece_of left) (piece_of right)) }
 {
@@ -92,17 +93,17 @@ pub(crate) fn operator(mut left: Part, mut right: Part, op: PrimCode) -> Result<
         left: left.local,
         right: right.local,
     };
-    left.lines.append(&mut right.lines)?;
-    bound(left.lines, right.end, prim)
+    let lines = appended(left.lines, right.lines)?;
+    bound(lines, right.end, prim)
 }
 
 /// One part and then another, which has the value.
-pub(crate) fn sequence(mut first: Part, mut second: Part) -> Result<Part, AllocError>
+pub(crate) fn sequence(first: Part, second: Part) -> Result<Part, AllocError>
     ensures { IfOk result (λ part. piece_of part ≡ sequenced (piece_of first) (piece_of second)) }
 {
-    first.lines.append(&mut second.lines)?;
+    let lines = appended(first.lines, second.lines)?;
     Ok(Part {
-        lines: first.lines,
+        lines,
         end: second.end,
         local: second.local,
     })
@@ -139,13 +140,13 @@ pub(crate) fn conditional(mut cond: Part, first: Part, second: Part) -> Result<P
         yes: cond.end.number + 1,
         no: first.end.number + 1,
     };
-    let mut yes = joined(first.lines, first.local, result, join)?;
-    let mut no = joined(second.lines, second.local, result, join)?;
     cond.lines.push(Line::Close(test))?;
-    cond.lines.append(&mut yes)?;
-    cond.lines.append(&mut no)?;
+    let yes = appended(cond.lines, first.lines)?;
+    let both = joined(yes, first.local, result, join)?;
+    let no = appended(both, second.lines)?;
+    let lines = joined(no, second.local, result, join)?;
     Ok(Part {
-        lines: cond.lines,
+        lines,
         end: At {
             next: second.end.next,
             number: join,
@@ -269,12 +270,12 @@ pub(crate) fn closed(mut lines: Vec<Line>, at: At, term: Term) -> Result<Tail, A
 }
 
 /// One part and then what ends the function.
-pub(crate) fn before(mut first: Part, mut last: Tail) -> Result<Tail, AllocError>
+pub(crate) fn before(first: Part, last: Tail) -> Result<Tail, AllocError>
     ensures { IfOk result (λ tail. tail_of tail ≡ before_tail (piece_of first) (tail_of last)) }
 {
-    first.lines.append(&mut last.lines)?;
+    let lines = appended(first.lines, last.lines)?;
     Ok(Tail {
-        lines: first.lines,
+        lines,
         end: last.end,
     })
 }
@@ -319,13 +320,13 @@ impl TailArms {
     }
 
     /// The body of the last arm.
-    pub(crate) fn and_body(mut self, mut body: Tail) -> Result<TailArms, AllocError>
+    pub(crate) fn and_body(self, body: Tail) -> Result<TailArms, AllocError>
         ensures { IfOk result (λ arms. tails_of arms ≡ tail_and (tails_of self) (tail_of body)) }
     {
-        self.lines.append(&mut body.lines)?;
+        let lines = appended(self.lines, body.lines)?;
         Ok(TailArms {
             cases: self.cases,
-            lines: self.lines,
+            lines,
             end: body.end,
         })
     }

@@ -6,7 +6,8 @@ use Rattle.grail_code.specs.Code.{code_of}
 use Rattle.grail_code.specs.Limits.{IsWithinLimits}
 use Rattle.grail_code.specs.Meaning.{run_of}
 use Rattle.code_gen.specs.Generated.{code_of_normal, compiled}
-use Rattle.code_gen.proofs.Props.{fits_prop, outcome_set, within_prop}
+use Rattle.normal_form.specs.SetLaws.{outcome_set}
+use Rattle.code_gen.proofs.Props.{fits_prop, within_prop}
 use Rattle.code_gen.proofs.compiling.compile.Goals as goal
 
 pub generate-requires : goal.generate-requires

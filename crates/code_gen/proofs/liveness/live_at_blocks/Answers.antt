@@ -7,6 +7,6 @@ loop-left-preserved c =
     let test = c.loop-left-test.true in
     record {
       within = (let h = c.loop-left.invariant.within in omega (arith, h));
-      seen = seen_more c.args.size c.args.blocks.now (c.loop-left.left - 1) c.loop-left.left _ c.loop-left.seen.items c.deref.result.now c.push.new.self.items c.in_ok-marks.marks c.index-blocks-left.result
-          (omega (arith, test)) c.loop-left.invariant.within refl c.deref.ensures.value c.in_ok-push.ensures.items c.index-blocks-left.is c.in_ok-marks.ensures.size c.in_ok-marks.ensures.marked c.loop-left.invariant.seen;
+      seen = seen_more c.args.blocks.now (c.loop-left.left - 1) c.loop-left.left _ c.loop-left.seen.items c.deref.result.now c.push.new.self.items c.live_at-marks.result c.index-blocks-left.result
+          (omega (arith, test)) c.loop-left.invariant.within refl c.deref.ensures.value c.in_ok-push.ensures.items c.index-blocks-left.is c.live_at-marks.ensures c.loop-left.invariant.seen;
     }

@@ -1,4 +1,4 @@
-use Rattle.std.proofs.Common.{◌≡◌, ◌≤◌, length, map, drop}
+use Rattle.std.proofs.Common.{◌≤◌, length, map, drop}
 use Rattle.grail_blocks.specs.Blocks.{let_of}
 use Rattle.normal_form.specs.Live.{Marks, lets_live}
 use Rattle.code_gen.specs.Marked.{IsMarked}
@@ -6,7 +6,6 @@ use Rattle.code_gen.proofs.marks.mark_lets.Given as goal
 
 abbrev pub invariant-loop-left : goal.invariant-loop-left
 invariant-loop-left l = record {
-  size : length l.marks ≡ length l.initial.marks;
   within : l.left ≤ length l.lets;
   marked : (live : Marks) → IsMarked l.initial.marks live → IsMarked l.marks (lets_live (map let_of (drop l.left l.lets)) live);
 }

@@ -1,7 +1,7 @@
+-- Laws, for the proofs of this crate and of those above it.
 -- What a run comes to has decidable equality, so that equations between outcomes are propositions.
-use Rattle.std.proofs.Common.{◌≡◌, ℕ, List, refl}
+use Rattle.std.proofs.Common.{◌≡◌, ℕ, List, refl, inl, inr}
 use Rattle.std.specs.Prelude.{◌⊎◌}
-use Rattle.std.proofs.Common.{inl, inr}
 use Rattle.std.specs.Coded.{Coded, Coded-set, code_by, coded_list, coded_ℕ, coded×, coded⊎}
 use Rattle.camelot_values.specs.Value.{Value}
 use Rattle.camelot_values.specs.Items.{items_of, value_of, value_of-items_of}
