@@ -1,0 +1,6 @@
+-- The system of a code, and what its solutions are.
+pub mod Unknowns
+pub mod Forms
+pub mod Found
+pub mod SystemLaws
+pub mod theory
