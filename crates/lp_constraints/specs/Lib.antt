@@ -1,0 +1,2 @@
+-- Inference of certificates.
+pub mod Inference

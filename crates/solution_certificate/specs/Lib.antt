@@ -1,0 +1,2 @@
+-- Certificates from the values of unknowns.
+pub mod Taking
