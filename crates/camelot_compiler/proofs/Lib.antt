@@ -1,0 +1,5 @@
+pub mod Wrapping
+pub mod Named
+pub mod Coding
+pub mod Reading
+pub mod Standing

@@ -1,0 +1,13 @@
+//! The compiler: from the bytes of a Camelot source to a bundle of Grail code and its certificate, or the cause for which the source is refused.
+#![tactic(auto)]
+
+mod bundle;
+mod compiling;
+mod fault;
+mod stages;
+mod writing;
+
+pub use bundle::Bundle;
+pub use compiling::compile;
+pub use fault::CompileFault;
+pub use writing::write_bundle;

@@ -1,0 +1,2 @@
+-- Texts of refusals.
+pub mod Texts
