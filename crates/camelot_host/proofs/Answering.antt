@@ -1,35 +1,51 @@
 -- What reading, working and writing come to together.
-use Rattle.std.proofs.Common.{◌≡◌, ℕ, ◌+◌, ◌<◌, ◌≤◌, Bool, true, List, [], ◌∷◌, map, get_or, length, Option, Some, None, ◌++◌, refl, sym, ap, ◌∙◌, subst, arith, inl, inr}
+use Rattle.std.proofs.Common.{◌≡◌, ℕ, ◌+◌, ◌<◌, ◌≤◌, Bool, true, List, [], ◌∷◌, map, get_or, length, Option, Some, None, ◌++◌, sym, ap, ◌∙◌, subst, arith}
 use Rattle.std.proofs.lemmas.List.{append-nil, length-append}
 use Rattle.std.specs.Str.{bytes_eq}
 use Rattle.camelot_host.proofs.Numbers.{same_bytes, bytes_same}
 use Rattle.std.specs.Io.KnownBytes.{Consumes, IsAtEnd}
 use Rattle.host_io.specs.Counts.{last_count, Rose}
 use Rattle.host_io.specs.Source.{Took, TookExactly}
-use Rattle.host_io.specs.Sink.{Tells, TellsFront}
 use Rattle.camelot_host.proofs.FunctionLaws.{some_is}
-use Rattle.camelot_host.specs.Lines.{refusal}
-use Rattle.camelot_host.specs.Answers.{IsReport, IsNoFirstScript, input_limit, ToldReport, ToldInPart, Responds, Answers, SourceFaults, SinkFaults, Completes}
+use Rattle.camelot_host.specs.Commands.{Command, IsCommand}
+use Rattle.camelot_host.specs.CommandLaws.{one_command}
+use Rattle.camelot_host.specs.Due.{Verdict, Done, Refused, IsDue}
+use Rattle.camelot_host.specs.Answers.{input_limit, devices, Answers, Quiet, SourceFaults, SinkFaults, Completes}
+use Rattle.camelot_host.specs.Replies.{Writes, Responds}
 use Rattle.camelot_host.specs.declared.status.Status.{Status}
 use Rattle.camelot_host.specs.declared.status.Status.TheVariants as status
 
-pub told_report : (input output : List ℕ) (t t' : Option (List ℕ)) → IsReport input output → Tells t t' output → ToldReport input t t'
-told_report input output t t' r w = record { script = r.script; spelled = r.spelled; only = r.only; done = r.done; written = subst (Tells t t') r.is w }
+-- what is due was told by the status of its verdict, or a front of it
+pub responds : (s : Status) (v : Verdict) (command : Command) (input output : List ℕ) (t t' : Option (List ℕ)) → IsDue command input v output → Writes s v output t t' → Responds s command input t t'
+responds status.Ok Done command input output t t' due w = record { output = output; due = due; whole = w }
+responds status.Ok Refused command input output t t' due w = absurd w
+responds status.Refused Done command input output t t' due w = absurd w
+responds status.Refused Refused command input output t t' due w = record { output = output; due = due; whole = w }
+responds status.WriteFault v command input output t t' due w = record { verdict = v; output = output; due = due; front = w }
+responds status.Memory v command input output t t' due w = absurd w
+responds status.ReadFault v command input output t t' due w = absurd w
+responds status.Usage v command input output t t' due w = absurd w
+responds status.TooLong v command input output t t' due w = absurd w
 
-pub report_in_part : (input output : List ℕ) (t t' : Option (List ℕ)) → IsReport input output → TellsFront t t' output → ToldInPart input t t'
-report_in_part input output t t' r w = record { output = output; due = inl r; front = w }
+-- where something was written, nothing is said of the sink
+pub written_quiet : {K : Type 0} (s : Status) (v : Verdict) (output : List ℕ) (t t' : Option (List ℕ)) (old new : K) → Writes s v output t t' → Quiet s old new
+written_quiet status.Ok v output t t' old new w = tt
+written_quiet status.Refused v output t t' old new w = tt
+written_quiet status.WriteFault v output t t' old new w = tt
+written_quiet status.Memory v output t t' old new w = absurd w
+written_quiet status.ReadFault v output t t' old new w = absurd w
+written_quiet status.Usage v output t t' old new w = absurd w
+written_quiet status.TooLong v output t t' old new w = absurd w
 
-pub refusal_in_part : (input : List ℕ) (t t' : Option (List ℕ)) → IsNoFirstScript input → TellsFront t t' refusal → ToldInPart input t t'
-refusal_in_part input t t' r w = record { output = refusal; due = inr (r, refl); front = w }
-
-pub answers_of : (s : Status) (input : List ℕ) (l l' t t' : Option (List ℕ)) (n n' : ℕ) → Responds s input t t' → Took l l' n n' input → IsAtEnd l' → length input ≤ input_limit → Answers s l l' t t' n n'
-answers_of status.Ok input l l' t t' n n' r k e h = record { input = input; read = record { took = k; at_end = e; within = h }; script = r.script; spelled = r.spelled; only = r.only; done = r.done; written = r.written }
-answers_of status.Refused input l l' t t' n n' r k e h = record { input = input; read = record { took = k; at_end = e; within = h }; no_script = r.0; written = r.1 }
-answers_of status.WriteFault input l l' t t' n n' r k e h = record { input = input; read = record { took = k; at_end = e; within = h }; output = r.output; due = r.due; front = r.front }
-answers_of status.Memory input l l' t t' n n' r k e h = record { gone = record { bytes = input; within = h; took = k }; silent = r }
-answers_of status.ReadFault input l l' t t' n n' r k e h = absurd r
-answers_of status.Usage input l l' t t' n n' r k e h = absurd r
-answers_of status.TooLong input l l' t t' n n' r k e h = absurd r
+pub answers_of : (s : Status) (words : List (List ℕ)) (command : Command) (input : List ℕ) (l l' t t' : Option (List ℕ)) (n n' : ℕ) → IsCommand words command → Responds s command input t t'
+    → Took l l' n n' input → IsAtEnd l' → length input ≤ input_limit → Answers s words (devices l n t) (devices l' n' t')
+answers_of status.Ok words command input l l' t t' n n' c r k e h = record { command = command; spelled = c; input = input; read = record { took = k; at_end = e; within = h }; told = r }
+answers_of status.Refused words command input l l' t t' n n' c r k e h = record { command = command; spelled = c; input = input; read = record { took = k; at_end = e; within = h }; told = r }
+answers_of status.WriteFault words command input l l' t t' n n' c r k e h = record { command = command; spelled = c; input = input; read = record { took = k; at_end = e; within = h }; told = r }
+answers_of status.Memory words command input l l' t t' n n' c r k e h = record { gone = record { bytes = input; within = h; took = k }; silent = r }
+answers_of status.ReadFault words command input l l' t t' n n' c r k e h = absurd r
+answers_of status.Usage words command input l l' t t' n n' c r k e h = absurd r
+answers_of status.TooLong words command input l l' t t' n n' c r k e h = absurd r
 
 -- a count that has room doesn't rise and stay
 pub no_rise : (f f' : ℕ) → Rose f f' → f < last_count → f' ≡ f → ⊥
@@ -48,38 +64,44 @@ same_input None l' input bytes e c h = absurd cc
 same_input (Some xs) None input bytes e c h = absurd c
 same_input (Some xs) (Some ys) input bytes e c h = sym (append-nil bytes) ∙ ap (λ r. bytes ++ r) (sym h) ∙ sym c ∙ some_is xs input e
 
-pub completes : (s : Status) (input bytes : List ℕ) (l l' t t' : Option (List ℕ)) (n n' g g' : ℕ) → Responds s bytes t t' → Took l l' n n' bytes → IsAtEnd l' → SinkFaults s g g'
-    → l ≡ Some input → g < last_count → g' ≡ g → Completes s input t t'
-completes status.Ok input bytes l l' t t' n n' g g' r k e f h room same = subst (λ b. ToldReport b t t') (same_input l l' input bytes h k.gone e) r
-completes status.Refused input bytes l l' t t' n n' g g' r k e f h room same = subst (λ b. IsNoFirstScript b × Tells t t' refusal) (same_input l l' input bytes h k.gone e) r
-completes status.WriteFault input bytes l l' t t' n n' g g' r k e f h room same = absurd (no_rise g g' f room same)
-completes status.Memory input bytes l l' t t' n n' g g' r k e f h room same = r
-completes status.ReadFault input bytes l l' t t' n n' g g' r k e f h room same = absurd r
-completes status.Usage input bytes l l' t t' n n' g g' r k e f h room same = absurd r
-completes status.TooLong input bytes l l' t t' n n' g g' r k e f h room same = absurd r
+-- what was told for the command that the words spell, and the bytes that were read
+pub completes : (s : Status) (words : List (List ℕ)) (command own : Command) (input bytes : List ℕ) (l l' t t' : Option (List ℕ)) (n n' g g' : ℕ) → IsCommand words own → Responds s own bytes t t'
+    → Took l l' n n' bytes → IsAtEnd l' → SinkFaults s g g' → IsCommand words command → l ≡ Some input → g < last_count → g' ≡ g → Completes s command input t t'
+completes s words command own input bytes l l' t t' n n' g g' spelled r k e f again h room same =
+    let r' = subst (λ b. Responds s own b t t') (same_input l l' input bytes h k.gone e) r in
+    told s (subst (λ d. Responds s d input t t') (one_command words own command spelled again) r') f
+  where
+    told : (s : Status) → Responds s command input t t' → SinkFaults s g g' → Completes s command input t t'
+    told status.Ok r f = r
+    told status.Refused r f = r
+    told status.WriteFault r f = absurd (no_rise g g' f room same)
+    told status.Memory r f = r
+    told status.ReadFault r f = absurd r
+    told status.Usage r f = absurd r
+    told status.TooLong r f = absurd r
 
 -- more than the whole input can't be taken
 pub no_more : (input : List ℕ) (l l' : Option (List ℕ)) (n n' limit : ℕ) → TookExactly (limit + 1) l l' n n' → l ≡ Some input → length input ≤ limit → ⊥
 no_more input l l' n n' limit k h within = too_many input k.bytes l l' limit k.number k.took.gone h within
 
-pub no_usage : (s : Status) (input : List ℕ) (t t' : Option (List ℕ)) → Responds s input t t' → s ≡ status.Usage → ⊥
-no_usage s input t t' r e = subst (λ x. Responds x input t t') e r
+pub no_usage : (s : Status) (command : Command) (input : List ℕ) (t t' : Option (List ℕ)) → Responds s command input t t' → s ≡ status.Usage → ⊥
+no_usage s command input t t' r e = subst (λ x. Responds x command input t t') e r
 
-no_long : (s : Status) (input : List ℕ) (t t' : Option (List ℕ)) → Responds s input t t' → s ≡ status.TooLong → ⊥
-no_long s input t t' r e = subst (λ x. Responds x input t t') e r
+no_long : (s : Status) (command : Command) (input : List ℕ) (t t' : Option (List ℕ)) → Responds s command input t t' → s ≡ status.TooLong → ⊥
+no_long s command input t t' r e = subst (λ x. Responds x command input t t') e r
 
-pub not_long : (s : Status) (input : List ℕ) (l l' t t' : Option (List ℕ)) (n n' : ℕ) → Responds s input t t' → Took l l' n n' input → length input ≤ input_limit → n + input_limit < last_count
+pub not_long : (s : Status) (command : Command) (input : List ℕ) (l l' t t' : Option (List ℕ)) (n n' : ℕ) → Responds s command input t t' → Took l l' n n' input → length input ≤ input_limit → n + input_limit < last_count
     → (s ≡ status.TooLong → n' ≡ n + (input_limit + 1)) × (n' ≡ n + (input_limit + 1) → s ≡ status.TooLong)
-not_long s input l l' t t' n n' r k h room = let c = k.counted in (λ e. absurd (no_long s input t t' r e), λ e. absurd (omega arith))
+not_long s command input l l' t t' n n' r k h room = let c = k.counted in (λ e. absurd (no_long s command input t t' r e), λ e. absurd (omega arith))
 
-pub source_steady : (s : Status) (input : List ℕ) (t t' : Option (List ℕ)) (f f' : ℕ) → Responds s input t t' → f' ≡ f → SourceFaults s f f'
-source_steady status.Ok input t t' f f' r e = e
-source_steady status.Refused input t t' f f' r e = e
-source_steady status.WriteFault input t t' f f' r e = e
-source_steady status.Memory input t t' f f' r e = e
-source_steady status.ReadFault input t t' f f' r e = absurd r
-source_steady status.Usage input t t' f f' r e = e
-source_steady status.TooLong input t t' f f' r e = e
+pub source_steady : (s : Status) (command : Command) (input : List ℕ) (t t' : Option (List ℕ)) (f f' : ℕ) → Responds s command input t t' → f' ≡ f → SourceFaults s f f'
+source_steady status.Ok command input t t' f f' r e = e
+source_steady status.Refused command input t t' f f' r e = e
+source_steady status.WriteFault command input t t' f f' r e = e
+source_steady status.Memory command input t t' f f' r e = e
+source_steady status.ReadFault command input t t' f f' r e = absurd r
+source_steady status.Usage command input t t' f f' r e = e
+source_steady status.TooLong command input t t' f f' r e = e
 
 only_word : {X : Type 0} (f : X → List ℕ) (ws : List X) (x : X) → 1 ≤ length ws → length ws < 2 → x ≡ get_or ws 0 x → map f ws ≡ f x ∷ []
 only_word f [] x h k e = absurd (omega arith)

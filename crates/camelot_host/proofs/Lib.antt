@@ -13,3 +13,4 @@ pub mod Lowering
 pub mod Running
 pub mod Serving
 pub mod Answering
+pub mod Compiling

@@ -7,7 +7,7 @@ use Rattle.camelot_values.specs.Outcome.{Done}
 use Rattle.camelot_host.specs.FirstScript as plain
 use Rattle.camelot_host.specs.FirstScript.{IsFirstScript}
 use Rattle.camelot_host.specs.Lines.{accepted_line, job_line, outcome_of, report_of}
-use Rattle.camelot_host.specs.Answers.{IsDone, IsReport, IsNoFirstScript}
+use Rattle.camelot_host.specs.Due.{IsDone, IsReport, IsNoFirstScript}
 use Rattle.camelot_host.specs.Reader.{script_at}
 use Rattle.camelot_host.specs.Read.{IsKnown, script_of}
 use Rattle.camelot_host.specs.Ready.{IsReady, Refuses}

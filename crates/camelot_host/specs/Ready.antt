@@ -5,7 +5,7 @@ use Rattle.std.specs.List.{AllByRecursion}
 use Rattle.camelot_values.specs.Names.{AreDistinct}
 use Rattle.camelot_host.specs.Read.{names_of, IsKnown}
 use Rattle.camelot_host.specs.Lowered.{NumberFits}
-use Rattle.camelot_host.specs.Answers.{IsNoFirstScript}
+use Rattle.camelot_host.specs.Due.{IsNoFirstScript}
 use Rattle.camelot_host.specs.declared.lexer.ReadError.{ReadError}
 use Rattle.camelot_host.specs.declared.lexer.ReadError.TheVariants as error
 use Rattle.camelot_host.specs.declared.function.Function.{Function}

@@ -2,16 +2,20 @@
 #![tactic(auto)]
 
 mod command;
+mod compile;
 mod cursor;
 mod function;
+mod hosting;
+pub mod laws;
 mod lexer;
 mod lower;
 mod number;
+mod reply;
 mod report;
 mod runner;
 mod script;
 mod serve;
 mod status;
 
-pub use command::host;
+pub use hosting::host;
 pub use status::Status;

@@ -3,17 +3,23 @@ ghost use Rattle.camelot_values.specs.Value.{Int};
 ghost use Rattle.camelot_values.specs.Outcome.{Done};
 ghost use Rattle.camelot_host.specs.FirstScript.{IsFirstScript};
 ghost use Rattle.camelot_host.specs.Lines.{outcome_of, report_of};
-ghost use Rattle.camelot_host.specs.Answers.{IsDone, IsReport};
+ghost use Rattle.camelot_host.specs.Commands.{Serve};
+ghost use Rattle.camelot_host.specs.Due.{IsDone, IsReport};
 ghost use Rattle.camelot_host.specs.Read.{script_of};
 ghost use Rattle.camelot_host.specs.Ready.{IsReady, Refuses};
+ghost use Rattle.camelot_host.specs.Replies.{IsReply};
 ghost use Rattle.camelot_host.specs.declared.lexer.ReadError.TheVariants.{Memory};
 
 use super::lexer::ReadError;
 use super::lower::lower;
+use super::reply::{Reply, Verdict};
 use super::report::report;
 use super::runner::{RunError, run};
 use super::script::{Script, read_script};
-use std::alloc::Global;
+use std::alloc::{AllocError, Global};
+
+// What is written for an input that isn't served yet.
+const REFUSAL: &[u8] = b"refused not-yet\n";
 
 // The first script that the input is.
 #[tactic(auto, using(crate::proofs::Serving::read_is_script, crate::proofs::Serving::read_is_ready, crate::proofs::Serving::read_is_full, crate::proofs::Serving::read_has_fuel, crate::proofs::Serving::refuses))]
@@ -58,13 +64,30 @@ fn answer(alloc: Global, script: &Script) -> Result<Vec<u8>, ReadError>
     Ok(output)
 }
 
-/// The report of the first script that the input is.
+// The report of the first script that the input is.
 #[tactic(auto, using(crate::proofs::Serving::is_report))]
-pub(crate) fn serve(alloc: Global, input: &[u8]) -> Result<Vec<u8>, ReadError>
+fn report_on(alloc: Global, input: &[u8]) -> Result<Vec<u8>, ReadError>
     ensures report { IfOk result (λ output. IsReport input.now output.items) }
     ensures refuses { IfErr result (λ e. Refuses e input.now) }
 {
     let script = first_script(alloc, input)?;
     let output = answer(alloc, &script)?;
     Ok(output)
+}
+
+/// The reply to an input: the report of the first script that it is, or else the refusal.
+pub(crate) fn serve(alloc: Global, input: &[u8]) -> Result<Reply, AllocError>
+    ensures { IfOk result (IsReply Serve input.now) }
+{
+    match report_on(alloc, input) {
+        Ok(bytes) => Ok(Reply {
+            verdict: Verdict::Done,
+            bytes,
+        }),
+        Err(ReadError::NotFirst) => Ok(Reply {
+            verdict: Verdict::Refused,
+            bytes: Vec::from_slice(alloc, REFUSAL)?,
+        }),
+        Err(ReadError::Memory) => Err(AllocError),
+    }
 }

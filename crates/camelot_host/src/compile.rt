@@ -1,0 +1,47 @@
+ghost use Rattle.std.specs.Prelude.{◌≡◌, ◌≤◌, IfOk, length};
+ghost use Rattle.camelot_host.specs.Answers.{input_limit};
+ghost use Rattle.camelot_host.specs.Commands.{Compile};
+ghost use Rattle.camelot_host.specs.Due.{refused_line};
+ghost use Rattle.camelot_host.specs.Replies.{IsReply};
+
+use super::reply::{Reply, Verdict};
+use camelot_compiler::{CompileFault, compile, write_bundle};
+use refusals::{Cause, cause_text};
+use std::alloc::{AllocError, Global};
+
+// The line that a cause is told in.
+#[tactic(auto, unfolding(crate::specs::Due::refused_line))]
+fn refusal(alloc: Global, cause: &Cause) -> Result<Vec<u8>, AllocError>
+    ensures { IfOk result (λ line. line.items ≡ refused_line cause.now) }
+{
+    let mut line = Vec::from_slice(alloc, b"refused ")?;
+    let text = cause_text(alloc, cause)?;
+    line.extend_from_slice(&text)?;
+    line.push(b'\n')?;
+    Ok(line)
+}
+
+/// The reply to a source: its bundle, or else the line that tells why it isn't compiled.
+#[tactic(auto, using(crate::proofs::Compiling::is_bundle, crate::proofs::Compiling::is_refusal))]
+pub(crate) fn compile_source(alloc: Global, input: &[u8]) -> Result<Reply, AllocError>
+    requires few { length input.now ≤ input_limit }
+    ensures { IfOk result (IsReply Compile input.now) }
+{
+    match compile(alloc, input) {
+        Ok(bundle) => {
+            let bytes = write_bundle(alloc, &bundle)?;
+            Ok(Reply {
+                verdict: Verdict::Done,
+                bytes,
+            })
+        }
+        Err(CompileFault::Refused(cause)) => {
+            let bytes = refusal(alloc, &cause)?;
+            Ok(Reply {
+                verdict: Verdict::Refused,
+                bytes,
+            })
+        }
+        Err(CompileFault::Memory) => Err(AllocError),
+    }
+}
