@@ -1,3 +1,4 @@
 -- Runs of cells of one arena.
+pub mod Part
 pub mod Range
 pub mod RangeLaws

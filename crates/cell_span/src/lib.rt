@@ -4,6 +4,7 @@
 mod cell;
 pub mod laws;
 mod span;
+mod stretch;
 
 pub use cell::Cell;
-pub use span::{JoinRefused, Span, SplitRefused};
+pub use span::{AddRefused, AddTwoRefused, JoinRefused, JoinThreeRefused, Span, SplitRefused};

@@ -1,0 +1,3 @@
+pub mod AtPlaces
+pub mod Holding
+pub mod Rows

@@ -1,0 +1,8 @@
+-- Holes of an arena.
+pub mod Holes
+pub mod HolesLaws
+pub mod KeptLaws
+pub mod OutLaws
+pub mod Places
+pub mod Placing
+pub mod PlacingLaws

@@ -1,0 +1,46 @@
+//! Laws of holes, as the contracts of functions that do nothing.
+ghost use Rattle.std.specs.Prelude.{◌≡◌, ℕ, ◌+◌, ◌<◌, ◌≤◌, ◌↔◌, Bool, List, ◌∷◌, [], length, map, Some, None};
+ghost use Rattle.cell_span.specs.declared.cell.Cell.{Cell};
+ghost use Rattle.cell_span.specs.Range.{Range, IsRange};
+ghost use Rattle.hole_list.specs.declared.run.Run.{Run};
+ghost use Rattle.hole_list.specs.Placing.{Taken, taken, run, take_run, give_run, largest, AreApart, in_run, times_in, total, with_run, without_run, IsOut};
+ghost use Rattle.hole_list.specs.Holes.{run_of, Holed, AreHoles, TakenCells, take_cells, give_cells, AllPass};
+
+/// Where ranges are taken from and come back to is where their runs are.
+pub fn law_of_placing()
+    ensures taken { (hs : List Range) (size : ℕ) (t : TakenCells) → take_cells hs size ≡ Some t → take_run (map run_of hs) size ≡ Some (taken (run_of t.range) (map run_of t.holes)) }
+    ensures none { (hs : List Range) (size : ℕ) → take_cells hs size ≡ None → take_run (map run_of hs) size ≡ None }
+    ensures given { (hs : List Range) (r : Range) → map run_of (give_cells hs r) ≡ give_run (map run_of hs) (run_of r) }
+{}
+
+/// A run that is taken has so many cells, which were cells of a hole and are so no longer; no other cell changes hands. None is taken exactly where each
+/// hole is too small.
+pub fn law_of_taking()
+    ensures size { (hs : List Run) (size : ℕ) (t : Taken) → take_run hs size ≡ Some t → t.run.size ≡ size }
+    ensures cells { (hs : List Run) (size : ℕ) (t : Taken) → take_run hs size ≡ Some t → (index : ℕ) → times_in t.holes index + in_run t.run index ≡ times_in hs index }
+    ensures sum { (hs : List Run) (size : ℕ) (t : Taken) → take_run hs size ≡ Some t → total t.holes + size ≡ total hs }
+    ensures apart { (hs : List Run) (size : ℕ) (t : Taken) → take_run hs size ≡ Some t → AreApart hs → AreApart t.holes }
+    ensures none { (hs : List Run) (size : ℕ) → 1 ≤ size → (take_run hs size ≡ None ↔ (largest hs < size)) }
+{}
+
+/// The cells of a run that comes back are cells of holes; no other cell changes hands.
+pub fn law_of_giving()
+    ensures cells { (hs : List Run) (r : Run) (index : ℕ) → times_in (give_run hs r) index ≡ times_in hs index + in_run r index }
+    ensures sum { (hs : List Run) (r : Run) → total (give_run hs r) ≡ total hs + r.size }
+{}
+
+/// Taking and giving back keep what holes keep: that they lie apart, and that each cell of the arena is in one hole or in one run that is out. What is taken
+/// is a range of so many cells of the arena. Where no run is out, the arena is one hole.
+pub fn law_of_holes()
+    ensures range { (s : Holed) (size : ℕ) (t : TakenCells) → AreHoles s → 1 ≤ size → take_cells s.holes size ≡ Some t → IsRange t.range × (t.range.arena ≡ s.arena) × (length t.range.cells ≡ size) }
+    ensures taken { (s : Holed) (size : ℕ) (t : TakenCells) → AreHoles s → 1 ≤ size → length s.out < s.most_out → take_cells s.holes size ≡ Some t → AreHoles (record { arena = s.arena; most_out = s.most_out; holes = t.holes; out = with_run s.out (run_of t.range) }) }
+    ensures given { (s : Holed) (r : Range) → AreHoles s → IsRange r → r.arena ≡ s.arena → IsOut s.out (run_of r) → AreHoles (record { arena = s.arena; most_out = s.most_out; holes = give_cells s.holes r; out = without_run s.out r.first }) }
+    ensures whole { (s : Holed) → AreHoles s → s.out ≡ [] → map run_of s.holes ≡ run 0 s.arena ∷ [] }
+{}
+
+/// Cells stay where they are: what a test says of each cell of the holes, and of the range that comes back, at its index in the arena, it says of each cell
+/// behind taking and giving.
+pub fn law_of_cells()
+    ensures taken { (test : ℕ → Cell → Bool) (hs : List Range) (size : ℕ) (t : TakenCells) → take_cells hs size ≡ Some t → AllPass test hs → AllPass test (t.range ∷ t.holes) }
+    ensures given { (test : ℕ → Cell → Bool) (hs : List Range) (r : Range) → AllPass test (r ∷ hs) → AllPass test (give_cells hs r) }
+{}

@@ -1,0 +1,13 @@
+//! The holes of an arena: runs of its cells are taken by first fit, and merge with their neighbours when they come back.
+#![tactic(auto)]
+
+mod holes;
+pub mod laws;
+mod merge;
+mod out;
+mod places;
+mod run;
+
+pub use holes::{Holes, HolesRefused};
+pub use merge::GiveRefused;
+pub use run::Run;
