@@ -1,0 +1,36 @@
+//! Answers lines about desks, so that tables of them are data: `stdin` has the lines, and `stdout` what is to be answered. A line that begins with `--` is a
+//! note. Any other line is a command, and its answer stands behind it.
+//!
+//! - `desk N S1 S2 ..`: a new desk of an arena of N cells, for jobs of these sizes.
+//! - `next`: asks for the next job; once every job was asked for and no lease is out, takes the first one that waits.
+//! - `mark J T`: writes the tag T into the first cell of job J's lease. `give J`: it goes back with a payload that has its cells. `withdraw J`: it goes back
+//!   without one.
+//! - `counts`: how many cells are free and in the largest hole, how many leases are out, and how many were withdrawn. `journal`: the events.
+//! - `finish`: ends the desk; its cells' tags, and the jobs with a payload.
+#![tactic(auto)]
+
+mod answers;
+mod copied;
+
+use answers::answer;
+use copied::Copied;
+use lease_desk::{Desk, Lease};
+use std::io;
+use std::io::{BufRead, BufReader};
+
+fn main(rt: HostRuntime) -> io::Result<()> {
+    let alloc = rt.alloc();
+    let mut desk: Option<Desk<Copied>> = None;
+    let mut leases: Vec<Lease> = Vec::new(alloc);
+    for line in BufReader::new(alloc, rt.reader())?.lines(alloc) {
+        let line = line?;
+        let line = line.as_str();
+        if line.starts_with("--") {
+            continue;
+        }
+        print!(rt; "{line}:")?;
+        desk = answer(&rt, desk, &mut leases, line)?;
+        println!(rt)?;
+    }
+    Ok(())
+}

@@ -1,0 +1,4 @@
+mod Rows
+pub mod Books
+pub mod Keeping
+pub mod Steps

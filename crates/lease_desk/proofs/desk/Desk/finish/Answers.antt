@@ -1,0 +1,5 @@
+use Rattle.lease_desk.proofs.Steps.{filed_now}
+use Rattle.lease_desk.proofs.desk.Desk.finish.Goals as goal
+
+pub returns-clause-filed : goal.returns-clause-filed
+returns-clause-filed g c = filed_now _ _ _ _ _ _ c.self.invariant _ c.self.view_is c.requires

@@ -1,0 +1,287 @@
+ghost use Rattle.std.specs.Prelude.{◌≡◌, ℕ, ◌<◌, ◌≤◌, ◌↔◌, IsTrue, [], ◌∷◌, length, replicate, slice_get, MatchResult, MatchOption};
+ghost use Rattle.cell_span.specs.Range.{IsWhole, blank};
+ghost use Rattle.hole_list.specs.Placing.{AreParts, total, largest};
+ghost use Rattle.lease_desk.specs.Journal.{leased, left_move, AreSizes, IsLegal};
+ghost use Rattle.lease_desk.specs.Filing.{HoldsFiled};
+ghost use Rattle.lease_desk.specs.Progress.{times_at, one_out, IsSound};
+ghost use Rattle.lease_desk.specs.Desk.{IsDesk, new_desk, Takes, filed_with, withdrawn_with, filed_by, Knows, HasPayload, AllFiled};
+ghost use Rattle.lease_desk.specs.Answers.{NextIs};
+
+use crate::book::Book;
+use crate::event::Event;
+use crate::filed::Filed;
+use crate::lease::Lease;
+use crate::places::empty_places;
+use cell_span::Span;
+use hole_list::Holes;
+use std::alloc::{AllocError, Global};
+use std::marker::Model;
+
+/// Leases the runs of one arena to jobs, and keeps a journal of what it did.
+///
+/// Each job of a fixed list is asked for once, in order, and is given the front of the first hole that has cells enough (first fit); a job for which no hole
+/// has waits, and is taken once all were asked for and no lease is out. A lease goes back with a payload that stands for its job. All room but that for
+/// splitting and joining spans is taken at the start.
+#[derive(Drop)]
+pub struct Desk<P: Filed> {
+    holes: Holes,
+    book: Book,
+    payloads: Vec<Option<P>>,
+    withdrawn: u32,
+}
+
+impl<P: Filed> Model for Desk<P> {
+    ghost use Rattle.lease_desk.specs.Desk.{DeskView};
+    ghost use Rattle.lease_desk.specs.Kept.{desk_of, IsKept};
+
+    ghost Value = { DeskView P };
+
+    ghost view = { λ d. desk_of d.holes d.book d.payloads.items d.withdrawn };
+
+    ghost invariant = { λ d. IsKept P.job P.cells d.holes d.book d.payloads.items d.withdrawn };
+}
+
+/// What a desk answers when it is asked for the next job.
+#[derive(Drop)]
+pub enum Next {
+    /// The job's lease.
+    Granted(Lease),
+    /// The job needs so many cells, and the largest hole has fewer: it waits.
+    Full { job: u32, need: u32, largest: u32 },
+    /// Every job was asked for.
+    Over,
+}
+
+/// The memory for a desk ran out.
+#[derive(Drop)]
+pub struct DeskRefused {
+    /// The arena, as it was.
+    pub span: Span,
+}
+
+/// The memory for joining a run with its neighbours ran out.
+#[derive(Drop)]
+pub struct GiveRefused<P: Filed> {
+    /// The lease, as it was.
+    pub lease: Lease,
+    /// The payload, as it was.
+    pub payload: P,
+}
+
+/// The memory for joining a run with its neighbours ran out.
+#[derive(Drop)]
+pub struct WithdrawRefused {
+    /// The lease, as it was.
+    pub lease: Lease,
+}
+
+/// What a desk leaves.
+#[derive(Drop)]
+pub struct Finished<P: Filed> {
+    /// The whole arena.
+    pub span: Span,
+    /// All events, in order.
+    pub journal: Vec<Event>,
+    /// The payload of each job, in the place of its number; `None` where none was filed.
+    pub payloads: Vec<Option<P>>,
+}
+
+impl<P: Filed> Desk<P> {
+    /// A desk of a whole arena whose cells are all blank, for at most 4,096 jobs with these numbers of cells, each from 1 to the arena's. Where memory runs
+    /// out, the arena comes back.
+    pub fn new(alloc: Global, span: Span, sizes: Vec<u32>) -> Result<Desk<P>, DeskRefused>
+        requires whole { IsWhole span }
+        requires blanks { span.cells ≡ replicate span.arena blank }
+        requires few { length sizes.items ≤ 4096 }
+        requires sizes { AreSizes span.arena sizes.items }
+        ensures { MatchResult result (λ desk. desk ≡ new_desk span sizes.items) (λ refused. refused.span ≡ span) }
+    {
+        span.limits();
+        let jobs = sizes.len();
+        let Ok(book) = Book::new(alloc, sizes) else {
+            return Err(DeskRefused { span });
+        };
+        let Ok(payloads) = empty_places(alloc, jobs) else {
+            return Err(DeskRefused { span });
+        };
+        match Holes::new(alloc, span, jobs as u32) {
+            Ok(holes) => Ok(Desk {
+                holes,
+                book,
+                payloads,
+                withdrawn: 0,
+            }),
+            Err(refused) => Err(DeskRefused { span: refused.span }),
+        }
+    }
+
+    /// What each desk keeps: its state is the one behind its journal, and each cell of a hole is the one that was filed; holes and leases share no cell, and
+    /// have all cells of the arena; and where none was withdrawn, each job that was asked for, doesn't wait and isn't out has its payload. It does nothing.
+    pub fn kept(&self)
+        ensures desk { IsDesk P.job P.cells self.now }
+        ensures sound { IsSound self.now.arena self.now.sizes self.now.journal self.now.state }
+        ensures parts { AreParts self.now.arena self.now.state.holes (leased self.now.state.leases) }
+        ensures filed { self.now.withdrawn ≡ 0 → (job : ℕ) → job < self.now.state.asked → times_at job self.now.state.waiting ≡ 0 → one_out (slice_get self.now.state.leases job) ≡ 0 → HasPayload P.job self.now.payloads job }
+    {
+        let _ = &self.withdrawn;
+    }
+
+    /// Asks for the next job. `AllocError` where the memory for a split runs out: nothing has changed then.
+    pub fn next(&mut self, alloc: Global) -> Result<Next, AllocError>
+        ensures { MatchResult result (NextIs self.old self.new) (λ _. self.new ≡ self.old) }
+    {
+        let job = self.book.asked();
+        let Some(size) = self.book.size(job) else {
+            return Ok(Next::Over);
+        };
+        match self.holes.take(alloc, size)? {
+            Some(span) => {
+                self.book.take(job, span.first(), span.len());
+                self.book.ask();
+                Ok(Next::Granted(Lease::new(job, span)))
+            }
+            None => {
+                let largest = self.holes.largest();
+                self.book.wait(size, largest);
+                Ok(Next::Full {
+                    job,
+                    need: size,
+                    largest,
+                })
+            }
+        }
+    }
+
+    /// Takes the job that waits first, once every job was asked for and no lease is out; `None` where none waits. The arena is one hole then, so that each
+    /// job fits. `AllocError` where the memory for a split runs out: nothing has changed then.
+    pub fn next_left(&mut self, alloc: Global) -> Result<Option<Lease>, AllocError>
+        requires asked { self.old.state.asked ≡ length self.old.sizes }
+        requires none_out { leased self.old.state.leases ≡ [] }
+        ensures { MatchResult result (λ left. MatchOption left ((self.old.state.waiting ≡ []) × (self.new ≡ self.old)) (Takes (left_move self.old.sizes self.old.state) self.old self.new)) (λ _. self.new ≡ self.old) }
+    {
+        let Some(job) = self.book.first_waiting() else {
+            return Ok(None);
+        };
+        let Some(size) = self.book.size(job) else {
+            unreachable!()
+        };
+        match self.holes.take(alloc, size)? {
+            Some(span) => {
+                self.book.take(job, span.first(), span.len());
+                self.book.serve();
+                Ok(Some(Lease::new(job, span)))
+            }
+            None => unreachable!(),
+        }
+    }
+
+    /// Takes a lease back and files its payload in the place of its job. Where the memory for a join runs out, both come back and nothing has changed.
+    pub fn give(&mut self, lease: Lease, payload: P) -> Result<(), GiveRefused<P>>
+        requires known { Knows self.old lease }
+        requires number { P.job payload ≡ lease.job }
+        requires cells { P.cells payload ≡ lease.range.cells }
+        ensures { MatchResult result (λ _. self.new ≡ filed_with self.old lease payload) (λ refused. (refused.lease ≡ lease) × (refused.payload ≡ payload) × (self.new ≡ self.old)) }
+    {
+        let (job, span) = lease.parts();
+        let (first, size) = (span.first(), span.len());
+        match self.holes.give(span) {
+            Ok(()) => {
+                self.book.give(job, first, size);
+                self.payloads[job as usize] = Some(payload);
+                Ok(())
+            }
+            Err(refused) => Err(GiveRefused {
+                lease: Lease::new(job, refused.span),
+                payload,
+            }),
+        }
+    }
+
+    /// Takes a lease back that leaves no payload; nothing is known of its cells. Where the memory for a join runs out, it comes back and nothing has changed.
+    pub fn withdraw(&mut self, lease: Lease) -> Result<(), WithdrawRefused>
+        requires { Knows self.old lease }
+        ensures { MatchResult result (λ _. self.new ≡ withdrawn_with self.old lease) (λ refused. (refused.lease ≡ lease) × (self.new ≡ self.old)) }
+    {
+        let (job, span) = lease.parts();
+        let (first, size) = (span.first(), span.len());
+        match self.holes.give(span) {
+            Ok(()) => {
+                self.book.kept();
+                self.withdrawn += 1;
+                self.book.give(job, first, size);
+                Ok(())
+            }
+            Err(refused) => Err(WithdrawRefused {
+                lease: Lease::new(job, refused.span),
+            }),
+        }
+    }
+
+    /// How many leases were withdrawn.
+    pub fn withdrawn(&self) -> u32
+        ensures { result ≡ self.now.withdrawn }
+    {
+        self.withdrawn
+    }
+
+    /// Whether this desk gave the lease and it is out.
+    pub fn knows(&self, lease: &Lease) -> bool
+        ensures { IsTrue result ↔ Knows self.now lease.now }
+    {
+        let span = lease.span();
+        span.arena() == self.holes.arena() && self.book.knows(lease.job(), span.first(), span.len())
+    }
+
+    /// The number of leases that are out.
+    pub fn out(&self) -> u32
+        ensures { result ≡ length (leased self.now.state.leases) }
+    {
+        self.book.out()
+    }
+
+    /// The events so far, in order.
+    pub fn journal(&self) -> &[Event]
+        ensures { result.now ≡ self.now.journal }
+    {
+        self.book.journal()
+    }
+
+    /// The number of cells of all holes.
+    pub fn free(&self) -> u64
+        ensures { result ≡ total self.now.state.holes }
+    {
+        self.holes.free()
+    }
+
+    /// The number of cells of the largest hole, and 0 where there is none.
+    pub fn largest(&self) -> u32
+        ensures { result ≡ largest self.now.state.holes }
+    {
+        self.holes.largest()
+    }
+
+    /// Ends a desk with no lease out: the whole arena with its cells, the journal and the payloads.
+    pub fn finish(self) -> Finished<P>
+        requires { leased self.state.leases ≡ [] }
+        ensures whole { IsWhole result.span }
+        ensures hole { self.holes ≡ result.span ∷ [] }
+        ensures arena { result.span.arena ≡ self.arena }
+        ensures cells { HoldsFiled (filed_by P.cells self.payloads) self.journal result.span }
+        ensures journal { result.journal.items ≡ self.journal }
+        ensures payloads { result.payloads.items ≡ self.payloads }
+        ensures legal { self.state.asked ≡ length self.sizes → self.state.waiting ≡ [] → IsLegal self.arena self.sizes self.journal }
+        ensures filed { self.state.asked ≡ length self.sizes → self.state.waiting ≡ [] → self.withdrawn ≡ 0 → AllFiled P.job (length self.sizes) self.payloads }
+    {
+        let Desk {
+            holes,
+            book,
+            payloads,
+            withdrawn: _,
+        } = self;
+        Finished {
+            span: holes.finish(),
+            journal: book.finish(),
+            payloads,
+        }
+    }
+}
