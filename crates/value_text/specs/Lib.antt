@@ -9,3 +9,4 @@ pub mod Splitting
 pub mod Values
 pub mod Answers
 pub mod Only
+pub mod Inhabited

@@ -3,11 +3,13 @@ ghost use Rattle.std.specs.List.{list_all};
 ghost use Rattle.camelot_values.specs.Value.{Value};
 ghost use Rattle.value_text.specs.Grammar.{AreNamed, DistinctNames, IsRead, IsTooLong, IsBadShape};
 ghost use Rattle.value_text.specs.Answers.{IsFault, IsMemory, IsBadAt, IsLongBy};
-ghost use Rattle.value_text.specs.Finite.{has_value};
+ghost use Rattle.value_text.specs.Finite.{Exact, has_value};
+ghost use Rattle.value_text.specs.Inhabited.{Knows};
 ghost use Rattle.value_text.specs.Due.{Whole, first_due};
 ghost use Rattle.value_text.specs.Only.{OnlyRead, OnlyFault, IsBad};
 
-use super::finite::{finite_types, has_value};
+use super::finite::has_value;
+use super::inhabited::Inhabited;
 use super::reading::{Stop, read_items};
 use super::splitting::split_values;
 use camelot_values::{Flat, Item, Kind, Types};
@@ -49,17 +51,18 @@ fn read_nodes(
     alloc: Global,
     text: &[u8],
     types: &Types,
+    marks: &[bool],
     kinds: &[Kind],
 ) -> Result<Vec<Item>, ValueFault>
+    requires exact { Exact types.now marks.now }
     requires named { AreNamed types.now }
     requires distinct { DistinctNames types.now }
     ensures { MatchResult result (λ items. Whole types.now (first_due kinds.now) text.now items.items) (λ fault. IsBad types.now kinds.now text.now fault) }
 {
-    let marks = finite_types(types);
-    if !all_have_values(&marks, kinds) {
+    if !all_have_values(marks, kinds) {
         return Err(ValueFault::BadShape { at: 0 });
     }
-    match read_items(alloc, types, &marks, kinds, text) {
+    match read_items(alloc, types, marks, kinds, text) {
         Ok(items) => Ok(items),
         Err(Stop::Memory) => Err(ValueFault::Memory),
         Err(Stop::At(at)) => Err(ValueFault::BadShape { at: at as u64 }),
@@ -72,13 +75,15 @@ fn read_whole(
     alloc: Global,
     text: &[u8],
     types: &Types,
+    inhabited: &Inhabited,
     kinds: &[Kind],
 ) -> Result<Vec<Flat>, ValueFault>
+    requires knows { Knows types.now inhabited.now }
     requires named { AreNamed types.now }
     requires distinct { DistinctNames types.now }
     ensures { MatchResult result (λ values. OnlyRead types.now kinds.now text.now values.items) (λ fault. OnlyFault types.now kinds.now text.now fault) }
 {
-    let items = read_nodes(alloc, text, types, kinds)?;
+    let items = read_nodes(alloc, text, types, &inhabited.marks, kinds)?;
     if items.len() > MOST_ITEMS {
         return Err(ValueFault::TooLong {
             items: items.len() as u64,
@@ -93,8 +98,31 @@ fn read_whole(
 /// Reads a text of one value for each of these kinds, at least one space between two values, and any number of spaces before, after, and around
 /// `(`, `,` and `)`. An int is `-` or nothing and then `0` or digits without a leading zero, from -2147483648 to 2147483647; `-0` is 0.
 /// The names of constructors are upper names, and no two are the same. `BadShape` comes exactly where the text isn't of such values, and `TooLong`
-/// exactly where it is, and they have more than 65,536 nodes in all.
+/// exactly where it is, and they have more than 65,536 nodes in all. Which types have values was looked up before, once for many texts.
 #[tactic(auto, using(crate::proofs::Answering::read_found, crate::proofs::Answering::fault_found, crate::proofs::Answering::read_same, crate::proofs::Answering::read_fault, crate::proofs::Answering::read_bad, crate::proofs::Answering::fault_bad, crate::proofs::Answering::read_long, crate::proofs::Answering::fault_long))]
+pub fn read_known(
+    alloc: Global,
+    text: &[u8],
+    types: &Types,
+    inhabited: &Inhabited,
+    kinds: &[Kind],
+) -> Result<Vec<Flat>, ValueFault>
+    requires short { length text.now < 4294967296 }
+    requires knows { Knows types.now inhabited.now }
+    requires named { AreNamed types.now }
+    requires distinct { DistinctNames types.now }
+    ensures found { MatchResult result (λ values. IsRead types.now kinds.now text.now values.items) (λ fault. IsFault types.now kinds.now text.now fault) }
+    ensures read { (values : List Value) → IsRead types.now kinds.now text.now values → MatchResult result (λ found. found.items ≡ values) (λ fault. IsMemory fault) }
+    ensures bad { (at : ℕ) → IsBadShape types.now kinds.now text.now at → MatchResult result (λ found. ⊥) (λ fault. IsBadAt at fault) }
+    ensures long { (items : ℕ) → IsTooLong types.now kinds.now text.now items → MatchResult result (λ found. ⊥) (λ fault. IsLongBy items fault) }
+{
+    match read_whole(alloc, text, types, inhabited, kinds) {
+        Ok(values) => Ok(values),
+        Err(fault) => Err(fault),
+    }
+}
+
+/// The same, where it wasn't looked up before which types have values.
 pub fn read(
     alloc: Global,
     text: &[u8],
@@ -109,8 +137,5 @@ pub fn read(
     ensures bad { (at : ℕ) → IsBadShape types.now kinds.now text.now at → MatchResult result (λ found. ⊥) (λ fault. IsBadAt at fault) }
     ensures long { (items : ℕ) → IsTooLong types.now kinds.now text.now items → MatchResult result (λ found. ⊥) (λ fault. IsLongBy items fault) }
 {
-    match read_whole(alloc, text, types, kinds) {
-        Ok(values) => Ok(values),
-        Err(fault) => Err(fault),
-    }
+    read_known(alloc, text, types, &Inhabited::of(types), kinds)
 }

@@ -5,6 +5,7 @@ mod asking;
 mod cutting;
 mod due;
 mod finite;
+mod inhabited;
 mod ints;
 pub mod laws;
 mod names;
@@ -14,5 +15,6 @@ mod splitting;
 mod stack;
 mod writing;
 
-pub use asking::{ValueFault, read};
+pub use asking::{ValueFault, read, read_known};
+pub use inhabited::Inhabited;
 pub use writing::print;
