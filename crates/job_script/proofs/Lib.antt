@@ -1,0 +1,11 @@
+-- Steps of the reader.
+pub mod Cuts
+pub mod Caps
+pub mod Stopping
+pub mod Naming
+pub mod Growing
+pub mod Heading
+pub mod Body
+pub mod Answering
+pub mod Placing
+pub mod Judging

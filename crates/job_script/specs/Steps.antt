@@ -1,0 +1,72 @@
+-- Private: words for functions of this crate.
+-- Where the reader is in a text, between two lines.
+use Rattle.std.specs.Prelude.{◌≡◌, ℕ, suc, ◌+◌, ◌<◌, ◌≤◌, true, false, Some, List, [], ◌∷◌, ◌++◌, length}
+use Rattle.std.specs.List.{AllByRecursion}
+use Rattle.camelot_values.specs.Names.{stands}
+use Rattle.job_script.specs.Scripts.{Entry, IsOneLine, IsTextLine, IsScript, text_of_lines, program_names, job_names}
+use Rattle.job_script.specs.Reading.{State, Start, Between, run, closed, script_by}
+use Rattle.job_script.specs.declared.stop.Stop.{Stop}
+use Rattle.job_script.specs.declared.stop.Stop.TheVariants as stop
+
+-- a line and its line feed stand in front
+pub record HasLine (text line rest : List ℕ) : Type 0 where
+  pub parts : text ≡ line ++ 10 ∷ rest
+  pub one : IsOneLine line
+
+-- the lines of this state were read, and the next line has this number
+pub record Reading (text : List ℕ) (state : State) (rest : List ℕ) (number : ℕ) : Type 0 where
+  pub lines : List (List ℕ)
+  pub run : run Start lines ≡ Some state
+  pub each : AllByRecursion IsOneLine lines
+  pub parts : text ≡ text_of_lines lines ++ rest
+  pub count : number ≡ suc (length lines)
+  pub few : number + length rest ≤ suc (length text)
+  pub right : IsScript (closed state)
+
+-- the same between entries, with the names that stand
+pub record Going (text : List ℕ) (arena workers : ℕ) (items : List Entry) (programs jobs : List (List ℕ)) (rest : List ℕ) (number : ℕ) : Type 0 where
+  pub reading : Reading text (Between (script_by arena workers items)) rest number
+  pub programs_are : programs ≡ program_names items
+  pub jobs_are : jobs ≡ job_names items
+
+-- the text of a program, of so many lines, stands in front, and behind it the line `.`
+pub record HasBody (rest body after : List ℕ) (size : ℕ) : Type 0 where
+  pub lines : List (List ℕ)
+  pub each : AllByRecursion IsTextLine lines
+  pub is : body ≡ text_of_lines lines
+  pub parts : rest ≡ body ++ (46 ∷ 10 ∷ after)
+  pub count : size ≡ length lines
+
+-- so many lines of a program were read
+pub record HasLines (rest left : List ℕ) (size : ℕ) : Type 0 where
+  pub lines : List (List ℕ)
+  pub each : AllByRecursion IsTextLine lines
+  pub parts : rest ≡ text_of_lines lines ++ left
+  pub count : size ≡ length lines
+  pub few : size + length left ≤ length rest
+
+-- the text ends behind so many lines of a program
+pub record IsOpen (rest : List ℕ) (size : ℕ) : Type 0 where
+  pub lines : List (List ℕ)
+  pub left : List ℕ
+  pub each : AllByRecursion IsTextLine lines
+  pub parts : rest ≡ text_of_lines lines ++ left
+  pub one : IsOneLine left
+  pub count : size ≡ length lines
+
+-- the name is added to fewer than the most, and didn't stand before
+pub record IsAdded (most : ℕ) (names : List (List ℕ)) (name : List ℕ) (longer : List (List ℕ)) : Type 0 where
+  pub few : length names < most
+  pub new : stands names name ≡ false
+  pub is : longer ≡ names ++ name ∷ []
+
+pub record Stood (most : ℕ) (names : List (List ℕ)) (name : List ℕ) : Type 0 where
+  pub few : length names < most
+  pub old : stands names name ≡ true
+
+-- why it isn't added
+abbrev pub IsRefused : ℕ → List (List ℕ) → List ℕ → Stop → Type 0
+IsRefused most names name stop.Line = ⊥
+IsRefused most names name stop.Count = most ≤ length names
+IsRefused most names name stop.Repeat = Stood most names name
+IsRefused most names name stop.Memory = Unit {0}

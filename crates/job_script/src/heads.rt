@@ -1,0 +1,149 @@
+ghost use Rattle.std.specs.Prelude.{◌≡◌, ◌≤◌, length, Some, MatchResult, MatchOption};
+ghost use Rattle.job_script.specs.Reading.{HeadFits, language_of, args_of, program_of, fuel_of, entry_of_job, job_of, head_of, IsRead, IsStopped};
+ghost use Rattle.job_script.specs.Heads.{head_view, SameBytes};
+
+use super::cutting::{cut, next_word};
+use super::names::{is_lower_name, is_word};
+use super::numbers::{MOST_FUEL, read_limited};
+use super::stop::Stop;
+
+/// The line of a job, in the text.
+#[derive(Drop)]
+pub(crate) struct JobLine<'a> {
+    pub(crate) name: &'a [u8],
+    pub(crate) program: &'a [u8],
+    pub(crate) entry: &'a [u8],
+    pub(crate) fuel: u64,
+    pub(crate) args: &'a [u8],
+}
+
+/// The first line of a program, or the line of a job.
+#[derive(Drop)]
+pub(crate) enum Head<'a> {
+    Program { name: &'a [u8], camelot: bool },
+    Job(JobLine<'a>),
+}
+
+// The language of a program, behind a space.
+fn language_of(rest: &[u8]) -> Option<bool>
+    ensures { result ≡ language_of rest.now }
+{
+    if rest == b" camelot".as_slice() {
+        return Some(true);
+    }
+    if rest == b" grail".as_slice() {
+        return Some(false);
+    }
+    None
+}
+
+// Nothing, or a space and arguments.
+fn args_of(rest: &[u8]) -> Option<&[u8]>
+    ensures { SameBytes (args_of rest.now) result }
+{
+    match rest {
+        [] => Some(rest),
+        [_] => None,
+        [first, args @ ..] => {
+            if *first != b' ' {
+                return None;
+            }
+            Some(args)
+        }
+    }
+}
+
+// What is behind the word `program`.
+#[tactic(auto, using(crate::proofs::Heading::no_program, crate::proofs::Heading::no_language, crate::proofs::Heading::no_program_name, crate::proofs::Heading::some_program))]
+fn read_program(rest: &[u8]) -> Result<Head<'_>, Stop>
+    ensures { MatchResult result (λ head. IsRead (program_of rest.now) HeadFits (head_view head)) (λ stop. IsStopped (program_of rest.now) HeadFits stop) }
+{
+    let Some((name, after)) = next_word(rest) else {
+        return Err(Stop::Line);
+    };
+    let Some(camelot) = language_of(after) else {
+        return Err(Stop::Line);
+    };
+    if !is_word(name) {
+        return Err(Stop::Line);
+    }
+    Ok(Head::Program { name, camelot })
+}
+
+// The fuel and the arguments of a job of these names.
+#[tactic(auto, using(crate::proofs::Heading::no_fuel, crate::proofs::Heading::no_args, crate::proofs::Heading::fuel_stopped, crate::proofs::Heading::some_fuel))]
+fn read_fuel<'a>(
+    name: &'a [u8],
+    program: &'a [u8],
+    entry: &'a [u8],
+    rest: &'a [u8],
+) -> Result<Head<'a>, Stop>
+    ensures { MatchResult result (λ head. IsRead (fuel_of name.now program.now entry.now rest.now) HeadFits (head_view head)) (λ stop. IsStopped (fuel_of name.now program.now entry.now rest.now) HeadFits stop) }
+{
+    let Some((word, after)) = next_word(rest) else {
+        return Err(Stop::Line);
+    };
+    let Some(args) = args_of(after) else {
+        return Err(Stop::Line);
+    };
+    let fuel = match read_limited(word, MOST_FUEL) {
+        Ok(fuel) => fuel,
+        Err(stop) => return Err(stop),
+    };
+    Ok(Head::Job(JobLine {
+        name,
+        program,
+        entry,
+        fuel,
+        args,
+    }))
+}
+
+// The entry of a job and what is behind it.
+#[tactic(auto, using(crate::proofs::Heading::no_entry, crate::proofs::Heading::no_entry_name))]
+fn read_entry<'a>(name: &'a [u8], program: &'a [u8], rest: &'a [u8]) -> Result<Head<'a>, Stop>
+    ensures { MatchResult result (λ head. IsRead (entry_of_job name.now program.now rest.now) HeadFits (head_view head)) (λ stop. IsStopped (entry_of_job name.now program.now rest.now) HeadFits stop) }
+{
+    let Some((entry, after)) = next_word(rest) else {
+        return Err(Stop::Line);
+    };
+    if !is_lower_name(entry) {
+        return Err(Stop::Line);
+    }
+    read_fuel(name, program, entry, after)
+}
+
+// What is behind the word `job`.
+#[tactic(auto, using(crate::proofs::Heading::no_job, crate::proofs::Heading::no_job_name, crate::proofs::Heading::no_job_program, crate::proofs::Heading::no_program_word))]
+fn read_job(rest: &[u8]) -> Result<Head<'_>, Stop>
+    ensures { MatchResult result (λ head. IsRead (job_of rest.now) HeadFits (head_view head)) (λ stop. IsStopped (job_of rest.now) HeadFits stop) }
+{
+    let Some((name, after)) = next_word(rest) else {
+        return Err(Stop::Line);
+    };
+    if !is_word(name) {
+        return Err(Stop::Line);
+    }
+    let Some((program, behind)) = next_word(after) else {
+        return Err(Stop::Line);
+    };
+    if !is_word(program) {
+        return Err(Stop::Line);
+    }
+    read_entry(name, program, behind)
+}
+
+/// The first line of a program, or the line of a job.
+#[tactic(auto, using(crate::proofs::Heading::no_head))]
+pub(crate) fn read_head(line: &[u8]) -> Result<Head<'_>, Stop>
+    ensures { MatchResult result (λ head. IsRead (head_of line.now) HeadFits (head_view head)) (λ stop. IsStopped (head_of line.now) HeadFits stop) }
+{
+    let (tag, rest) = cut(line, b' ');
+    if tag == b"program".as_slice() {
+        return read_program(rest);
+    }
+    if tag == b"job".as_slice() {
+        return read_job(rest);
+    }
+    Err(Stop::Line)
+}

@@ -1,0 +1,10 @@
+/// Why a line isn't read.
+pub(crate) enum Stop {
+    /// It has no form.
+    Line,
+    /// It has a form, but a number outside its limits, or a program or a job too many.
+    Count,
+    /// A name stood before.
+    Repeat,
+    Memory,
+}
