@@ -1,5 +1,5 @@
 -- A block begins with its line, or with those of its function.
-use Rattle.std.proofs.Common.{◌≡◌, ℕ, Bool, true, false, List, map, Option, Some, None, refl, sym, ap, ◌∙◌, subst}
+use Rattle.std.proofs.Common.{◌≡◌, ℕ, true, List, Option, Some, sym, subst}
 use Rattle.std.specs.Prelude.{◌==◌, if◌then◌else◌, Result}
 use Rattle.grail_code.specs.Code.{Block, Func, Code}
 use Rattle.annotations.specs.Vectors.{Vector}

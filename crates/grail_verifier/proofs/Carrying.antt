@@ -1,23 +1,22 @@
 -- Lines of a certificate against the locals that carry them.
-use Rattle.std.proofs.Common.{◌≡◌, ◌⊎◌, ℕ, zero, suc, ◌+◌, ◌-◌, ◌<◌, ◌≤◌, Bool, true, false, List, [], ◌∷◌, ◌++◌, length, map, Option, Some, None, refl, sym, ap, ◌∙◌, subst, arith, inl, inr}
-use Rattle.std.specs.Prelude.{◌==◌, ◌||◌, if◌then◌else◌, slice_get, slice_set, ℤ, pos}
-use Rattle.std.specs.List.{AllByRecursion, range_with_len}
+use Rattle.std.proofs.Common.{◌≡◌, ℕ, ◌<◌, ◌≤◌, Bool, true, false, List, [], ◌∷◌, ◌++◌, map, Option, Some, None, refl, sym, ap, ◌∙◌, subst, arith}
+use Rattle.std.specs.Prelude.{◌==◌, ◌||◌, if◌then◌else◌, ℤ}
+use Rattle.std.specs.List.{AllByRecursion}
 use Rattle.std.specs.Option.{option_or}
 use Rattle.std.proofs.lemmas.Bool.Decides.{nat_tests}
 use Rattle.camelot_values.specs.Kinds.{DataType}
 use Rattle.camelot_values.specs.Lists.{is_among, Ascend}
 use Rattle.camelot_values.specs.declared.kinds.Kind.{Kind}
-use Rattle.grail_code.specs.Code.{Func, Code}
+use Rattle.grail_code.specs.Code.{Func}
 use Rattle.grail_code.specs.WellFormed.{kind_of}
 use Rattle.annotations.specs.Vectors.{Vector, at}
 use Rattle.certificate.specs.Certificates.{VarCert}
 use Rattle.licence.specs.Books.{Units, Carried, vector_of}
-use Rattle.licence.specs.Rules.{carrying, all_carrying}
-use Rattle.licence.specs.Checks.{Check, Site, value_checks, local_checks, AllHold}
+use Rattle.licence.specs.Checks.{Site, value_checks, local_checks, AllHold}
 use Rattle.grail_verifier.specs.Finding.{Found}
-use Rattle.grail_verifier.specs.Walk.{held_short, local_short, asked_short, all_short, bound, value_short}
+use Rattle.grail_verifier.specs.Walk.{held_short, local_short, asked_short, all_short}
 use Rattle.grail_verifier.proofs.Reached.{above}
-use Rattle.grail_verifier.proofs.Composing.{nothing, all_hold, both, past, AreUnits, value_found, nothing_asked}
+use Rattle.grail_verifier.proofs.Composing.{nothing, both, past, AreUnits, value_found, nothing_asked}
 
 -- ---- what locals carry
 

@@ -1,5 +1,5 @@
 -- The first check that fails, in lists of checks one behind the other.
-use Rattle.std.proofs.Common.{◌≡◌, ℕ, ◌+◌, ◌-◌, ◌<◌, ◌≤◌, Bool, true, false, List, [], ◌∷◌, ◌++◌, map, Option, Some, None, refl, sym, ap, ◌∙◌, subst, arith, append_assoc}
+use Rattle.std.proofs.Common.{◌≡◌, ℕ, ◌<◌, ◌≤◌, Bool, true, false, List, [], ◌∷◌, ◌++◌, map, Option, Some, None, refl, sym, ap, ◌∙◌, subst, arith, append_assoc}
 use Rattle.std.specs.Prelude.{if◌then◌else◌, nat_lt, ℤ, pos, ◌≤ℤ◌}
 use Rattle.std.specs.Option.{option_or}
 use Rattle.std.proofs.lemmas.Bool.Decides.{nat_tests}
@@ -9,7 +9,7 @@ use Rattle.camelot_values.specs.Heap.{reached}
 use Rattle.camelot_values.specs.declared.kinds.Kind.{Kind}
 use Rattle.annotations.specs.Vectors.{Vector, at}
 use Rattle.licence.specs.Books.{Units}
-use Rattle.licence.specs.Checks.{Check, Site, left_check, value_checks, Holds, AllHold, FirstFails}
+use Rattle.licence.specs.Checks.{Check, Site, left_check, value_checks, AllHold}
 use Rattle.grail_verifier.specs.Finding.{Found, in_numbers}
 use Rattle.grail_verifier.specs.Walk.{left_short, first_short, value_short}
 use Rattle.grail_verifier.proofs.Reached.{check_on}

@@ -1,29 +1,28 @@
 -- Ends of blocks: what the walk finds is the first check of the list that fails.
-use Rattle.std.proofs.Common.{◌≡◌, ℕ, zero, suc, ◌+◌, ◌-◌, ◌*◌, ◌<◌, ◌≤◌, Bool, true, false, List, [], ◌∷◌, ◌++◌, length, map, Option, Some, None, refl, sym, ap, ◌∙◌, subst, arith, append_assoc}
+use Rattle.std.proofs.Common.{◌≡◌, ℕ, suc, ◌+◌, ◌-◌, ◌≤◌, Bool, true, false, List, [], ◌∷◌, ◌++◌, length, map, Option, Some, None, refl, sym, ap, ◌∙◌, subst, arith, append_assoc}
 use Rattle.std.specs.Prelude.{◌==◌, ◌||◌, if◌then◌else◌, cond, slice_get, IsSomeAnd, ℤ, pos, ◌+ℤ◌, ◌-ℤ◌}
 use Rattle.std.specs.Option.{option_or, option_map_or}
-use Rattle.std.proofs.lemmas.Bool.Decides.{nat_tests}
 use Rattle.camelot_values.specs.Kinds.{Constructor, DataType, IsDataType}
 use Rattle.camelot_values.specs.Lists.{is_among}
 use Rattle.camelot_values.specs.declared.kinds.Kind.{Kind}
 use Rattle.camelot_values.specs.declared.kinds.Kind.TheVariants as kind
 use Rattle.grail_blocks.specs.declared.blocks.CaseCell.{CaseCell}
 use Rattle.grail_blocks.specs.declared.blocks.CaseCell.TheVariants as cell
-use Rattle.grail_code.specs.Code.{CaseArm, Term, Ret, Tail, Goto, If, Case, Block, Func, Code}
-use Rattle.grail_code.specs.WellFormed.{kind_of, params_at, HaveKinds, JumpFits, ArmFits, ArmsFit, data_type, TermFits}
+use Rattle.grail_code.specs.Code.{CaseArm, Term, Ret, Tail, Goto, If, Case, Func, Code}
+use Rattle.grail_code.specs.WellFormed.{kind_of, params_at, HaveKinds, JumpFits, ArmsFit, data_type, TermFits}
 use Rattle.annotations.specs.Vectors.{Vector, at, is_heap_con}
 use Rattle.certificate.specs.Certificates.{BlockCert, FuncCert, Cert}
-use Rattle.licence.specs.Books.{Units, Carried, Book, said, block_said, vector_of, block_of, book_of}
+use Rattle.licence.specs.Books.{Units, Carried, block_said, vector_of, block_of}
 use Rattle.licence.specs.Rules.{Account, carrying, all_carrying, freed, in_arm, first_con_of}
 use Rattle.licence.specs.Checks.{Check, Site, left_check, value_checks, local_checks, arguments_checks, jump_checks, arms_checks, term_checks, integers}
 use Rattle.grail_verifier.specs.Finding.{Found}
-use Rattle.grail_verifier.specs.Walk.{capped, left_short, value_short, local_short, asked_short, call_short, line_at, bound, line_short, jump_short, given, left_in_arm, next_con, arms_short, case_short, tail_short, term_short}
+use Rattle.grail_verifier.specs.Walk.{capped, left_short, value_short, local_short, asked_short, call_short, bound, line_short, jump_short, given, left_in_arm, next_con, arms_short, case_short, tail_short, term_short}
 use Rattle.grail_verifier.proofs.Composing.{nothing, both, one, is_enough, second_none, AreUnits, value_found}
 use Rattle.grail_verifier.proofs.Carrying.{IsHeld, IsHeldIn, AreHeld, local_found, AreAsked, asked_found}
 use Rattle.grail_verifier.proofs.Lines.{line_is}
 use Rattle.grail_verifier.proofs.Numbers.{few_before}
 use Rattle.grail_verifier.proofs.Facts.{all_at, some_and, Ready, Known, ready_at, said_is, self_aligned, IsTarget, target_at}
-use Rattle.grail_verifier.proofs.Stepping.{book, plus_is, small, Tied, call_found, behind_call, need_is, back_is, result_is}
+use Rattle.grail_verifier.proofs.Stepping.{book, plus_is, small, Tied, call_found, behind_call, back_is, result_is}
 
 -- where fields are bound
 all_carrying_is : (carried : Carried ℤ) (xs : List ℕ) (units : Units ℤ) (y : ℕ) → all_carrying carried xs units y ≡ (if is_among xs y then units else carried y)

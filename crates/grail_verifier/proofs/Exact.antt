@@ -1,5 +1,5 @@
 -- From bytes to verdicts: what the readers and the check of code answer, put together.
-use Rattle.std.proofs.Common.{◌≡◌, ℕ, List, Option, Some, None, Result, Ok, Err, refl, sym, ap, ◌∙◌, subst}
+use Rattle.std.proofs.Common.{◌≡◌, ℕ, List, Result, Ok, Err, refl, sym, ap, subst}
 use Rattle.grail_code.specs.Code.{Code, code_of}
 use Rattle.grail_code.specs.declared.code.Code.{Code as DeclaredCode}
 use Rattle.grail_code.specs.Decoding.{Says}

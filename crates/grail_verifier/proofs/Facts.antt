@@ -1,11 +1,11 @@
 -- What is known of a function of well-formed code and of its lines, where the certificate fits.
-use Rattle.std.proofs.Common.{◌≡◌, ℕ, zero, suc, ◌+◌, ◌-◌, ◌<◌, ◌≤◌, Bool, true, false, List, [], ◌∷◌, ◌++◌, length, map, Option, Some, None, refl, sym, ap, ◌∙◌, subst, arith, length-append}
-use Rattle.std.specs.Prelude.{slice_get, IsSomeAnd, nat_le, nat_lt, ◌&&◌}
+use Rattle.std.proofs.Common.{◌≡◌, ℕ, zero, suc, ◌+◌, ◌-◌, ◌<◌, ◌≤◌, List, [], ◌∷◌, length, map, Option, Some, None, refl, ap, ◌∙◌, subst, arith, length-append}
+use Rattle.std.specs.Prelude.{slice_get, IsSomeAnd}
 use Rattle.std.specs.List.{AllByRecursion, range_with_len}
 use Rattle.std.specs.Option.{option_map_or}
-use Rattle.camelot_values.specs.Lists.{is_among, Ascend}
+use Rattle.camelot_values.specs.Lists.{Ascend}
 use Rattle.camelot_values.specs.declared.kinds.Kind.{Kind}
-use Rattle.grail_code.specs.Code.{Let, Block, Func, Code}
+use Rattle.grail_code.specs.Code.{Block, Func, Code}
 use Rattle.grail_code.specs.WellFormed.{IsWellFormed, FuncFits, BlockFits, BlocksFit, kind_of, local_kinds, HaveKinds, params_at}
 use Rattle.grail_code.specs.Limits.{IsWithinLimits}
 use Rattle.grail_code.specs.Limits as limits

@@ -8,5 +8,7 @@ pub mod Stepping
 pub mod Ending
 pub mod Walking
 pub mod Numbers
+pub mod Keeping
+pub mod Remembering
 pub mod Reached
 pub mod Begun

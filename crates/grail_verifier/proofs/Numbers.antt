@@ -1,5 +1,5 @@
 -- The numbers of constructors, types in order.
-use Rattle.std.proofs.Common.{◌≡◌, ℕ, zero, suc, ◌+◌, ◌*◌, ◌<◌, ◌≤◌, List, [], ◌∷◌, ◌++◌, length, map, take, drop, get_or, sym, ap, ◌∙◌, refl, arith, length-append, add-one}
+use Rattle.std.proofs.Common.{◌≡◌, ℕ, zero, suc, ◌+◌, ◌*◌, ◌<◌, ◌≤◌, List, [], ◌∷◌, length, map, take, get_or, sym, ap, ◌∙◌, refl, arith, length-append, add-one}
 use Rattle.std.proofs.lemmas.List.{get_or-map, take_all}
 use Rattle.std.specs.List.{AllByRecursion}
 use Rattle.camelot_values.specs.Kinds.{DataType, IsDataType, AreTypes, constructors, data_type_of, constructor_of}

@@ -1,14 +1,14 @@
 -- The first constructor of which a value has fewer units, in the list of those that its kind reaches.
-use Rattle.std.proofs.Common.{◌≡◌, ◌⊎◌, ℕ, ◌<◌, ◌≤◌, Bool, true, false, List, [], ◌∷◌, map, Option, Some, None, refl, sym, ap, ◌∙◌, subst, arith, inl, inr}
-use Rattle.std.specs.Prelude.{◌==◌, ◌||◌, if◌then◌else◌, nat_lt, IsTrue}
+use Rattle.std.proofs.Common.{◌≡◌, ℕ, ◌<◌, ◌≤◌, Bool, true, false, List, [], ◌∷◌, map, Some, None, refl, sym, ap, subst, arith}
+use Rattle.std.specs.Prelude.{◌==◌, ◌||◌, if◌then◌else◌, nat_lt}
 use Rattle.std.proofs.lemmas.Bool.Decides.{nat_tests}
 use Rattle.camelot_values.specs.Kinds.{DataType}
-use Rattle.camelot_values.specs.Heap.{Reaches, reached}
+use Rattle.camelot_values.specs.Heap.{reached}
 use Rattle.camelot_values.specs.ReachLaws.{reached_is, reached_ascends}
 use Rattle.camelot_values.specs.Lists.{is_among, Ascend}
 use Rattle.camelot_values.specs.declared.kinds.Kind.{Kind}
 use Rattle.annotations.specs.Vectors.{Vector, at, AtLeast, IsFirstBelow}
-use Rattle.licence.specs.Checks.{Check, Site, value_checks}
+use Rattle.licence.specs.Checks.{Check, Site}
 use Rattle.grail_verifier.specs.Walk.{first_short, value_short}
 
 -- the check of one constructor

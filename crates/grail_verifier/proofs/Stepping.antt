@@ -1,31 +1,27 @@
 -- Lets and ends of blocks: what the walk finds is the first check of the list that fails.
-use Rattle.std.proofs.Common.{◌≡◌, ℕ, zero, suc, ◌+◌, ◌-◌, ◌*◌, ◌<◌, ◌≤◌, Bool, true, false, List, [], ◌∷◌, ◌++◌, length, map, Option, Some, None, refl, sym, ap, ◌∙◌, subst, arith}
-use Rattle.std.specs.Prelude.{◌==◌, ◌||◌, if◌then◌else◌, cond, min, slice_get, slice_set, IsSomeAnd, ℤ, pos, ◌+ℤ◌, ◌-ℤ◌}
-use Rattle.std.specs.List.{AllByRecursion, range_with_len}
+use Rattle.std.proofs.Common.{◌≡◌, ℕ, ◌+◌, ◌-◌, ◌<◌, ◌≤◌, Bool, true, false, List, [], ◌∷◌, ◌++◌, length, map, Option, Some, None, refl, sym, ap, ◌∙◌, subst, arith}
+use Rattle.std.specs.Prelude.{◌==◌, if◌then◌else◌, cond, slice_get, slice_set, ℤ, pos, ◌+ℤ◌, ◌-ℤ◌}
+use Rattle.std.specs.List.{range_with_len}
 use Rattle.std.specs.Option.{option_or, option_map_or}
 use Rattle.std.proofs.lemmas.Bool.Decides.{nat_tests}
 use Rattle.std.proofs.lemmas.Int.{ints}
-use Rattle.camelot_values.specs.Kinds.{DataType}
-use Rattle.camelot_values.specs.Lists.{is_among}
 use Rattle.camelot_values.specs.declared.kinds.Kind.{Kind}
 use Rattle.grail_blocks.specs.declared.blocks.Place.{Place}
 use Rattle.grail_blocks.specs.declared.blocks.Place.TheVariants as place
-use Rattle.grail_blocks.specs.declared.blocks.CaseCell.{CaseCell}
-use Rattle.grail_blocks.specs.declared.blocks.CaseCell.TheVariants as cell
-use Rattle.grail_code.specs.Code.{Op, Lit, Flag, Copy, Prim, Make, Call, Let, CaseArm, Term, Ret, Tail, Goto, If, Case, Block, Func, Code}
-use Rattle.grail_code.specs.WellFormed.{kind_of, params_at, HaveKinds, Gives, LetFits, JumpFits}
+use Rattle.grail_code.specs.Code.{Op, Lit, Flag, Copy, Prim, Make, Call, Let, Func, Code}
+use Rattle.grail_code.specs.WellFormed.{kind_of, HaveKinds, Gives, LetFits}
 use Rattle.grail_code.specs.Limits as limits
 use Rattle.annotations.specs.Vectors.{Vector, at, is_heap_con}
-use Rattle.certificate.specs.Certificates.{VarCert, BlockCert, FuncCert, Cert}
-use Rattle.licence.specs.Books.{Units, Carried, Book, said, vector_of, block_of, book_of}
-use Rattle.licence.specs.Rules.{Account, carrying, all_carrying, build_cost, after_op, freed, in_arm, asked_by}
-use Rattle.licence.specs.Checks.{Check, Site, left_check, value_checks, local_checks, arguments_checks, op_checks, jump_checks, integers, in_integers}
+use Rattle.certificate.specs.Certificates.{FuncCert, Cert}
+use Rattle.licence.specs.Books.{Units, Carried, Book, vector_of, book_of}
+use Rattle.licence.specs.Rules.{Account, carrying, build_cost, after_op, asked_by}
+use Rattle.licence.specs.Checks.{Site, left_check, local_checks, arguments_checks, op_checks, integers, in_integers}
 use Rattle.grail_verifier.specs.Finding.{Found}
-use Rattle.grail_verifier.specs.Walk.{capped, left_short, value_short, local_short, asked_short, all_short, cost, call_short, make_short, op_short, left_behind_call, left_behind_make, left_behind, put, slots_behind_call, slots_behind_op, slots_behind, line_at, bound, line_short, jump_short, given, left_in_arm}
-use Rattle.grail_verifier.proofs.Composing.{nothing, both, one, is_enough, first_none, second_none, AreUnits, value_found}
-use Rattle.grail_verifier.proofs.Carrying.{IsHeld, IsHeldIn, AreHeld, local_found, all_found, AreOf, AreAsked, LinesAscend, asked_found}
-use Rattle.grail_verifier.proofs.Lines.{line_is, set_here, set_other, set_length, at_few}
-use Rattle.grail_verifier.proofs.Facts.{some_and, Ready, Known, ready_at, said_is, few_locals, own_params, range_ascends, args_aligned, self_aligned, IsTarget, target_at}
+use Rattle.grail_verifier.specs.Walk.{capped, left_short, asked_short, all_short, cost, call_short, op_short, left_behind_call, left_behind, put, slots_behind_call, slots_behind_op, slots_behind}
+use Rattle.grail_verifier.proofs.Composing.{nothing, both, one, is_enough, second_none, AreUnits}
+use Rattle.grail_verifier.proofs.Carrying.{IsHeld, IsHeldIn, AreHeld, all_found, AreAsked, asked_found}
+use Rattle.grail_verifier.proofs.Lines.{set_here, set_other, set_length, at_few}
+use Rattle.grail_verifier.proofs.Facts.{some_and, Ready, Known, ready_at, said_is, few_locals, own_params, range_ascends, args_aligned}
 
 -- the book of a certificate, over whole numbers
 abbrev pub book : Cert → Book ℤ

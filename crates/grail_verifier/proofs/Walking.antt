@@ -1,18 +1,17 @@
 -- Blocks and functions: what the walk finds is the first check of the whole list that fails.
-use Rattle.std.proofs.Common.{◌≡◌, ℕ, zero, suc, ◌+◌, ◌-◌, ◌*◌, ◌<◌, ◌≤◌, Bool, true, false, List, [], ◌∷◌, ◌++◌, length, map, replicate, Option, Some, None, refl, sym, ap, ◌∙◌, subst, arith, inl, inr}
+use Rattle.std.proofs.Common.{◌≡◌, ℕ, zero, suc, ◌+◌, ◌-◌, ◌*◌, ◌<◌, ◌≤◌, false, List, [], ◌∷◌, length, replicate, Some, refl, sym, ap, ◌∙◌, subst, arith, inl, inr}
 use Rattle.std.proofs.lemmas.List.{length-replicate}
 use Rattle.std.specs.Prelude.{◌==◌, if◌then◌else◌, slice_get, ℤ, pos}
 use Rattle.std.specs.List.{AllByRecursion}
-use Rattle.std.specs.Option.{option_or, option_map_or}
 use Rattle.std.proofs.lemmas.Bool.Decides.{nat_tests}
 use Rattle.camelot_values.specs.declared.kinds.Kind.{Kind}
 use Rattle.grail_code.specs.Code.{Let, Term, Block, Func, Code}
 use Rattle.grail_code.specs.WellFormed.{kind_of, Gives, LetFits, TermFits, BlockFits}
 use Rattle.annotations.specs.Vectors.{Vector, at}
-use Rattle.certificate.specs.Certificates.{VarCert, BlockCert, MakeCert, MakesAscend, VarIsWithin, BlockIsWithin, FuncCert, Cert}
-use Rattle.licence.specs.Books.{Units, Carried, said, vector_of, block_of, make_of, book_of}
+use Rattle.certificate.specs.Certificates.{VarCert, MakeCert, MakesAscend, VarIsWithin, BlockIsWithin, FuncCert, Cert}
+use Rattle.licence.specs.Books.{vector_of, make_of}
 use Rattle.licence.specs.Rules.{Account, account_at, after_op}
-use Rattle.licence.specs.Checks.{Check, Site, op_checks, term_checks, lets_checks, blocks_checks, funcs_checks, checks_of, integers}
+use Rattle.licence.specs.Checks.{Site, op_checks, lets_checks, blocks_checks, funcs_checks, checks_of, integers}
 use Rattle.grail_verifier.specs.Finding.{Found}
 use Rattle.grail_verifier.specs.Walk.{op_short, left_behind, slots_behind, line_at, makes_from, in_front, lets_short, put_all, begun_short, lined_short, block_short, blocks_short, func_short, funcs_short}
 use Rattle.grail_verifier.proofs.Composing.{nothing, both, AreUnits}

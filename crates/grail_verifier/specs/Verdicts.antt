@@ -1,7 +1,7 @@
 -- Cited by contracts.
 -- What the verifier answers of bytes, and why: the first of these that is so. The bytes spell no code; the code isn't well formed; the
 -- bytes of the certificate are no certificate's text; the certificate doesn't fit the code; a check of its list fails.
-use Rattle.std.specs.Prelude.{◌≡◌, ℕ, ◌<◌, ℤ, pos, List, Option, Some, None, Result, Ok, Err}
+use Rattle.std.specs.Prelude.{◌≡◌, ℕ, ◌<◌, ℤ, pos, List, Some, None, Result, Ok, Err}
 use Rattle.grail_code.specs.Code.{Code}
 use Rattle.grail_code.specs.Spelling.{IsSpelling, IsFront, IsLongestBegin}
 use Rattle.grail_code.specs.WellFormed.{IsWellFormed}

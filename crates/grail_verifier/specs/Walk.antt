@@ -2,7 +2,7 @@
 -- The check of a certificate as a walk through the code. For each local the walk has the annotations of its value, in a list by the
 -- numbers of locals; a local that isn't in the list isn't looked at. Lines of builds are taken from the front of what is left of them,
 -- and the line of a block stands at its place.
-use Rattle.std.specs.Prelude.{ℕ, zero, suc, ◌+◌, ◌-◌, ◌^◌, min, nat_lt, ◌==◌, ◌&&◌, ◌||◌, if◌then◌else◌, List, [], ◌∷◌, replicate, slice_get, slice_set, Option, Some, None, cond}
+use Rattle.std.specs.Prelude.{ℕ, suc, ◌+◌, ◌-◌, ◌^◌, min, nat_lt, ◌==◌, ◌&&◌, ◌||◌, if◌then◌else◌, List, [], ◌∷◌, replicate, slice_get, slice_set, Option, Some, None, cond}
 use Rattle.std.specs.Option.{option_or}
 use Rattle.camelot_values.specs.Kinds.{DataType}
 use Rattle.camelot_values.specs.Lists.{is_among}

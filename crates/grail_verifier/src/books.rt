@@ -1,18 +1,18 @@
 ghost use Rattle.std.specs.Prelude.{◌≡◌};
 ghost use Rattle.annotations.specs.Tables.{table_of};
 
+use super::numbered::{FuncLines, NumberedCert};
 use super::short::Site;
-use annotations::{ReachTable, Vector};
-use certificate::{Cert, FuncCert};
+use annotations::ReachTable;
 use grail_code::{Code, Func};
 
-/// What is walked: code with its certificate, and the table of its types. `none` is no units, for locals and builds without a line.
+/// What is walked: code with the numbered lines of its certificate, and the table of its types. Locals carry annotations by their numbers; number 0 is
+/// no units, for locals and builds without a line.
 #[derive(Clone, Copy)]
 pub(crate) struct Books<'a> {
     pub(crate) code: &'a Code,
-    pub(crate) cert: &'a Cert,
+    pub(crate) lines: &'a NumberedCert<'a>,
     pub(crate) table: &'a ReachTable,
-    pub(crate) none: &'a Vector,
     pub(crate) ghost reaches: { table.now ≡ table_of code.now.types },
 }
 
@@ -20,7 +20,7 @@ pub(crate) struct Books<'a> {
 #[derive(Clone, Copy)]
 pub(crate) struct Body<'a> {
     pub(crate) func: &'a Func,
-    pub(crate) own: &'a FuncCert,
+    pub(crate) own: &'a FuncLines<'a>,
 }
 
 /// Where the walk is in a function, and how many units are left there.

@@ -1,7 +1,9 @@
 ghost use Rattle.std.specs.Prelude.{◌≡◌, [], Result};
 ghost use Rattle.grail_code.specs.Code.{code_of};
 ghost use Rattle.grail_code.specs.WellFormed.{IsWellFormed};
+ghost use Rattle.annotations.specs.Tables.{table_of};
 ghost use Rattle.licence.specs.Fitting.{Fits};
+ghost use Rattle.grail_verifier.specs.Numbered.{held};
 ghost use Rattle.licence.specs.Licensed.{Licensed};
 ghost use Rattle.grail_verifier.specs.declared.refusal.Refusal.{Refusal as PlainRefusal};
 ghost use Rattle.grail_verifier.specs.Finding.{short_of, refusal_of};
@@ -9,6 +11,9 @@ ghost use Rattle.grail_verifier.specs.Settling.{Settles};
 ghost use Rattle.grail_verifier.specs.Verdicts.{IsJudged, OrMemory};
 
 use super::books::Books;
+use super::memo::Memo;
+use super::numbered::NumberedCert;
+use super::numbering::number_cert;
 use super::refusal::Refusal;
 use super::short::Short;
 use super::walk::check_funcs;
@@ -42,18 +47,46 @@ fn refusal_of(short: Short) -> Refusal
     }
 }
 
-// The walk over a certificate that fits.
-fn walk_all(books: Books<'_>) -> Result<(), Refusal>
-    requires well { IsWellFormed (code_of books.code.now) }
-    requires fits { Fits (code_of books.code.now) books.cert.now }
-    requires none { books.none.now ≡ [] }
-    ensures { Settles (code_of books.entry.code.now) books.entry.cert.now result }
+// The walk over the numbered lines of a certificate that fits.
+fn walk_all(
+    alloc: Global,
+    code: &Code,
+    lines: &NumberedCert<'_>,
+    table: &ReachTable,
+    cert: &Cert,
+) -> Result<(), Refusal>
+    requires well { IsWellFormed (code_of code.now) }
+    requires fits { Fits (code_of code.now) cert.now }
+    requires lines { lines.now.cert ≡ cert.now }
+    requires none { held lines.now.held 0 ≡ [] }
+    requires table { table.now ≡ table_of (code_of code.now).types }
+    ensures { Settles (code_of code.now) cert.now result }
 {
-    books.code.limits();
-    books.cert.limits();
-    match check_funcs(books) {
+    code.limits();
+    cert.limits();
+    let mut memo = Memo::new(alloc, lines.count());
+    match check_funcs(Books { code, lines, table }, &mut memo) {
         Ok(()) => Ok(()),
         Err(short) => Err(refusal_of(short)),
+    }
+}
+
+// A certificate that fits, with the table of the code's types.
+fn number_and_walk(
+    alloc: Global,
+    code: &Code,
+    table: &ReachTable,
+    cert: &Cert,
+) -> Result<(), Refusal>
+    requires well { IsWellFormed (code_of code.now) }
+    requires fits { Fits (code_of code.now) cert.now }
+    requires table { table.now ≡ table_of (code_of code.now).types }
+    ensures { Settles (code_of code.now) cert.now result }
+{
+    let none = Vector::none(alloc);
+    match number_cert(alloc, cert, &none) {
+        Ok(lines) => walk_all(alloc, code, &lines, table, cert),
+        Err(_) => Err(Refusal::Memory),
     }
 }
 
@@ -72,13 +105,7 @@ fn find_refusal(alloc: Global, code: &Code, cert: &Cert) -> Result<(), Refusal>
             block: u64::from(misfit.block),
         });
     }
-    let none = Vector::none(alloc);
-    walk_all(Books {
-        code,
-        cert,
-        table: &table,
-        none: &none,
-    })
+    number_and_walk(alloc, code, &table, cert)
 }
 
 // The licence of this code with this certificate.

@@ -1,19 +1,26 @@
-ghost use Rattle.std.specs.Prelude.{◌≡◌, slice_get, map, Some};
+ghost use Rattle.std.specs.Prelude.{◌≡◌, slice_get, map, Some, MatchOption, nat_lt, length};
 ghost use Rattle.std.specs.Option.{option_map};
 ghost use Rattle.camelot_values.specs.Lists.{is_among};
 ghost use Rattle.grail_code.specs.Code.{func_of, code_of};
 ghost use Rattle.grail_code.specs.WellFormed.{kind_of};
-ghost use Rattle.certificate.specs.Words.{var_of};
+ghost use Rattle.grail_verifier.specs.Numbered.{held, var_in};
+ghost use Rattle.grail_verifier.specs.Remembered.{IsSound};
+ghost use Rattle.annotations.specs.Vectors.{at, AtLeast, IsFirstBelow};
+ghost use Rattle.camelot_values.specs.declared.kinds.Kind.TheVariants.{Of};
 ghost use Rattle.licence.specs.Checks.{left_check};
 ghost use Rattle.grail_verifier.specs.Finding.{site_of, Finds};
 ghost use Rattle.grail_verifier.specs.Walk.{left_short, value_short, held_short, local_short, asked_short, all_short, bound};
 
 use super::books::Books;
+use super::memo::Memo;
+use super::numbered::VarLine;
 use super::short::{Short, Site};
 use annotations::{Vector, first_below};
 use camelot_values::Kind;
-use certificate::VarCert;
 use grail_code::Func;
+
+// Annotations of so many constructors are walked each time they are compared.
+const LONG: usize = 32;
 
 /// Refuses what is left where it is less than is needed.
 pub(crate) fn check_left(site: Site, have: u64, need: u64) -> Result<(), Short>
@@ -33,26 +40,122 @@ pub(crate) fn check_left(site: Site, have: u64, need: u64) -> Result<(), Short>
     }
 }
 
+// The first constructor that the kind reaches of which the first annotations have fewer units, by walking both.
+fn walk_both(books: Books<'_>, kind: Kind, have: usize, need: usize) -> Option<u32>
+    ensures { MatchOption result (AtLeast (code_of books.entry.code.now).types kind (at (held books.entry.lines.now.held have)) (at (held books.entry.lines.now.held need))) (λ con. IsFirstBelow (code_of books.entry.code.now).types kind (at (held books.entry.lines.now.held have)) (at (held books.entry.lines.now.held need)) con) }
+{
+    first_below(
+        books.lines.get(have),
+        books.lines.get(need),
+        books.table,
+        kind,
+    )
+}
+
+// The same for a value of the type of this number, where what passes is kept.
+fn walk_once(
+    books: Books<'_>,
+    memo: &mut Memo,
+    number: u32,
+    have: usize,
+    need: usize,
+) -> Option<u32>
+    requires sound { IsSound (code_of books.code.now).types books.lines.now.held memo.old }
+    ensures found { MatchOption result (AtLeast (code_of books.entry.code.now).types (Of number) (at (held books.entry.lines.now.held have)) (at (held books.entry.lines.now.held need))) (λ con. IsFirstBelow (code_of books.entry.code.now).types (Of number) (at (held books.entry.lines.now.held have)) (at (held books.entry.lines.now.held need)) con) }
+    ensures sound { IsSound (code_of books.entry.code.now).types books.entry.lines.now.held memo.new }
+{
+    if memo.has(have, need, number) {
+        return None;
+    }
+    let below = walk_both(books, Kind::Of(number), have, need);
+    if below.is_none() {
+        memo.add(have, need, number);
+    }
+    below
+}
+
+// Whether the annotations have more constructors than are walked each time.
+fn is_long(vector: &Vector) -> bool
+    ensures { result ≡ nat_lt 32 (length vector.now) }
+{
+    vector.pairs().len() > LONG
+}
+
+// The same, where long annotations that pass are kept.
+fn walk_of(books: Books<'_>, memo: &mut Memo, number: u32, have: usize, need: usize) -> Option<u32>
+    requires sound { IsSound (code_of books.code.now).types books.lines.now.held memo.old }
+    ensures found { MatchOption result (AtLeast (code_of books.entry.code.now).types (Of number) (at (held books.entry.lines.now.held have)) (at (held books.entry.lines.now.held need))) (λ con. IsFirstBelow (code_of books.entry.code.now).types (Of number) (at (held books.entry.lines.now.held have)) (at (held books.entry.lines.now.held need)) con) }
+    ensures sound { IsSound (code_of books.entry.code.now).types books.entry.lines.now.held memo.new }
+{
+    if is_long(books.lines.get(have)) || is_long(books.lines.get(need)) {
+        walk_once(books, memo, number, have, need)
+    } else {
+        walk_both(books, Kind::Of(number), have, need)
+    }
+}
+
+// The same, where what passed last against the second annotations isn't walked again.
+fn walk_new(books: Books<'_>, memo: &mut Memo, number: u32, have: usize, need: usize) -> Option<u32>
+    requires sound { IsSound (code_of books.code.now).types books.lines.now.held memo.old }
+    ensures found { MatchOption result (AtLeast (code_of books.entry.code.now).types (Of number) (at (held books.entry.lines.now.held have)) (at (held books.entry.lines.now.held need))) (λ con. IsFirstBelow (code_of books.entry.code.now).types (Of number) (at (held books.entry.lines.now.held have)) (at (held books.entry.lines.now.held need)) con) }
+    ensures sound { IsSound (code_of books.entry.code.now).types books.entry.lines.now.held memo.new }
+{
+    if memo.is_last(have, need, number) {
+        return None;
+    }
+    let below = walk_of(books, memo, number, have, need);
+    if below.is_none() {
+        memo.put_last(have, need, number);
+    }
+    below
+}
+
+// The first constructor that the kind reaches of which the first annotations have fewer units. The same annotations aren't walked, nor those that
+// passed last; and long ones that pass are walked once.
+#[tactic(auto, using(crate::proofs::Remembering::same_number))]
+fn first_fewer(
+    books: Books<'_>,
+    memo: &mut Memo,
+    kind: Kind,
+    have: usize,
+    need: usize,
+) -> Option<u32>
+    requires sound { IsSound (code_of books.code.now).types books.lines.now.held memo.old }
+    ensures found { MatchOption result (AtLeast (code_of books.entry.code.now).types kind (at (held books.entry.lines.now.held have)) (at (held books.entry.lines.now.held need))) (λ con. IsFirstBelow (code_of books.entry.code.now).types kind (at (held books.entry.lines.now.held have)) (at (held books.entry.lines.now.held need)) con) }
+    ensures sound { IsSound (code_of books.entry.code.now).types books.entry.lines.now.held memo.new }
+{
+    if have == need {
+        return None;
+    }
+    match kind {
+        Kind::Of(number) => walk_new(books, memo, number, have, need),
+        Kind::Int | Kind::Flag | Kind::Dia => walk_both(books, kind, have, need),
+    }
+}
+
 /// Refuses a value of this kind that carries less than is asked, by the first constructor that the kind reaches and that has fewer units.
 #[tactic(auto, using(crate::proofs::Reached::enough, crate::proofs::Reached::fewer))]
 pub(crate) fn check_value(
     books: Books<'_>,
+    memo: &mut Memo,
     site: Site,
     kind: Kind,
-    have: &Vector,
-    need: &Vector,
+    have: usize,
+    need: usize,
 ) -> Result<(), Short>
-    ensures { Finds result (value_short (code_of books.entry.code.now).types (site_of site) kind have.now need.now) }
+    requires sound { IsSound (code_of books.code.now).types books.lines.now.held memo.old }
+    ensures found { Finds result (value_short (code_of books.entry.code.now).types (site_of site) kind (held books.entry.lines.now.held have) (held books.entry.lines.now.held need)) }
+    ensures sound { IsSound (code_of books.entry.code.now).types books.entry.lines.now.held memo.new }
 {
-    match first_below(have, need, books.table, kind) {
+    match first_fewer(books, memo, kind, have, need) {
         None => Ok(()),
         Some(con) => Err(Short {
             func: site.func,
             block: site.block,
             place: site.place,
             con: Some(con),
-            have: have.at(con),
-            need: need.at(con),
+            have: books.lines.get(have).at(con),
+            need: books.lines.get(need).at(con),
         }),
     }
 }
@@ -73,22 +176,25 @@ pub(crate) fn kind_of(func: &Func, local: u32) -> Option<Kind>
 // A value that is there.
 fn check_held(
     books: Books<'_>,
+    memo: &mut Memo,
     site: Site,
     kind: Option<Kind>,
-    have: Option<&Vector>,
-    need: &Vector,
+    have: Option<usize>,
+    need: usize,
 ) -> Result<(), Short>
-    ensures { Finds result (held_short (code_of books.entry.code.now).types (site_of site) kind (option_map (λ v. v.now) have.entry) need.now) }
+    requires sound { IsSound (code_of books.code.now).types books.lines.now.held memo.old }
+    ensures found { Finds result (held_short (code_of books.entry.code.now).types (site_of site) kind (option_map (held books.entry.lines.now.held) have) (held books.entry.lines.now.held need)) }
+    ensures sound { IsSound (code_of books.entry.code.now).types books.entry.lines.now.held memo.new }
 {
     match (kind, have) {
-        (Some(kind), Some(have)) => check_value(books, site, kind, have, need),
+        (Some(kind), Some(have)) => check_value(books, memo, site, kind, have, need),
         _ => Ok(()),
     }
 }
 
 /// The annotations of a local, where it is there.
-pub(crate) fn slot<'a>(slots: &[&'a Vector], local: u32) -> Option<&'a Vector>
-    ensures { option_map (λ v. v.now) result ≡ slice_get (map (λ v. v.now) slots.now) local }
+pub(crate) fn slot(books: Books<'_>, slots: &[usize], local: u32) -> Option<usize>
+    ensures { option_map (held books.entry.lines.now.held) result ≡ slice_get (map (held books.entry.lines.now.held) slots.now) local }
 {
     slots.get(local as usize).copied()
 }
@@ -96,15 +202,25 @@ pub(crate) fn slot<'a>(slots: &[&'a Vector], local: u32) -> Option<&'a Vector>
 /// A local against what is asked of it. One that isn't there asks nothing.
 pub(crate) fn check_local(
     books: Books<'_>,
+    memo: &mut Memo,
     func: &Func,
     site: Site,
-    slots: &[&Vector],
+    slots: &[usize],
     local: u32,
-    need: &Vector,
+    need: usize,
 ) -> Result<(), Short>
-    ensures { Finds result (local_short (code_of books.entry.code.now).types (func_of func.now) (site_of site) (slice_get (map (λ v. v.now) slots.now)) (Some local) need.now) }
+    requires sound { IsSound (code_of books.code.now).types books.lines.now.held memo.old }
+    ensures found { Finds result (local_short (code_of books.entry.code.now).types (func_of func.now) (site_of site) (slice_get (map (held books.entry.lines.now.held) slots.now)) (Some local) (held books.entry.lines.now.held need)) }
+    ensures sound { IsSound (code_of books.entry.code.now).types books.entry.lines.now.held memo.new }
 {
-    check_held(books, site, kind_of(func, local), slot(slots, local), need)
+    check_held(
+        books,
+        memo,
+        site,
+        kind_of(func, local),
+        slot(books, slots, local),
+        need,
+    )
 }
 
 // The argument of this number.
@@ -117,16 +233,19 @@ fn argument(args: &[u32], number: u32) -> Option<u32>
 // The argument of a line against it.
 fn check_argument(
     books: Books<'_>,
+    memo: &mut Memo,
     func: &Func,
     site: Site,
-    slots: &[&Vector],
+    slots: &[usize],
     args: &[u32],
-    line: &VarCert,
+    line: &VarLine,
 ) -> Result<(), Short>
-    ensures { Finds result (local_short (code_of books.entry.code.now).types (func_of func.now) (site_of site) (slice_get (map (λ v. v.now) slots.now)) (slice_get args.now line.now.var) line.now.vector) }
+    requires sound { IsSound (code_of books.code.now).types books.lines.now.held memo.old }
+    ensures found { Finds result (local_short (code_of books.entry.code.now).types (func_of func.now) (site_of site) (slice_get (map (held books.entry.lines.now.held) slots.now)) (slice_get args.now line.now.var) (var_in books.entry.lines.now.held line.now).vector) }
+    ensures sound { IsSound (code_of books.entry.code.now).types books.entry.lines.now.held memo.new }
 {
     match argument(args, line.var) {
-        Some(local) => check_local(books, func, site, slots, local, &line.vector),
+        Some(local) => check_local(books, memo, func, site, slots, local, line.number),
         None => Ok(()),
     }
 }
@@ -134,16 +253,19 @@ fn check_argument(
 /// Arguments against the lines of parameters. A parameter without a line asks nothing.
 pub(crate) fn check_arguments(
     books: Books<'_>,
+    memo: &mut Memo,
     func: &Func,
     site: Site,
-    slots: &[&Vector],
+    slots: &[usize],
     args: &[u32],
-    lines: &[VarCert],
+    lines: &[VarLine],
 ) -> Result<(), Short>
-    ensures { Finds result (asked_short (code_of books.entry.code.now).types (func_of func.now) (site_of site) (slice_get (map (λ v. v.now) slots.now)) (slice_get args.now) (map var_of lines.now)) }
+    requires sound { IsSound (code_of books.code.now).types books.lines.now.held memo.old }
+    ensures found { Finds result (asked_short (code_of books.entry.code.now).types (func_of func.now) (site_of site) (slice_get (map (held books.entry.lines.now.held) slots.now)) (slice_get args.now) (map (var_in books.entry.lines.now.held) lines.now)) }
+    ensures sound { IsSound (code_of books.entry.code.now).types books.entry.lines.now.held memo.new }
 {
     'lines: for line in lines {
-        check_argument(books, func, site, slots, args, line)?;
+        check_argument(books, memo, func, site, slots, args, line)?;
     }
     Ok(())
 }
@@ -151,52 +273,66 @@ pub(crate) fn check_arguments(
 /// These locals, each against the same.
 pub(crate) fn check_all(
     books: Books<'_>,
+    memo: &mut Memo,
     func: &Func,
     site: Site,
-    slots: &[&Vector],
+    slots: &[usize],
     locals: &[u32],
-    need: &Vector,
+    need: usize,
 ) -> Result<(), Short>
-    ensures { Finds result (all_short (code_of books.entry.code.now).types (func_of func.now) (site_of site) (slice_get (map (λ v. v.now) slots.now)) locals.now need.now) }
+    requires sound { IsSound (code_of books.code.now).types books.lines.now.held memo.old }
+    ensures found { Finds result (all_short (code_of books.entry.code.now).types (func_of func.now) (site_of site) (slice_get (map (held books.entry.lines.now.held) slots.now)) locals.now (held books.entry.lines.now.held need)) }
+    ensures sound { IsSound (code_of books.entry.code.now).types books.entry.lines.now.held memo.new }
 {
     'locals: for local in locals {
-        check_local(books, func, site, slots, *local, need)?;
+        check_local(books, memo, func, site, slots, *local, need)?;
     }
     Ok(())
 }
 
 // The annotations of a local where an arm has bound these fields.
 #[tactic(auto, unfolding(crate::specs::Walk::bound))]
-fn bound<'a>(
-    slots: &[&'a Vector],
+fn bound(
+    books: Books<'_>,
+    slots: &[usize],
     fields: &[u32],
-    matched: &'a Vector,
+    matched: usize,
     local: u32,
-) -> Option<&'a Vector>
-    ensures { option_map (λ v. v.now) result ≡ bound (map (λ v. v.now) slots.now) fields.now matched.now local }
+) -> Option<usize>
+    ensures { option_map (held books.entry.lines.now.held) result ≡ bound (map (held books.entry.lines.now.held) slots.now) fields.now (held books.entry.lines.now.held matched) local }
 {
     if fields.contains(&local) {
         Some(matched)
     } else {
-        slot(slots, local)
+        slot(books, slots, local)
     }
 }
 
 /// Locals against the lines of a block's parameters, where an arm has bound these fields. A parameter without a line asks nothing.
-pub(crate) fn check_params<'a>(
+pub(crate) fn check_params(
     books: Books<'_>,
+    memo: &mut Memo,
     func: &Func,
     site: Site,
-    slots: &[&'a Vector],
+    slots: &[usize],
     fields: &[u32],
-    matched: &'a Vector,
-    lines: &[VarCert],
+    matched: usize,
+    lines: &[VarLine],
 ) -> Result<(), Short>
-    ensures { Finds result (asked_short (code_of books.entry.code.now).types (func_of func.now) (site_of site) (bound (map (λ v. v.now) slots.now) fields.now matched.now) Some (map var_of lines.now)) }
+    requires sound { IsSound (code_of books.code.now).types books.lines.now.held memo.old }
+    ensures found { Finds result (asked_short (code_of books.entry.code.now).types (func_of func.now) (site_of site) (bound (map (held books.entry.lines.now.held) slots.now) fields.now (held books.entry.lines.now.held matched)) Some (map (var_in books.entry.lines.now.held) lines.now)) }
+    ensures sound { IsSound (code_of books.entry.code.now).types books.entry.lines.now.held memo.new }
 {
     'lines: for line in lines {
-        let have = bound(slots, fields, matched, line.var);
-        check_held(books, site, kind_of(func, line.var), have, &line.vector)?;
+        let have = bound(books, slots, fields, matched, line.var);
+        check_held(
+            books,
+            memo,
+            site,
+            kind_of(func, line.var),
+            have,
+            line.number,
+        )?;
     }
     Ok(())
 }

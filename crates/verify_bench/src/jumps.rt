@@ -204,45 +204,71 @@ pub(crate) fn vectors_of_calls(alloc: Global, sizes: Calls) -> Result<Pair, Allo
     pair(out, cert)
 }
 
-// Blocks that make 16 values and jump with them, by a case of 64 arms, to the last block.
-fn jump_blocks(out: &mut Vec<u8>, blocks: u32) -> Result<(), AllocError> {
-    for _block in 1..blocks {
-        code::numbers(out, &[2, 0, 1, 16])?;
-        for local in 2..18 {
-            code::call(out, local, 0, &[1])?;
+/// How many functions and blocks jumps with long annotations have, with how many values each, and what each value carries.
+#[derive(Clone, Copy)]
+pub(crate) struct Jumps {
+    pub(crate) count: u32,
+    pub(crate) blocks: u32,
+    pub(crate) values: u32,
+    pub(crate) carried: Units,
+}
+
+/// A unit on nearly all of 4,032 constructors.
+pub(crate) const NEARLY_ALL: Units = Units {
+    first: 1,
+    count: 63 * 64 - 1,
+    each: 1,
+};
+
+/// A unit on 30 constructors of one type.
+pub(crate) const THIRTY: Units = Units {
+    first: 1,
+    count: 30,
+    each: 1,
+};
+
+// Blocks that make so many values and jump with them, by a case of 64 arms, to the last block.
+fn jump_blocks(out: &mut Vec<u8>, sizes: Jumps) -> Result<(), AllocError> {
+    let last = sizes.blocks.saturating_sub(1);
+    for _block in 0..last {
+        code::numbers(out, &[2, 0, 1])?;
+        code::number(out, sizes.values)?;
+        for place in 0..sizes.values {
+            code::call(out, place.saturating_add(2), 0, &[1])?;
         }
-        code::case(out, 0, 64, blocks.saturating_sub(1))?;
+        code::case(out, 0, 64, last)?;
     }
-    code::row(out, 2, 16)?;
+    code::row(out, 2, sizes.values)?;
     code::number(out, 0)?;
     code::ret(out, 2)
 }
 
-/// Jumps with 16 values that carry units on nearly all of 4,032 constructors.
-pub(crate) fn vectors_of_jumps(alloc: Global, count: u32, blocks: u32) -> Result<Pair, AllocError> {
+/// Jumps with values that carry units.
+pub(crate) fn vectors_of_jumps(alloc: Global, sizes: Jumps) -> Result<Pair, AllocError> {
     let mut out = code::begin(alloc, 64)?;
     let mut cert = lines::begin(alloc)?;
     linked_types(&mut out)?;
-    code::number(&mut out, count.saturating_add(1))?;
-    let carried = everywhere(1);
-    maker(&mut out, &mut cert, carried)?;
-    for index in 0..count {
+    code::number(&mut out, sizes.count.saturating_add(1))?;
+    maker(&mut out, &mut cert, sizes.carried)?;
+    let last = sizes.blocks.saturating_sub(1);
+    for index in 0..sizes.count {
         let place = index.saturating_add(1);
         let params = [typed(63, 1), ints(1)];
+        let values = typed(0, sizes.values);
         code::function(
             &mut out,
             place,
             &params,
             FIRST_TYPE,
-            &[typed(0, 16)],
-            blocks,
+            &[values],
+            sizes.blocks,
         )?;
-        jump_blocks(&mut out, blocks)?;
+        jump_blocks(&mut out, sizes)?;
         lines::function(&mut cert, place, 0)?;
-        lines::result(&mut cert, carried)?;
-        lines::plain_blocks(&mut cert, blocks.saturating_sub(1))?;
-        lines::block(&mut cert, blocks.saturating_sub(1), 0)?;
-        lines::vars(&mut cert, 2, 16, carried)?;
+        lines::result(&mut cert, sizes.carried)?;
+        lines::plain_blocks(&mut cert, last)?;
+        lines::block(&mut cert, last, 0)?;
+        lines::vars(&mut cert, 2, sizes.values, sizes.carried)?;
     }
     pair(out, cert)
 }

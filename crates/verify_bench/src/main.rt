@@ -11,7 +11,7 @@ mod spelling;
 use grail_check::check_code;
 use grail_code::decode;
 use grail_verifier::verify;
-use jumps::Calls;
+use jumps::{Calls, Jumps};
 use shapes::{Pair, Sizes};
 use std::time::Instant;
 use std::{env, io};
@@ -131,8 +131,20 @@ fn vectors(rt: &HostRuntime, timed: bool, count: u32, blocks: Blocks) -> io::Res
         };
         report(rt, timed, shape, &jumps::vectors_of_calls(alloc, sizes)?)?;
     }
-    let pair = jumps::vectors_of_jumps(alloc, count, blocks.jumps)?;
-    report(rt, timed, "jumps with vectors", &pair)
+    let blocks = blocks.jumps;
+    for (shape, values, carried) in [
+        ("jumps with vectors", 16, jumps::NEARLY_ALL),
+        ("jumps with short vectors", 240, jumps::THIRTY),
+    ] {
+        let sizes = Jumps {
+            count,
+            blocks,
+            values,
+            carried,
+        };
+        report(rt, timed, shape, &jumps::vectors_of_jumps(alloc, sizes)?)?;
+    }
+    Ok(())
 }
 
 /// The other shapes, with so many functions.

@@ -1,10 +1,14 @@
 use Rattle.std.proofs.Common.{◌≡◌, drop, map}
 use Rattle.std.specs.Prelude.{slice_get}
 use Rattle.grail_code.specs.Code.{func_of, code_of}
-use Rattle.certificate.specs.Words.{var_of}
+use Rattle.grail_verifier.specs.Numbered.{held, var_in}
 use Rattle.grail_verifier.specs.Finding.{site_of}
+use Rattle.grail_verifier.specs.Remembered.{IsSound}
 use Rattle.grail_verifier.specs.Walk.{asked_short}
 use Rattle.grail_verifier.proofs.values.check_arguments.Given as goal
 
 abbrev pub invariant-lines : goal.invariant-lines
-invariant-lines l = asked_short (code_of l.books.code.now).types (func_of l.func) (site_of l.site) (slice_get (map (λ v. v.now) l.slots)) (slice_get l.args) (map var_of (drop l.line-index l.lines)) ≡ asked_short (code_of l.books.code.now).types (func_of l.func) (site_of l.site) (slice_get (map (λ v. v.now) l.slots)) (slice_get l.args) (map var_of l.lines)
+invariant-lines l = record {
+  found : asked_short (code_of l.books.code.now).types (func_of l.func) (site_of l.site) (slice_get (map (held l.books.lines.now.held) l.slots)) (slice_get l.args) (map (var_in l.books.lines.now.held) (drop l.line-index l.lines)) ≡ asked_short (code_of l.books.code.now).types (func_of l.func) (site_of l.site) (slice_get (map (held l.books.lines.now.held) l.slots)) (slice_get l.args) (map (var_in l.books.lines.now.held) l.lines);
+  sound : IsSound (code_of l.books.code.now).types l.books.lines.now.held l.memo;
+}

@@ -1,0 +1,2 @@
+-- Runs that a licence covers.
+pub mod Jobs
