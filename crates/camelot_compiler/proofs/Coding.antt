@@ -40,14 +40,20 @@ module _ (p : Code) (c : Cert) (r : Result Bundle CompileFault) (code : IfOk r (
       by_result (Err (compile_fault.Refused x)) e f m = cc
       by_result (Err compile_fault.Memory) e f m = tt
 
-  pub certified_stands : IsWellFormed p → FitsCode p → IsCert c → IsLeastCertificate p c → Stands (compiled_of r) p
-  certified_stands well fits right least = by_result r code cert memory
+  pub certified_stands : IsWellFormed p → FitsCode p → IsCert c → IsLeastCertificate p c → Infers p (inference.Found c) → Stands (compiled_of r) p
+  certified_stands well fits right least inferred = by_result r code cert memory
     where
       by_result : (r : Result Bundle CompileFault) → IfOk r (λ b. b.code.items ≡ spelling p) → IfOk r (λ b. b.cert.items ≡ text_of c) → IfErr r (λ fault. fault ≡ compile_fault.Memory) → Stands (compiled_of r) p
-      by_result (Ok b) e f m = (
-        record { certificate = c; verdict = record { code = p; spelled = record { fits = fits; is = e }; says = (well, record { cert = c; right = right; text = sym f; says = (refl, least.grants) }) } },
-        record { certificate = c; text = sym f; least = least },
-      )
+      by_result (Ok b) e f m = record {
+        certificate = c;
+        is = record {
+          spelled = record { fits = fits; is = e };
+          text = sym f;
+          inferred = inferred;
+          verdict = record { code = p; spelled = record { fits = fits; is = e }; says = (well, record { cert = c; right = right; text = sym f; says = (refl, least.grants) }) };
+          least = least;
+        };
+      }
       by_result (Err (compile_fault.Refused x)) e f m = cc
       by_result (Err compile_fault.Memory) e f m = tt
 

@@ -10,17 +10,13 @@ use Rattle.refusals.specs.declared.cause.Cause.TheVariants as cause
 use Rattle.camelot_compiler.specs.declared.bundle.Bundle.{Bundle}
 use Rattle.camelot_compiler.specs.declared.fault.CompileFault.{CompileFault}
 use Rattle.camelot_compiler.specs.declared.fault.CompileFault.TheVariants as compile_fault
-use Rattle.camelot_compiler.specs.Compiled.{compiled_of, OfCode, IsVerified, HasLeast, NoneGrants}
+use Rattle.camelot_compiler.specs.Compiled.{compiled_of, OfCode, HasCertificate, NoneGrants}
 use Rattle.camelot_compiler.specs.Stages.{Stands}
 
 module _ (text : List ℕ) where
-  pub verified : (r : Result Bundle CompileFault) → ((t : Typing) → HasProgram text t.source → IsTyping t → IsSettled t → Stands (compiled_of r) (compiled t)) → IfOk r (λ b. OfCode text (IsVerified b.code.items b.cert.items))
-  verified (Ok b) h = λ t is typed settled. (h t is typed settled).0
-  verified (Err x) h = tt
-
-  pub least : (r : Result Bundle CompileFault) → ((t : Typing) → HasProgram text t.source → IsTyping t → IsSettled t → Stands (compiled_of r) (compiled t)) → IfOk r (λ b. OfCode text (HasLeast b.cert.items))
-  least (Ok b) h = λ t is typed settled. (h t is typed settled).1
-  least (Err x) h = tt
+  pub certified : (r : Result Bundle CompileFault) → ((t : Typing) → HasProgram text t.source → IsTyping t → IsSettled t → Stands (compiled_of r) (compiled t)) → IfOk r (λ b. OfCode text (HasCertificate b.code.items b.cert.items))
+  certified (Ok b) h = λ t is typed settled. h t is typed settled
+  certified (Err x) h = tt
 
   pub no_bound : (r : Result Bundle CompileFault) → ((t : Typing) → HasProgram text t.source → IsTyping t → IsSettled t → Stands (compiled_of r) (compiled t))
       → r ≡ Err (compile_fault.Refused (cause.NoCert no_cert.NoBound)) → OfCode text NoneGrants

@@ -140,16 +140,18 @@ Answers None answer = Unit {0}
 abbrev pub OfCode : List ℕ → (Code → Type 0) → Type 0
 OfCode text Says = (typing : Typing) → HasProgram text typing.source → IsTyping typing → IsSettled typing → Says (compiled typing)
 
--- the verifier's verdict on these bytes is yes, and the licence is of this code
-pub record IsVerified (code cert : List ℕ) (p : Code) : Type 0 where
-  pub certificate : Cert
-  pub verdict : IsVerdict code cert (Ok (record { code = p; cert = certificate }))
-
--- the bytes are the text of a certificate that grants this code, and no other that does, with numbers of any size, costs less
-pub record HasLeast (cert : List ℕ) (p : Code) : Type 0 where
-  pub certificate : Cert
+-- The bytes are the text of this certificate, the one that is inferred for this code. The verifier's verdict on code and certificate is yes, and the licence is of these two. No other
+-- certificate that grants the code, with numbers of any size, costs less.
+pub record IsCertifiedBy (code cert : List ℕ) (p : Code) (certificate : Cert) : Type 0 where
+  pub spelled : IsSpelling p code
   pub text : text_of certificate ≡ cert
+  pub inferred : Infers p (inference.Found certificate)
+  pub verdict : IsVerdict code cert (Ok (record { code = p; cert = certificate }))
   pub least : IsLeastCertificate p certificate
+
+pub record HasCertificate (code cert : List ℕ) (p : Code) : Type 0 where
+  pub certificate : Cert
+  pub is : IsCertifiedBy code cert p certificate
 
 -- no certificate, with numbers of any size, grants this code
 abbrev pub NoneGrants : Code → Type 0

@@ -15,7 +15,7 @@ use Rattle.lp_constraints.specs.declared.fault.NoCert.TheVariants as no_cert
 use Rattle.refusals.specs.declared.cause.Cause.TheVariants as cause
 use Rattle.camelot_compiler.specs.declared.fault.CompileFault.{CompileFault}
 use Rattle.camelot_compiler.specs.declared.fault.CompileFault.TheVariants as compile_fault
-use Rattle.camelot_compiler.specs.Compiled.{Compiled, Bundled, Refused, IsVerified, HasLeast, NoneGrants}
+use Rattle.camelot_compiler.specs.Compiled.{Compiled, Bundled, Refused, HasCertificate, NoneGrants}
 
 -- want of memory is one wherever it is met
 abbrev pub parse_fault : ParseFault → CompileFault
@@ -40,6 +40,6 @@ inference_fault fault = compile_fault.Refused (cause.NoCert fault)
 
 -- what stands behind this answer to a program with this code
 abbrev pub Stands : Option Compiled → Code → Type 0
-Stands (Some (Bundled code cert)) p = IsVerified code cert p × HasLeast cert p
+Stands (Some (Bundled code cert)) p = HasCertificate code cert p
 Stands (Some (Refused (cause.NoCert no_cert.NoBound))) p = NoneGrants p
 Stands o p = Unit {0}

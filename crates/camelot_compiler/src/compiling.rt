@@ -2,7 +2,7 @@ ghost use Rattle.std.specs.Prelude.{◌≡◌, ◌<◌, length, IfOk};
 ghost use Rattle.lp_constraints.specs.declared.fault.NoCert.TheVariants.{NoBound};
 ghost use Rattle.refusals.specs.declared.cause.Cause.TheVariants as cause;
 ghost use Rattle.camelot_compiler.specs.declared.fault.CompileFault.TheVariants.{Refused};
-ghost use Rattle.camelot_compiler.specs.Compiled.{Compiled, compiled_of, IsCompiled, IsSo, Answers, OfCode, IsVerified, HasLeast, NoneGrants};
+ghost use Rattle.camelot_compiler.specs.Compiled.{Compiled, compiled_of, IsCompiled, IsSo, Answers, OfCode, HasCertificate, NoneGrants};
 
 use crate::bundle::Bundle;
 use crate::fault::CompileFault;
@@ -23,10 +23,9 @@ pub fn compile(alloc: Global, text: &[u8]) -> Result<Bundle, CompileFault>
     ensures found { IsSo (IsCompiled text.now) (compiled_of result) }
     // What is so is answered, unless memory runs out.
     ensures exact { (answer : Compiled) → IsCompiled text.now answer → Answers (compiled_of result) answer }
-    // The verifier accepts the bundle: its verdict on it is the licence of the program's code.
-    ensures verified { IfOk result (λ bundle. OfCode text.now (IsVerified bundle.code.items bundle.cert.items)) }
-    // The certificate is least among all that grant the code, with numbers of any size.
-    ensures least { IfOk result (λ bundle. OfCode text.now (HasLeast bundle.cert.items)) }
+    // The verifier accepts the bundle: its verdict on it is the licence of the program's code and of one certificate, which is least among all that grant
+    // the code, with numbers of any size.
+    ensures certified { IfOk result (λ bundle. OfCode text.now (HasCertificate bundle.code.items bundle.cert.items)) }
     // Where there is said to be no bound, no certificate grants the code, with numbers of any size.
     ensures no_bound { result ≡ Err (Refused (cause.NoCert NoBound)) → OfCode text.now NoneGrants }
 {

@@ -1,13 +1,17 @@
-//! The compiler: from the bytes of a Camelot source to a bundle of Grail code and its certificate, or the cause for which the source is refused.
+//! The compiler: from the bytes of a Camelot source to a bundle of Grail code and its certificate, or to the licence that the verifier gives for it; or the cause
+//! for which the source is refused.
 #![tactic(auto)]
 
 mod bundle;
 mod compiling;
 mod fault;
+pub mod laws;
+mod licensing;
 mod stages;
 mod writing;
 
 pub use bundle::Bundle;
 pub use compiling::compile;
 pub use fault::CompileFault;
+pub use licensing::license;
 pub use writing::write_bundle;

@@ -10,7 +10,7 @@ pub returns-in-Ok-clause-exact : goal.returns-in-Ok-clause-exact
 returns-in-Ok-clause-exact c = certified_exact (code_of c.args.code.now) c.in-Ok.cert c.bundle.result c.bundle.ensures.code c.bundle.ensures.cert c.bundle.ensures.memory c.in-Ok.ensures.exact
 
 pub returns-in-Ok-clause-stands : goal.returns-in-Ok-clause-stands
-returns-in-Ok-clause-stands c = certified_stands (code_of c.args.code.now) c.in-Ok.cert c.bundle.result c.bundle.ensures.code c.bundle.ensures.cert c.bundle.ensures.memory c.requires.well c.requires.fits c.limits.ensures c.in-Ok.ensures.least
+returns-in-Ok-clause-stands c = certified_stands (code_of c.args.code.now) c.in-Ok.cert c.bundle.result c.bundle.ensures.code c.bundle.ensures.cert c.bundle.ensures.memory c.requires.well c.requires.fits c.limits.ensures c.in-Ok.ensures.least c.in-Ok.ensures.found
 
 pub returns-in-Err-clause-found : goal.returns-in-Err-clause-found
 returns-in-Err-clause-found c = uncertified_found (code_of c.args.code.now) c.in-Err.fault c.inference_fault.result c.inference_fault.ensures c.in-Err.ensures.found

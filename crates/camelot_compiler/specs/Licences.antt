@@ -1,0 +1,48 @@
+-- Cited by contracts.
+-- The licence of a Camelot source: the code of its program with the certificate that is inferred for it, which the verifier accepts from their bytes alone.
+use Rattle.std.specs.Prelude.{◌≡◌, ℕ, List, Option, Some, None, Result, Ok, Err}
+use Rattle.camelot_grammar.specs.Parsing.{HasProgram}
+use Rattle.typing_rules.specs.Typed.{Typing, IsTyping}
+use Rattle.typing_rules.specs.Settled.{IsSettled}
+use Rattle.linear_use.specs.Answers.{KeepsRule}
+use Rattle.normal_form.specs.Answers.{program_fault}
+use Rattle.code_gen.specs.Generated.{compiled}
+use Rattle.grail_code.specs.Spelling.{FitsCode, spelling}
+use Rattle.certificate.specs.Text.{text_of}
+use Rattle.licence.specs.Licensed.{Licensed}
+use Rattle.grail_verifier.specs.Verdicts.{IsVerdict}
+use Rattle.lp_constraints.specs.Inference as inference
+use Rattle.lp_constraints.specs.Inference.{Infers}
+use Rattle.refusals.specs.declared.cause.Cause.{Cause}
+use Rattle.camelot_compiler.specs.declared.fault.CompileFault.{CompileFault}
+use Rattle.camelot_compiler.specs.declared.fault.CompileFault.TheVariants as compile_fault
+use Rattle.camelot_compiler.specs.Compiled.{IsCompiled, Refused}
+
+-- The text is this program, typed so, what nothing fixes being `int`. It keeps the rule of use, and no function is too large. The licence is of its code, which has a spelling, and of
+-- the certificate that is inferred for it.
+pub record HasLicence (text : List ℕ) (t : Typing) (l : Licensed) : Type 0 where
+  pub program : HasProgram text t.source
+  pub typed : IsTyping t
+  pub settled : IsSettled t
+  pub rule : KeepsRule t
+  pub fits : program_fault t ≡ None
+  pub code : l.code ≡ compiled t
+  pub spelled : FitsCode l.code
+  pub inferred : Infers l.code (inference.Found l.cert)
+
+-- The verifier's verdict on the spelling of its code and on the text of its certificate, as `compile` writes them, is a yes.
+pub record IsLicence (text : List ℕ) (l : Licensed) : Type 0 where
+  pub typing : Typing
+  pub has : HasLicence text typing l
+  pub verdict : IsVerdict (spelling l.code) (text_of l.cert) (Ok l)
+
+-- what is answered is so; nothing is said where memory ran out
+abbrev pub IsLicensedOr : List ℕ → Result Licensed CompileFault → Type 0
+IsLicensedOr text (Ok l) = IsLicence text l
+IsLicensedOr text (Err (compile_fault.Refused cause)) = IsCompiled text (Refused cause)
+IsLicensedOr text (Err compile_fault.Memory) = Unit {0}
+
+-- this is the cause, unless memory ran out
+abbrev pub IsRefusedOr : Cause → CompileFault → Type 0
+IsRefusedOr cause (compile_fault.Refused x) = x ≡ cause
+IsRefusedOr cause compile_fault.Memory = Unit {0}
