@@ -1,0 +1,111 @@
+-- What the plan of a job says of its run.
+use Rattle.std.proofs.Common.{◌≡◌, ℕ, zero, suc, ◌≤◌, List, [], ◌∷◌, length, Option, Some, None, refl, sym, ap, ◌∙◌, subst, arith}
+use Rattle.std.specs.Prelude.{slice_get, IsSomeAnd, IfSome}
+use Rattle.std.specs.List.{AllByRecursion}
+use Rattle.cell_span.specs.declared.cell.Cell.{Cell}
+use Rattle.grail_code.specs.Code.{Func}
+use Rattle.grail_code.specs.Meaning.{run_of}
+use Rattle.licence.specs.Licensed.{Licensed}
+use Rattle.cell_machine.specs.State.{most_calls}
+use Rattle.cell_machine.specs.Plans.{IsPlan}
+use Rattle.cell_machine.specs.Loading.{last_cells}
+use Rattle.cell_machine.specs.Endings.{IsStackFor, EndsWith}
+use Rattle.job_workers.specs.declared.stacks.Kept.{Kept}
+use Rattle.job_workers.specs.declared.serving.Served.{Served}
+use Rattle.job_workers.specs.Served.{EndsAsMeant}
+use Rattle.job_workers.specs.Serving.{IsKept, IsServed}
+use Rattle.lease_desk.specs.Lease.{LeaseView, ClaimView, lease, claim_of}
+use Rattle.cell_span.specs.Range.{Range}
+use Rattle.camelot_values.specs.Value.{Value}
+use Rattle.cell_machine.specs.Laid.{SameRange}
+use Rattle.cell_machine.specs.Due.{HasRoom}
+use Rattle.cell_machine.specs.declared.room.Room.{Room}
+use Rattle.cell_machine.specs.declared.machine.Ending.{Ending}
+use Rattle.job_world.specs.Plans.{Plan, Planned, IsFit, AreFit, leases_of, run_with, run_at, cells_of, cells_with, cells_at, job_run, job_cells}
+
+pub record RunIs (ps : Planned) (job : ℕ) (p : Plan) (l : Licensed) (cells : ℕ) : Type 0 where
+  pub licence : slice_get ps.licences p.licence ≡ Some l
+  pub lease : p.lease ≡ cells
+  pub plan : IsPlan l p.entry p.args p.fuel cells
+  pub few : p.lease ≤ 2147483648
+  pub run : job_run ps job ≡ run_of l.code most_calls p.entry p.fuel p.args
+  pub left : (found : List Cell) → ((f : Func) → slice_get l.code.funcs p.entry ≡ Some f → found ≡ last_cells l.code most_calls p.entry f p.args p.fuel cells) → found ≡ job_cells ps job
+
+lease_at : (plans : List Plan) (job : ℕ) (p : Plan) (cells : ℕ) → slice_get plans job ≡ Some p → slice_get (leases_of plans) job ≡ Some cells → p.lease ≡ cells
+lease_at [] job p cells e f = let c : None ≡ Some p = e in absurd cc
+lease_at (q ∷ plans) zero p cells e f = let same : q ≡ p = cc in let is : q.lease ≡ cells = cc in sym (ap (λ (r : Plan). r.lease) same) ∙ is
+lease_at (q ∷ plans) (suc job) p cells e f = lease_at plans job p cells e f
+
+fit_at : (licences : List Licensed) (plans : List Plan) (job : ℕ) (p : Plan) → AllByRecursion (IsFit licences) plans → slice_get plans job ≡ Some p → IsFit licences p
+fit_at licences [] job p h e = let c : None ≡ Some p = e in absurd cc
+fit_at licences (q ∷ plans) zero p h e = let same : q ≡ p = cc in subst (IsFit licences) same h.0
+fit_at licences (q ∷ plans) (suc job) p h e = fit_at licences plans job p h.1 e
+
+func_there : (funcs : Option Func) (l : Licensed) (p : Plan) (P : Func → Type 0) (found : List Cell) → IsSomeAnd funcs P
+    → ((f : Func) → funcs ≡ Some f → found ≡ last_cells l.code most_calls p.entry f p.args p.fuel p.lease) → found ≡ cells_of l p funcs
+func_there None l p P found h g = absurd h
+func_there (Some f) l p P found h g = g f refl
+
+pub run_is : (ps : Planned) (job : ℕ) (p : Plan) (l : Licensed) (cells : ℕ) → AreFit ps → slice_get ps.plans job ≡ Some p → IsSomeAnd (slice_get ps.plans job) (λ p. slice_get ps.licences p.licence ≡ Some l)
+    → slice_get (leases_of ps.plans) job ≡ Some cells → RunIs ps job p l cells
+unfolding job_run job_cells
+run_is ps job p l cells fit e known size =
+    let licence : slice_get ps.licences p.licence ≡ Some l = subst (λ (o : Option Plan). IsSomeAnd o (λ p. slice_get ps.licences p.licence ≡ Some l)) e known in
+    let lease : p.lease ≡ cells = lease_at ps.plans job p cells e size in
+    let fits : IsFit ps.licences p = fit_at ps.licences ps.plans job p fit e in
+    let plan : IsPlan l p.entry p.args p.fuel p.lease = subst (λ (o : Option Licensed). IsSomeAnd o (λ l. IsPlan l p.entry p.args p.fuel p.lease)) licence fits.plan in
+    record {
+      licence = licence;
+      lease = lease;
+      plan = subst (IsPlan l p.entry p.args p.fuel) lease plan;
+      few = fits.few;
+      run = ap (run_at ps.licences) e ∙ ap (λ o. run_with o p) licence;
+      left = λ found g. func_there (slice_get l.code.funcs p.entry) l p _ found plan.fits (λ f is. g f is ∙ sym (ap (last_cells l.code most_calls p.entry f p.args p.fuel) lease))
+          ∙ sym (ap (cells_at ps.licences) e ∙ ap (λ o. cells_with o p) licence);
+    }
+
+-- the stack that is kept is one for this licence
+pub kept_fits : (licences : List Licensed) (number : ℕ) (l : Licensed) (o : Option Kept) (k : Kept) → IfSome o (IsKept licences) → o ≡ Some k → k.licence ≡ number → slice_get licences number ≡ Some l
+    → IsStackFor l.code k.stack
+kept_fits licences number l o k h e same at =
+    let known : IsKept licences k = subst (λ (o : Option Kept). IfSome o (IsKept licences)) e h in
+    known l (ap (slice_get licences) same ∙ at)
+
+-- ---- the run of a lease
+
+pub lease_now : (ps : Planned) (job : ℕ) (l : LeaseView) (p : Plan) (li : Licensed) → AreFit ps → job ≡ l.job → slice_get (leases_of ps.plans) l.job ≡ Some (length l.range.cells)
+    → slice_get ps.plans job ≡ Some p → IsSomeAnd (slice_get ps.plans job) (λ p. slice_get ps.licences p.licence ≡ Some li) → RunIs ps job p li (length l.range.cells)
+lease_now ps job l p li fit same size at known = run_is ps job p li (length l.range.cells) fit at known (ap (slice_get (leases_of ps.plans)) same ∙ size)
+
+pub plan_now : (ps : Planned) (job : ℕ) (l : LeaseView) (p : Plan) (li : Licensed) → RunIs ps job p li (length l.range.cells) → (range_in : Range) (args : List Value) → range_in ≡ l.range → args ≡ p.args
+    → IsPlan li p.entry args p.fuel (length range_in.cells)
+plan_now ps job l p li now range_in args is same = subst (λ args. IsPlan li p.entry args p.fuel (length range_in.cells)) (sym same) (subst (IsPlan li p.entry p.args p.fuel) (sym (ap (λ (r : Range). length r.cells) is)) now.plan)
+
+pub room_now : (ps : Planned) (job : ℕ) (l : LeaseView) (p : Plan) (li : Licensed) → RunIs ps job p li (length l.range.cells) → (range_in : Range) (room : Room) → range_in ≡ l.range → HasRoom p.lease room
+    → HasRoom (length range_in.cells) room
+room_now ps job l p li now range_in room is has = subst (λ n. HasRoom n room) (now.lease ∙ sym (ap (λ (r : Range). length r.cells) is)) has
+
+pub meant_now : (ps : Planned) (job : ℕ) (l : LeaseView) (p : Plan) (li : Licensed) → RunIs ps job p li (length l.range.cells) → (args : List Value) (ending : Ending) → args ≡ p.args
+    → EndsWith (run_of li.code most_calls p.entry p.fuel args) ending → EndsAsMeant ps job ending
+meant_now ps job l p li now args ending same ends = subst (λ o. EndsWith o ending) (ap (run_of li.code most_calls p.entry p.fuel) same ∙ sym now.run) ends
+
+pub served_now : (ps : Planned) (job : ℕ) (l : LeaseView) (p : Plan) (li : Licensed) → RunIs ps job p li (length l.range.cells) → (range_in : Range) (claim : ClaimView) (ran : Range) (args : List Value) (s : Served)
+    → job ≡ l.job → range_in ≡ l.range → claim ≡ claim_of l → args ≡ p.args → SameRange range_in ran
+    → ((f : Func) → slice_get li.code.funcs p.entry ≡ Some f → ran.cells ≡ last_cells li.code most_calls p.entry f args p.fuel (length range_in.cells))
+    → s.lease ≡ lease claim.job ran → s.answer.job ≡ job → s.answer.jobs.now ≡ ps → s.kept.licence ≡ p.licence → IsStackFor li.code s.kept.stack → IsServed ps l s
+served_now ps job l p li now range_in claim ran args s is opened claimed same range cells closed number of kept stack = record {
+  job = ap (λ (m : LeaseView). m.job) closed ∙ ap (λ (m : ClaimView). m.job) claimed;
+  first = ap (λ (m : LeaseView). m.range.first) closed ∙ range.first ∙ ap (λ (r : Range). r.first) opened;
+  arena = ap (λ (m : LeaseView). m.range.arena) closed ∙ range.arena ∙ ap (λ (r : Range). r.arena) opened;
+  size = ap (λ (m : LeaseView). length m.range.cells) closed ∙ range.cells ∙ ap (λ (r : Range). length r.cells) opened;
+  cells = ap (λ (m : LeaseView). m.range.cells) closed
+      ∙ now.left ran.cells (λ f at. cells f at ∙ ap (λ args. last_cells li.code most_calls p.entry f args p.fuel (length range_in.cells)) same
+      ∙ ap (λ (r : Range). last_cells li.code most_calls p.entry f p.args p.fuel (length r.cells)) opened)
+      ∙ ap (job_cells ps) is;
+  number = number ∙ is;
+  of = of;
+  kept = λ other at. subst (λ (m : Licensed). IsStackFor m.code s.kept.stack) (some_is li other (sym now.licence ∙ ap (slice_get ps.licences) (sym kept) ∙ at)) stack;
+}
+  where
+    some_is : (x y : Licensed) → Some x ≡ Some y → x ≡ y
+    some_is x y e = grind arith

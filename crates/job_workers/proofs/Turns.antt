@@ -1,0 +1,176 @@
+-- Turns of a desk with one worker: a lease goes out, its job is run, and it comes back.
+use Rattle.std.proofs.Common.{◌≡◌, ℕ, zero, suc, ◌<◌, List, [], ◌∷◌, length, Bool, true, false, ◌==◌, ◌&&◌, if◌then◌else◌, Option, Some, None, refl, sym, ap, ◌∙◌, subst, arith}
+use Rattle.std.specs.Prelude.{slice_get, slice_set}
+use Rattle.std.specs.Option.{option_map}
+use Rattle.std.proofs.lemmas.Option.{slice_get_within}
+use Rattle.hole_list.specs.declared.run.Run.{Run}
+use Rattle.hole_list.specs.Placing.{run, Taken, take_run, largest}
+use Rattle.hole_list.specs.Holes.{run_of}
+use Rattle.lease_desk.specs.declared.event.Event.TheVariants as event
+use Rattle.lease_desk.specs.Journal.{DeskState, Move, move, leased, took_left, asked_for, next_move, left_with, first_left, is_none_out, left_move}
+use Rattle.lease_desk.specs.Progress.{IsSound}
+use Rattle.lease_desk.specs.Lease.{LeaseView}
+use Rattle.lease_desk.specs.Desk.{DeskView, Takes, filed_with}
+use Rattle.job_world.specs.Plans.{Plan, Planned, leases_of}
+use Rattle.job_workers.specs.declared.answer.Answer.{Answer}
+use Rattle.job_workers.specs.Filings.{AreOf}
+use Rattle.job_workers.specs.declared.serving.Served.{Served}
+use Rattle.job_workers.specs.Serving.{IsServed, IsDue, IsDone, IsServing}
+
+-- ---- leases that are out
+
+pub leases_many : (plans : List Plan) → length (leases_of plans) ≡ length plans
+leases_many [] = refl
+leases_many (p ∷ plans) = ap suc (leases_many plans)
+
+-- none is out once the one that went out is back
+pub none_again : (ls : List (Option Run)) (job : ℕ) (r : Run) → leased ls ≡ [] → leased (slice_set (slice_set ls job (Some r)) job None) ≡ []
+none_again [] job r e = refl
+none_again (None ∷ ls) zero r e = e
+none_again (Some q ∷ ls) zero r e = absurd (grind arith)
+none_again (None ∷ ls) (suc job) r e = none_again ls job r e
+none_again (Some q ∷ ls) (suc job) r e = absurd (grind arith)
+
+set_here : (ls : List (Option Run)) (job : ℕ) (x : Option Run) → job < length ls → slice_get (slice_set ls job x) job ≡ Some x
+set_here [] job x h = absurd (omega (arith, h))
+set_here (l ∷ ls) zero x h = refl
+set_here (l ∷ ls) (suc job) x h = set_here ls job x (omega (arith, h))
+
+-- ---- moves that take a lease
+
+-- the move took a lease of this job, of this run, of the job's size
+pub record Taking (sizes : List ℕ) (s t : DeskState) (job first size : ℕ) : Type 0 where
+  pub run : Run
+  pub first_is : run.first ≡ first
+  pub leases : t.leases ≡ slice_set s.leases job (Some run)
+  pub sized : slice_get sizes job ≡ Some size
+
+some_same : {A : Type 0} (x y : A) → Some x ≡ Some y → x ≡ y
+some_same x y e = grind arith
+
+record Tooks (a b c d e f : ℕ) : Type 0 where
+  job : a ≡ d
+  first : b ≡ e
+  size : c ≡ f
+
+tooks : (a b c d e f : ℕ) → event.Took a b c ≡ event.Took d e f → Tooks a b c d e f
+tooks a b c d e f is = record { job = grind arith; first = grind arith; size = grind arith }
+
+next_with : (sizes : List ℕ) (s t : DeskState) (size job first many : ℕ) (o : Option Taken) → slice_get sizes s.asked ≡ Some size
+    → asked_for s s.asked size o ≡ move (event.Took job first many) t → Taking sizes s t job first many × (t.asked ≡ suc s.asked) × (job ≡ s.asked)
+next_with sizes s t size job first many None at e = let c : event.Full s.asked size (largest s.holes) ≡ event.Took job first many = ap (λ (m : Move). m.event) e in absurd (grind arith)
+next_with sizes s t size job first many (Some u) at e =
+    let q = tooks s.asked u.run.first size job first many (ap (λ (m : Move). m.event) e) in
+    let same : slice_get sizes job ≡ Some many = subst (λ j. slice_get sizes j ≡ Some many) q.job (at ∙ ap Some q.size) in (
+      record { run = u.run; first_is = q.first; leases = sym (ap (λ (m : Move). m.state.leases) e) ∙ ap (λ j. slice_set s.leases j (Some u.run)) q.job; sized = same },
+      sym (ap (λ (m : Move). m.state.asked) e),
+      sym q.job,
+    )
+
+pub next_taking : (sizes : List ℕ) (s t : DeskState) (job first many : ℕ) → next_move sizes s ≡ Some (move (event.Took job first many) t)
+    → Taking sizes s t job first many × (t.asked ≡ suc s.asked) × (job ≡ s.asked)
+next_taking sizes s t job first many e = by_size (slice_get sizes s.asked) refl e
+  where
+    by_size : (o : Option ℕ) → slice_get sizes s.asked ≡ o → option_map (λ size. asked_for s s.asked size (take_run s.holes size)) o ≡ Some (move (event.Took job first many) t)
+        → Taking sizes s t job first many × (t.asked ≡ suc s.asked) × (job ≡ s.asked)
+    by_size None at e = absurd (grind arith)
+    by_size (Some size) at e = next_with sizes s t size job first many (take_run s.holes size) at (some_same _ _ e)
+
+-- the job that waited first
+pub record TakingLeft (sizes : List ℕ) (s t : DeskState) (job first size : ℕ) : Type 0 where
+  pub taking : Taking sizes s t job first size
+  pub asked : t.asked ≡ s.asked
+  pub fewer : length t.waiting < length s.waiting
+
+left_taken : (sizes : List ℕ) (s t : DeskState) (waiting : List ℕ) (j size job first many : ℕ) (o : Option Taken) → s.waiting ≡ j ∷ waiting → slice_get sizes j ≡ Some size
+    → option_map (λ u. move (event.Took j u.run.first size) (took_left s waiting j u)) o ≡ Some (move (event.Took job first many) t) → TakingLeft sizes s t job first many
+left_taken sizes s t waiting j size job first many None is at e = absurd (grind arith)
+left_taken sizes s t waiting j size job first many (Some u) is at e =
+    let m = some_same (move (event.Took j u.run.first size) (took_left s waiting j u)) (move (event.Took job first many) t) e in
+    let q = tooks j u.run.first size job first many (ap (λ (m : Move). m.event) m) in
+    let same : slice_get sizes job ≡ Some many = subst (λ j. slice_get sizes j ≡ Some many) q.job (at ∙ ap Some q.size) in
+    record {
+      taking = record { run = u.run; first_is = q.first; leases = sym (ap (λ (m : Move). m.state.leases) m) ∙ ap (λ j. slice_set s.leases j (Some u.run)) q.job; sized = same };
+      asked = sym (ap (λ (m : Move). m.state.asked) m);
+      fewer = omega (arith, ap length is, ap (λ (m : Move). length m.state.waiting) m);
+    }
+
+left_sized : (sizes : List ℕ) (s t : DeskState) (waiting : List ℕ) (j job first many : ℕ) (o : Option ℕ) → s.waiting ≡ j ∷ waiting → slice_get sizes j ≡ o
+    → left_with s waiting j o ≡ Some (move (event.Took job first many) t) → TakingLeft sizes s t job first many
+left_sized sizes s t waiting j job first many None is at e = absurd (grind arith)
+left_sized sizes s t waiting j job first many (Some size) is at e = left_taken sizes s t waiting j size job first many (take_run s.holes size) is at e
+
+left_first : (sizes : List ℕ) (s t : DeskState) (job first many : ℕ) (waiting : List ℕ) → s.waiting ≡ waiting → first_left sizes s waiting ≡ Some (move (event.Took job first many) t)
+    → TakingLeft sizes s t job first many
+left_first sizes s t job first many [] is e = absurd (grind arith)
+left_first sizes s t job first many (j ∷ waiting) is e = left_sized sizes s t waiting j job first many (slice_get sizes j) is refl e
+
+left_if : (sizes : List ℕ) (s t : DeskState) (job first many : ℕ) (b : Bool) → (if b then first_left sizes s s.waiting else None) ≡ Some (move (event.Took job first many) t)
+    → TakingLeft sizes s t job first many
+left_if sizes s t job first many true e = left_first sizes s t job first many s.waiting refl e
+left_if sizes s t job first many false e = absurd (grind arith)
+
+pub left_taking : (sizes : List ℕ) (s t : DeskState) (job first many : ℕ) → left_move sizes s ≡ Some (move (event.Took job first many) t) → TakingLeft sizes s t job first many
+left_taking sizes s t job first many e = left_if sizes s t job first many ((s.asked == length sizes) && is_none_out s.leases) e
+
+-- ---- a lease that is due
+
+set_many : (ls : List (Option Run)) (job : ℕ) (x : Option Run) → length (slice_set ls job x) ≡ length ls
+set_many [] job x = refl
+set_many (l ∷ ls) zero x = refl
+set_many (l ∷ ls) (suc job) x = ap suc (set_many ls job x)
+
+taken_due : (ps : Planned) (old new : DeskView Answer) (l : LeaseView) (next : Option Move) → IsServing ps old → IsSound new.arena new.sizes new.journal new.state → Takes next old new l
+    → Taking old.sizes old.state new.state l.job l.range.first (length l.range.cells) → IsDue ps new l
+taken_due ps old new l next serving sound takes k =
+    let sizes : new.sizes ≡ old.sizes = ap (λ (d : DeskView Answer). d.sizes) takes.rest in
+    let arena : new.arena ≡ old.arena = ap (λ (d : DeskView Answer). d.arena) takes.rest in
+    let payloads : new.payloads ≡ old.payloads = ap (λ (d : DeskView Answer). d.payloads) takes.rest in
+    let withdrawn : new.withdrawn ≡ old.withdrawn = ap (λ (d : DeskView Answer). d.withdrawn) takes.rest in
+    let within : l.job < length old.sizes = slice_get_within old.sizes l.job (length l.range.cells) k.sized in
+    let many : length new.state.leases ≡ length old.state.leases = ap length k.leases ∙ set_many old.state.leases l.job (Some k.run) in
+    let placed : l.job < length old.state.leases = omega (arith, many, sound.places, ap length sizes, within) in
+    let out : slice_get new.state.leases l.job ≡ Some (Some k.run) = ap (λ ls. slice_get ls l.job) k.leases ∙ set_here old.state.leases l.job (Some k.run) placed in
+    let same : k.run.size ≡ length l.range.cells = some_same k.run.size (length l.range.cells) (sym (sound.sized l.job k.run out) ∙ ap (λ xs. slice_get xs l.job) sizes ∙ k.sized) in
+    let is : k.run ≡ run_of l.range = λ i. run (k.first_is i) (same i) in
+    record {
+      sizes = sizes ∙ serving.sizes;
+      none_withdrawn = withdrawn ∙ serving.none_withdrawn;
+      of = subst (AreOf ps) (sym payloads) serving.of;
+      job = omega (arith, within, ap length serving.sizes, leases_many ps.plans);
+      size = sym (ap (λ xs. slice_get xs l.job) serving.sizes) ∙ k.sized;
+      knows = (takes.arena ∙ sym arena, out ∙ ap (λ r. Some (Some r)) is);
+      only = ap (λ ls. leased (slice_set ls l.job None)) k.leases ∙ none_again old.state.leases l.job k.run serving.none_out;
+    }
+
+pub next_due : (ps : Planned) (old new : DeskView Answer) (l : LeaseView) → IsServing ps old → IsSound new.arena new.sizes new.journal new.state → Takes (next_move old.sizes old.state) old new l
+    → IsDue ps new l × (new.state.asked ≡ suc old.state.asked) × (new.arena ≡ old.arena)
+next_due ps old new l serving sound takes =
+    let k = next_taking old.sizes old.state new.state l.job l.range.first (length l.range.cells) takes.told in
+    (taken_due ps old new l (next_move old.sizes old.state) serving sound takes k.0, k.1, ap (λ (d : DeskView Answer). d.arena) takes.rest)
+
+pub left_due : (ps : Planned) (old new : DeskView Answer) (l : LeaseView) → IsServing ps old → IsSound new.arena new.sizes new.journal new.state → Takes (left_move old.sizes old.state) old new l
+    → IsDue ps new l × (new.state.asked ≡ old.state.asked) × (new.arena ≡ old.arena) × (length new.state.waiting < length old.state.waiting)
+left_due ps old new l serving sound takes =
+    let k = left_taking old.sizes old.state new.state l.job l.range.first (length l.range.cells) takes.told in
+    (taken_due ps old new l (left_move old.sizes old.state) serving sound takes k.taking, k.asked, ap (λ (d : DeskView Answer). d.arena) takes.rest, k.fewer)
+
+-- ---- and comes back
+
+set_of : (ps : Planned) (xs : List (Option Answer)) (i : ℕ) (a : Answer) → AreOf ps xs → a.jobs.now ≡ ps → AreOf ps (slice_set xs i (Some a))
+set_of ps [] i a h e place b is = h place b is
+set_of ps (x ∷ xs) zero a h e zero b is = let same : a ≡ b = some_same a b (some_same (Some a) (Some b) is) in subst (λ (c : Answer). c.jobs.now ≡ ps) same e
+set_of ps (x ∷ xs) zero a h e (suc place) b is = h (suc place) b is
+set_of ps (x ∷ xs) (suc i) a h e zero b is = h zero b is
+set_of ps (x ∷ xs) (suc i) a h e (suc place) b is = set_of ps xs i a (λ place. h (suc place)) e place b is
+
+pub done_of : (ps : Planned) (old new : DeskView Answer) (l : LeaseView) (s : Served) → IsDue ps old l → IsServed ps l s → new ≡ filed_with old s.lease s.answer → IsDone ps old l new
+done_of ps old new l s due served e =
+    let serving : IsServing ps (filed_with old s.lease s.answer) = record {
+      sizes = due.sizes;
+      none_out = ap (λ job. leased (slice_set old.state.leases job None)) served.job ∙ due.only;
+      none_withdrawn = due.none_withdrawn;
+      of = set_of ps old.payloads s.lease.job s.answer due.of served.of;
+    } in
+    let done : IsDone ps old l (filed_with old s.lease s.answer) = record { serving = serving; arena = refl; asked = refl; waiting = refl } in
+    subst (IsDone ps old l) (sym e) done

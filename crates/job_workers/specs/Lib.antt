@@ -1,0 +1,4 @@
+-- Jobs that are served.
+pub mod Served
+pub mod Filings
+pub mod Serving

@@ -1,0 +1,10 @@
+//! Serves planned jobs on a desk: each one is run by the machine in the cells of its lease, and its ending is filed.
+#![tactic(auto)]
+
+mod answer;
+mod serving;
+mod stacks;
+mod workers;
+
+pub use answer::Answer;
+pub use workers::serve_jobs;

@@ -1,0 +1,80 @@
+//! The run of one lease, and its way back to the desk.
+ghost use Rattle.std.specs.Prelude.{◌≡◌, ◌<◌, length, slice_get, Some, IfOk, IfSome};
+ghost use Rattle.grail_code.specs.Code as plain;
+ghost use Rattle.grail_code.specs.Meaning.{run_of};
+ghost use Rattle.cell_machine.specs.Due.{HasRoom};
+ghost use Rattle.cell_machine.specs.Endings.{EndsWith, IsStackFor};
+ghost use Rattle.cell_machine.specs.Laid.{SameRange};
+ghost use Rattle.cell_machine.specs.Loading.{last_cells};
+ghost use Rattle.cell_machine.specs.Plans.{IsPlan};
+ghost use Rattle.cell_machine.specs.State.{most_calls};
+ghost use Rattle.job_world.specs.Plans.{leases_of};
+ghost use Rattle.job_workers.specs.Serving.{IsKept, IsServed};
+
+use crate::answer::Answer;
+use crate::stacks::{Kept, stack_for};
+use cell_machine::{Ran, Room, Stack, run};
+use cell_span::Span;
+use job_world::{Jobs, Plan};
+use lease_desk::Lease;
+use licence::Licence;
+use std::alloc::{AllocError, Global};
+
+/// What the run of a lease hands back: the lease with the cells as the run left them, the answer, and the stack for the next run.
+#[derive(Drop)]
+pub(crate) struct Served<'a> {
+    pub(crate) lease: Lease,
+    pub(crate) answer: Answer<'a>,
+    pub(crate) kept: Kept,
+}
+
+// Runs a plan by its licence, in as many cells as it says.
+fn run_plan(licence: &Licence, plan: &Plan, span: Span, stack: Stack, room: Room) -> Ran
+    requires plan { IsPlan licence.now plan.now.entry plan.now.args.items plan.now.fuel (length span.cells) }
+    requires stack { IsStackFor licence.now.code stack }
+    requires room { HasRoom (length span.cells) room }
+    ensures ending { EndsWith (run_of licence.now.code most_calls plan.now.entry plan.now.fuel plan.now.args.items) result.ending }
+    ensures cells { (f : plain.Func) → slice_get licence.now.code.funcs plan.now.entry ≡ Some f
+        → result.span.cells ≡ last_cells licence.now.code most_calls plan.now.entry f plan.now.args.items plan.now.fuel (length span.cells) }
+    ensures range { SameRange span result.span }
+    ensures stack { IsStackFor licence.now.code result.stack }
+{
+    run(
+        licence, plan.entry, &plan.args, plan.fuel, span, stack, room,
+    )
+}
+
+/// Runs the job of a lease in the lease's cells, which are as many as its plan says. It needs no desk. `AllocError` where memory runs out: the lease is lost then.
+pub(crate) fn serve_lease<'a>(
+    alloc: Global,
+    jobs: &'a Jobs,
+    lease: Lease,
+    kept: Option<Kept>,
+) -> Result<Served<'a>, AllocError>
+    requires job { lease.job < length jobs.now.plans }
+    requires size { slice_get (leases_of jobs.now.plans) lease.job ≡ Some (length lease.range.cells) }
+    requires kept { IfSome kept (IsKept jobs.now.licences) }
+    ensures { IfOk result (IsServed jobs.now lease) }
+{
+    jobs.kept();
+    let job = lease.job();
+    let plan = jobs.plan(job);
+    let licence = jobs.licence(job);
+    let stack = stack_for(alloc, jobs, plan.licence, licence, kept)?;
+    let room = Room::new(alloc, plan.lease)?;
+    let (span, claim) = lease.open();
+    let ran = run_plan(licence, plan, span, stack, room);
+    let answer = Answer {
+        job,
+        ending: ran.ending,
+        jobs,
+    };
+    Ok(Served {
+        lease: claim.close(ran.span),
+        answer,
+        kept: Kept {
+            licence: plan.licence,
+            stack: ran.stack,
+        },
+    })
+}

@@ -1,0 +1,163 @@
+//! One worker at a desk: it asks for one job after the other, and then for those that wait.
+ghost use Rattle.std.specs.Prelude.{◌≡◌, ◌+◌, ◌<◌, [], length, replicate, None, IfOk, IfSome, OnOk, MatchOption};
+ghost use Rattle.cell_span.specs.Range.{IsWhole};
+ghost use Rattle.job_world.specs.Plans.{leases_of};
+ghost use Rattle.lease_desk.specs.Journal.{opened, leased, IsLegal};
+ghost use Rattle.lease_desk.specs.Filing.{HoldsFiled};
+ghost use Rattle.job_workers.specs.Served.{all_cells};
+ghost use Rattle.job_workers.specs.Filings.{AllAnswered};
+ghost use Rattle.job_workers.specs.Serving.{IsKept, IsDue, IsDone, IsServing};
+
+use crate::answer::Answer;
+use crate::serving::serve_lease;
+use crate::stacks::Kept;
+use job_world::Jobs;
+use lease_desk::{Desk, Finished, Lease, Next};
+use std::alloc::{AllocError, Global};
+
+// Runs the job of a lease that the desk just gave, and gives the lease back with the job's answer.
+fn run_and_give<'a>(
+    alloc: Global,
+    desk: &mut Desk<Answer<'a>>,
+    jobs: &'a Jobs,
+    lease: Lease,
+    kept: Option<Kept>,
+) -> Result<Kept, AllocError>
+    requires due { IsDue jobs.now desk.old lease }
+    requires kept { IfSome kept (IsKept jobs.now.licences) }
+    ensures { IfOk result (λ kept. IsDone jobs.now desk.old lease desk.new × IsKept jobs.now.licences kept) }
+{
+    let served = serve_lease(alloc, jobs, lease, kept)?;
+    match desk.give(served.lease, served.answer) {
+        Ok(()) => Ok(served.kept),
+        Err(_) => Err(AllocError),
+    }
+}
+
+// Asks for the next job; where it is given a lease, runs it and gives the lease back.
+fn serve_next<'a>(
+    alloc: Global,
+    desk: &mut Desk<Answer<'a>>,
+    jobs: &'a Jobs,
+    kept: Option<Kept>,
+) -> Result<Option<Kept>, AllocError>
+    requires serving { IsServing jobs.now desk.old }
+    requires more { desk.old.state.asked < length desk.old.sizes }
+    requires kept { IfSome kept (IsKept jobs.now.licences) }
+    ensures serving { OnOk result (IsServing jobs.now desk.new) }
+    ensures arena { OnOk result (desk.new.arena ≡ desk.old.arena) }
+    ensures asked { OnOk result (desk.new.state.asked ≡ desk.old.state.asked + 1) }
+    ensures kept { IfOk result (λ kept. IfSome kept (IsKept jobs.now.licences)) }
+{
+    match desk.next(alloc) {
+        Ok(Next::Granted(lease)) => {
+            desk.kept();
+            let kept = run_and_give(alloc, desk, jobs, lease, kept)?;
+            Ok(Some(kept))
+        }
+        Ok(Next::Full { .. }) => Ok(kept),
+        Ok(Next::Over) => unreachable!(),
+        Err(full) => Err(full),
+    }
+}
+
+// Asks for every job.
+fn serve_asked<'a>(
+    alloc: Global,
+    desk: &mut Desk<Answer<'a>>,
+    jobs: &'a Jobs,
+) -> Result<Option<Kept>, AllocError>
+    requires serving { IsServing jobs.now desk.old }
+    requires asked { desk.old.state.asked ≡ 0 }
+    ensures serving { OnOk result (IsServing jobs.now desk.new) }
+    ensures arena { OnOk result (desk.new.arena ≡ desk.old.arena) }
+    ensures asked { OnOk result (desk.new.state.asked ≡ length desk.new.sizes) }
+    ensures kept { IfOk result (λ kept. IfSome kept (IsKept jobs.now.licences)) }
+{
+    let mut kept: Option<Kept> = None;
+    'jobs: for _ in 0..jobs.count() {
+        kept = serve_next(alloc, desk, jobs, kept)?;
+    }
+    Ok(kept)
+}
+
+// Takes the job that waits first, once no lease is out, runs it and gives its lease back; `None` where none waits.
+fn serve_next_left<'a>(
+    alloc: Global,
+    desk: &mut Desk<Answer<'a>>,
+    jobs: &'a Jobs,
+    kept: Option<Kept>,
+) -> Result<Option<Kept>, AllocError>
+    requires serving { IsServing jobs.now desk.old }
+    requires asked { desk.old.state.asked ≡ length desk.old.sizes }
+    requires kept { IfSome kept (IsKept jobs.now.licences) }
+    ensures serving { OnOk result (IsServing jobs.now desk.new) }
+    ensures arena { OnOk result (desk.new.arena ≡ desk.old.arena) }
+    ensures asked { OnOk result (desk.new.state.asked ≡ length desk.new.sizes) }
+    ensures left { IfOk result (λ kept. MatchOption kept (desk.new.state.waiting ≡ []) (λ kept. (length desk.new.state.waiting < length desk.old.state.waiting) × IsKept jobs.now.licences kept)) }
+{
+    match desk.next_left(alloc) {
+        Ok(Some(lease)) => {
+            desk.kept();
+            let kept = run_and_give(alloc, desk, jobs, lease, kept)?;
+            Ok(Some(kept))
+        }
+        Ok(None) => Ok(None),
+        Err(full) => Err(full),
+    }
+}
+
+// Serves the jobs that wait.
+fn serve_left<'a>(
+    alloc: Global,
+    desk: &mut Desk<Answer<'a>>,
+    jobs: &'a Jobs,
+    kept: Option<Kept>,
+) -> Result<(), AllocError>
+    requires serving { IsServing jobs.now desk.old }
+    requires asked { desk.old.state.asked ≡ length desk.old.sizes }
+    requires kept { IfSome kept (IsKept jobs.now.licences) }
+    ensures serving { OnOk result (IsServing jobs.now desk.new) }
+    ensures arena { OnOk result (desk.new.arena ≡ desk.old.arena) }
+    ensures asked { OnOk result (desk.new.state.asked ≡ length desk.new.sizes) }
+    ensures left { OnOk result (desk.new.state.waiting ≡ []) }
+{
+    let mut kept = kept;
+    'turns: loop {
+        match serve_next_left(alloc, desk, jobs, kept) {
+            Ok(Some(next)) => kept = Some(next),
+            Ok(None) => return Ok(()),
+            Err(full) => return Err(full),
+        }
+    }
+}
+
+/// Serves planned jobs on a new desk for them, by one worker: it asks the desk for one job after the other, runs each one that is given a lease in the lease's cells, and gives the lease back
+/// with the job's ending; then it does the same with the jobs that wait, and ends the desk. A run takes no memory; its stack is kept for the next job of the same licence. `AllocError` where
+/// memory runs out: the arena is lost then.
+pub fn serve_jobs<'a>(
+    alloc: Global,
+    desk: Desk<Answer<'a>>,
+    jobs: &'a Jobs,
+) -> Result<Finished<Answer<'a>>, AllocError>
+    requires sizes { desk.sizes ≡ leases_of jobs.now.plans }
+    requires state { desk.state ≡ opened desk.arena (length desk.sizes) }
+    requires journal { desk.journal ≡ [] }
+    requires payloads { desk.payloads ≡ replicate (length desk.sizes) None }
+    requires withdrawn { desk.withdrawn ≡ 0 }
+    // The journal is legal, from the first event to the last.
+    ensures legal { IfOk result (λ f. IsLegal desk.entry.arena (leases_of jobs.now.plans) f.journal.items) }
+    // Each job has its answer, which is the ending that the meaning of its own plan says.
+    ensures answered { IfOk result (λ f. AllAnswered jobs.now f.payloads.items) }
+    ensures count { IfOk result (λ f. length f.payloads.items ≡ length jobs.now.plans) }
+    // The whole arena comes back, and each cell is the one that the machine left there for the last job whose lease went over it, and a blank one where none did.
+    ensures whole { IfOk result (λ f. IsWhole f.span) }
+    ensures arena { IfOk result (λ f. f.span.arena ≡ desk.entry.arena) }
+    ensures cells { IfOk result (λ f. HoldsFiled (all_cells jobs.now) f.journal.items f.span) }
+{
+    let mut desk = desk;
+    let kept = serve_asked(alloc, &mut desk, jobs)?;
+    serve_left(alloc, &mut desk, jobs, kept)?;
+    desk.kept();
+    Ok(desk.finish())
+}

@@ -1,0 +1,6 @@
+-- Plans of runs.
+pub mod Plans
+pub mod Words
+pub mod Asking
+pub mod Codes
+pub mod PlanLaws

@@ -1,0 +1,147 @@
+ghost use Rattle.std.specs.Prelude.{◌≡◌, ◌+◌, ◌<◌, ◌≤◌, ◌++◌, ◌∷◌, [], length, map, slice_get, Some, IsSomeAnd, MatchResult, IfOk};
+ghost use Rattle.camelot_values.specs.Value.{parts};
+ghost use Rattle.camelot_values.specs.Counts.{size_all};
+ghost use Rattle.licence.specs.Bound.{lease};
+ghost use Rattle.licence.specs.Licensed.{Licensed, FitsEntry};
+ghost use Rattle.job_world.specs.Asking.{CanPlan, IsLarger, NeedsOf};
+ghost use Rattle.job_world.specs.Plans.{AreFit, Planned, leases_of};
+ghost use Rattle.job_world.specs.Words.{plan_of};
+
+use crate::fault::AddFault;
+use crate::plan::Plan;
+use camelot_values::Flat;
+use licence::Licence;
+use std::alloc::{AllocError, Global};
+use std::marker::Model;
+
+/// Licences, and plans of runs that fit them.
+#[derive(Drop)]
+pub struct Jobs {
+    licences: Vec<Licence>,
+    plans: Vec<Plan>,
+}
+
+impl Model for Jobs {
+    ghost use Rattle.job_world.specs.Plans.{AreFit, Planned};
+    ghost use Rattle.job_world.specs.Words.{planned};
+    ghost use Rattle.job_world.specs.Codes.{planned_code};
+
+    ghost Value = { Planned };
+
+    ghost coded = { planned_code };
+
+    ghost view = { λ j. planned j.licences.items j.plans.items };
+
+    ghost invariant = { λ j. AreFit (planned j.licences.items j.plans.items) };
+}
+
+impl Jobs {
+    /// No plans yet, of these licences.
+    pub fn new(alloc: Global, licences: Vec<Licence>) -> Jobs
+        ensures { result ≡ record { licences = licences.items; plans = [] } }
+    {
+        Jobs {
+            licences,
+            plans: Vec::new(alloc),
+        }
+    }
+
+    /// The licences.
+    pub fn licences(&self) -> &[Licence]
+        ensures { result.now ≡ self.now.licences }
+    {
+        &self.licences
+    }
+
+    /// How many plans there are.
+    pub fn count(&self) -> usize
+        ensures { result ≡ length self.now.plans }
+    {
+        self.plans.len()
+    }
+
+    /// What the type keeps: each plan fits its licence. It does nothing; its clause is what whoever holds plans can use.
+    pub fn kept(&self)
+        ensures { AreFit self.now }
+    {
+        let _ = &self.plans;
+    }
+
+    /// Plans a run for an arena of so many cells, at most 2^31, and answers its number: the run of an entry of the licence of this number on arguments of
+    /// its kinds, which have at most 65,536 nodes, with so much fuel, at least 1.
+    ///
+    /// # Errors
+    ///
+    /// [`AddFault::Larger`] exactly where the lease is more than the arena, with the lease. [`AddFault::Memory`] where memory runs out. Nothing is planned then.
+    pub fn add(
+        &mut self,
+        licence: u32,
+        entry: u32,
+        args: Vec<Flat>,
+        fuel: u64,
+        arena: u32,
+    ) -> Result<u32, AddFault>
+        requires can { CanPlan self.old.licences licence entry args.items fuel }
+        requires arena { arena ≤ 2147483648 }
+        requires few { length self.old.plans < 4294967295 }
+        // Where it is planned, its number is the next one, and its lease is the licence's, within the arena.
+        ensures planned { IfOk result (λ job. (l : Licensed) → slice_get self.old.licences licence ≡ Some l → (job ≡ length self.old.plans) × (lease l.code l.cert entry args.items ≤ arena)
+            × (self.new.plans ≡ self.old.plans ++ record { licence = licence; entry = entry; args = args.items; fuel = fuel; lease = lease l.code l.cert entry args.items } ∷ [])) }
+        ensures refused { MatchResult result (λ job. self.new.licences ≡ self.old.licences) (λ fault. (self.new ≡ self.old) × IsLarger self.old.licences licence entry args.items arena fault) }
+    {
+        let needs = self.lease_of(licence, entry, &args);
+        if needs > arena as u64 {
+            return Err(AddFault::Larger { needs });
+        }
+        let job = self.plans.len() as u32;
+        let plan = Plan {
+            licence,
+            entry,
+            args,
+            fuel,
+            lease: needs as u32,
+        };
+        match self.plans.push(plan) {
+            Ok(()) => Ok(job),
+            Err(_) => Err(AddFault::Memory),
+        }
+    }
+
+    // The lease that the licence of this number says.
+    fn lease_of(&self, licence: u32, entry: u32, args: &[Flat]) -> u64
+        requires can { NeedsOf self.now.licences licence entry args.now }
+        ensures { (l : Licensed) → slice_get self.now.licences licence ≡ Some l → result ≡ lease l.code l.cert entry args.now }
+    {
+        self.licences[licence as usize].lease(entry, args)
+    }
+
+    /// The sizes of the plans' leases, in order. `AllocError` where memory runs out.
+    #[tactic(auto, using(crate::proofs::Sizing::size_more, crate::proofs::Sizing::all_sizes))]
+    pub fn sizes(&self, alloc: Global) -> Result<Vec<u32>, AllocError>
+        ensures { IfOk result (λ sizes. sizes.items ≡ leases_of self.now.plans) }
+    {
+        let mut sizes = Vec::with_capacity(alloc, self.plans.len())?;
+        'plans: for plan in &self.plans {
+            sizes.push(plan.lease)?;
+        }
+        Ok(sizes)
+    }
+
+    /// The plan of this number. It takes no memory.
+    pub fn plan(&self, job: u32) -> &Plan
+        requires { job < length self.now.plans }
+        ensures is { slice_get self.now.plans job ≡ Some (plan_of result.now) }
+    {
+        &self.plans[job as usize]
+    }
+
+    /// The licence of the plan of this number. It takes no memory.
+    #[tactic(auto, using(crate::proofs::Fitting::licence_there, crate::proofs::Fitting::licence_is))]
+    pub fn licence(&self, job: u32) -> &Licence
+        requires { job < length self.now.plans }
+        ensures is { IsSomeAnd (slice_get self.now.plans job) (λ p. slice_get self.now.licences p.licence ≡ Some result.now) }
+    {
+        let plan = self.plan(job);
+        &self.licences[plan.licence as usize]
+    }
+}

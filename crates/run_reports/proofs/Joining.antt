@@ -1,0 +1,11 @@
+-- What several writes at the end of a text leave.
+use Rattle.std.proofs.Common.{◌≡◌, ℕ, List, ◌++◌, ap, ◌∙◌, append_assoc}
+
+pub two : (o p q a b : List ℕ) → p ≡ o ++ a → q ≡ p ++ b → q ≡ o ++ (a ++ b)
+two o p q a b e f = f ∙ ap (λ l. l ++ b) e ∙ append_assoc o a b
+
+pub three : (o p q r a b c : List ℕ) → p ≡ o ++ a → q ≡ p ++ b → r ≡ q ++ c → r ≡ o ++ (a ++ b ++ c)
+three o p q r a b c e f g = two o q r (a ++ b) c (two o p q a b e f) g
+
+pub four : (o p q r s a b c d : List ℕ) → p ≡ o ++ a → q ≡ p ++ b → r ≡ q ++ c → s ≡ r ++ d → s ≡ o ++ (a ++ b ++ c ++ d)
+four o p q r s a b c d e f g h = two o r s (a ++ b ++ c) d (three o p q r a b c e f g) h

@@ -1,0 +1,3 @@
+-- Reports.
+pub mod Report
+pub mod Told

@@ -1,0 +1,22 @@
+//! Pieces of lines: labels with what stands behind them.
+ghost use Rattle.std.specs.Prelude.{◌≡◌, ◌++◌, decimal, OnOk};
+
+use itoa::Buffer;
+use std::alloc::AllocError;
+
+// Writes a label and a text at the end.
+#[tactic(auto, using(crate::proofs::Joining::two))]
+pub(crate) fn push_text(out: &mut Vec<u8>, label: &[u8], text: &[u8]) -> Result<(), AllocError>
+    ensures { OnOk result (out.new.items ≡ out.old.items ++ (label.now ++ text.now)) }
+{
+    out.extend_from_slice(label)?;
+    out.extend_from_slice(text)?;
+    Ok(())
+}
+
+// Writes a label and a number in decimal at the end.
+pub(crate) fn push_number(out: &mut Vec<u8>, label: &[u8], number: u64) -> Result<(), AllocError>
+    ensures { OnOk result (out.new.items ≡ out.old.items ++ (label.now ++ decimal number)) }
+{
+    push_text(out, label, Buffer::new().format(number).as_bytes())
+}

@@ -1,0 +1,151 @@
+//! The report of a script.
+ghost use Rattle.std.specs.Prelude.{◌≡◌, ◌++◌, ◌∷◌, ℕ, List, map, slice_get, IfOk, OnOk};
+ghost use Rattle.job_script.specs.Scripts.{Entry as PlainEntry};
+ghost use Rattle.job_script.specs.Words.{entry_of, script_of};
+ghost use Rattle.run_reports.specs.Report.{asked_name, event_lines, job_lines, name_of, program_lines, report_text};
+ghost use Rattle.run_reports.specs.Told.{line_of, told_of};
+
+use super::lines::{job_of, push_end, push_event, push_job, push_program};
+use super::outcome::{JobLine, Outcome, ProgramLine};
+use job_script::{Entry, Script};
+use lease_desk::Event;
+use licence::Licence;
+use std::alloc::{AllocError, Global};
+
+// The line of an entry that is a program, and the lines that are left for the entries behind it.
+#[tactic(auto, using(crate::proofs::Lists::program_here))]
+fn push_program_of<'a>(
+    alloc: Global,
+    out: &mut Vec<u8>,
+    entry: &Entry,
+    lines: &'a [ProgramLine],
+) -> Result<&'a [ProgramLine], AllocError>
+    ensures { (entries : List PlainEntry) → IfOk result (λ left. out.new.items ++ program_lines entries left.now ≡ out.old.items ++ program_lines (entry_of entry.now ∷ entries) lines.now) }
+{
+    match entry {
+        Entry::Program { name, .. } => match lines {
+            [line, others @ ..] => {
+                push_program(alloc, out, name.bytes(), line)?;
+                Ok(others)
+            }
+            [] => Ok(lines),
+        },
+        Entry::Job { .. } => Ok(lines),
+    }
+}
+
+// A line for each program.
+#[tactic(auto, using(crate::proofs::Lists::no_more))]
+fn push_programs(
+    alloc: Global,
+    out: &mut Vec<u8>,
+    items: &[Entry],
+    lines: &[ProgramLine],
+) -> Result<(), AllocError>
+    ensures { OnOk result (out.new.items ≡ out.old.items ++ program_lines (map entry_of items.now) lines.now) }
+{
+    let mut rest = lines;
+    'items: for entry in items {
+        rest = push_program_of(alloc, out, entry, rest)?;
+    }
+    Ok(())
+}
+
+// The line of an entry that is a job, and the lines that are left for the entries behind it.
+#[tactic(auto, using(crate::proofs::Lists::program_here))]
+fn push_job_of<'a>(
+    alloc: Global,
+    out: &mut Vec<u8>,
+    entry: &Entry,
+    licences: &[Licence],
+    lines: &'a [JobLine],
+) -> Result<&'a [JobLine], AllocError>
+    ensures { (entries : List PlainEntry) → IfOk result (λ left. out.new.items ++ job_lines entries (map (line_of licences.now) left.now) ≡ out.old.items ++ job_lines (entry_of entry.now ∷ entries) (map (line_of licences.now) lines.now)) }
+{
+    match entry {
+        Entry::Program { .. } => Ok(lines),
+        Entry::Job { name, .. } => match lines {
+            [line, others @ ..] => {
+                push_job(alloc, out, name.bytes(), licences, line)?;
+                Ok(others)
+            }
+            [] => Ok(lines),
+        },
+    }
+}
+
+// A line for each job.
+#[tactic(auto, using(crate::proofs::Lists::no_more))]
+fn push_jobs(
+    alloc: Global,
+    out: &mut Vec<u8>,
+    items: &[Entry],
+    licences: &[Licence],
+    lines: &[JobLine],
+) -> Result<(), AllocError>
+    ensures { OnOk result (out.new.items ≡ out.old.items ++ job_lines (map entry_of items.now) (map (line_of licences.now) lines.now)) }
+{
+    let mut rest = lines;
+    'items: for entry in items {
+        rest = push_job_of(alloc, out, entry, licences, rest)?;
+    }
+    Ok(())
+}
+
+// The name of the entry at a place.
+fn name_at(items: &[Entry], place: u32) -> &[u8]
+    ensures { result.now ≡ name_of (slice_get (map entry_of items.now) place) }
+{
+    match items.get(place as usize) {
+        None => b"",
+        Some(Entry::Program { name, .. }) => name.bytes(),
+        Some(Entry::Job { name, .. }) => name.bytes(),
+    }
+}
+
+// The name of the desk's job of this number.
+#[tactic(auto, unfolding(crate::specs::Report::asked_name))]
+fn asked_name<'a>(items: &'a [Entry], asked: &[u32], job: u32) -> &'a [u8]
+    ensures { result.now ≡ asked_name (map entry_of items.now) asked.now job }
+{
+    match asked.get(job as usize) {
+        None => b"",
+        Some(place) => name_at(items, *place),
+    }
+}
+
+// A line for each event.
+#[tactic(auto, using(crate::proofs::Lists::no_more, crate::proofs::Lists::event_here))]
+fn push_events(
+    out: &mut Vec<u8>,
+    items: &[Entry],
+    asked: &[u32],
+    journal: &[Event],
+) -> Result<(), AllocError>
+    ensures { OnOk result (out.new.items ≡ out.old.items ++ event_lines (asked_name (map entry_of items.now) asked.now) journal.now) }
+{
+    'events: for event in journal {
+        let name = asked_name(items, asked, job_of(event));
+        push_event(out, name, event)?;
+    }
+    Ok(())
+}
+
+/// The report of a script, from what came of it: a line for each program and each job in the script's order, a line for each event of the journal, and the free
+/// cells at the end. Types of values are those of the licences by number. `AllocError` where memory runs out.
+#[tactic(auto, unfolding(crate::specs::Report::report_text))]
+pub fn report(
+    alloc: Global,
+    script: &Script,
+    licences: &[Licence],
+    outcome: &Outcome,
+) -> Result<Vec<u8>, AllocError>
+    ensures { IfOk result (λ text. text.items ≡ report_text (script_of script.now).items (told_of licences.now outcome.now)) }
+{
+    let mut out = Vec::new(alloc);
+    push_programs(alloc, &mut out, &script.items, &outcome.programs)?;
+    push_jobs(alloc, &mut out, &script.items, licences, &outcome.jobs)?;
+    push_events(&mut out, &script.items, &outcome.asked, &outcome.journal)?;
+    push_end(&mut out, outcome.free)?;
+    Ok(out)
+}

@@ -1,0 +1,332 @@
+-- One job: what was asked of the licence and planned is its fate.
+use Rattle.std.proofs.Common.{◌≡◌, ℕ, zero, suc, ◌<◌, ◌≤◌, Bool, true, false, List, [], ◌∷◌, ◌++◌, length, Some, None, refl, sym, ap, ◌∙◌, subst, append-nil, arith}
+use Rattle.std.specs.Prelude.{slice_get, if◌then◌else◌, nat_lt, Option, IsSomeAnd, Result, Ok, Err, IfOk}
+use Rattle.std.specs.declared.alloc.AllocError.{AllocError}
+use Rattle.std.proofs.lemmas.Bool.Decides.{nat_tests}
+use Rattle.std.proofs.lemmas.Option.{slice_get_within}
+use Rattle.std.specs.Option.{option_map}
+use Rattle.std.specs.Str.{bytes_eq}
+use Rattle.camelot_values.specs.Value.{Value, parts}
+use Rattle.camelot_values.specs.Counts.{size_all}
+use Rattle.camelot_values.specs.Kinds.{DataType}
+use Rattle.camelot_values.specs.Outcome.{Outcome, peak_of}
+use Rattle.camelot_values.specs.Typing.{ArgumentsFit}
+use Rattle.camelot_values.specs.declared.kinds.Kind.{Kind}
+use Rattle.camelot_tree.specs.Meaning as source
+use Rattle.typing_rules.specs.Kinds.{types_of}
+use Rattle.typing_rules.specs.Typing.{Signature}
+use Rattle.typing_rules.specs.Typed.{IsTyping, Typing}
+use Rattle.linear_use.specs.Answers.{KeepsRule}
+use Rattle.grail_code.specs.Code.{Code, Func}
+use Rattle.grail_code.specs.Meaning.{run_of}
+use Rattle.grail_code.specs.ByName.{IsFirstNamed}
+use Rattle.value_text.specs.Grammar.{IsRead, IsTooLong, IsBadShape}
+use Rattle.code_gen.specs.Generated.{compiled}
+use Rattle.licence.specs.Bound.{bound}
+use Rattle.licence.specs.Licensed.{Licensed, FitsEntry}
+use Rattle.cell_machine.specs.State.{most_calls}
+use Rattle.job_world.specs.Plans.{Plan, Planned, run_at, run_with, job_run}
+use Rattle.job_world.specs.PlanLaws.{found_behind}
+use Rattle.camelot_compiler.specs.Licences.{HasLicence}
+use Rattle.run_reports.specs.Told.{licence_types}
+use Rattle.run_reports.specs.Report.{Ended, TooLarge}
+use Rattle.run_reports.specs.declared.outcome.JobCause.{JobCause}
+use Rattle.run_reports.specs.declared.outcome.JobCause.TheVariants as job_cause
+use Rattle.script_plans.specs.declared.asking.Asked.{Asked}
+use Rattle.script_plans.specs.declared.asking.Asked.TheVariants as asked
+use Rattle.script_plans.specs.declared.rows.Known.{Known}
+use Rattle.script_plans.specs.declared.types.JobPlan.{JobPlan}
+use Rattle.script_plans.specs.declared.types.JobPlan.TheVariants as plan
+use Rattle.script_plans.specs.Fates.{Call, Unfit, Calls, IsRefused, OfEntry, IsCall, IsFate, outcome_of, bound_of, lease_of}
+use Rattle.script_plans.specs.Lines.{types_at, fuel_at, planned_line, places_with}
+use Rattle.script_plans.specs.Rows.{Holds, IsKnown, Row, row_among, IsRow, AreRows}
+use Rattle.script_plans.specs.Turns.{IsBoundOf, IsBounded, IsOfArgs, IsOfEntry, IsAsked, CanBePlanned, IsAdded, IsPlanned, IsUsable, IsCalled, Comes, plan_for}
+use Rattle.script_plans.proofs.Naming.{code_named, entry_found, no_entry}
+
+-- the code of a typed program that keeps the rule means what the program means
+abbrev pub MeansSame : Type 0
+MeansSame = (t : Typing) (limit func fuel : ℕ) (args : List Value) (s : Signature) → IsTyping t → KeepsRule t → slice_get t.signatures func ≡ Some s
+    → ArgumentsFit (types_of t.source) s.params args → run_of (compiled t) limit func fuel args ≡ source.run_of t.source limit func fuel args
+
+-- ---- what can be asked and planned
+
+pub usable : (licences : List Licensed) (text : List ℕ) (k : Known) → Holds licences text k → IsUsable licences k
+usable licences text k h = record { licence = h.licence; at = h.at; knows = h.knows; named = code_named h.licence.code h.is.has.spelled }
+
+pub number_within : (p : Code) (number : ℕ) (name : List ℕ) → IsFirstNamed p number name → number < length p.funcs
+number_within p number name first = by_case (slice_get p.funcs number) refl first.named
+  where
+    by_case : (o : Option Func) → slice_get p.funcs number ≡ o → option_map (λ f. f.name) o ≡ Some name → number < length p.funcs
+    by_case None e h = absurd cc
+    by_case (Some f) e h = slice_get_within p.funcs number f e
+
+-- the function of a first number
+pub record There (p : Code) (number : ℕ) : Type 0 where
+  pub func : Func
+  pub is : slice_get p.funcs number ≡ Some func
+
+function_there : (p : Code) (number : ℕ) (name : List ℕ) → IsFirstNamed p number name → There p number
+function_there p number name first = by_case (slice_get p.funcs number) refl first.named
+  where
+    by_case : (o : Option Func) → slice_get p.funcs number ≡ o → option_map (λ f. f.name) o ≡ Some name → There p number
+    by_case None e h = absurd cc
+    by_case (Some f) e h = record { func = f; is = e }
+
+-- what is asked of the first function of a name
+pub of_entry : (l : Licensed) (name text : List ℕ) (number : ℕ) (a : Asked) → IsFirstNamed l.code number name → ((f : Func) → slice_get l.code.funcs number ≡ Some f → IsOfArgs l number f text a) → IsAsked l name text a
+of_entry l name text number a first each =
+    let f = function_there l.code number name first in
+    by_case a (record { number = number; first = first; func = f.func; is = f.is; of_args = each f.func f.is })
+  where
+    by_cause : (c : JobCause) → IsOfEntry l name text (asked.Unfit c) → IsAsked l name text (asked.Unfit c)
+    by_cause job_cause.NoProgram h = h
+    by_cause job_cause.ProgramRefused h = h
+    by_cause job_cause.NoEntry h = absurd h.of_args
+    by_cause (job_cause.Argument at) h = h
+    by_cause (job_cause.Long items) h = h
+
+    by_case : (a : Asked) → IsOfEntry l name text a → IsAsked l name text a
+    by_case (asked.Unfit c) h = by_cause c h
+    by_case (asked.Fits entry args most) h = h
+
+fits_entry : (l : Licensed) (number : ℕ) (f : Func) (args : List Value) → slice_get l.code.funcs number ≡ Some f → ArgumentsFit l.code.types f.params args → FitsEntry l number args
+fits_entry l number f args e h = subst (λ (o : Option Func). IsSomeAnd o (λ f. ArgumentsFit l.code.types f.params args)) (sym e) h
+
+pub read_fits : (l : Licensed) (p : Code) (number : ℕ) (f : Func) (text : List ℕ) (args : List Value) → p ≡ l.code → slice_get l.code.funcs number ≡ Some f → IsRead p.types f.params text args → FitsEntry l number args
+read_fits l p number f text args e at r = fits_entry l number f args at (subst (λ (q : Code). ArgumentsFit q.types f.params args) e r.text_of.fit)
+
+pub can_be_planned : (licences : List Licensed) (licence fuel : ℕ) (l : Licensed) (name text : List ℕ) (a : Asked) → slice_get licences licence ≡ Some l → 1 ≤ fuel → IsAsked l name text a → CanBePlanned licences licence fuel a
+can_be_planned licences licence fuel l name text (asked.Unfit cause) at some h = tt
+can_be_planned licences licence fuel l name text (asked.Fits entry args most) at some h =
+    let fits : FitsEntry l entry args.items = subst (λ (n : ℕ). FitsEntry l n args.items) (sym h.of_args.0) (fits_entry l h.number h.func args.items h.is h.of_args.1.text_of.fit) in
+    record {
+      needs = record { fits = subst (λ (o : Option Licensed). IsSomeAnd o (λ l. FitsEntry l entry args.items)) (sym at) fits; few = h.of_args.1.few };
+      some_fuel = some;
+    }
+
+-- ---- no run
+
+none_added : (old new : Planned) → new ≡ old → new.plans ≡ old.plans ++ []
+none_added old new e = ap (λ (p : Planned). p.plans) e ∙ sym (append-nil old.plans)
+
+pub comes_refused : (text : Option (List ℕ)) (entry args : List ℕ) (fuel arena : ℕ) (old new : Planned) (cause : JobCause) → IsFate text entry args (Unfit cause) → new ≡ old
+    → Comes text entry args fuel arena old new (plan.Refused cause)
+comes_refused text entry args fuel arena old new cause h e = record {
+  fate = Unfit cause;
+  is = h;
+  within = tt;
+  licences = ap (λ (p : Planned). p.licences) e;
+  more = [];
+  plans = none_added old new e;
+  leases = refl;
+  next = ap (λ (p : Planned). length p.plans) (sym e);
+  places = λ place. refl;
+  line = refl;
+}
+
+pub no_program : (entry args : List ℕ) (fuel arena : ℕ) (ps : Planned) → Comes None entry args fuel arena ps ps (plan.Refused job_cause.NoProgram)
+no_program entry args fuel arena ps = comes_refused None entry args fuel arena ps ps job_cause.NoProgram tt refl
+
+pub program_refused : (text entry args : List ℕ) (fuel arena : ℕ) (ps : Planned) → IsRefused text → Comes (Some text) entry args fuel arena ps ps (plan.Refused job_cause.ProgramRefused)
+program_refused text entry args fuel arena ps h = comes_refused (Some text) entry args fuel arena ps ps job_cause.ProgramRefused h refl
+
+-- why it isn't called
+unfit_fate : (text name args : List ℕ) (t : Typing) (l : Licensed) (cause : JobCause) → HasLicence text t l → IsAsked l name args (asked.Unfit cause) → IsFate (Some text) name args (Unfit cause)
+unfit_fate text name args t l job_cause.NoProgram has h = absurd h.of_args
+unfit_fate text name args t l job_cause.ProgramRefused has h = absurd h.of_args
+unfit_fate text name args t l job_cause.NoEntry has h = no_entry text name t l has h
+unfit_fate text name args t l (job_cause.Argument at) has h =
+    let e = entry_found text name t l h.number h.func has h.first h.is in
+    record {
+      typing = t;
+      licence = l;
+      has = has;
+      entry = h.number;
+      named = e.named;
+      signature = e.signed.signature;
+      is = e.signed.is;
+      says = subst (λ (ks : List Kind). IsBadShape (types_of t.source) ks args at) e.signed.params (subst (λ (ts : List DataType). IsBadShape ts h.func.params args at) e.types h.of_args);
+    }
+unfit_fate text name args t l (job_cause.Long items) has h =
+    let e = entry_found text name t l h.number h.func has h.first h.is in
+    record {
+      typing = t;
+      licence = l;
+      has = has;
+      entry = h.number;
+      named = e.named;
+      signature = e.signed.signature;
+      is = e.signed.is;
+      says = subst (λ (ks : List Kind). IsTooLong (types_of t.source) ks args items) e.signed.params (subst (λ (ts : List DataType). IsTooLong ts h.func.params args items) e.types h.of_args);
+    }
+
+-- ---- a call
+
+-- the call and its fate
+record IsCallFate (text name args : List ℕ) (t : Typing) (l : Licensed) (number : ℕ) (values : List Value) : Type 0 where
+  is : OfEntry text name (IsCall args (record { typing = t; licence = l; entry = number; args = values }))
+  same : (fuel : ℕ) → run_of l.code most_calls number fuel values ≡ source.run_of t.source most_calls number fuel values
+  types : l.code.types ≡ types_of t.source
+
+call_fate : (text name args : List ℕ) (t : Typing) (l : Licensed) (number : ℕ) (values : List Value) (func : Func) → MeansSame → HasLicence text t l → IsFirstNamed l.code number name → slice_get l.code.funcs number ≡ Some func
+    → IsRead l.code.types func.params args values → IsCallFate text name args t l number values
+call_fate text name args t l number values func means has first is read =
+    let e = entry_found text name t l number func has first is in
+    let there = subst (λ (ks : List Kind). IsRead (types_of t.source) ks args values) e.signed.params (subst (λ (ts : List DataType). IsRead ts func.params args values) e.types read) in
+    record {
+      is = record {
+        typing = t;
+        licence = l;
+        has = has;
+        entry = number;
+        named = e.named;
+        signature = e.signed.signature;
+        is = e.signed.is;
+        says = record { args = values; read = there; is = refl };
+      };
+      same = λ fuel. ap (λ (p : Code). run_of p most_calls number fuel values) has.code ∙ means t most_calls number fuel values e.signed.signature has.typed has.rule e.signed.is there.text_of.fit;
+      types = e.types;
+    }
+
+-- the line of the plan that was added
+added_line : (licences : List Licensed) (plans : List Plan) (n arena fuel bound : ℕ) (l : Licensed) (entry : ℕ) (args : List Value) → slice_get licences n ≡ Some l
+    → planned_line (record { licences = licences; plans = plans ++ plan_for n fuel l entry args ∷ [] }) arena (length plans) (plan.Runs bound) ≡ Ended l.code.types (run_of l.code most_calls entry fuel args) fuel bound
+unfolding job_run
+added_line licences plans n arena fuel bound l entry args at =
+    let p : Plan = plan_for n fuel l entry args in
+    ap (λ (o : Option Plan). Ended (types_at licences o) (run_at licences o) (fuel_at o) bound) (found_behind plans p [])
+    ∙ ap (λ (o : Option Licensed). Ended (licence_types o) (run_with o p) fuel bound) at
+
+new_plans : (old new : Planned) (p : Plan) → new.licences ≡ old.licences → new.plans ≡ old.plans ++ p ∷ [] → new ≡ record { licences = old.licences; plans = old.plans ++ p ∷ [] }
+new_plans old new p e f = λ i. record { licences = e i; plans = f i }
+
+length_end : {A : Type 0} (xs : List A) (x : A) → suc (length xs) ≡ length (xs ++ x ∷ [])
+length_end [] x = refl
+length_end (y ∷ xs) x = ap suc (length_end xs x)
+
+comes_call : (text name args : List ℕ) (fuel arena n : ℕ) (old new : Planned) (t : Typing) (l : Licensed) (number : ℕ) (values : List Value) (most : ℕ) (p : JobPlan) → HasLicence text t l → slice_get old.licences n ≡ Some l
+    → IsCallFate text name args t l number values → IsBoundOf l number values most → IsAdded arena (plan_for n fuel l number values) most old new p → Comes (Some text) name args fuel arena old new p
+comes_call text name args fuel arena n old new t l number values most (plan.Refused cause) has at c b h = absurd h
+comes_call text name args fuel arena n old new t l number values most (plan.TooLarge needs) has at c b h =
+    let call : Call = record { typing = t; licence = l; entry = number; args = values } in
+    let large : nat_lt arena (lease_of call) ≡ true = grind (arith, nat_tests, h.1) in
+    record {
+      fate = Calls call;
+      is = c.is;
+      within = subst (λ (m : ℕ). peak_of (outcome_of call fuel) ≤ m) b.is (subst (λ (o : Outcome Value). peak_of o ≤ most) (c.same fuel) (b.peak fuel));
+      licences = ap (λ (q : Planned). q.licences) h.2;
+      more = [];
+      plans = none_added old new h.2;
+      leases = sym (ap (λ b. if b then [] else lease_of call ∷ []) large);
+      next = ap (λ (q : Planned). length q.plans) (sym h.2);
+      places = λ place. ap (λ b. places_with (if b then [] else lease_of call ∷ []) place) large;
+      line = ap (λ m. TooLarge m arena) h.0 ∙ sym (ap (λ b. if b then TooLarge (lease_of call) arena else Ended (types_of t.source) (outcome_of call fuel) fuel (bound_of call)) large);
+    }
+comes_call text name args fuel arena n old new t l number values most (plan.Runs bound) has at c b h =
+    let call : Call = record { typing = t; licence = l; entry = number; args = values } in
+    let q : Plan = plan_for n fuel l number values in
+    let fits : nat_lt arena (lease_of call) ≡ false = grind (arith, nat_tests, h.1) in
+    record {
+      fate = Calls call;
+      is = c.is;
+      within = subst (λ (m : ℕ). peak_of (outcome_of call fuel) ≤ m) b.is (subst (λ (o : Outcome Value). peak_of o ≤ most) (c.same fuel) (b.peak fuel));
+      licences = h.2;
+      more = q ∷ [];
+      plans = h.3;
+      leases = sym (ap (λ b. if b then [] else lease_of call ∷ []) fits);
+      next = length_end old.plans q ∙ sym (ap length h.3);
+      places = λ place. ap (λ b. places_with (if b then [] else lease_of call ∷ []) place) fits;
+      line =
+          ap (λ (ps : Planned). planned_line ps arena (length old.plans) (plan.Runs bound)) (new_plans old new q h.2 h.3)
+          ∙ added_line old.licences old.plans n arena fuel bound l number values at
+          ∙ ap (λ (ts : List DataType). Ended ts (run_of l.code most_calls number fuel values) fuel bound) c.types
+          ∙ ap (λ (o : Outcome Value). Ended (types_of t.source) o fuel bound) (c.same fuel)
+          ∙ ap (λ m. Ended (types_of t.source) (outcome_of call fuel) fuel m) (h.0 ∙ b.is)
+          ∙ sym (ap (λ b. if b then TooLarge (lease_of call) arena else Ended (types_of t.source) (outcome_of call fuel) fuel (bound_of call)) fits);
+    }
+
+comes_planned : (text name args : List ℕ) (fuel arena n : ℕ) (old new : Planned) (t : Typing) (l : Licensed) (a : Asked) (p : JobPlan) → MeansSame → HasLicence text t l → slice_get old.licences n ≡ Some l → IsAsked l name args a
+    → IsPlanned arena fuel n l a old new p → Comes (Some text) name args fuel arena old new p
+comes_planned text name args fuel arena n old new t l (asked.Unfit cause) p means has at h k =
+    subst (Comes (Some text) name args fuel arena old new) (sym k.0) (comes_refused (Some text) name args fuel arena old new cause (unfit_fate text name args t l cause has h) k.1)
+comes_planned text name args fuel arena n old new t l (asked.Fits entry values most) p means has at h k =
+    let same : h.number ≡ entry = sym h.of_args.0 in
+    let b : IsBoundOf l entry values.items most = subst (λ (m : ℕ). IsBoundOf l m values.items most) same h.of_args.2 in
+    let first : IsFirstNamed l.code entry name = subst (λ (m : ℕ). IsFirstNamed l.code m name) same h.first in
+    let is : slice_get l.code.funcs entry ≡ Some h.func = subst (λ (m : ℕ). slice_get l.code.funcs m ≡ Some h.func) same h.is in
+    comes_call text name args fuel arena n old new t l entry values.items most p has at (call_fate text name args t l entry values.items h.func means has first is h.of_args.1) b k
+
+pub comes_called : (text name args : List ℕ) (fuel arena : ℕ) (old new : Planned) (k : Known) (p : JobPlan) → MeansSame → Holds old.licences text k
+    → ((l : Licensed) → slice_get old.licences k.licence ≡ Some l → IsCalled arena fuel k.licence l name args old new p) → Comes (Some text) name args fuel arena old new p
+comes_called text name args fuel arena old new k p means h each =
+    let c = each h.licence h.at in
+    comes_planned text name args fuel arena k.licence old new h.is.typing h.licence c.a p means h.is.has h.at c.is c.planned
+
+-- ---- rows
+
+pub bounded_is : (l : Licensed) (number : ℕ) (args given : List Value) (most : ℕ) → given ≡ args → most ≡ bound l.code l.cert number given → ((limit fuel : ℕ) → peak_of (run_of l.code limit number fuel given) ≤ most)
+    → IsBoundOf l number args most
+bounded_is l number args given most same e h = subst (λ (xs : List Value). IsBoundOf l number xs most) same (record { is = e; peak = λ fuel. h most_calls fuel })
+
+-- the function of a number that is there
+func_at : (p : Code) (number : ℕ) → number < length p.funcs → There p number
+func_at p number h = by_list p.funcs number refl h
+  where
+    at : (fs : List Func) (number : ℕ) → number < length fs → (f : Func) × (slice_get fs number ≡ Some f)
+    at [] number h = absurd (omega (arith, h))
+    at (f ∷ fs) zero h = (f, refl)
+    at (f ∷ fs) (suc number) h = at fs number (omega (arith, h))
+
+    by_list : (fs : List Func) (number : ℕ) → slice_get p.funcs number ≡ slice_get fs number → number < length fs → There p number
+    by_list fs number e h = let a = at fs number h in record { func = a.0; is = e ∙ a.1 }
+
+-- what was read of the arguments of a function
+abbrev pub AreReadAt : Code → (number : ℕ) → (text : List ℕ) → List Value → Type 0
+AreReadAt p number text args = (f : Func) → slice_get p.funcs number ≡ Some f → IsRead p.types f.params text args
+
+pub read_few : (p : Code) (number : ℕ) (text : List ℕ) (args : List Value) → number < length p.funcs → AreReadAt p number text args → size_all (parts args) ≤ 65536
+read_few p number text args there each = let f = func_at p number there in (each f.func f.is).few
+
+pub read_entry : (l : Licensed) (p : Code) (number : ℕ) (text : List ℕ) (args : List Value) → p ≡ l.code → number < length l.code.funcs → AreReadAt p number text args → FitsEntry l number args
+read_entry l p number text args e there each =
+    let f = func_at l.code number there in
+    let at : slice_get p.funcs number ≡ Some f.func = ap (λ (q : Code). slice_get q.funcs number) e ∙ f.is in
+    read_fits l p number f.func text args e f.is (each f.func at)
+
+by_bounded : (l : Licensed) (number : ℕ) (f : Func) (text : List ℕ) (args : List Value) (a : Asked) → IsRead l.code.types f.params text args → IsBounded l number args a → IsOfArgs l number f text a
+by_bounded l number f text args (asked.Unfit cause) r b = absurd b
+by_bounded l number f text args (asked.Fits entry xs most) r b =
+    (b.0, subst (λ (vs : List Value). IsRead l.code.types f.params text vs) (sym b.1) r, subst (λ (vs : List Value). IsBoundOf l number vs most) (sym b.1) b.2)
+
+pub args_bounded : (l : Licensed) (p : Code) (number : ℕ) (text : List ℕ) (args : List Value) (a : Asked) → p ≡ l.code → AreReadAt p number text args → IsBounded l number args a
+    → (f : Func) → slice_get l.code.funcs number ≡ Some f → IsOfArgs l number f text a
+args_bounded l p number text args a e each b f is =
+    let at : slice_get p.funcs number ≡ Some f = ap (λ (q : Code). slice_get q.funcs number) e ∙ is in
+    by_bounded l number f text args a (subst (λ (q : Code). IsRead q.types f.params text args) e (each f at)) b
+
+pub args_bad : (l : Licensed) (p : Code) (number : ℕ) (text : List ℕ) (at : ℕ) → p ≡ l.code → ((f : Func) → slice_get p.funcs number ≡ Some f → IsBadShape p.types f.params text at)
+    → (f : Func) → slice_get l.code.funcs number ≡ Some f → IsBadShape l.code.types f.params text at
+args_bad l p number text at e each f is = subst (λ (q : Code). IsBadShape q.types f.params text at) e (each f (ap (λ (q : Code). slice_get q.funcs number) e ∙ is))
+
+pub args_long : (l : Licensed) (p : Code) (number : ℕ) (text : List ℕ) (items : ℕ) → p ≡ l.code → ((f : Func) → slice_get p.funcs number ≡ Some f → IsTooLong p.types f.params text items)
+    → (f : Func) → slice_get l.code.funcs number ≡ Some f → IsTooLong l.code.types f.params text items
+args_long l p number text items e each f is = subst (λ (q : Code). IsTooLong q.types f.params text items) e (each f (ap (λ (q : Code). slice_get q.funcs number) e ∙ is))
+
+-- a row that is found is one of the rows
+row_found : (licences : List Licensed) (rows : List Row) (name : List ℕ) (r : Row) → AreRows licences rows → row_among rows name ≡ Some r → IsRow licences r
+row_found licences [] name r h e = absurd cc
+row_found licences (q ∷ rows) name r h e = by_test (bytes_eq q.name name) (λ f. row_found licences rows name r h.1 f) e
+  where
+    by_test : (b : Bool) → (row_among rows name ≡ Some r → IsRow licences r) → (if b then Some q else row_among rows name) ≡ Some r → IsRow licences r
+    by_test true go e = let same : q ≡ r = cc in subst (IsRow licences) same h.0
+    by_test false go e = go e
+
+pub row_fits : (licences : List Licensed) (rows : List Row) (name : List ℕ) (r : Row) → AreRows licences rows → Some r ≡ row_among rows name → IsRow licences r
+row_fits licences rows name r h e = row_found licences rows name r h (sym e)
+
+-- ---- what is answered
+
+pub row_comes : (text name args : List ℕ) (fuel arena : ℕ) (old new : Planned) (o : Option Known) (k : Known) (r : Result JobPlan AllocError) → MeansSame → IsKnown old.licences text o → o ≡ Some k
+    → ((l : Licensed) → slice_get old.licences k.licence ≡ Some l → IfOk r (IsCalled arena fuel k.licence l name args old new)) → IfOk r (Comes (Some text) name args fuel arena old new)
+row_comes text name args fuel arena old new o k (Err x) means h e each = tt
+row_comes text name args fuel arena old new o k (Ok p) means h e each = comes_called text name args fuel arena old new k p means (subst (IsKnown old.licences text) e h) each

@@ -1,0 +1,160 @@
+-- Jobs one by one: their fates, and what is planned of them.
+use Rattle.std.proofs.Common.{◌≡◌, ℕ, suc, ◌+◌, ◌≤◌, Bool, true, false, List, [], ◌∷◌, ◌++◌, length, refl, sym, ap, ◌∙◌, subst, append_assoc, append-nil, arith}
+use Rattle.std.specs.Prelude.{nat_lt, if◌then◌else◌, Option}
+use Rattle.std.specs.List.{AllByRecursion}
+use Rattle.std.proofs.lemmas.List.{map-append}
+use Rattle.std.proofs.lemmas.Bool.Decides.{nat_tests}
+use Rattle.lease_desk.specs.Journal.{AreSizes}
+use Rattle.licence.specs.Licensed.{Licensed}
+use Rattle.job_script.specs.Scripts.{Program, Job, Entry, AProgram, AJob, job_names}
+use Rattle.job_world.specs.Plans.{Plan, Planned}
+use Rattle.job_world.specs.Plans as world
+use Rattle.run_reports.specs.Report.{JobLine}
+use Rattle.script_plans.specs.declared.types.JobPlan.{JobPlan}
+use Rattle.script_plans.specs.Fates.{Fate, Unfit, Calls, lease_of, leases_of, line_of, text_of_program}
+use Rattle.script_plans.specs.Lines.{AreFates, lines_of, sizes_of, places_of, planned_line, planned_lines, next_job, next_behind, ArePlanned}
+use Rattle.script_plans.specs.Rows.{Row, AreRows, row_among, row_text}
+use Rattle.script_plans.specs.Turns.{IsJobTaken, IsEntryTaken, places_by}
+use Rattle.script_plans.proofs.Behind.{next_few, next_within, next_end, lines_end, lines_count, lines_stay}
+
+-- The jobs of the front entries have these fates, whatever fates the rest have, and what is planned so far is theirs.
+pub record UpTo (arena : ℕ) (script rest : List Entry) (place : ℕ) (ps : Planned) (plans : List JobPlan) (asked : List ℕ) : Type 0 where
+  pub fates : List Fate
+  pub are : (more : List Fate) → AreFates script rest more → AreFates script script (fates ++ more)
+  pub leases : world.leases_of ps.plans ≡ sizes_of arena fates
+  pub places : (more : List Fate) → asked ++ places_of arena place rest more ≡ places_of arena 0 script (fates ++ more)
+  pub lines : (more : List Fate) → planned_lines ps arena 0 plans ++ lines_of arena rest more ≡ lines_of arena script (fates ++ more)
+  pub count : next_behind plans 0 ≡ length ps.plans
+
+pub none_taken : (arena : ℕ) (script : List Entry) (ps : Planned) → ps.plans ≡ [] → UpTo arena script script 0 ps [] []
+none_taken arena script ps e = record { fates = []; are = λ more h. h; leases = ap world.leases_of e; places = λ more. refl; lines = λ more. refl; count = sym (ap length e) }
+
+sizes_end : (arena : ℕ) (fates : List Fate) (f : Fate) → sizes_of arena (fates ++ f ∷ []) ≡ sizes_of arena fates ++ leases_of arena f
+sizes_end arena [] f = append-nil (leases_of arena f)
+sizes_end arena (g ∷ fates) f = ap (λ l. leases_of arena g ++ l) (sizes_end arena fates f) ∙ sym (append_assoc (leases_of arena g) (sizes_of arena fates) (leases_of arena f))
+
+program_taken : (arena : ℕ) (script rest : List Entry) (p : Program) (place : ℕ) (ps : Planned) (plans : List JobPlan) (asked : List ℕ)
+    → UpTo arena script (AProgram p ∷ rest) place ps plans asked → UpTo arena script rest (suc place) ps plans asked
+program_taken arena script rest p place ps plans asked u = record { fates = u.fates; are = u.are; leases = u.leases; places = u.places; lines = u.lines; count = u.count }
+
+grown : (old new : Planned) (more : List Plan) → new.licences ≡ old.licences → new.plans ≡ old.plans ++ more → new ≡ record { licences = old.licences; plans = old.plans ++ more }
+grown old new more e f = λ i. record { licences = e i; plans = f i }
+
+new_lines : (arena fuel : ℕ) (old new : Planned) (more : List Plan) (plans : List JobPlan) (p : JobPlan) (f : Fate) → new.licences ≡ old.licences → new.plans ≡ old.plans ++ more
+    → next_behind plans 0 ≡ length old.plans → planned_line new arena (length old.plans) p ≡ line_of arena fuel f
+    → planned_lines new arena 0 (plans ++ p ∷ []) ≡ planned_lines old arena 0 plans ++ line_of arena fuel f ∷ []
+new_lines arena fuel old new more plans p f e g count line =
+    lines_end new arena plans p 0
+    ∙ ap (λ (n : ℕ). planned_lines new arena 0 plans ++ planned_line new arena n p ∷ []) count
+    ∙ ap (λ (l : JobLine). planned_lines new arena 0 plans ++ l ∷ []) line
+    ∙ ap (λ (ps : Planned). planned_lines ps arena 0 plans ++ line_of arena fuel f ∷ []) (grown old new more e g)
+    ∙ ap (λ l. l ++ line_of arena fuel f ∷ []) (lines_stay old.licences old.plans more arena plans 0 (omega (arith, count)))
+
+job_taken : (arena : ℕ) (script rest : List Entry) (j : Job) (place : ℕ) (old new : Planned) (plans plans2 : List JobPlan) (asked asked2 : List ℕ)
+    → UpTo arena script (AJob j ∷ rest) place old plans asked
+    → IsJobTaken (text_of_program script j.program) j.entry j.args j.fuel arena place old new plans plans2 asked asked2
+    → UpTo arena script rest (suc place) new plans2 asked2
+job_taken arena script rest j place old new plans plans2 asked asked2 u t =
+    let c = t.comes in
+    let f = c.fate in
+    record {
+      fates = u.fates ++ f ∷ [];
+      are = λ more h. subst (AreFates script script) (sym (append_assoc u.fates (f ∷ []) more)) (u.are (f ∷ more) (c.is, c.within, h));
+      leases =
+          ap world.leases_of c.plans
+          ∙ map-append (λ (p : Plan). p.lease) old.plans c.more
+          ∙ ap (λ l. l ++ world.leases_of c.more) u.leases
+          ∙ ap (λ l. sizes_of arena u.fates ++ l) c.leases
+          ∙ sym (sizes_end arena u.fates f);
+      places = λ more.
+          ap (λ l. l ++ places_of arena (suc place) rest more) t.new_place
+          ∙ append_assoc asked (places_by t.p place) (places_of arena (suc place) rest more)
+          ∙ ap (λ l. asked ++ (l ++ places_of arena (suc place) rest more)) (sym (c.places place))
+          ∙ u.places (f ∷ more)
+          ∙ ap (places_of arena 0 script) (sym (append_assoc u.fates (f ∷ []) more));
+      lines = λ more.
+          ap (λ ps. planned_lines new arena 0 ps ++ lines_of arena rest more) t.new_plan
+          ∙ ap (λ l. l ++ lines_of arena rest more) (new_lines arena j.fuel old new c.more plans t.p f c.licences c.plans u.count c.line)
+          ∙ append_assoc (planned_lines old arena 0 plans) (line_of arena j.fuel f ∷ []) (lines_of arena rest more)
+          ∙ u.lines (f ∷ more)
+          ∙ ap (lines_of arena script) (sym (append_assoc u.fates (f ∷ []) more));
+      count = ap (λ ps. next_behind ps 0) t.new_plan ∙ next_end plans t.p 0 ∙ ap (next_job t.p) u.count ∙ c.next;
+    }
+
+-- What the loop over entries keeps.
+pub record Going (arena : ℕ) (script rest : List Entry) (rows : List Row) (place : ℕ) (ps : Planned) (plans : List JobPlan) (asked : List ℕ) : Type 0 where
+  pub upto : UpTo arena script rest place ps plans asked
+  pub kept : AreRows ps.licences rows
+  pub few : length ps.plans ≤ place
+
+pub going_first : (arena : ℕ) (script : List Entry) (rows : List Row) (ps : Planned) (licences : List Licensed) → AreRows licences rows → ps ≡ record { licences = licences; plans = [] } → Going arena script script rows 0 ps [] []
+going_first arena script rows ps licences h e = record {
+  upto = none_taken arena script ps (ap (λ (q : Planned). q.plans) e);
+  kept = subst (λ (q : Planned). AreRows q.licences rows) (sym e) h;
+  few = let none : length ps.plans ≡ 0 = ap (λ (q : Planned). length q.plans) e in omega (arith, none);
+}
+
+next_place : (arena : ℕ) (script rest : List Entry) (place : ℕ) (ps : Planned) (plans : List JobPlan) (asked : List ℕ) → UpTo arena script rest (suc place) ps plans asked → UpTo arena script rest (place + 1) ps plans asked
+next_place arena script rest place ps plans asked u = let e : suc place ≡ place + 1 = omega arith in subst (λ (n : ℕ). UpTo arena script rest n ps plans asked) e u
+
+pub going_on : (arena : ℕ) (script rest : List Entry) (rows : List Row) (entry : Entry) (place : ℕ) (old new : Planned) (plans plans2 : List JobPlan) (asked asked2 : List ℕ)
+    → ((name : List ℕ) → text_of_program script name ≡ row_text (row_among rows name))
+    → Going arena script (entry ∷ rest) rows place old plans asked → IsEntryTaken rows arena place entry old new plans plans2 asked asked2
+    → Going arena script rest rows (place + 1) new plans2 asked2
+going_on arena script rest rows (AProgram p) place old new plans plans2 asked asked2 texts g t =
+    subst (λ (ps : Planned). Going arena script rest rows (place + 1) ps plans2 asked2) (sym t.0)
+    (subst (λ (ps : List JobPlan). Going arena script rest rows (place + 1) old ps asked2) (sym t.1)
+    (subst (λ (as' : List ℕ). Going arena script rest rows (place + 1) old plans as') (sym t.2)
+    (record { upto = next_place arena script rest place old plans asked (program_taken arena script rest p place old plans asked g.upto); kept = g.kept; few = omega (arith, g.few) })))
+going_on arena script rest rows (AJob j) place old new plans plans2 asked asked2 texts g t =
+    let c = t.comes in
+    let there = subst (λ (o : Option (List ℕ)). IsJobTaken o j.entry j.args j.fuel arena place old new plans plans2 asked asked2) (sym (texts j.program)) t in
+    record {
+      upto = next_place arena script rest place new plans2 asked2 (job_taken arena script rest j place old new plans plans2 asked asked2 g.upto there);
+      kept = subst (λ ls. AreRows ls rows) (sym c.licences) g.kept;
+      few = let most : next_job t.p (length old.plans) ≤ suc place = next_few t.p (length old.plans) place g.few in omega (arith, most, c.next);
+    }
+
+pub going_done : (arena : ℕ) (script : List Entry) (rows : List Row) (place : ℕ) (ps : Planned) (plans : List JobPlan) (asked : List ℕ) → Going arena script [] rows place ps plans asked → ArePlanned arena script ps plans asked
+going_done arena script rows place ps plans asked g =
+    let u = g.upto in
+    record {
+      fates = u.fates;
+      are = subst (AreFates script script) (append-nil u.fates) (u.are [] tt);
+      leases = u.leases;
+      places = sym (append-nil asked) ∙ u.places [] ∙ ap (places_of arena 0 script) (append-nil u.fates);
+      lines = sym (append-nil (planned_lines ps arena 0 plans)) ∙ u.lines [] ∙ ap (lines_of arena script) (append-nil u.fates);
+      count = u.count;
+    }
+
+-- ---- what follows
+
+all_both : (P : ℕ → Type 0) (xs ys : List ℕ) → AllByRecursion P xs → AllByRecursion P ys → AllByRecursion P (xs ++ ys)
+all_both P [] ys a b = b
+all_both P (x ∷ xs) ys a b = (a.0, all_both P xs ys a.1 b)
+
+leases_fit : (arena : ℕ) (f : Fate) → AreSizes arena (leases_of arena f)
+leases_fit arena (Unfit cause) = tt
+leases_fit arena (Calls c) = by_test (nat_lt arena (lease_of c)) refl
+  where
+    by_test : (b : Bool) → nat_lt arena (lease_of c) ≡ b → AreSizes arena (if b then [] else lease_of c ∷ [])
+    by_test true e = tt
+    by_test false e = ((omega arith, grind (arith, nat_tests, e)), tt)
+
+sizes_fit : (arena : ℕ) (fates : List Fate) → AreSizes arena (sizes_of arena fates)
+sizes_fit arena [] = tt
+sizes_fit arena (f ∷ fates) = all_both (λ size. (1 ≤ size) × (size ≤ arena)) (leases_of arena f) (sizes_of arena fates) (leases_fit arena f) (sizes_fit arena fates)
+
+pub planned_sizes : (arena : ℕ) (script : List Entry) (ps : Planned) (plans : List JobPlan) (asked : List ℕ) → ArePlanned arena script ps plans asked → AreSizes arena (world.leases_of ps.plans)
+planned_sizes arena script ps plans asked a = subst (AreSizes arena) (sym a.leases) (sizes_fit arena a.fates)
+
+lines_few : (arena : ℕ) (script : List Entry) (fates : List Fate) → length (lines_of arena script fates) ≤ length (job_names script)
+lines_few arena [] fates = omega arith
+lines_few arena (AProgram p ∷ script) fates = lines_few arena script fates
+lines_few arena (AJob j ∷ script) [] = omega (arith, lines_few arena script [])
+lines_few arena (AJob j ∷ script) (f ∷ fates) = omega (arith, lines_few arena script fates)
+
+pub planned_few : (arena : ℕ) (script : List Entry) (ps : Planned) (plans : List JobPlan) (asked : List ℕ) → length (job_names script) ≤ 4096 → ArePlanned arena script ps plans asked → length ps.plans ≤ 4096
+planned_few arena script ps plans asked h a =
+    let same : length plans ≡ length (lines_of arena script a.fates) = sym (lines_count ps arena plans 0) ∙ ap length a.lines in
+    omega (arith, h, same, lines_few arena script a.fates, next_within plans 0, a.count)

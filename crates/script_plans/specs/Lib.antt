@@ -1,0 +1,6 @@
+-- What comes of scripts.
+pub mod Fates
+pub mod Lines
+pub mod Rows
+pub mod Turns
+pub mod ScriptLaws

@@ -1,0 +1,102 @@
+-- Cited by contracts.
+-- All programs and all jobs of a script.
+use Rattle.std.specs.Prelude.{◌≡◌, ℕ, suc, true, List, [], ◌∷◌, ◌++◌, length, slice_get, Option, Some, None}
+use Rattle.std.specs.List.{AllByRecursion}
+use Rattle.camelot_values.specs.Kinds.{DataType}
+use Rattle.licence.specs.Licensed.{Licensed}
+use Rattle.job_script.specs.Scripts.{Entry, AProgram, AJob}
+use Rattle.run_reports.specs.declared.outcome.ProgramLine.{ProgramLine}
+use Rattle.run_reports.specs.Report.{JobLine, Ended, TooLarge, Refused}
+use Rattle.run_reports.specs.Told.{licence_types}
+use Rattle.job_world.specs.Plans.{Plan, Planned, job_run}
+use Rattle.job_world.specs.Plans as world
+use Rattle.script_plans.specs.declared.types.JobPlan.{JobPlan}
+use Rattle.script_plans.specs.declared.types.JobPlan.TheVariants as plan
+use Rattle.script_plans.specs.Fates.{Fate, IsProgramLine, IsFate, IsWithinBound, text_of_program, line_of, leases_of}
+
+-- every program is in Camelot
+abbrev pub IsCamelot : Entry → Type 0
+IsCamelot (AProgram p) = p.camelot ≡ true
+IsCamelot (AJob j) = Unit {0}
+
+abbrev pub AllCamelot : List Entry → Type 0
+AllCamelot entries = AllByRecursion IsCamelot entries
+
+-- each program of these entries has its own line
+abbrev pub AreProgramLines : List Entry → List ProgramLine → Type 0
+AreProgramLines [] [] = Unit {0}
+AreProgramLines (AProgram p ∷ entries) (line ∷ lines) = IsProgramLine p.text line × AreProgramLines entries lines
+AreProgramLines (AJob j ∷ entries) lines = AreProgramLines entries lines
+AreProgramLines entries lines = ⊥
+
+-- each job of these entries has its own fate, with the programs of the whole script; its peak is within its bound
+abbrev pub AreFates : (script : List Entry) → List Entry → List Fate → Type 0
+AreFates script [] [] = Unit {0}
+AreFates script (AProgram p ∷ entries) fates = AreFates script entries fates
+AreFates script (AJob j ∷ entries) (fate ∷ fates) = IsFate (text_of_program script j.program) j.entry j.args fate × IsWithinBound j.fuel fate × AreFates script entries fates
+AreFates script entries fates = ⊥
+
+-- the lines of the jobs, one for each
+abbrev pub lines_of : (arena : ℕ) → List Entry → List Fate → List JobLine
+lines_of arena [] fates = []
+lines_of arena (AProgram p ∷ entries) fates = lines_of arena entries fates
+lines_of arena (AJob j ∷ entries) [] = lines_of arena entries []
+lines_of arena (AJob j ∷ entries) (fate ∷ fates) = line_of arena j.fuel fate ∷ lines_of arena entries fates
+
+-- the leases of the jobs that go to the desk, in order
+abbrev pub sizes_of : (arena : ℕ) → List Fate → List ℕ
+sizes_of arena [] = []
+sizes_of arena (fate ∷ fates) = leases_of arena fate ++ sizes_of arena fates
+
+-- their places among the script's entries, the first of which stands at this place
+abbrev pub places_with : List ℕ → ℕ → List ℕ
+places_with [] place = []
+places_with (size ∷ sizes) place = place ∷ []
+
+abbrev pub places_of : (arena : ℕ) → (place : ℕ) → List Entry → List Fate → List ℕ
+places_of arena place [] fates = []
+places_of arena place (AProgram p ∷ entries) fates = places_of arena (suc place) entries fates
+places_of arena place (AJob j ∷ entries) [] = []
+places_of arena place (AJob j ∷ entries) (fate ∷ fates) = places_with (leases_of arena fate) place ++ places_of arena (suc place) entries fates
+
+-- ---- plans
+
+-- the types of the licence of this plan, and its fuel; nothing where there is no plan
+abbrev pub types_at : List Licensed → Option Plan → List DataType
+types_at licences None = []
+types_at licences (Some p) = licence_types (slice_get licences p.licence)
+
+abbrev pub fuel_at : Option Plan → ℕ
+fuel_at None = 0
+fuel_at (Some p) = p.fuel
+
+-- the line of what is planned, where a run that is planned is the job of this number: what the meaning of its code says that it comes to, with its own types and fuel
+abbrev pub planned_line : Planned → (arena job : ℕ) → JobPlan → JobLine
+planned_line ps arena job (plan.Runs bound) = Ended (types_at ps.licences (slice_get ps.plans job)) (job_run ps job) (fuel_at (slice_get ps.plans job)) bound
+planned_line ps arena job (plan.TooLarge needs) = TooLarge needs arena
+planned_line ps arena job (plan.Refused cause) = Refused cause
+
+-- the number of the next job, behind this plan and behind these
+abbrev pub next_job : JobPlan → ℕ → ℕ
+next_job (plan.Runs bound) job = suc job
+next_job (plan.TooLarge needs) job = job
+next_job (plan.Refused cause) job = job
+
+abbrev pub next_behind : List JobPlan → ℕ → ℕ
+next_behind [] job = job
+next_behind (p ∷ plans) job = next_behind plans (next_job p job)
+
+-- the lines of plans, one for each; the runs are the jobs from this number on, in order
+abbrev pub planned_lines : Planned → (arena job : ℕ) → List JobPlan → List JobLine
+planned_lines ps arena job [] = []
+planned_lines ps arena job (p ∷ plans) = planned_line ps arena job p ∷ planned_lines ps arena (next_job p job) plans
+
+-- What is planned of the jobs of these entries is what comes of them: each has a fate, and the leases, the places and the lines of what is planned are those of the fates. There are as many
+-- runs as jobs of the desk.
+pub record ArePlanned (arena : ℕ) (script : List Entry) (ps : Planned) (plans : List JobPlan) (asked : List ℕ) : Type 0 where
+  pub fates : List Fate
+  pub are : AreFates script script fates
+  pub leases : world.leases_of ps.plans ≡ sizes_of arena fates
+  pub places : asked ≡ places_of arena 0 script fates
+  pub lines : planned_lines ps arena 0 plans ≡ lines_of arena script fates
+  pub count : next_behind plans 0 ≡ length ps.plans

@@ -1,0 +1,124 @@
+-- Private: words for functions of this crate.
+-- One job: what is asked of a licence, what is planned, and what that adds to what was planned before.
+use Rattle.std.specs.Prelude.{◌≡◌, ℕ, ◌<◌, ◌≤◌, List, [], ◌∷◌, ◌++◌, length, slice_get, Option, Some}
+use Rattle.camelot_values.specs.Value.{Value}
+use Rattle.camelot_values.specs.Outcome.{peak_of}
+use Rattle.grail_code.specs.Code.{Func}
+use Rattle.grail_code.specs.Meaning.{run_of}
+use Rattle.grail_code.specs.ByName.{HasName, IsFirstNamed}
+use Rattle.value_text.specs.Grammar.{AreNamed, IsRead, IsTooLong, IsBadShape}
+use Rattle.value_text.specs.Inhabited.{Knows}
+use Rattle.licence.specs.Bound.{bound, lease}
+use Rattle.licence.specs.Licensed.{Licensed}
+use Rattle.cell_machine.specs.State.{most_calls}
+use Rattle.job_script.specs.Scripts.{Entry, AProgram, AJob}
+use Rattle.job_world.specs.Plans.{Plan, Planned}
+use Rattle.job_world.specs.Plans as world
+use Rattle.job_world.specs.Asking.{CanPlan}
+use Rattle.run_reports.specs.declared.outcome.JobCause.TheVariants as job_cause
+use Rattle.script_plans.specs.declared.asking.Asked.{Asked}
+use Rattle.script_plans.specs.declared.asking.Asked.TheVariants as asked
+use Rattle.script_plans.specs.declared.rows.Known.{Known}
+use Rattle.script_plans.specs.declared.types.JobPlan.{JobPlan}
+use Rattle.script_plans.specs.declared.types.JobPlan.TheVariants as plan
+use Rattle.script_plans.specs.Fates.{Fate, IsFate, IsWithinBound, line_of, leases_of}
+use Rattle.script_plans.specs.Lines.{planned_line, next_job, places_with}
+use Rattle.script_plans.specs.Rows.{Row, row_text, row_among}
+
+-- ---- what is asked of a licence
+
+-- the bound of a call of this function, which its peak is within
+pub record IsBoundOf (l : Licensed) (number : ℕ) (args : List Value) (most : ℕ) : Type 0 where
+  pub is : most ≡ bound l.code l.cert number args
+  pub peak : (fuel : ℕ) → peak_of (run_of l.code most_calls number fuel args) ≤ most
+
+-- the call of this function on these arguments, with its bound
+abbrev pub IsBounded : Licensed → (number : ℕ) → List Value → Asked → Type 0
+IsBounded l number args (asked.Unfit cause) = ⊥
+IsBounded l number args (asked.Fits entry xs most) = (entry ≡ number) × (xs.items ≡ args) × IsBoundOf l number args most
+
+-- what a text of arguments comes to at this function: a call on what it is read as, or why it isn't read
+abbrev pub IsOfArgs : Licensed → (number : ℕ) → Func → (text : List ℕ) → Asked → Type 0
+IsOfArgs l number f text (asked.Unfit (job_cause.Argument at)) = IsBadShape l.code.types f.params text at
+IsOfArgs l number f text (asked.Unfit (job_cause.Long items)) = IsTooLong l.code.types f.params text items
+IsOfArgs l number f text (asked.Unfit cause) = ⊥
+IsOfArgs l number f text (asked.Fits entry args most) = (entry ≡ number) × IsRead l.code.types f.params text args.items × IsBoundOf l number args.items most
+
+-- the function of this name, and what the arguments come to there
+pub record IsOfEntry (l : Licensed) (name text : List ℕ) (a : Asked) : Type 0 where
+  pub number : ℕ
+  pub first : IsFirstNamed l.code number name
+  pub func : Func
+  pub is : slice_get l.code.funcs number ≡ Some func
+  pub of_args : IsOfArgs l number func text a
+
+abbrev pub IsAsked : Licensed → (name text : List ℕ) → Asked → Type 0
+IsAsked l name text (asked.Unfit job_cause.NoEntry) = (number : ℕ) → HasName l.code number name → ⊥
+IsAsked l name text a = IsOfEntry l name text a
+
+-- ---- what is planned
+
+-- it can be planned
+abbrev pub CanBePlanned : List Licensed → (licence fuel : ℕ) → Asked → Type 0
+CanBePlanned licences licence fuel (asked.Unfit cause) = Unit {0}
+CanBePlanned licences licence fuel (asked.Fits entry args most) = CanPlan licences licence entry args.items fuel
+
+-- the plan is added where its lease is within the arena
+abbrev pub IsAdded : (arena : ℕ) → Plan → (most : ℕ) → (old new : Planned) → JobPlan → Type 0
+IsAdded arena p most old new (plan.Runs bound) = (bound ≡ most) × (p.lease ≤ arena) × (new.licences ≡ old.licences) × (new.plans ≡ old.plans ++ p ∷ [])
+IsAdded arena p most old new (plan.TooLarge needs) = (needs ≡ p.lease) × (arena < p.lease) × (new ≡ old)
+IsAdded arena p most old new (plan.Refused cause) = ⊥
+
+-- the plan of a call
+abbrev pub plan_for : (licence fuel : ℕ) → Licensed → (entry : ℕ) → List Value → Plan
+plan_for licence fuel l entry args = record { licence = licence; entry = entry; args = args; fuel = fuel; lease = lease l.code l.cert entry args }
+
+abbrev pub IsPlanned : (arena fuel licence : ℕ) → Licensed → Asked → (old new : Planned) → JobPlan → Type 0
+IsPlanned arena fuel licence l (asked.Unfit cause) old new p = (p ≡ plan.Refused cause) × (new ≡ old)
+IsPlanned arena fuel licence l (asked.Fits entry args most) old new p = IsAdded arena (plan_for licence fuel l entry args.items) most old new p
+
+-- the licence has this number, it is known which of its types have values, and its constructors have upper names
+pub record IsUsable (licences : List Licensed) (k : Known) : Type 0 where
+  pub licence : Licensed
+  pub at : slice_get licences k.licence ≡ Some licence
+  pub knows : Knows licence.code.types k.inhabited
+  pub named : AreNamed licence.code.types
+
+-- what was asked of this licence is planned
+pub record IsCalled (arena fuel licence : ℕ) (l : Licensed) (name text : List ℕ) (old new : Planned) (p : JobPlan) : Type 0 where
+  pub a : Asked
+  pub is : IsAsked l name text a
+  pub planned : IsPlanned arena fuel licence l a old new p
+
+-- ---- what comes of a job
+
+-- the place of what runs
+abbrev pub places_by : JobPlan → ℕ → List ℕ
+places_by (plan.Runs bound) place = place ∷ []
+places_by (plan.TooLarge needs) place = []
+places_by (plan.Refused cause) place = []
+
+-- The job has a fate, and what is planned is so: these plans are added, their leases are those of the fate, and so is the line.
+pub record Comes (text : Option (List ℕ)) (entry args : List ℕ) (fuel arena : ℕ) (old new : Planned) (p : JobPlan) : Type 0 where
+  pub fate : Fate
+  pub is : IsFate text entry args fate
+  pub within : IsWithinBound fuel fate
+  pub licences : new.licences ≡ old.licences
+  pub more : List Plan
+  pub plans : new.plans ≡ old.plans ++ more
+  pub leases : world.leases_of more ≡ leases_of arena fate
+  pub next : next_job p (length old.plans) ≡ length new.plans
+  pub places : (place : ℕ) → places_with (leases_of arena fate) place ≡ places_by p place
+  pub line : planned_line new arena (length old.plans) p ≡ line_of arena fuel fate
+
+-- One job more is planned: its plan is the last one, and its place too where it runs.
+pub record IsJobTaken (text : Option (List ℕ)) (entry args : List ℕ) (fuel arena place : ℕ) (old new : Planned) (plans plans2 : List JobPlan) (asked asked2 : List ℕ) : Type 0 where
+  pub p : JobPlan
+  pub comes : Comes text entry args fuel arena old new p
+  pub new_plan : plans2 ≡ plans ++ p ∷ []
+  pub new_place : asked2 ≡ asked ++ places_by p place
+
+-- the same of an entry: nothing is done for a program
+abbrev pub IsEntryTaken : List Row → (arena place : ℕ) → Entry → (old new : Planned) → (plans plans2 : List JobPlan) → (asked asked2 : List ℕ) → Type 0
+IsEntryTaken rows arena place (AProgram p) old new plans plans2 asked asked2 = (new ≡ old) × (plans2 ≡ plans) × (asked2 ≡ asked)
+IsEntryTaken rows arena place (AJob j) old new plans plans2 asked asked2 = IsJobTaken (row_text (row_among rows j.program)) j.entry j.args j.fuel arena place old new plans plans2 asked asked2

@@ -1,0 +1,13 @@
+//! From a script to what runs: its programs become licences, and its jobs become plans of runs, or are refused.
+#![tactic(auto)]
+
+mod asking;
+mod calling;
+pub mod laws;
+mod licensing;
+mod planning;
+mod rows;
+mod types;
+
+pub use planning::plan_script;
+pub use types::{JobPlan, Plans};

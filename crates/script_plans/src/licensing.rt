@@ -1,0 +1,131 @@
+//! The licences of all programs of a script.
+ghost use Rattle.std.specs.Prelude.{◌≡◌, ◌+◌, ◌<◌, ◌≤◌, length, map, OnOk, IfOk};
+ghost use Rattle.std.specs.List.{AllByRecursion};
+ghost use Rattle.licence.specs.Licensed.{Licensed};
+ghost use Rattle.camelot_compiler.specs.Compiled.{IsCompiled, Refused};
+ghost use Rattle.camelot_compiler.specs.Licences.{IsLicence};
+ghost use Rattle.job_script.specs.Text.{EntryIsShort};
+ghost use Rattle.job_script.specs.Words.{entry_of};
+ghost use Rattle.script_plans.specs.Rows.{AreLicensed, IsProgramAdded, IsTaken, row_of};
+
+use crate::rows::{Known, Row};
+use camelot_compiler::{CompileFault, license};
+use camelot_values::Word;
+use job_script::Entry;
+use licence::Licence;
+use refusals::Cause;
+use run_reports::ProgramLine;
+use std::alloc::{AllocError, Global};
+use value_text::Inhabited;
+
+/// The programs of a script so far: their rows, the licences of those that aren't refused, and their lines.
+#[derive(Drop)]
+pub(crate) struct Programs<'a> {
+    pub(crate) rows: Vec<Row<'a>>,
+    pub(crate) licences: Vec<Licence>,
+    pub(crate) lines: Vec<ProgramLine>,
+}
+
+// Adds a program that has a licence.
+#[tactic(auto, using(crate::proofs::Programs::accepted))]
+fn accept<'a>(
+    programs: &mut Programs<'a>,
+    name: &'a Word,
+    text: &'a [u8],
+    licence: Licence,
+) -> Result<(), AllocError>
+    requires is { IsLicence text.now licence }
+    requires few { length programs.old.licences.items < 4294967295 }
+    ensures { OnOk result (IsProgramAdded name.now text.now (map row_of programs.old.rows.items) (map row_of programs.new.rows.items) programs.old.licences.items programs.new.licences.items programs.old.lines.items programs.new.lines.items) }
+{
+    let known = Known {
+        licence: programs.licences.len() as u32,
+        inhabited: Inhabited::of(&licence.code().types),
+    };
+    let unit = licence.cert().unit();
+    programs.licences.push(licence)?;
+    programs.rows.push(Row {
+        name,
+        text,
+        known: Some(known),
+    })?;
+    programs.lines.push(ProgramLine::Accepted { unit })?;
+    Ok(())
+}
+
+// Adds a program that is refused.
+#[tactic(auto, using(crate::proofs::Programs::refused))]
+fn refuse<'a>(
+    programs: &mut Programs<'a>,
+    name: &'a Word,
+    text: &'a [u8],
+    cause: Cause,
+) -> Result<(), AllocError>
+    requires { IsCompiled text.now (Refused cause) }
+    ensures { OnOk result (IsProgramAdded name.now text.now (map row_of programs.old.rows.items) (map row_of programs.new.rows.items) programs.old.licences.items programs.new.licences.items programs.old.lines.items programs.new.lines.items) }
+{
+    programs.rows.push(Row {
+        name,
+        text,
+        known: None,
+    })?;
+    programs.lines.push(ProgramLine::Refused { cause })?;
+    Ok(())
+}
+
+// Adds a program.
+fn add_program<'a>(
+    alloc: Global,
+    programs: &mut Programs<'a>,
+    name: &'a Word,
+    text: &'a [u8],
+) -> Result<(), AllocError>
+    requires short { length text.now < 4294967296 }
+    requires few { length programs.old.licences.items < 4294967295 }
+    ensures { OnOk result (IsProgramAdded name.now text.now (map row_of programs.old.rows.items) (map row_of programs.new.rows.items) programs.old.licences.items programs.new.licences.items programs.old.lines.items programs.new.lines.items) }
+{
+    match license(alloc, text) {
+        Ok(licence) => accept(programs, name, text, licence),
+        Err(CompileFault::Refused(cause)) => refuse(programs, name, text, cause),
+        Err(CompileFault::Memory) => Err(AllocError),
+    }
+}
+
+// Adds the program of an entry, where it is one.
+fn add_entry<'a>(
+    alloc: Global,
+    programs: &mut Programs<'a>,
+    entry: &'a Entry,
+) -> Result<(), AllocError>
+    requires short { EntryIsShort 4294967295 (entry_of entry.now) }
+    requires few { length programs.old.licences.items < 4294967295 }
+    ensures { OnOk result (IsTaken (entry_of entry.now) (map row_of programs.old.rows.items) (map row_of programs.new.rows.items) programs.old.licences.items programs.new.licences.items programs.old.lines.items programs.new.lines.items) }
+{
+    match entry {
+        Entry::Program { name, text, .. } => add_program(alloc, programs, name, text),
+        Entry::Job { .. } => Ok(()),
+    }
+}
+
+/// All programs of these entries.
+#[tactic(auto, using(crate::proofs::Programs::none_licensed, crate::proofs::Programs::licensed_more, crate::proofs::Programs::all_licensed))]
+pub(crate) fn license_all<'a>(
+    alloc: Global,
+    entries: &'a [Entry],
+) -> Result<Programs<'a>, AllocError>
+    requires short { AllByRecursion (EntryIsShort 4294967295) (map entry_of entries.now) }
+    requires few { length entries.now ≤ 4160 }
+    ensures { IfOk result (λ p. AreLicensed (map entry_of entries.now) (map row_of p.rows.items) p.licences.items p.lines.items) }
+{
+    let mut programs = Programs {
+        rows: Vec::new(alloc),
+        licences: Vec::new(alloc),
+        lines: Vec::new(alloc),
+    };
+    let mut rest = entries;
+    'entries: while let [entry, others @ ..] = rest {
+        add_entry(alloc, &mut programs, entry)?;
+        rest = others;
+    }
+    Ok(programs)
+}

@@ -1,0 +1,37 @@
+//! What is known of each program of a script, found by the program's name.
+ghost use Rattle.std.specs.Prelude.{◌≡◌, map};
+ghost use Rattle.std.specs.Option.{option_map};
+ghost use Rattle.script_plans.specs.Rows.{row_of, row_among};
+
+use camelot_values::Word;
+use value_text::Inhabited;
+
+/// What is known of a program that has a licence: the licence's number, and which of its types have values.
+#[derive(Drop)]
+pub(crate) struct Known {
+    pub(crate) licence: u32,
+    pub(crate) inhabited: Inhabited,
+}
+
+/// A program of the script: its name, its text, and what is known of it, where it isn't refused.
+#[derive(Drop)]
+pub(crate) struct Row<'a> {
+    pub(crate) name: &'a Word,
+    pub(crate) text: &'a [u8],
+    pub(crate) known: Option<Known>,
+}
+
+/// The first program of this name. There are at most 64.
+#[tactic(auto, using(crate::proofs::Finding::here, crate::proofs::Finding::later))]
+pub(crate) fn find<'a, 'b>(rows: &'a [Row<'b>], name: &[u8]) -> Option<&'a Row<'b>>
+    ensures { option_map (λ r. row_of r.now) result ≡ row_among (map row_of rows.now) name.now }
+{
+    let mut rest = rows;
+    'rows: while let [row, others @ ..] = rest {
+        if row.name.bytes() == name {
+            return Some(row);
+        }
+        rest = others;
+    }
+    None
+}

@@ -1,0 +1,123 @@
+-- The lines of jobs by what was filed are those by their plans.
+use Rattle.std.proofs.Common.{◌≡◌, ℕ, zero, suc, ◌+◌, ◌<◌, ◌≤◌, List, [], ◌∷◌, ◌++◌, length, map, drop, slice_get, slice_set, Option, Some, None, get_or, refl, sym, ap, ◌∙◌, subst, arith}
+use Rattle.std.proofs.Math.Seq.{drop-cons}
+use Rattle.std.proofs.lemmas.Option.{get_or_from_slice_get, slice_get_within}
+use Rattle.std.specs.Prelude.{codes, decimal}
+use Rattle.camelot_values.specs.Value.{Value}
+use Rattle.camelot_values.specs.Kinds.{DataType, constructor_name}
+use Rattle.camelot_values.specs.Outcome as plain
+use Rattle.camelot_values.specs.Outcome.{Outcome}
+use Rattle.value_text.specs.Text.{value_text}
+use Rattle.cell_machine.specs.Endings.{EndsWith}
+use Rattle.cell_machine.specs.declared.machine.Ending.{Ending}
+use Rattle.cell_machine.specs.declared.machine.Ending.TheVariants as ending
+use Rattle.run_reports.specs.Report.{JobLine, ended_text, told_text}
+use Rattle.run_reports.specs.Told.{outcome_of, licence_types, line_of}
+use Rattle.job_world.specs.Plans.{Plan, Planned, job_run}
+use Rattle.job_workers.specs.declared.answer.Answer.{Answer}
+use Rattle.job_workers.specs.Filings.{AllAnswered, HasAnswer}
+use Rattle.job_workers.specs.Served.{EndsAsMeant}
+use Rattle.script_plans.specs.declared.types.JobPlan.{JobPlan}
+use Rattle.script_plans.specs.declared.types.JobPlan.TheVariants as plan
+use Rattle.script_plans.specs.Lines.{next_behind, next_job, planned_line, planned_lines, types_at, fuel_at}
+use Rattle.std.specs.List.{AllByRecursion}
+use Rattle.script_service.specs.Service.{IsMeant, TellsMeaning}
+use Rattle.script_service.specs.Filed.{AnsweredFrom}
+
+same_ended : (types : List DataType) (o : Outcome Value) (e : Ending) (fuel bound : ℕ) → EndsWith o e → ended_text types (outcome_of e) fuel bound ≡ ended_text types o fuel bound
+unfolding ended_text
+same_ended types (plain.Done v calls peak low) (ending.Done w c p) fuel bound h =
+    λ i. (codes " done " ++ value_text (constructor_name types) (h.0 i)) ++ (codes " calls " ++ decimal (h.1 i)) ++ (codes " peak " ++ decimal (h.2 i)) ++ (codes " bound " ++ decimal bound)
+same_ended types (plain.Done v calls peak low) (ending.Fuel p) fuel bound h = absurd h
+same_ended types (plain.Done v calls peak low) (ending.Deep p) fuel bound h = absurd h
+same_ended types (plain.Fuel calls peak) (ending.Done w c p) fuel bound h = absurd h
+same_ended types (plain.Fuel calls peak) (ending.Fuel p) fuel bound h = λ i. (codes " fuel " ++ decimal fuel) ++ (codes " peak " ++ decimal (h i)) ++ (codes " bound " ++ decimal bound)
+same_ended types (plain.Fuel calls peak) (ending.Deep p) fuel bound h = absurd h
+same_ended types (plain.Deep peak) (ending.Done w c p) fuel bound h = absurd h
+same_ended types (plain.Deep peak) (ending.Fuel p) fuel bound h = absurd h
+same_ended types (plain.Deep peak) (ending.Deep p) fuel bound h = λ i. (codes " deep peak " ++ decimal (h i)) ++ (codes " bound " ++ decimal bound)
+same_ended types plain.Stuck (ending.Done w c p) fuel bound h = absurd h
+same_ended types plain.Stuck (ending.Fuel p) fuel bound h = absurd h
+same_ended types plain.Stuck (ending.Deep p) fuel bound h = absurd h
+
+-- ---- answers
+
+pub answer_is : (xs : List (Option Answer)) (i : ℕ) (a : Answer) (r d : Option Answer) → slice_get xs i ≡ Some (Some a) → r ≡ get_or xs i d → r ≡ Some a
+answer_is xs i a r d e f = f ∙ get_or_from_slice_get xs i (Some a) d e
+
+pub none_there : (xs : List (Option Answer)) (i : ℕ) (a : Answer) (r d : Option Answer) → slice_get xs i ≡ Some (Some a) → r ≡ get_or xs i d → r ≡ None → ⊥
+none_there xs i a r d e f n = let g : r ≡ Some a = answer_is xs i a r d e f in let h : None ≡ Some a = sym n ∙ g in absurd cc
+
+pub same_answer : (xs : List (Option Answer)) (i : ℕ) (a b : Answer) (r d : Option Answer) → slice_get xs i ≡ Some (Some a) → r ≡ get_or xs i d → r ≡ Some b → b ≡ a
+same_answer xs i a b r d e f n = let g : Some b ≡ Some a = sym n ∙ answer_is xs i a r d e f in cc
+
+-- the line of an ending is that of the plan
+pub same_line : (ps : Planned) (p : Plan) (arena job bound : ℕ) (e : Ending) → slice_get ps.plans job ≡ Some p → EndsAsMeant ps job e
+    → ended_text (licence_types (slice_get ps.licences p.licence)) (outcome_of e) p.fuel bound ≡ told_text (planned_line ps arena job (plan.Runs bound))
+same_line ps p arena job bound e is meant =
+    subst (λ o. ended_text (licence_types (slice_get ps.licences p.licence)) (outcome_of e) p.fuel bound ≡ ended_text (types_at ps.licences o) (job_run ps job) (fuel_at o) bound) (sym is)
+    (same_ended (licence_types (slice_get ps.licences p.licence)) (job_run ps job) e p.fuel bound meant)
+
+-- ---- what is left
+
+slice_get-other : (xs : List (Option Answer)) (i j : ℕ) (x : Option Answer) → i < j → slice_get (slice_set xs i x) j ≡ slice_get xs j
+slice_get-other [] i j x lt = refl
+slice_get-other (y ∷ ys) i zero x lt = absurd (omega (arith, lt))
+slice_get-other (y ∷ ys) zero (suc j) x lt = refl
+slice_get-other (y ∷ ys) (suc i) (suc j) x lt = slice_get-other ys i j x (omega (arith, lt))
+
+pub answered_later : (ps : Planned) (job : ℕ) (payloads left : List (Option Answer)) → AnsweredFrom ps job payloads → left ≡ slice_set payloads job None → AnsweredFrom ps (suc job) left
+unfolding AnsweredFrom
+answered_later ps job payloads left all e = λ j le lt. subst (HasAnswer ps j) (sym (ap (λ l. slice_get l j) e ∙ slice_get-other payloads job j None (omega (arith, le)))) (all j (omega (arith, le)) lt)
+
+pub answered_within : (ps : Planned) (job : ℕ) (payloads : List (Option Answer)) → AnsweredFrom ps job payloads → suc job ≤ length ps.plans → job < length payloads
+unfolding AnsweredFrom
+answered_within ps job payloads all few = let h : HasAnswer ps job (slice_get payloads job) = all job (omega arith) (omega (arith, few)) in slice_get_within payloads job (Some h.answer) h.is
+
+pub answered_here : (ps : Planned) (job : ℕ) (payloads : List (Option Answer)) → AnsweredFrom ps job payloads → suc job ≤ length ps.plans → HasAnswer ps job (slice_get payloads job)
+unfolding AnsweredFrom
+answered_here ps job payloads all few = all job (omega arith) (omega (arith, few))
+
+pub all_answered : (ps : Planned) (payloads : List (Option Answer)) → AllAnswered ps payloads → AnsweredFrom ps 0 payloads
+unfolding AnsweredFrom
+all_answered ps payloads all = λ j le lt. all j lt
+
+-- ---- numbers of jobs
+
+job_rises : (p : JobPlan) (job : ℕ) → job ≤ next_job p job
+job_rises (plan.Runs bound) job = omega arith
+job_rises (plan.TooLarge needs) job = omega arith
+job_rises (plan.Refused cause) job = omega arith
+
+behind_rises : (plans : List JobPlan) (job : ℕ) → job ≤ next_behind plans job
+behind_rises [] job = omega arith
+behind_rises (p ∷ plans) job = let a : job ≤ next_job p job = job_rises p job in let b : next_job p job ≤ next_behind plans (next_job p job) = behind_rises plans (next_job p job) in omega (arith, a, b)
+
+pub next_below : (p : JobPlan) (plans : List JobPlan) (job count : ℕ) → next_behind (p ∷ plans) job ≡ count → next_job p job ≤ count
+next_below p plans job count e = let b : next_job p job ≤ next_behind plans (next_job p job) = behind_rises plans (next_job p job) in omega (arith, b, e)
+
+pub next_below_at : (plans : List JobPlan) (i job count : ℕ) (d : JobPlan) → i < length plans → next_behind (drop i plans) job ≡ count → next_job (get_or plans i d) job ≤ count
+next_below_at plans i job count d h e = next_below (get_or plans i d) (drop (suc i) plans) job count (ap (λ l. next_behind l job) (sym (drop-cons plans i d h)) ∙ e)
+
+pub job_below : (plans : List JobPlan) (job count : ℕ) → next_behind plans job ≡ count → count ≤ 4096 → job < 4294967295
+job_below plans job count e few = let b : job ≤ next_behind plans job = behind_rises plans job in omega (arith, b, e, few)
+
+-- ---- each run has a meaning
+
+ended_meant : (o : Outcome Value) (e : Ending) → EndsWith o e → IsMeant o
+ended_meant (plain.Done v calls peak low) e h = tt
+ended_meant (plain.Fuel calls peak) e h = tt
+ended_meant (plain.Deep peak) e h = tt
+ended_meant plain.Stuck (ending.Done w c p) h = absurd h
+ended_meant plain.Stuck (ending.Fuel p) h = absurd h
+ended_meant plain.Stuck (ending.Deep p) h = absurd h
+
+pub all_meant : (ps : Planned) (arena : ℕ) (payloads : List (Option Answer)) → AllAnswered ps payloads → (plans : List JobPlan) (job : ℕ) → next_behind plans job ≡ length ps.plans
+    → AllByRecursion TellsMeaning (planned_lines ps arena job plans)
+all_meant ps arena payloads all [] job e = tt
+all_meant ps arena payloads all (plan.Runs bound ∷ plans) job e =
+    let below : suc job ≤ length ps.plans = next_below (plan.Runs bound) plans job (length ps.plans) e in
+    let has : HasAnswer ps job (slice_get payloads job) = all job (omega (arith, below)) in
+    (ended_meant (job_run ps job) has.answer.ending has.meant, all_meant ps arena payloads all plans (suc job) e)
+all_meant ps arena payloads all (plan.TooLarge needs ∷ plans) job e = (tt, all_meant ps arena payloads all plans job e)
+all_meant ps arena payloads all (plan.Refused cause ∷ plans) job e = (tt, all_meant ps arena payloads all plans job e)
