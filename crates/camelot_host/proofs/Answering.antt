@@ -1,12 +1,11 @@
 -- What reading, working and writing come to together.
-use Rattle.std.proofs.Common.{◌≡◌, ℕ, ◌+◌, ◌<◌, ◌≤◌, Bool, true, List, [], ◌∷◌, map, get_or, length, Option, Some, None, ◌++◌, sym, ap, ◌∙◌, subst, arith}
+use Rattle.std.proofs.Common.{◌≡◌, ℕ, ◌+◌, ◌<◌, ◌≤◌, Bool, true, List, [], ◌∷◌, map, get_or, length, Option, Some, None, ◌++◌, refl, sym, ap, ◌∙◌, subst, arith}
 use Rattle.std.proofs.lemmas.List.{append-nil, length-append}
 use Rattle.std.specs.Str.{bytes_eq}
-use Rattle.camelot_host.proofs.Numbers.{same_bytes, bytes_same}
+use Rattle.std.proofs.lemmas.Slice.Eq.{bytes_eq-Decides}
 use Rattle.std.specs.Io.KnownBytes.{Consumes, IsAtEnd}
 use Rattle.host_io.specs.Counts.{last_count, Rose}
 use Rattle.host_io.specs.Source.{Took, TookExactly}
-use Rattle.camelot_host.proofs.FunctionLaws.{some_is}
 use Rattle.camelot_host.specs.Commands.{Command, IsCommand}
 use Rattle.camelot_host.specs.CommandLaws.{one_command}
 use Rattle.camelot_host.specs.Due.{Verdict, Done, Refused, IsDue}
@@ -14,6 +13,15 @@ use Rattle.camelot_host.specs.Answers.{input_limit, devices, Answers, Quiet, Sou
 use Rattle.camelot_host.specs.Replies.{Writes, Responds}
 use Rattle.camelot_host.specs.declared.status.Status.{Status}
 use Rattle.camelot_host.specs.declared.status.Status.TheVariants as status
+
+same_bytes : (xs ys : List ℕ) → bytes_eq xs ys ≡ true → xs ≡ ys
+same_bytes xs ys h = (bytes_eq-Decides xs ys).0 h
+
+bytes_same : (xs : List ℕ) → bytes_eq xs xs ≡ true
+bytes_same xs = (bytes_eq-Decides xs xs).1 refl
+
+some_is : {A : Type 0} (x y : A) → Some x ≡ Some y → x ≡ y
+some_is x y h = cc
 
 -- what is due was told by the status of its verdict, or a front of it
 pub responds : (s : Status) (v : Verdict) (command : Command) (input output : List ℕ) (t t' : Option (List ℕ)) → IsDue command input v output → Writes s v output t t' → Responds s command input t t'

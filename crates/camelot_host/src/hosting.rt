@@ -63,9 +63,9 @@ fn respond<K: Sink>(alloc: Global, command: Command, input: &[u8], sink: &mut K)
 ///
 /// The commands:
 ///
-/// - `serve` reads a script and writes its report. A script is served if it has one worker, one program of one function, which
-///   adds 1 to 16 parameters and numbers by at most 100 signs `+`, and one job of that function; any other input is refused
-///   with the line `refused not-yet`.
+/// - `serve` reads a script of Camelot programs and of jobs, and writes its report: each program with its unit or why it is refused; each job with what it
+///   comes to by the meaning of its program's source, its peak and its bound, or why it didn't run; and the journal of the leases of all jobs in one arena. An input
+///   that is no script is refused with its first wrong line, and a script with a Grail program with the line `refused not-yet`.
 /// - `compile` reads a Camelot source and writes its bundle: the code and the least certificate. A source that isn't compiled is refused with a line that
 ///   tells the cause.
 ///

@@ -3,17 +3,9 @@
 
 mod command;
 mod compile;
-mod cursor;
-mod function;
 mod hosting;
 pub mod laws;
-mod lexer;
-mod lower;
-mod number;
 mod reply;
-mod report;
-mod runner;
-mod script;
 mod serve;
 mod status;
 
