@@ -4,8 +4,8 @@ use Rattle.std.specs.Prelude.{◌||◌, int_lt, int_le, ◌<ℤ◌, ◌≤ℤ◌
 use Rattle.std.proofs.lemmas.Int.{ints}
 use Rattle.dual_simplex.specs.declared.tableau.Candidate.{Candidate}
 use Rattle.dual_simplex.specs.declared.tableau.Choice.{Choice}
-use Rattle.dual_simplex.specs.Equation.{Equation, factor_at}
-use Rattle.dual_simplex.specs.Tableau.{Tableau, no_line, line_at}
+use Rattle.dual_simplex.specs.Equation.{Equation}
+use Rattle.dual_simplex.specs.Tableau.{Tableau, no_line}
 use Rattle.dual_simplex.specs.Choices.{IsLeaving, NoLeaving, IsEntering, NoEntering}
 use Rattle.dual_simplex.specs.Scans.{leaving, entering, earlier, leaving_from, beats, better, entering_from, LeavesRightly, EntersRightly}
 use Rattle.dual_simplex.proofs.Ring.{sums}

@@ -1,5 +1,5 @@
 -- The run as a relation is the run by the scans, and each of its choices is the only one.
-use Rattle.std.proofs.Common.{◌≡◌, ℕ, suc, zero, ◌+◌, ◌<◌, ◌≤◌, ℤ, pos, List, [], ◌∷◌, map, length, get_or, Bool, true, false, arith, ap, sym, ◌∙◌, refl, subst, ◌⊎◌, inl, inr, None, Some}
+use Rattle.std.proofs.Common.{◌≡◌, ℕ, suc, zero, ◌+◌, ◌<◌, ◌≤◌, ℤ, pos, List, [], ◌∷◌, length, get_or, Bool, true, false, arith, ap, sym, ◌∙◌, refl, subst, inl, inr, None, Some}
 use Rattle.std.specs.Prelude.{◌<ℤ◌, ◌≤ℤ◌, Option, MatchOption}
 use Rattle.std.proofs.lemmas.Int.{ints}
 use Rattle.std.proofs.lemmas.List.{get_or-map, length-map}
@@ -7,15 +7,14 @@ use Rattle.dual_simplex.specs.declared.tableau.Choice.{Choice}
 use Rattle.dual_simplex.specs.declared.tableau.Candidate.{Candidate}
 use Rattle.dual_simplex.specs.Equation.{Equation, factor_at}
 use Rattle.dual_simplex.specs.Tableau.{Tableau, all_fit, no_line, line_at, pivoted}
-use Rattle.dual_simplex.specs.Choices.{IsLeaving, NoLeaving, IsEntering, NoEntering, Picks, PicksLine, PicksColumn}
-use Rattle.dual_simplex.specs.Run.{Outcome, Nothing, Wide, Spent, ended, Turn, too_wide, ends, unmet, goes, IsRunFrom, IsRun, IsOutcome, HasOneRun, IsTableauOf}
+use Rattle.dual_simplex.specs.Choices.{IsLeaving, NoLeaving, IsEntering, NoEntering, PicksLine, PicksColumn}
+use Rattle.dual_simplex.specs.Run.{Outcome, Nothing, Spent, ended, Turn, too_wide, ends, unmet, goes, IsRunFrom, IsRun, IsOutcome, HasOneRun, IsTableauOf}
 use Rattle.dual_simplex.specs.Scans.{leaving, entering, run_from, outcome_of, pivots_from, pivots_of}
 use Rattle.dual_simplex.specs.Shape.{IsWellShaped}
 use Rattle.dual_simplex.specs.Reduced.{AllReduced}
 use Rattle.dual_simplex.specs.Systems.{Inequalities, IsProper, first_tableau}
-use Rattle.dual_simplex.proofs.Names.{one_if, one_if-same, uses, uses_at, variables, places}
+use Rattle.dual_simplex.proofs.Names.{one_if, one_if-same, uses, uses_at, variables}
 use Rattle.dual_simplex.proofs.Pivots.{wide_at}
-use Rattle.dual_simplex.proofs.Ratio.{NotNegative}
 use Rattle.dual_simplex.proofs.Good.{Good, good_first, good_turn, not_negative_at}
 use Rattle.dual_simplex.proofs.Chosen.{leaves_rightly, enters_rightly}
 use Rattle.dual_simplex.proofs.LowestTerms.{first_reduced, stays_reduced}

@@ -1,5 +1,5 @@
 -- Cited by contracts. The tableau of the dual simplex method, and one pivot of it.
-use Rattle.std.specs.Prelude.{ℕ, ℤ, pos, List, [], map, Bool, ◌&&◌, ◌==◌, if◌then◌else◌, slice_index_or, slice_set}
+use Rattle.std.specs.Prelude.{ℕ, pos, List, [], map, Bool, ◌&&◌, ◌==◌, if◌then◌else◌, slice_index_or, slice_set}
 use Rattle.std.specs.List.{list_all}
 use Rattle.dual_simplex.specs.Equation.{Equation, fits, solved_for, put_in}
 

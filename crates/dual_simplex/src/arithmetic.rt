@@ -45,6 +45,18 @@ pub fn greatest_common(a: u128, b: u128) -> u128
     x
 }
 
+// The greatest common divisor of `shared` and of a mixed number. In a sparse system most are of two zeros, and nothing is worked out for them.
+fn shared_with(shared: u128, scale: i64, times: i64, own: i64, other: i64) -> u128
+    requires scale { IsTrue (is_small scale) }
+    requires times { IsTrue (is_small times) }
+    ensures { IsGreatestCommon shared (unsigned_abs (mixed scale times own other)) result }
+{
+    if own == 0 && other == 0 {
+        return shared;
+    }
+    greatest_common(shared, mix(scale, times, own, other).unsigned_abs())
+}
+
 /// The greatest common divisor of `start` and of the mixed numbers.
 pub fn shared_by(start: u128, scale: i64, times: i64, owns: &[i64], others: &[i64]) -> u128
     requires start { 0 < start }
@@ -59,8 +71,7 @@ pub fn shared_by(start: u128, scale: i64, times: i64, owns: &[i64], others: &[i6
         if shared == 1 {
             return 1;
         }
-        let value = mix(scale, times, owns[place], others[place]);
-        shared = greatest_common(shared, value.unsigned_abs());
+        shared = shared_with(shared, scale, times, owns[place], others[place]);
     }
     shared
 }
@@ -84,6 +95,20 @@ pub fn narrowed(value: i128, shared: u128) -> Result<i64, TooWide>
     }
 }
 
+// A mixed number, divided by a divisor of it, where that is small. It is 0 where both numbers are, as most are in a sparse system.
+fn mixed_by(scale: i64, times: i64, own: i64, other: i64, shared: u128) -> Result<i64, TooWide>
+    requires scale { IsTrue (is_small scale) }
+    requires times { IsTrue (is_small times) }
+    requires positive { 0 < shared }
+    requires small { shared < 2 ^ 127 }
+    ensures { MatchResult result (λ n. (n ≡ int_div (mixed scale times own other) (pos shared)) × (is_small n ≡ true)) (λ _. is_small (int_div (mixed scale times own other) (pos shared)) ≡ false) }
+{
+    if own == 0 && other == 0 {
+        return Ok(0);
+    }
+    narrowed(mix(scale, times, own, other), shared)
+}
+
 /// Mixes numbers into others, place by place, and divides by a common divisor.
 pub fn mix_into(
     owns: &mut [i64],
@@ -101,7 +126,7 @@ pub fn mix_into(
     ensures small { MatchResult result (λ _. list_all is_small owns.new ≡ true) (λ _. list_all is_small (map (λ x. int_div x (pos shared)) (mixed_all scale times owns.old others.now)) ≡ false) }
 {
     for place in 0..owns.len() {
-        owns[place] = narrowed(mix(scale, times, owns[place], others[place]), shared)?;
+        owns[place] = mixed_by(scale, times, owns[place], others[place], shared)?;
     }
     Ok(())
 }

@@ -1,8 +1,7 @@
-use Rattle.std.proofs.Common.{to_z-of_z, w64, FitsSigned, pos, get_or, ◌≡◌, unsigned_abs, rules, subst, arith, ap, ◌∙◌, length, ◌<◌}
+use Rattle.std.proofs.Common.{to_z-of_z, w64, FitsSigned, pos, get_or, unsigned_abs, rules, arith, length, ◌<◌}
 use Rattle.dual_simplex.specs.Equation.{mixed}
 use Rattle.dual_simplex.specs.Multiples.{IsGreatestCommon}
 use Rattle.dual_simplex.proofs.Divisors.{shares_turn, shares_done, shares_at_one, common_positive}
-use mir.Syntax.{w128}
 use Rattle.dual_simplex.proofs.arithmetic.shared_by.Goals as goal
 
 pub returns-then-shared-eq1-clause-shared : goal.returns-then-shared-eq1-clause-shared
@@ -21,16 +20,12 @@ loop-place-preserved c =
     let ft = c.ranges.times in
     let fo : FitsSigned w64 (get_or owns i (pos 0)) = search rules in
     let fu : FitsSigned w64 (get_or others i (pos 0)) = search rules in
-    let fm : FitsSigned w128 c.mix-value.result = record { sfits = c.mix-value.type_inv } in
-    let value = simp to_z-of_z at c.mix-value.ensures.value in
-    let size = simp to_z-of_z at c.unsigned_abs.ensures.value in
-    let e : c.unsigned_abs.result ≡ unsigned_abs (mixed c.args.scale c.args.times (get_or owns i (pos 0)) (get_or others i (pos 0))) = size ∙ ap unsigned_abs value in
-    let step : IsGreatestCommon c.loop-place.shared (unsigned_abs (mixed c.args.scale c.args.times (get_or owns i (pos 0)) (get_or others i (pos 0)))) c.greatest_common-shared.result = subst (λ n. IsGreatestCommon c.loop-place.shared n c.greatest_common-shared.result) e c.greatest_common-shared.ensures in
+    let step : IsGreatestCommon c.loop-place.shared (unsigned_abs (mixed c.args.scale c.args.times (get_or owns i (pos 0)) (get_or others i (pos 0)))) c.shared_with-shared.result = simp to_z-of_z at c.shared_with-shared.ensures in
     let inside : i < length owns = c.loop-place-test.true in
     let before = simp to_z-of_z at c.loop-place.invariant.so_far in
     record {
-      positive = common_positive _ _ _ c.loop-place.invariant.positive c.greatest_common-shared.ensures;
-      so_far = simp to_z-of_z (shares_turn c.args.scale c.args.times owns others i c.args.start c.loop-place.shared c.greatest_common-shared.result inside (omega arith) step before);
+      positive = common_positive _ _ _ c.loop-place.invariant.positive c.shared_with-shared.ensures;
+      so_far = simp to_z-of_z (shares_turn c.args.scale c.args.times owns others i c.args.start c.loop-place.shared c.shared_with-shared.result inside (omega arith) step before);
     }
 
 pub returns-clause-shared : goal.returns-clause-shared
