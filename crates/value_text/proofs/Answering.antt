@@ -82,7 +82,7 @@ read_bad types kinds text found at r b = b.none found r.read.text_of
 shorter : (types : List DataType) (kinds : List Kind) (text : List ℕ) (n : ℕ) → Begins types kinds (take n text) → Begins types kinds []
 shorter types kinds text n b = record { rest = take n text ++ b.rest; values = b.values; whole = b.whole }
 
-below : (types : List DataType) (kinds : List Kind) (text : List ℕ) (m n : ℕ) → IsBadShape types kinds text m → IsBadShape types kinds text n → m ≤ n
+pub below : (types : List DataType) (kinds : List Kind) (text : List ℕ) (m n : ℕ) → IsBadShape types kinds text m → IsBadShape types kinds text n → m ≤ n
 below types kinds text m n a b = by_front a.begins
   where
     by_front : Begins types kinds (take m text) ⊎ ((m ≡ 0) × (Begins types kinds [] → ⊥)) → m ≤ n

@@ -18,3 +18,4 @@ pub mod StackSteps
 pub mod ValueSteps
 pub mod Answering
 pub mod RoundTrip
+pub mod OneReading

@@ -53,7 +53,7 @@ name_at [] c con e = absurd cc
 name_at (x ∷ cs) zero con e = let s : x ≡ con = cc in ap (λ y. Some y.name) s
 name_at (x ∷ cs) (suc c) con e = name_at cs c con e
 
-same_con : (types : List DataType) (c d : ℕ) (con other : Constructor) → DistinctNames types → constructor types c ≡ Some con → constructor types d ≡ Some other → con.name ≡ other.name → c ≡ d
+pub same_con : (types : List DataType) (c d : ℕ) (con other : Constructor) → DistinctNames types → constructor types c ≡ Some con → constructor types d ≡ Some other → con.name ≡ other.name → c ≡ d
 same_con types c d con other n e f s =
     distinct_place (map (λ c. c.name) (constructors types)) c d con.name n (name_at (constructors types) c con e) (name_at (constructors types) d other f ∙ ap Some (sym s))
 
@@ -217,14 +217,14 @@ pub of_type : (o : Option ℕ) (t : ℕ) → option_map kind.Of o ≡ Some (kind
 of_type None t e = absurd cc
 of_type (Some u) t e = let k : kind.Of u ≡ kind.Of t = cc in let s : u ≡ t = cc in ap Some s
 
-con_node : (types : List DataType) (t : ℕ) (x : Item) (fields : List Kind) → IsNode types (kind.Of t) x fields → ConNode types t x fields
+pub con_node : (types : List DataType) (t : ℕ) (x : Item) (fields : List Kind) → IsNode types (kind.Of t) x fields → ConNode types t x fields
 con_node types t (item.Int z) fields n = absurd (let e : kind.Of t ≡ kind.Int = n.0 in cc)
 con_node types t (item.Flag b) fields n = absurd (let e : kind.Of t ≡ kind.Flag = n.0 in cc)
 con_node types t item.Dia fields n = absurd (let e : kind.Of t ≡ kind.Dia = n.0 in cc)
 con_node types t (item.Con c k) fields n =
     let (con, is, of, f, count) = n in record { c = c; con = con; is = is; of = of_type (type_of types c) t of; fields_is = f; x_is = ap (item.Con c) count }
 
-con_text : (types : List DataType) (t : ℕ) (x : Item) (fields : List Kind) (w : List ℕ) (n : ConNode types t x fields) → IsNodeText (constructor_name types) x w → w ≡ n.con.name
+pub con_text : (types : List DataType) (t : ℕ) (x : Item) (fields : List Kind) (w : List ℕ) (n : ConNode types t x fields) → IsNodeText (constructor_name types) x w → w ≡ n.con.name
 con_text types t x fields w n h =
     let k : w ≡ constructor_name types n.c = subst (λ y. IsNodeText (constructor_name types) y w) n.x_is h in k ∙ named_con types n.c n.con n.is
 
