@@ -121,7 +121,7 @@ after_events sizes o [] = o
 after_events sizes None (e ∷ es) = None
 after_events sizes (Some s) (e ∷ es) = after_events sizes (after_event sizes s e) es
 
--- the state behind a journal; none where it isn't the front of a legal one
+-- the state behind a journal; none where an event isn't the next move of a desk behind the events before it. Whether the sizes fit the arena isn't asked here.
 unfoldable pub replay : (arena : ℕ) → (sizes : List ℕ) → List Event → Option DeskState
 replay arena sizes journal = after_events sizes (Some (opened arena (length sizes))) journal
 

@@ -5,3 +5,4 @@ pub mod Coming
 pub mod Programs
 pub mod Behind
 pub mod Taking
+pub mod OneFate

@@ -1,11 +1,31 @@
 //! Laws of plans, as contracts of functions that do nothing.
-ghost use Rattle.std.specs.Prelude.{◌≤◌, ℕ, List};
+ghost use Rattle.std.specs.Prelude.{◌≡◌, ◌≤◌, ℕ, List, Option};
 ghost use Rattle.std.specs.List.{AllByRecursion};
 ghost use Rattle.job_script.specs.Scripts.{Entry as PlainEntry};
 ghost use Rattle.job_script.specs.Text.{EntryIsShort};
+ghost use Rattle.run_reports.specs.declared.outcome.ProgramLine.{ProgramLine as PlainLine};
+ghost use Rattle.script_plans.specs.Fates.{Fate, IsFate, IsProgramLine};
+ghost use Rattle.script_plans.specs.Lines.{AreFates, AreProgramLines};
+
+use camelot_compiler::laws::law_of_compiling;
+use code_gen::laws::law_of_compiler;
+use value_text::laws::law_of_reading;
 
 /// The texts of programs and jobs that are no longer than so many bytes, as those of a script that was read are no longer than its own text, have fewer than 2^32.
 #[tactic(auto, using(crate::specs::ScriptLaws::all_short))]
 pub fn law_of_short()
     ensures { (most : ℕ) (entries : List PlainEntry) → most ≤ 4294967295 → AllByRecursion (EntryIsShort most) entries → AllByRecursion (EntryIsShort 4294967295) entries }
 {}
+
+/// What comes of a script is determined by its text: each program has one line, and each job one fate, so that each job has one line, whoever serves the script and whatever
+/// else it has.
+pub fn law_of_fates()
+    ensures program { (text : List ℕ) (first second : PlainLine) → IsProgramLine text first → IsProgramLine text second → first ≡ second }
+    ensures job { (text : Option (List ℕ)) (entry args : List ℕ) (first second : Fate) → IsFate text entry args first → IsFate text entry args second → first ≡ second }
+    ensures programs { (entries : List PlainEntry) (first second : List PlainLine) → AreProgramLines entries first → AreProgramLines entries second → first ≡ second }
+    ensures jobs { (script entries : List PlainEntry) (first second : List Fate) → AreFates script entries first → AreFates script entries second → first ≡ second }
+{
+    law_of_compiling();
+    law_of_reading();
+    law_of_compiler();
+}
