@@ -13,7 +13,7 @@ ghost use Rattle.job_workers.specs.Serving.{IsKept, IsServed};
 
 use crate::answer::Answer;
 use crate::stacks::{Kept, stack_for};
-use cell_machine::{Ran, Room, Stack, run};
+use cell_machine::{Ending, Ran, Room, Stack, run};
 use cell_span::Span;
 use job_world::{Jobs, Plan};
 use lease_desk::Lease;
@@ -44,6 +44,20 @@ fn run_plan(licence: &Licence, plan: &Plan, span: Span, stack: Stack, room: Room
     )
 }
 
+// The same ending, its value in just the memory that it needs: a run has room for the largest value that its cells may hold.
+fn compact(alloc: Global, ending: Ending) -> Result<Ending, AllocError>
+    ensures { IfOk result (λ same. same ≡ ending) }
+{
+    match ending {
+        Ending::Done { value, calls, peak } => Ok(Ending::Done {
+            value: value.copy(alloc)?,
+            calls,
+            peak,
+        }),
+        stopped => Ok(stopped),
+    }
+}
+
 /// Runs the job of a lease in the lease's cells, which are as many as its plan says. It needs no desk. `AllocError` where memory runs out: the lease is lost then.
 pub(crate) fn serve_lease<'a>(
     alloc: Global,
@@ -64,11 +78,8 @@ pub(crate) fn serve_lease<'a>(
     let room = Room::new(alloc, plan.lease)?;
     let (span, claim) = lease.open();
     let ran = run_plan(licence, plan, span, stack, room);
-    let answer = Answer {
-        job,
-        ending: ran.ending,
-        jobs,
-    };
+    let ending = compact(alloc, ran.ending)?;
+    let answer = Answer { job, ending, jobs };
     Ok(Served {
         lease: claim.close(ran.span),
         answer,

@@ -142,7 +142,6 @@ pub fn serve_jobs<'a>(
 ) -> Result<Finished<Answer<'a>>, AllocError>
     requires sizes { desk.sizes ≡ leases_of jobs.now.plans }
     requires state { desk.state ≡ opened desk.arena (length desk.sizes) }
-    requires journal { desk.journal ≡ [] }
     requires payloads { desk.payloads ≡ replicate (length desk.sizes) None }
     requires withdrawn { desk.withdrawn ≡ 0 }
     // The journal is legal, from the first event to the last.

@@ -1,5 +1,7 @@
-use Rattle.std.proofs.Common.{refl}
+use Rattle.std.proofs.Common.{refl, sym, subst}
+use Rattle.cell_machine.specs.declared.machine.Ending.{Ending}
 use Rattle.job_world.specs.Words.{plan_of}
+use Rattle.job_workers.specs.Served.{EndsAsMeant}
 use Rattle.job_workers.proofs.Planned.{lease_now, plan_now, room_now, meant_now, served_now}
 use Rattle.job_workers.proofs.serving.serve_lease.Goals as goal
 
@@ -15,9 +17,9 @@ run_plan-ran-requires-clause-room c = room_now c.args.jobs.now c.job-job.result 
 
 pub invariant_of-answer : goal.invariant_of-answer
 invariant_of-answer c = record {
-  meant = meant_now c.args.jobs.now c.job-job.result c.args.lease (plan_of c.plan-plan.result.now) c.licence-licence.result.now
+  meant = subst (λ (e : Ending). EndsAsMeant c.args.jobs.now c.job-job.result e) (sym c.in_ok-ending.ensures) (meant_now c.args.jobs.now c.job-job.result c.args.lease (plan_of c.plan-plan.result.now) c.licence-licence.result.now
       (lease_now c.args.jobs.now c.job-job.result c.args.lease (plan_of c.plan-plan.result.now) c.licence-licence.result.now c.kept.ensures c.job-job.ensures c.requires.size c.plan-plan.ensures.is c.licence-licence.ensures.is)
-      c.plan-plan.result.now.args.items c.run_plan-ran.result.ending refl c.run_plan-ran.ensures.ending;
+      c.plan-plan.result.now.args.items c.run_plan-ran.result.ending refl c.run_plan-ran.ensures.ending);
 }
 
 pub returns : goal.returns
