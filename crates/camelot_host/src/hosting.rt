@@ -17,13 +17,13 @@ use std::alloc::{AllocError, Global};
 const INPUT_LIMIT: usize = 8388608;
 
 // What the command makes of an input that was read whole.
-fn work(alloc: Global, command: Command, input: &[u8]) -> Result<Reply, AllocError>
-    requires few { length input.now ≤ input_limit }
-    ensures { IfOk result (IsReply (command_named command) input.now) }
+fn work(alloc: Global, command: Command, input: Vec<u8>) -> Result<Reply, AllocError>
+    requires few { length input.items ≤ input_limit }
+    ensures { IfOk result (IsReply (command_named command) input.items) }
 {
     match command {
         Command::Serve => serve(alloc, input),
-        Command::Compile => compile_source(alloc, input),
+        Command::Compile => compile_source(alloc, &input),
     }
 }
 
@@ -43,9 +43,9 @@ fn write<K: Sink>(sink: &mut K, reply: &Reply) -> Status
 
 // Does the command's work on an input that was read whole, and writes what comes of it.
 #[tactic(auto, using(crate::proofs::Answering::responds, crate::proofs::Answering::written_quiet))]
-fn respond<K: Sink>(alloc: Global, command: Command, input: &[u8], sink: &mut K) -> Status
-    requires few { length input.now ≤ input_limit }
-    ensures told { Responds result (command_named command) input.now (K.told sink.old) (K.told sink.new) }
+fn respond<K: Sink>(alloc: Global, command: Command, input: Vec<u8>, sink: &mut K) -> Status
+    requires few { length input.items ≤ input_limit }
+    ensures told { Responds result (command_named command) input.items (K.told sink.old) (K.told sink.new) }
     ensures faults { SinkFaults result (K.faults sink.old) (K.faults sink.new) }
     ensures quiet { Quiet result sink.old sink.new }
 {
@@ -113,7 +113,7 @@ pub fn host<R, S: Source, K: Sink>(
         return Status::Usage;
     };
     match read_all(alloc, source, INPUT_LIMIT) {
-        Ok(input) => respond(alloc, command, &input, sink),
+        Ok(input) => respond(alloc, command, input, sink),
         Err(ReadStop::Fault) => Status::ReadFault,
         Err(ReadStop::TooLong) => Status::TooLong,
         Err(ReadStop::Memory) => Status::Memory,

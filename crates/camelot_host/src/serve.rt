@@ -12,9 +12,9 @@ const NOT_YET: &[u8] = b"refused not-yet\n";
 
 /// The reply to a script: its report, or else the line that tells why it isn't served.
 #[tactic(auto, using(crate::proofs::Serving::no_script, crate::proofs::Serving::not_yet))]
-pub(crate) fn serve(alloc: Global, input: &[u8]) -> Result<Reply, AllocError>
-    requires few { length input.now ≤ input_limit }
-    ensures { IfOk result (IsReply Serve input.now) }
+pub(crate) fn serve(alloc: Global, input: Vec<u8>) -> Result<Reply, AllocError>
+    requires few { length input.items ≤ input_limit }
+    ensures { IfOk result (IsReply Serve input.items) }
 {
     match serve_script(alloc, input) {
         Ok(bytes) => Ok(Reply {

@@ -1,3 +1,4 @@
 pub mod Filing
 pub mod Reporting
 pub mod Languages
+pub mod OneReport

@@ -3,6 +3,7 @@
 
 mod faults;
 mod grail;
+pub mod laws;
 mod lines;
 mod running;
 mod service;

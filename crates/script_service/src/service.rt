@@ -94,21 +94,25 @@ fn serve_read(alloc: Global, script: &Script) -> Result<Vec<u8>, ServeFault>
 }
 
 /// The report of a script: each of its programs with its unit or why it is refused, each of its jobs with what it comes to by the meaning of its own program,
-/// its peak and its bound, and the journal of the leases that they had in one arena. The input has fewer than 2^32 bytes.
+/// its peak and its bound, and the journal of the leases that they had in one arena. The input has fewer than 2^32 bytes; it is let go once the
+/// script is read.
 ///
 /// # Errors
 ///
 /// [`ServeFault::NoScript`] exactly where the input is no script, with its first wrong line; [`ServeFault::NotYet`] exactly where it is one with a Grail
 /// program; [`ServeFault::Memory`] where memory runs out.
-pub fn serve_script(alloc: Global, input: &[u8]) -> Result<Vec<u8>, ServeFault>
-    requires { length input.now < 4294967296 }
-    ensures { MatchResult result (λ text. IsReport input.now text.items) (λ fault. IsRefused input.now fault) }
+pub fn serve_script(alloc: Global, input: Vec<u8>) -> Result<Vec<u8>, ServeFault>
+    requires { length input.items < 4294967296 }
+    ensures { MatchResult result (λ text. IsReport input.items text.items) (λ fault. IsRefused input.items fault) }
 {
     law_of_scripts();
     law_of_lengths();
     law_of_short();
-    match read_script(alloc, input) {
-        Ok(script) => serve_read(alloc, &script),
+    match read_script(alloc, &input) {
+        Ok(script) => {
+            drop(input);
+            serve_read(alloc, &script)
+        }
         Err(fault) => Err(serve_fault(fault)),
     }
 }

@@ -8,5 +8,5 @@ use Rattle.camelot_host.proofs.hosting.host.Goals as goal
 pub returns-in-Ok-clause-complete : goal.returns-in-Ok-clause-complete
 returns-in-Ok-clause-complete g c = λ command input again tells within room steady sink_room sink_steady.
     let own = command_named c.in-Some.command in
-    let told = subst (λ b. Responds c.respond.result own b (g.K.Sink.told c.args.sink.now) (g.K.Sink.told c.respond.new.sink)) c.deref.ensures.value c.respond.ensures.told in
+    let told = c.respond.ensures.told in
     completes _ (map string_bytes c.args.words.now) command own input _ _ _ _ _ _ _ _ _ c.in-Some.ensures told c.in-Ok.ensures.bytes c.in-Ok.ensures.end c.respond.ensures.faults again tells sink_room sink_steady
