@@ -81,7 +81,9 @@ fn is_long(vector: &Vector) -> bool
     vector.pairs().len() > LONG
 }
 
-// The same, where long annotations that pass are kept.
+// The same, where long annotations that pass are kept. It is kept out of the loops over parameters, few of which come here.
+#[cold]
+#[inline(never)]
 fn walk_of(books: Books<'_>, memo: &mut Memo, number: u32, have: usize, need: usize) -> Option<u32>
     requires sound { IsSound (code_of books.code.now).types books.lines.now.held memo.old }
     ensures found { MatchOption result (AtLeast (code_of books.entry.code.now).types (Of number) (at (held books.entry.lines.now.held have)) (at (held books.entry.lines.now.held need))) (λ con. IsFirstBelow (code_of books.entry.code.now).types (Of number) (at (held books.entry.lines.now.held have)) (at (held books.entry.lines.now.held need)) con) }
@@ -134,6 +136,7 @@ fn first_fewer(
 }
 
 /// Refuses a value of this kind that carries less than is asked, by the first constructor that the kind reaches and that has fewer units.
+#[inline(always)]
 #[tactic(auto, using(crate::proofs::Reached::enough, crate::proofs::Reached::fewer))]
 pub(crate) fn check_value(
     books: Books<'_>,
@@ -174,6 +177,7 @@ pub(crate) fn kind_of(func: &Func, local: u32) -> Option<Kind>
 }
 
 // A value that is there.
+#[inline(always)]
 fn check_held(
     books: Books<'_>,
     memo: &mut Memo,
