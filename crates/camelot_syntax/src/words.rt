@@ -106,6 +106,21 @@ fn sign(byte: u8) -> Mark
     }
 }
 
+/// The sign of two bytes.
+#[tactic(auto, unfolding(camelot_grammar::specs::Lexemes::mark_of, camelot_grammar::specs::Lexemes::marks), using(crate::proofs::WordLemmas::entries_is))]
+fn pair(first: u8, second: u8) -> Mark
+    ensures { result ≡ mark_of (first ∷ second ∷ []) }
+{
+    match second {
+        b'&' if first == b'&' => Mark::AndAnd,
+        b'|' if first == b'|' => Mark::OrOr,
+        b'>' if first == b'-' => Mark::Arrow,
+        b'=' if first == b'<' => Mark::LessEqual,
+        b'=' if first == b'>' => Mark::GreaterEqual,
+        _ => lookup_in(&MARKS, &[first, second]),
+    }
+}
+
 /// The word or sign of this text.
 #[tactic(auto, using(crate::proofs::WordLemmas::entries_is))]
 fn lookup(text: &[u8]) -> Mark
@@ -113,6 +128,7 @@ fn lookup(text: &[u8]) -> Mark
 {
     match text {
         [byte] => sign(*byte),
+        [first, second] => pair(*first, *second),
         _ => lookup_in(&MARKS, text),
     }
 }

@@ -37,13 +37,36 @@ fn left_spine_in<'a>(mut parents: Vec<&'a Expr>, expr: &'a Expr) -> Result<Spine
     }
 }
 
+// How many operators and conditionals stand along the left end of an expression.
+fn depth(expr: &Expr) -> usize {
+    let mut depth: usize = 0;
+    let mut leaf = expr;
+    'down: loop {
+        match leaf {
+            Expr::Prim { left, .. } => leaf = left,
+            Expr::If { cond, .. } => leaf = cond,
+            _ => return depth,
+        }
+        depth = depth.saturating_add(1);
+    }
+}
+
 /// The left end of an expression; `AllocError` where memory runs out.
+#[inline(always)]
 pub fn left_spine(alloc: Global, expr: &Expr) -> Result<Spine<'_>, AllocError>
     ensures parents { IfOk result (λ spine. map (λ parent. expression_of parent.now) spine.parents.items ≡ spine_of (expression_of expr.now)) }
     ensures leaf { IfOk result (λ spine. expression_of spine.leaf.now ≡ leaf_of (expression_of expr.now)) }
     ensures is_leaf { IfOk result (λ spine. IsLeaf (expression_of spine.leaf.now)) }
 {
-    left_spine_in(Vec::new(alloc), expr)
+    match expr {
+        Expr::Prim { .. } | Expr::If { .. } => {
+            left_spine_in(Vec::with_capacity(alloc, depth(expr))?, expr)
+        }
+        _ => Ok(Spine {
+            parents: Vec::new(alloc),
+            leaf: expr,
+        }),
+    }
 }
 
 /// Room for left ends, from those that have been walked.
@@ -63,20 +86,30 @@ impl<'a> Rooms<'a> {
     }
 
     /// The left end of an expression, as [`left_spine`] has it.
+    #[inline(always)]
     pub fn left_spine(&mut self, expr: &'a Expr) -> Result<Spine<'a>, AllocError>
         ensures parents { IfOk result (λ spine. map (λ parent. expression_of parent.now) spine.parents.items ≡ spine_of (expression_of expr.now)) }
         ensures leaf { IfOk result (λ spine. expression_of spine.leaf.now ≡ leaf_of (expression_of expr.now)) }
         ensures is_leaf { IfOk result (λ spine. IsLeaf (expression_of spine.leaf.now)) }
     {
-        match self.spares.pop() {
-            Some(room) => left_spine_in(room, expr),
-            None => left_spine_in(Vec::new(self.alloc), expr),
+        match expr {
+            Expr::Prim { .. } | Expr::If { .. } => match self.spares.pop() {
+                Some(room) => left_spine_in(room, expr),
+                None => left_spine_in(Vec::new(self.alloc), expr),
+            },
+            _ => Ok(Spine {
+                parents: Vec::new(self.alloc),
+                leaf: expr,
+            }),
         }
     }
 
-    /// Keeps the room of parents that aren't needed any more.
+    /// Keeps the room of parents that aren't needed any more, if there is any.
+    #[inline(always)]
     pub fn keep(&mut self, parents: Vec<&'a Expr>) {
-        // Without room for it the vector is let go.
-        let _ = self.spares.push(parents);
+        if parents.capacity() > 0 {
+            // Without room for it the vector is let go.
+            let _ = self.spares.push(parents);
+        }
     }
 }

@@ -59,6 +59,7 @@ fn replaced(guess: Guess, number: u32, new: Guess) -> Guess
 }
 
 /// Puts a guess in place of an unknown everywhere.
+#[inline(never)]
 #[tactic(auto, using(crate::proofs::Looping::entry_changed))]
 fn replace(table: &mut [Guess], number: u32, new: Guess)
     ensures { table.new ≡ map (replaced number new) table.old }
@@ -75,6 +76,8 @@ fn same_kind(left: Kind, right: Kind) -> bool
     left == right
 }
 
+#[cold]
+#[inline(never)]
 fn clash(alloc: Global, types: &Types, left: Kind, right: Kind, line: u32) -> TypeFault
     ensures { StopsWith {A = List Guess} (Stops (Clash (kind_name types.now left) (kind_name types.now right) line)) result }
 {
@@ -92,6 +95,7 @@ fn clash(alloc: Global, types: &Types, left: Kind, right: Kind, line: u32) -> Ty
 }
 
 /// Makes two guesses the same, as the table has them: two kinds have to be the same already, and an unknown gets the other guess.
+#[inline(always)]
 #[tactic(auto, unfolding(crate::specs::Solving::made_same))]
 pub(crate) fn make_same(
     alloc: Global,

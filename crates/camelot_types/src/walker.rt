@@ -39,6 +39,7 @@ impl<'a> Walker<'a> {
     }
 
     /// Makes two guesses the same.
+    #[inline(always)]
     pub(crate) fn same(
         &mut self,
         globals: &Globals<'_, '_>,

@@ -50,8 +50,13 @@ args_and a p = record { lines = a.lines ++ p.lines; next = p.next; number = p.nu
 abbrev pub bound_piece : List Line → ℕ → ℕ → Op → Piece
 bound_piece lines next number op = record { lines = lines ++ new next op ∷ []; next = next + 1; number = number; local = next }
 
-abbrev pub operated : Operator → Piece → Piece → Piece
-operated op a b = bound_piece (a.lines ++ b.lines) b.next b.number (block.Prim op a.local b.local)
+-- a part behind these lines
+abbrev pub behind : List Line → Piece → Piece
+behind lines b = record { lines = lines ++ b.lines; next = b.next; number = b.number; local = b.local }
+
+-- an operator on a local and the value of a part
+abbrev pub operated : Operator → ℕ → Piece → Piece
+operated op a b = bound_piece b.lines b.next b.number (block.Prim op a b.local)
 
 abbrev pub sequenced : Piece → Piece → Piece
 sequenced a b = record { lines = a.lines ++ b.lines; next = b.next; number = b.number; local = b.local }

@@ -98,7 +98,7 @@ fn make_function(
         params: Vec::from_slice(known.alloc, &kinds.params)?,
         result: kinds.result,
         locals,
-        blocks: cut_lines(known.alloc, code.lines)?,
+        blocks: cut_lines(known.alloc, code.lines, code.end.number as usize)?,
     })
 }
 

@@ -4,7 +4,7 @@ ghost use Rattle.std.specs.Option.{option_map};
 ghost use Rattle.camelot_tree.specs.Tree.{expression_of, branch_of, expressions, Let, Match};
 ghost use Rattle.camelot_tree.specs.Tree as tree;
 ghost use Rattle.camelot_tree.specs.Spine.{IsLeaf};
-ghost use Rattle.normal_form.specs.Normal.{all_kinds, tail_kinds};
+ghost use Rattle.normal_form.specs.Normal.{all_kinds, kinds, tail_kinds};
 ghost use Rattle.normal_form.specs.KindParts.{arms_kinds, branch_kinds, kinds_of, kinds_piece};
 ghost use Rattle.normal_form.specs.Parts.{first_part};
 ghost use Rattle.normal_form.specs.Tables.{signatures_in, source_in};
@@ -26,6 +26,7 @@ pub(crate) struct PartKinds {
 }
 
 // One local more, which has the value.
+#[inline(always)]
 fn ending(mut kinds: Vec<Kind>, kind: Kind) -> Result<PartKinds, AllocError>
     ensures { IfOk result (λ all. kinds_of all ≡ record { kinds = kinds.items ++ kind ∷ []; kind = kind }) }
 {
@@ -34,6 +35,7 @@ fn ending(mut kinds: Vec<Kind>, kind: Kind) -> Result<PartKinds, AllocError>
 }
 
 // A local for the value of branches, behind what they depend on and before them.
+#[inline(always)]
 fn branching(on: PartKinds, mut branches: PartKinds) -> Result<PartKinds, AllocError>
     ensures { IfOk result (λ all. kinds_of all ≡ record { kinds = on.kinds.items ++ branches.kind ∷ branches.kinds.items; kind = branches.kind }) }
 {
@@ -47,6 +49,7 @@ fn branching(on: PartKinds, mut branches: PartKinds) -> Result<PartKinds, AllocE
 }
 
 // One part and then another, which has the value.
+#[inline(always)]
 fn following(first: PartKinds, second: PartKinds) -> Result<PartKinds, AllocError>
     ensures { IfOk result (λ all. kinds_of all ≡ record { kinds = first.kinds.items ++ second.kinds.items; kind = second.kind }) }
 {
@@ -57,7 +60,17 @@ fn following(first: PartKinds, second: PartKinds) -> Result<PartKinds, AllocErro
     })
 }
 
+// One local more, which hasn't the value.
+#[inline(always)]
+fn with_kind(mut first: PartKinds, kind: Kind) -> Result<PartKinds, AllocError>
+    ensures { IfOk result (λ all. kinds_of all ≡ record { kinds = first.kinds.items ++ kind ∷ []; kind = first.kind }) }
+{
+    first.kinds.push(kind)?;
+    Ok(first)
+}
+
 // Two branches, of which the first gives the kind.
+#[inline(always)]
 fn either(first: PartKinds, second: PartKinds) -> Result<PartKinds, AllocError>
     ensures { IfOk result (λ all. kinds_of all ≡ record { kinds = first.kinds.items ++ second.kinds.items; kind = first.kind }) }
 {
@@ -101,16 +114,37 @@ fn kinds_around<'a>(
 {
     match parent {
         Expr::Prim { op, right, .. } => {
-            let second = kinds(known, scope, right)?;
-            let both = following(first, second)?;
+            let both = kinds_behind(known, scope, first, right)?;
             ending(both.kinds, operator_kind(*op))
         }
         Expr::If { yes, no, .. } => {
             let yes = kinds(known, scope, yes)?;
-            let no = kinds(known, scope, no)?;
-            branching(first, either(yes, no)?)
+            let branches = branching(first, yes)?;
+            kinds_behind(known, scope, branches, no)
         }
         _ => Ok(first),
+    }
+}
+
+// The kinds of an expression behind those of a part, whose value is meant.
+#[cycle(kinds)]
+fn kinds_behind<'a>(
+    known: &Known<'_, '_>,
+    scope: &mut Scope<'a, Kind>,
+    first: PartKinds,
+    expr: &'a Expr,
+) -> Result<PartKinds, AllocError>
+    ensures kinds { IfOk result (λ all. kinds_of all ≡ record { kinds = first.kinds.items ++ kinds (source_in known.now.typed.now) (signatures_in known.now.typed.now) scope.old (expression_of expr.now); kind = first.kind }) }
+    ensures scope { OnOk result (scope.new ≡ scope.old) }
+{
+    match expr {
+        Expr::Var(_) => Ok(first),
+        Expr::Num { .. } => with_kind(first, Kind::Int),
+        Expr::Truth { .. } => with_kind(first, Kind::Flag),
+        _ => {
+            let second = kinds(known, scope, expr)?;
+            either(first, second)
+        }
     }
 }
 

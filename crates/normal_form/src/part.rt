@@ -1,8 +1,8 @@
 //! Parts of a function's normal form, and how they are put together.
-ghost use Rattle.std.specs.Prelude.{◌≡◌, ◌<◌, ◌+◌, IfOk, None, ◌++◌, map};
+ghost use Rattle.std.specs.Prelude.{◌≡◌, ◌<◌, ◌+◌, IfOk, None, ◌++◌, [], map};
 ghost use Rattle.grail_blocks.specs.Blocks.{arm_of, op_of, operator_of, term_of};
 ghost use Rattle.normal_form.specs.Normal.{case_arm, joining};
-ghost use Rattle.normal_form.specs.Parts.{args_and, before_tail, closed_piece, divided, no_tails, parted, tail_and, tail_of, tails_of, arms_of, body_and, body_of, bound_piece, conditional, joined_bodies, line_of, matched, no_args, no_arms, operated, piece_of, pieces_of, sequenced};
+ghost use Rattle.normal_form.specs.Parts.{args_and, before_tail, behind, closed_piece, divided, no_tails, parted, tail_and, tail_of, tails_of, arms_of, body_and, body_of, bound_piece, conditional, joined_bodies, line_of, matched, no_args, no_arms, operated, piece_of, pieces_of, sequenced};
 
 use crate::appending::appended;
 use grail_blocks::{CaseArm, CaseCell, Let, Op, PrimCode, Term};
@@ -65,6 +65,7 @@ impl Args {
 }
 
 /// A let that binds a new local, behind these lines.
+#[inline(always)]
 pub(crate) fn bound(mut lines: Vec<Line>, at: At, op: Op) -> Result<Part, AllocError>
     requires { at.next < 4294967295 }
     ensures { IfOk result (λ part. piece_of part ≡ bound_piece (map line_of lines.items) at.next at.number (op_of op)) }
@@ -83,18 +84,31 @@ pub(crate) fn bound(mut lines: Vec<Line>, at: At, op: Op) -> Result<Part, AllocE
     })
 }
 
-/// An operator on the values of two parts.
-pub(crate) fn operator(left: Part, right: Part, op: PrimCode) -> Result<Part, AllocError>
+/// An operator on a local and the value of a part.
+#[inline(always)]
+pub(crate) fn operator(left: u32, right: Part, op: PrimCode) -> Result<Part, AllocError>
     requires { right.end.next < 4294967295 }
-    ensures { IfOk result (λ part. piece_of part ≡ operated (operator_of op) (piece_of left) (piece_of right)) }
+    ensures { IfOk result (λ part. piece_of part ≡ operated (operator_of op) left (piece_of right)) }
 {
     let prim = Op::Prim {
         op,
-        left: left.local,
+        left,
         right: right.local,
     };
-    let lines = appended(left.lines, right.lines)?;
-    bound(lines, right.end, prim)
+    bound(right.lines, right.end, prim)
+}
+
+/// A part behind these lines.
+#[inline(always)]
+pub(crate) fn followed(lines: Vec<Line>, part: Part) -> Result<Part, AllocError>
+    ensures { IfOk result (λ all. piece_of all ≡ behind (map line_of lines.items) (piece_of part)) }
+{
+    let lines = appended(lines, part.lines)?;
+    Ok(Part {
+        lines,
+        end: part.end,
+        local: part.local,
+    })
 }
 
 /// One part and then another, which has the value.
@@ -110,6 +124,7 @@ pub(crate) fn sequence(first: Part, second: Part) -> Result<Part, AllocError>
 }
 
 /// The lines of a branch that joins: its value is copied to `to`, and the block `target` goes on.
+#[inline(always)]
 pub(crate) fn joined(
     mut lines: Vec<Line>,
     from: u32,
@@ -145,6 +160,43 @@ pub(crate) fn conditional(mut cond: Part, first: Part, second: Part) -> Result<P
     let both = joined(yes, first.local, result, join)?;
     let no = appended(both, second.lines)?;
     let lines = joined(no, second.local, result, join)?;
+    Ok(Part {
+        lines,
+        end: At {
+            next: second.end.next,
+            number: join,
+        },
+        local: result,
+    })
+}
+
+/// The same where the second branch is a literal, which needs no list of its own.
+pub(crate) fn conditional_literal(
+    mut cond: Part,
+    first: Part,
+    literal: Op,
+) -> Result<Part, AllocError>
+    requires cond { cond.end.number < 4294967295 }
+    requires number { first.end.number < 4294967294 }
+    requires next { first.end.next < 4294967295 }
+    ensures { IfOk result (λ part. piece_of part ≡ conditional (piece_of cond) (piece_of first) (bound_piece [] first.end.next (first.end.number + 1) (op_of literal))) }
+{
+    let result = cond.end.next;
+    let second_at = At {
+        next: first.end.next,
+        number: first.end.number + 1,
+    };
+    let join = second_at.number + 1;
+    let test = Term::If {
+        cond: cond.local,
+        yes: cond.end.number + 1,
+        no: second_at.number,
+    };
+    cond.lines.push(Line::Close(test))?;
+    let yes = appended(cond.lines, first.lines)?;
+    let both = joined(yes, first.local, result, join)?;
+    let second = bound(both, second_at, literal)?;
+    let lines = joined(second.lines, second.local, result, join)?;
     Ok(Part {
         lines,
         end: At {

@@ -7,12 +7,15 @@ ghost use Rattle.camelot_tree.specs.Tree as tree;
 ghost use Rattle.camelot_tree.specs.Spine.{IsLeaf};
 ghost use Rattle.normal_form.specs.Normal.{all_ends, all_made, arm_ends, arm_made, cons_of, ends, made, total};
 ghost use Rattle.normal_form.specs.Counts.{branch_ends, branch_made};
-ghost use Rattle.normal_form.specs.Parts.{arm_and, arms_of, arms_piece, branches_piece, first_part, piece_of, pieces_of, value_piece, values_piece};
+ghost use Rattle.normal_form.specs.Parts.{arm_and, arms_of, arms_piece, behind, branches_piece, first_part, line_of, piece_of, pieces_of, value_piece, values_piece};
 ghost use Rattle.normal_form.specs.Tables.{source_in};
 
 use crate::known::Known;
 use crate::order::arms_in_order;
-use crate::part::{Args, Arms, At, Part, bound, conditional, matched, missing, operator, sequence};
+use crate::part::{
+    Args, Arms, At, Line, Part, bound, conditional, conditional_literal, followed, matched,
+    missing, operator, sequence,
+};
 use crate::scopes::{bind_arm, bound_of, case_of, con_of, fun_of, local_of, place_of, prim_code};
 use camelot_names::Scope;
 use camelot_tree::{Arm, Build, Call, Expr, Name, left_spine};
@@ -88,11 +91,41 @@ fn value_around<'a>(
 {
     match parent {
         Expr::Prim { op, right, .. } => {
-            let right = value(known, scope, first.end, right)?;
-            operator(first, right, prim_code(*op))
+            let left = first.local;
+            let both = value_behind(known, scope, first.lines, first.end, right)?;
+            operator(left, both, prim_code(*op))
         }
         Expr::If { yes, no, .. } => value_branches(known, scope, first, yes, no),
         _ => Ok(first),
+    }
+}
+
+// What gives the value of an expression, behind these lines. A local that is there needs no lines, and a literal no list of its own.
+#[cycle(value)]
+fn value_behind<'a>(
+    known: &Known<'_, '_>,
+    scope: &mut Scope<'a, u32>,
+    lines: Vec<Line>,
+    at: At,
+    expr: &'a Expr,
+) -> Result<Part, AllocError>
+    requires locals { at.next + made (source_in known.now.typed.now) (expression_of expr.now) ≤ 256 }
+    requires ended { at.number + ends (source_in known.now.typed.now) (expression_of expr.now) ≤ 256 }
+    ensures part { IfOk result (λ part. piece_of part ≡ behind (map line_of lines.items) (value_piece (source_in known.now.typed.now) scope.old at.next at.number (expression_of expr.now))) }
+    ensures scope { OnOk result (scope.new ≡ scope.old) }
+{
+    match expr {
+        Expr::Var(name) => Ok(Part {
+            lines,
+            end: at,
+            local: local_of(scope, name),
+        }),
+        Expr::Num { value, .. } => bound(lines, at, Op::Lit(*value)),
+        Expr::Truth { value, .. } => bound(lines, at, Op::Flag(*value)),
+        _ => {
+            let part = value(known, scope, at, expr)?;
+            followed(lines, part)
+        }
     }
 }
 
@@ -119,8 +152,13 @@ fn value_branches<'a>(
         next: first.end.next,
         number: first.end.number + 1,
     };
-    let second = value(known, scope, second_at, no)?;
-    conditional(cond, first, second)
+    match no {
+        Expr::Truth { value, .. } => conditional_literal(cond, first, Op::Flag(*value)),
+        _ => {
+            let second = value(known, scope, second_at, no)?;
+            conditional(cond, first, second)
+        }
+    }
 }
 
 // A constructor with its arguments.

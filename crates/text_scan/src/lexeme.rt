@@ -68,11 +68,13 @@ fn is_sign(byte: u8) -> bool
 }
 
 /// Whether the two bytes are one of the grammar's signs.
-#[tactic(auto, using(crate::proofs::FormLemmas::no_pair))]
+#[tactic(auto, unfolding(crate::specs::Forms::is_symbol, crate::specs::Forms::symbols), using(crate::proofs::FormLemmas::no_pair))]
 fn is_pair(first: u8, second: u8) -> bool
     ensures { result ≡ is_symbol (first ∷ second ∷ []) }
 {
     match second {
+        b'&' if first == b'&' => true,
+        b'|' if first == b'|' => true,
         b'=' | b'>' | b'&' | b'|' => is_listed(&[first, second]),
         _ => false,
     }

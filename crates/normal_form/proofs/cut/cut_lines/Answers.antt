@@ -10,7 +10,7 @@ use Rattle.normal_form.proofs.cut.cut_lines.Goals as goal
 
 pub lines-preserved : goal.lines-preserved
 lines-preserved c =
-    next_closed (map block_of c.lines.blocks.items) (map block_of c.push-in-Close.new.self.items) (map let_of c.lines.lets.items) (map let_of c.new-lets-in-Close.result.items) (term_of c.in-Close.term) (map line_of (into_iter_items c.next.new.self))
+    next_closed (map block_of c.lines.blocks.items) (map block_of c.push.new.self.items) (map let_of c.lines.lets.items) (map let_of c.new-lets-in-Close.result.items) (term_of c.in-Close.term) (map line_of (into_iter_items c.next.new.self))
     (map line_of (into_iter_items c.lines.line-iterator)) (cut (map line_of c.args.lines.items)) (ap (map block_of) c.in_ok-push-in-Close.ensures.items ∙ map_last block_of c.lines.blocks.items _)
     (ap (map line_of) c.in-Some.ensures.steps.0 ∙ ap (λ l. line_of l ∷ map line_of (into_iter_items c.next.new.self)) c.in-Close.is) (ap (map let_of) c.new-lets-in-Close.ensures.items) c.lines.invariant
 

@@ -53,6 +53,9 @@ decreases-leaf_kinds l = 8 * size (expression_of l.expr.now) + 1
 abbrev pub decreases-kinds_around : goal.decreases-kinds_around
 decreases-kinds_around l = 8 * size (expression_of l.parent.now) + 1
 
+abbrev pub decreases-kinds_behind : goal.decreases-kinds_behind
+decreases-kinds_behind l = 8 * size (expression_of l.expr.now) + 3
+
 abbrev pub decreases-let_kinds : goal.decreases-let_kinds
 decreases-let_kinds l = 8 * (size (expression_of l.value.now) + size (expression_of l.body.now)) + 3
 

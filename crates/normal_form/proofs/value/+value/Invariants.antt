@@ -53,6 +53,9 @@ decreases-value_leaf l = 8 * size (expression_of l.expr.now) + 1
 abbrev pub decreases-value_around : goal.decreases-value_around
 decreases-value_around l = 8 * size (expression_of l.parent.now) + 1
 
+abbrev pub decreases-value_behind : goal.decreases-value_behind
+decreases-value_behind l = 8 * size (expression_of l.expr.now) + 3
+
 abbrev pub decreases-value_branches : goal.decreases-value_branches
 decreases-value_branches l = 8 * (size (expression_of l.yes.now) + size (expression_of l.no.now)) + 3
 
