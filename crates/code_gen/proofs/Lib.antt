@@ -8,4 +8,5 @@ pub mod Marking
 pub mod Seeing
 pub mod BlockCode
 pub mod Props
+pub mod Singly
 mod Rows

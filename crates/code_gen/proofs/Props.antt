@@ -16,7 +16,7 @@ use Rattle.grail_code.specs.Code.{Op, Lit, Flag, Copy, Prim, Make, Call, Let, Ca
 use Rattle.grail_code.specs.Limits.{FuncIsWithin, IsWithinLimits}
 use Rattle.grail_code.specs.Spelling.{AreCounted, FitsArm, FitsBlock, FitsCell, FitsCode, FitsCon, FitsFunc, FitsKind, FitsLet, FitsOp, FitsPlace, FitsTerm, FitsType, IsLocal}
 
-to_prop : {A B : Type 0} → IsProp B → IsProp (A → B)
+pub to_prop : {A B : Type 0} → IsProp B → IsProp (A → B)
 to_prop h f g = fun_ext (λ x. h (f x) (g x))
 
 less_prop : (n m : ℕ) → IsProp (n ≤ m)
@@ -36,7 +36,7 @@ type_prop t = let each = AllByRecursion-prop IsConstructor constructor_prop t.co
 types_prop : (types : List DataType) → IsProp (AreTypes types)
 types_prop types = let each = AllByRecursion-prop IsDataType type_prop types in hlevel (each, less_prop)
 
-function_prop : (f : Func) → IsProp (FuncIsWithin f)
+pub function_prop : (f : Func) → IsProp (FuncIsWithin f)
 function_prop f = let each = AllByRecursion-prop (λ (b : Block). length b.lets ≤ 256) (λ b. le_prop) f.blocks in hlevel (each, less_prop)
 
 pub within_prop : (p : Code) → IsProp (IsWithinLimits p)

@@ -83,7 +83,7 @@ no_option : {A : Type 0} (o q : Option A) → option_or o q ≡ None → (o ≡ 
 no_option None q h = (refl, h)
 no_option (Some x) q h = absurd cc
 
-record IsSmall (p : Source) (f : Function) : Type 0 where
+pub record IsSmall (p : Source) (f : Function) : Type 0 where
   locals : tail_made p f.body ≤ 240
   blocks : tail_ends p f.body ≤ 256
 
@@ -92,7 +92,7 @@ no_test a b true q h = absurd cc
 no_test a b false true h = absurd cc
 no_test a b false false h = (refl, refl)
 
-no_fault : (p : Source) (f : Function) → fault_of p f ≡ None → IsSmall p f
+pub no_fault : (p : Source) (f : Function) → fault_of p f ≡ None → IsSmall p f
 no_fault p f h =
     let r = no_test (TooManyLocals f.name.word (counted_as (tail_made p f.body))) (TooManyBlocks f.name.word (counted_as (tail_ends p f.body))) (nat_lt 240 (tail_made p f.body)) (nat_lt 256 (tail_ends p f.body)) h in
     let e : nat_lt 240 (tail_made p f.body) ≡ false = r.0 in
@@ -103,7 +103,7 @@ few_coded : (takes : ℕ → List ℕ) (number n : ℕ) (bs : List NormalBlock) 
 few_coded takes number n [] h all = tt
 few_coded takes number n (b ∷ bs) h all = (let few = all.0 in omega (arith, few, h), few_coded takes (suc number) n bs h all.1)
 
-function_within : (p : Source) (f : Function) (n : NormalFunction) → IsCounted p f n → IsSmall p f → length f.params ≤ 16 → FuncIsWithin (coded live_params n)
+pub function_within : (p : Source) (f : Function) (n : NormalFunction) → IsCounted p f n → IsSmall p f → length f.params ≤ 16 → FuncIsWithin (coded live_params n)
 function_within p f n counted small few =
     let size = length_coded (live_params n) 0 n.blocks in
     let params = counted.params in

@@ -1,13 +1,19 @@
 -- Private: words for functions of this crate.
 -- What is live at a place, as a set of locals.
-use Rattle.std.specs.Prelude.{◌≡◌, ℕ, zero, suc, ◌+◌, ◌-◌, ◌<◌, ◌≤◌, nat_lt, ◌==◌, ◌||◌, ◌&&◌, not, if◌then◌else◌, Bool, true, false, List, length, get_or, drop}
+use Rattle.std.specs.Prelude.{◌≡◌, ℕ, zero, suc, ◌+◌, ◌-◌, ◌<◌, ◌≤◌, nat_lt, ◌==◌, ◌||◌, ◌&&◌, not, if◌then◌else◌, Bool, true, false, List, length, get_or, drop, None}
 use Rattle.std.specs.Int.{bit_at}
 use Rattle.camelot_values.specs.Lists.{is_among}
 use Rattle.std.specs.List.{filter, list_any, range_with_len}
 use Rattle.grail_blocks.specs.Blocks.{CaseArm, Let}
 use Rattle.grail_blocks.specs.Events.{bound_by, operands_of}
-use Rattle.normal_form.specs.Normal.{NormalBlock}
+use Rattle.camelot_tree.specs.Tree.{Function, Source}
+use Rattle.typing_rules.specs.Typing.{Signature}
+use Rattle.grail_code.specs.Limits.{FuncIsWithin}
+use Rattle.normal_form.specs.Answers.{fault_of}
+use Rattle.normal_form.specs.Coded.{coded}
+use Rattle.normal_form.specs.Normal.{NormalBlock, normal_function}
 use Rattle.normal_form.specs.Live.{LaterMarks, Marks, live_from, unless_bound}
+use Rattle.code_gen.specs.Generated.{live_params}
 use Rattle.code_gen.specs.declared.local_set.LocalSet.{LocalSet}
 
 -- whether this bit of a word is set
@@ -79,3 +85,9 @@ pub record AreSeen (blocks : List NormalBlock) (number : ℕ) (seen : List Local
 abbrev pub told_params : ℕ → ℕ → List LocalSet → ℕ → List ℕ
 told_params own size seen zero = range_with_len 0 own
 told_params own size seen (suc n) = filter (has (marks_at seen (length seen) (suc n))) (range_with_len 0 size)
+
+-- ---- functions one by one
+
+-- where a function isn't too large, its code is within the limits
+abbrev pub IsWithinUnless : Source → List Signature → Function → Signature → Type 0
+IsWithinUnless p sigs f s = fault_of p f ≡ None → FuncIsWithin (coded live_params (normal_function p sigs f s))

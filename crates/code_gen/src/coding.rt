@@ -13,15 +13,16 @@ use crate::local_set::LocalSet;
 use crate::marks::marks_of;
 use grail_code::{Block, Func};
 use normal_form::{NormalBlock, NormalFunction};
+use smallvec::SmallVec;
 use std::alloc::{AllocError, Global};
 
 // The locals from 0 on, so many.
 #[tactic(auto, using(crate::proofs::BlockCode::one_local_more))]
-fn first_locals(alloc: Global, count: usize) -> Result<Vec<u32>, AllocError>
+fn first_locals(alloc: Global, count: usize) -> Result<SmallVec<u32, 4>, AllocError>
     requires { count ≤ 16 }
     ensures { IfOk result (λ locals. locals.items ≡ range_with_len 0 count) }
 {
-    let mut locals = Vec::new(alloc);
+    let mut locals = SmallVec::with_capacity(alloc, count)?;
     for local in 0..count {
         locals.push(local as u32)?;
     }
@@ -36,7 +37,7 @@ fn block_params(
     size: u32,
     live: &[LocalSet],
     number: u32,
-) -> Result<Vec<u32>, AllocError>
+) -> Result<SmallVec<u32, 4>, AllocError>
     requires own { own ≤ 16 }
     requires size { size ≤ 256 }
     ensures { IfOk result (λ params. params.items ≡ told_params own size live.now number) }

@@ -8,6 +8,7 @@ ghost use Rattle.camelot_tree.specs.Tokens.{is_named};
 ghost use Rattle.typing_rules.specs.Kinds.{types_of};
 ghost use Rattle.typing_rules.specs.Typing.{Signature};
 ghost use Rattle.typing_rules.specs.Typed.{IsTyping, Typing};
+ghost use Rattle.typing_rules.specs.TypedPrograms.{typing_of};
 ghost use Rattle.linear_use.specs.Answers.{KeepsRule};
 ghost use Rattle.grail_code.specs.Limits.{IsWithinLimits};
 ghost use Rattle.grail_code.specs.Meaning.{run_of};
@@ -17,6 +18,7 @@ ghost use Rattle.normal_form.specs.Answers.{program_fault};
 ghost use Rattle.code_gen.specs.Generated.{compiled};
 
 use grail_code::laws::law_of_ranges;
+use linear_use::Linear;
 use normal_form::facts::{law_of_fits, law_of_sizes, law_of_tables, law_of_use};
 use normal_form::laws::law_of_meaning;
 
@@ -42,4 +44,12 @@ pub fn law_of_limits()
     law_of_compiler();
     law_of_sizes();
     law_of_ranges();
+}
+
+/// The code of a program that keeps the rule of use is within its limits where no function is too large, so that `generate` takes what `normalise`
+/// gives.
+pub fn law_of_room(program: &Linear)
+    ensures { program_fault (typing_of program.now.typed) ≡ None → IsWithinLimits (compiled (typing_of program.now.typed)) }
+{
+    law_of_limits();
 }

@@ -4,6 +4,7 @@ ghost use Rattle.std.specs.List.{filter, range_with_len};
 ghost use Rattle.normal_form.specs.Live.{Marks, unless_bound};
 ghost use Rattle.code_gen.specs.Marked.{IsMarked, IsNext, either_live, has, is_set, no_locals, none_live, with_one};
 
+use smallvec::SmallVec;
 use std::alloc::{AllocError, Global};
 
 /// Locals of a function, of which those below 128 stand in the first word.
@@ -119,12 +120,12 @@ impl LocalSet {
     }
 
     /// Those below `end`, in ascending order.
-    pub(crate) fn locals(self, alloc: Global, end: u32) -> Result<Vec<u32>, AllocError>
+    pub(crate) fn locals(self, alloc: Global, end: u32) -> Result<SmallVec<u32, 4>, AllocError>
         requires { end ≤ 256 }
         ensures { IfOk result (λ locals. locals.items ≡ filter (has self) (range_with_len 0 end)) }
     {
         let room = self.low.count_ones() as usize + self.high.count_ones() as usize;
-        let mut locals = Vec::with_capacity(alloc, room)?;
+        let mut locals = SmallVec::with_capacity(alloc, room)?;
         let mut next = self.next_below(0, end);
         while next < end {
             locals.push(next)?;

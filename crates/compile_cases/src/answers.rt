@@ -6,10 +6,14 @@ use crate::cases::Case;
 use crate::code_text::{show_block, show_head};
 use camelot_syntax::parse;
 use camelot_types::check_program;
-use code_gen::compile;
+use code_gen::laws::law_of_room;
+use code_gen::{compile, generate};
 use grail_code::{Code, Func, encode};
 use grail_evaluator::{Outcome, Tree, run};
 use linear_use::{Linear, check_use};
+use normal_form::{NormalFault, normalise};
+use std::alloc::{AllocError, Global};
+use std::fmt::Write;
 use std::io;
 
 /// Prints the name of the case and what comes of it. What stands before the first case has no name, and no answer.
@@ -42,8 +46,38 @@ fn answer_text(rt: &HostRuntime, case: &Case, text: &[u8]) -> io::Result<()>
     }
 }
 
+/// The code by the two passes, one after the other over the whole program.
+fn by_passes(alloc: Global, linear: &Linear) -> Result<Code, NormalFault> {
+    law_of_room(linear);
+    let normal = normalise(alloc, linear)?;
+    let code = generate(alloc, normal)?;
+    Ok(code)
+}
+
+/// What the case shows of code, or the fault.
+fn show_answer(alloc: Global, answer: &Result<Code, NormalFault>) -> Result<String, AllocError> {
+    let mut shown = String::new(alloc);
+    match answer {
+        Ok(code) => {
+            for func in &code.funcs {
+                show_head(&mut shown, func)?;
+                for block in &func.blocks {
+                    show_block(&mut shown, block)?;
+                }
+            }
+        }
+        Err(fault) => write!(shown, "{fault}")?,
+    }
+    Ok(shown)
+}
+
 fn answer_linear(rt: &HostRuntime, case: &Case, linear: &Linear) -> io::Result<()> {
-    let code = match compile(rt.alloc(), linear) {
+    let answer = compile(rt.alloc(), linear);
+    let passes = by_passes(rt.alloc(), linear);
+    if show_answer(rt.alloc(), &answer)? != show_answer(rt.alloc(), &passes)? {
+        return println!(rt; " the passes, one after the other, answer otherwise");
+    }
+    let code = match answer {
         Ok(code) => code,
         Err(fault) => return println!(rt; " {fault}"),
     };

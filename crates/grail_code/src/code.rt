@@ -2,11 +2,12 @@ ghost use Rattle.std.specs.Prelude.{◌≤◌, vec_len};
 
 use camelot_values::{Kind, Types, Word};
 use grail_blocks::{Let, Term};
+use smallvec::SmallVec;
 
-/// A basic block: the locals that it is handed, its lets in order, and its end.
+/// A basic block: the locals that it is handed, its lets in order, and its end. Most blocks are handed few locals, which take no memory of their own.
 #[derive(Debug, Drop)]
 pub struct Block {
-    pub params: Vec<u32>,
+    pub params: SmallVec<u32, 4>,
     pub lets: Vec<Let>,
     pub term: Term,
     pub ghost few_lets: { vec_len lets ≤ 256 },

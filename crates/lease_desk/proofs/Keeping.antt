@@ -96,6 +96,7 @@ kept_first {P} number cells range sizes w some n blanks fit = record {
     holds = (holds_first (filed_by cells (replicate (length sizes) None)) range n blanks, tt);
     places = length-replicate (length sizes) (let none : Option P = None in none);
     own = λ job p e. absurd (no_place (length sizes) job p e);
+    sized = λ job p e. absurd (no_place (length sizes) job p e);
     all = λ z job k. absurd (omega (arith, k));
   };
   most_out = refl;
@@ -137,6 +138,7 @@ module _ {P : Type 0} (number : P → ℕ) (cells : P → List Cell) (h : Holed)
       holds = subst (λ (es : List Event). AllByRecursion (HoldsFiled (filed_by cells ps) es) holes) (sym more) holds;
       places = k.desk.places ∙ ap (λ (sizes : List ℕ). length sizes) (sym same);
       own = λ job p e'. ((k.desk.own job p e').0, omega (arith, (k.desk.own job p e').1, gives job, ap (gave_times job) more));
+      sized = λ job p e'. subst (λ (sizes : List ℕ). slice_get sizes job ≡ Some (length (cells p))) (sym same) (k.desk.sized job p e');
       all = λ z job m. k.desk.all z job (omega (arith, m, gives job, ap (gave_times job) more));
     };
     most_out = k.most_out ∙ ap (λ (sizes : List ℕ). length sizes) (sym same);
@@ -318,10 +320,11 @@ module _ {P : Type 0} (number : P → ℕ) (cells : P → List Cell) (h : Holed)
       → length qs ≡ length ps → ((job : ℕ) → ((l.job ≡ job) → ⊥) → slice_get qs job ≡ slice_get ps job)
       → ((cells_in cells (slice_get qs l.job) ≡ None) ⊎ (cells_in cells (slice_get qs l.job) ≡ Some l.range.cells))
       → ((p : P) → slice_get qs l.job ≡ Some (Some p) → number p ≡ l.job)
+      → ((p : P) → slice_get qs l.job ≡ Some (Some p) → slice_get b.sizes l.job ≡ Some (length (cells p)))
       → (v ≡ 0 → (w ≡ 0) × ((p : P) × (slice_get qs l.job ≡ Some (Some p))))
       → v ≤ suc w
       → IsKept number cells (with_holes h (give_cells h.holes l.range) (without_run h.out l.range.first)) (with_lease b l.job None (event.Gave l.job l.range.first (length l.range.cells))) qs v
-  gave_kept l qs v e len others filed own all few =
+  gave_kept l qs v e len others filed own long all few =
       let n = give_ready l e in
       record {
         desk = record {
@@ -337,6 +340,7 @@ module _ {P : Type 0} (number : P → ℕ) (cells : P → List Cell) (h : Holed)
               (λ job m. by_filed job m (cases_eq l.job job) n.3) filed (is_free h.arena b.sizes b.journal (state_of h b) sound l.job (run_of l.range) e.1) k.desk.holds;
           places = len ∙ k.desk.places;
           own = λ job p q. by_own job p q (cases_eq l.job job);
+          sized = λ job p q. by_long job p q (cases_eq l.job job);
           all = λ z job m. by_all z job m (cases_eq l.job job);
         };
         most_out = k.most_out;
@@ -358,6 +362,10 @@ module _ {P : Type 0} (number : P → ℕ) (cells : P → List Cell) (h : Holed)
           let f = k.desk.own job p (sym (others job there) ∙ q) in
           (f.0, omega (arith, f.1, gave_more job b.journal (event.Gave l.job l.range.first (length l.range.cells))))
 
+      by_long : (job : ℕ) (p : P) → slice_get qs job ≡ Some (Some p) → (l.job ≡ job) ⊎ ((l.job ≡ job) → ⊥) → slice_get b.sizes job ≡ Some (length (cells p))
+      by_long job p q (inl here) = subst (λ j. slice_get b.sizes j ≡ Some (length (cells p))) here (long p (subst (λ j. slice_get qs j ≡ Some (Some p)) (sym here) q))
+      by_long job p q (inr there) = k.desk.sized job p (sym (others job there) ∙ q)
+
       by_all : v ≡ 0 → (job : ℕ) → 1 ≤ gave_times job (b.journal ++ event.Gave l.job l.range.first (length l.range.cells) ∷ []) → (l.job ≡ job) ⊎ ((l.job ≡ job) → ⊥)
           → (p : P) × (slice_get qs job ≡ Some (Some p))
       by_all z job m (inl here) = subst (λ j. (p : P) × (slice_get qs j ≡ Some (Some p))) here (all z).1
@@ -375,6 +383,8 @@ module _ {P : Type 0} (number : P → ℕ) (cells : P → List Cell) (h : Holed)
       gave_kept l (slice_set ps l.job (Some p)) w e (length-set ps l.job (Some p)) (λ job ne. set_there ps l.job job (Some p) ne)
       (inr (ap (cells_in cells) here ∙ ap (λ (c : List Cell). Some c) cs))
       (λ q f. subst (λ (x : P). number x ≡ l.job) (some_same p q (some_same (Some p) (Some q) (sym here ∙ f))) num)
+      (λ q f. subst (λ (x : P). slice_get b.sizes l.job ≡ Some (length (cells x))) (some_same p q (some_same (Some p) (Some q) (sym here ∙ f)))
+      (sound.sized l.job (run_of l.range) e.1 ∙ ap (λ (c : List Cell). Some (length c)) (sym cs)))
       (λ z. (z, (p, here))) (omega arith)
 
   -- with none
@@ -382,7 +392,7 @@ module _ {P : Type 0} (number : P → ℕ) (cells : P → List Cell) (h : Holed)
       → IsKept number cells (with_holes h (give_cells h.holes l.range) (without_run h.out l.range.first)) (with_lease b l.job None (event.Gave l.job l.range.first (length l.range.cells))) ps (w + 1)
   withdrawn_kept l e =
       let n = give_ready l e in
-      gave_kept l ps (w + 1) e refl (λ job ne. refl) (inl (by_place (slice_get ps l.job) refl n.3)) (λ p f. (k.desk.own l.job p f).0) (λ z. absurd (omega (arith, z))) (omega arith)
+      gave_kept l ps (w + 1) e refl (λ job ne. refl) (inl (by_place (slice_get ps l.job) refl n.3)) (λ p f. (k.desk.own l.job p f).0) (λ p f. k.desk.sized l.job p f) (λ z. absurd (omega (arith, z))) (omega arith)
     where
       by_place : (o : Option (Option P)) → slice_get ps l.job ≡ o → gave_times l.job b.journal ≡ 0 → cells_in cells o ≡ None
       by_place None f z = refl

@@ -54,6 +54,8 @@ module _ {P : Type 0} where
     -- a place for each job; a payload stands in the place of its number, and only where the job's lease came back
     pub places : length d.payloads ≡ length d.sizes
     pub own : (job : ℕ) (p : P) → slice_get d.payloads job ≡ Some (Some p) → (number p ≡ job) × (1 ≤ gave_times job d.journal)
+    -- its cells are as many as its job's lease had
+    pub sized : (job : ℕ) (p : P) → slice_get d.payloads job ≡ Some (Some p) → slice_get d.sizes job ≡ Some (length (cells p))
     -- and where none was withdrawn, each lease that came back left a payload
     pub all : d.withdrawn ≡ 0 → (job : ℕ) → 1 ≤ gave_times job d.journal → (p : P) × (slice_get d.payloads job ≡ Some (Some p))
 

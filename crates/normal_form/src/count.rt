@@ -16,7 +16,7 @@ use std::alloc::AllocError;
 
 /// The counts of an expression whose value is wanted, along its left end.
 #[cycle(count)]
-pub(crate) fn count(known: &Known<'_, '_>, expr: &Expr) -> Result<Counts, AllocError>
+pub(crate) fn count(known: &Known<'_>, expr: &Expr) -> Result<Counts, AllocError>
     ensures { IfOk result (λ counts. counts ≡ counts_of (source_in known.now.typed.now) (expression_of expr.now)) }
 {
     let spine = left_spine(known.alloc, expr)?;
@@ -30,7 +30,7 @@ pub(crate) fn count(known: &Known<'_, '_>, expr: &Expr) -> Result<Counts, AllocE
 
 // The counts of an operator or a conditional behind its first part.
 #[cycle(count)]
-fn count_rest(known: &Known<'_, '_>, parent: &Expr) -> Result<Counts, AllocError>
+fn count_rest(known: &Known<'_>, parent: &Expr) -> Result<Counts, AllocError>
     ensures { IfOk result (λ counts. counts ≡ rest_counts (source_in known.now.typed.now) (expression_of parent.now)) }
 {
     match parent {
@@ -46,7 +46,7 @@ fn count_rest(known: &Known<'_, '_>, parent: &Expr) -> Result<Counts, AllocError
 
 // The counts of the innermost part of a left end.
 #[cycle(count)]
-fn count_leaf(known: &Known<'_, '_>, expr: &Expr) -> Result<Counts, AllocError>
+fn count_leaf(known: &Known<'_>, expr: &Expr) -> Result<Counts, AllocError>
     requires { IsLeaf (expression_of expr.now) }
     ensures { IfOk result (λ counts. counts ≡ counts_of (source_in known.now.typed.now) (expression_of expr.now)) }
 {
@@ -71,7 +71,7 @@ fn count_leaf(known: &Known<'_, '_>, expr: &Expr) -> Result<Counts, AllocError>
 
 /// The counts of arguments.
 #[cycle(count)]
-pub(crate) fn count_all(known: &Known<'_, '_>, args: &[Expr]) -> Result<Counts, AllocError>
+pub(crate) fn count_all(known: &Known<'_>, args: &[Expr]) -> Result<Counts, AllocError>
     ensures { IfOk result (λ counts. counts ≡ all_counts (source_in known.now.typed.now) (expressions (map expression_of args.now))) }
 {
     let mut counts = Counts::new(0, 0);
@@ -94,7 +94,7 @@ pub(crate) fn count_bound(arm: &Arm) -> Counts
 
 // The counts of an arm in a value's position, where there is one.
 #[cycle(count)]
-fn count_arm(known: &Known<'_, '_>, arm: Option<&Arm>) -> Result<Counts, AllocError>
+fn count_arm(known: &Known<'_>, arm: Option<&Arm>) -> Result<Counts, AllocError>
     ensures { IfOk result (λ counts. counts ≡ branch_counts (source_in known.now.typed.now) (option_map (λ a. branch_of a.now) arm.entry)) }
 {
     match arm {
@@ -109,7 +109,7 @@ fn count_arm(known: &Known<'_, '_>, arm: Option<&Arm>) -> Result<Counts, AllocEr
 
 // The counts of all arms in a value's position.
 #[cycle(count)]
-fn count_arms(known: &Known<'_, '_>, arms: &[Arm]) -> Result<Counts, AllocError>
+fn count_arms(known: &Known<'_>, arms: &[Arm]) -> Result<Counts, AllocError>
     ensures { IfOk result (λ counts. counts ≡ arms_counts (source_in known.now.typed.now) (tree.arms (map branch_of arms.now))) }
 {
     let order = arms_in_order(known, arms)?;

@@ -15,7 +15,7 @@ use std::alloc::AllocError;
 
 /// The counts of an expression that ends the function.
 #[cycle(count_tail)]
-pub(crate) fn count_tail(known: &Known<'_, '_>, expr: &Expr) -> Result<Counts, AllocError>
+pub(crate) fn count_tail(known: &Known<'_>, expr: &Expr) -> Result<Counts, AllocError>
     ensures { IfOk result (λ counts. counts ≡ tail_counts (source_in known.now.typed.now) (expression_of expr.now)) }
 {
     match expr {
@@ -39,7 +39,7 @@ pub(crate) fn count_tail(known: &Known<'_, '_>, expr: &Expr) -> Result<Counts, A
 
 // The counts of a match.
 #[cycle(count_tail)]
-fn count_tail_match(known: &Known<'_, '_>, on: &Expr, arms: &[Arm]) -> Result<Counts, AllocError>
+fn count_tail_match(known: &Known<'_>, on: &Expr, arms: &[Arm]) -> Result<Counts, AllocError>
     ensures { IfOk result (λ counts. counts ≡ tail_counts (source_in known.now.typed.now) (Match (expression_of on.now) (tree.arms (map branch_of arms.now)) 0)) }
 {
     let first = count(known, on)?;
@@ -49,7 +49,7 @@ fn count_tail_match(known: &Known<'_, '_>, on: &Expr, arms: &[Arm]) -> Result<Co
 
 // The counts of an arm, where there is one.
 #[cycle(count_tail)]
-fn count_tail_arm(known: &Known<'_, '_>, arm: Option<&Arm>) -> Result<Counts, AllocError>
+fn count_tail_arm(known: &Known<'_>, arm: Option<&Arm>) -> Result<Counts, AllocError>
     ensures { IfOk result (λ counts. counts ≡ branch_tail_counts (source_in known.now.typed.now) (option_map (λ a. branch_of a.now) arm.entry)) }
 {
     match arm {
@@ -60,7 +60,7 @@ fn count_tail_arm(known: &Known<'_, '_>, arm: Option<&Arm>) -> Result<Counts, Al
 
 // The counts of all arms.
 #[cycle(count_tail)]
-fn count_tail_arms(known: &Known<'_, '_>, arms: &[Arm]) -> Result<Counts, AllocError>
+fn count_tail_arms(known: &Known<'_>, arms: &[Arm]) -> Result<Counts, AllocError>
     ensures { IfOk result (λ counts. counts ≡ arms_tail_counts (source_in known.now.typed.now) (tree.arms (map branch_of arms.now))) }
 {
     let order = arms_in_order(known, arms)?;

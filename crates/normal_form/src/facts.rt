@@ -1,5 +1,7 @@
 //! Facts of the normal form, as the contracts of functions that do nothing.
+ghost use Rattle.std.specs.Prelude.{◌≤◌, length};
 ghost use Rattle.std.specs.List.{AllByRecursion};
+ghost use Rattle.camelot_tree.specs.Programs.{program_of};
 ghost use Rattle.typing_rules.specs.Kinds.{types_of};
 ghost use Rattle.typing_rules.specs.Typed.{IsTyping, Typing};
 ghost use Rattle.linear_use.specs.Answers.{KeepsRule};
@@ -7,6 +9,7 @@ ghost use Rattle.normal_form.specs.Normal.{normal_form};
 ghost use Rattle.normal_form.specs.Coded.{BlockParams};
 ghost use Rattle.normal_form.specs.Facts.{AreCounted, FitsAsCode, TablesFit, UsesFairly};
 
+use typing_rules::Typed;
 use typing_rules::laws::law_of_kinds;
 
 /// The normal form of a typed program that keeps the rule of use reads no local before it is bound, and uses none of a heap kind twice.
@@ -33,4 +36,11 @@ pub fn law_of_sizes()
     ensures { (t : Typing) → IsTyping t → AreCounted t.source t.source.funs (normal_form t).functions }
 {
     law_of_kinds();
+}
+
+/// A function of a typed program has at most 16 parameters.
+pub fn law_of_params(typed: &Typed)
+    ensures { AllByRecursion (λ f. length f.params ≤ 16) (program_of typed.now.program).funs }
+{
+    let _funs = typed.funs.len();
 }

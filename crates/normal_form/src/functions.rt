@@ -4,6 +4,7 @@ ghost use Rattle.camelot_tree.specs.Tree.{expression_of, function_of};
 ghost use Rattle.typing_rules.specs.Kinds.{numbered};
 ghost use Rattle.typing_rules.specs.Typing.{params_scope};
 ghost use Rattle.typing_rules.specs.Typed.{kinds_of, signature_of};
+ghost use Rattle.typing_rules.specs.TypedPrograms.{typing_of};
 ghost use Rattle.normal_form.specs.Answers.{Finds, fault_of};
 ghost use Rattle.normal_form.specs.Normal.{normal_function, tail_ends, tail_made};
 ghost use Rattle.normal_form.specs.Programs.{normal_function_of};
@@ -24,7 +25,7 @@ use std::alloc::{AllocError, Global};
 use typing_rules::FunKinds;
 
 // Refuses a function that is too large.
-fn check_size(known: &Known<'_, '_>, decl: &FunDecl) -> Result<(), NormalFault>
+fn check_size(known: &Known<'_>, decl: &FunDecl) -> Result<(), NormalFault>
     ensures { Finds result (fault_of (source_in known.now.typed.now) (function_of decl.now)) }
 {
     let counts = count_tail(known, &decl.body)?;
@@ -76,7 +77,7 @@ fn bind_kinds<'a>(
 
 // A function that isn't too large.
 fn make_function(
-    known: &Known<'_, '_>,
+    known: &Known<'_>,
     decl: &FunDecl,
     kinds: &FunKinds,
 ) -> Result<NormalFunction, AllocError>
@@ -102,15 +103,23 @@ fn make_function(
     })
 }
 
-/// A function in normal form, or the fault where it is too large.
-pub(crate) fn function_form(
-    known: &Known<'_, '_>,
+/// The normal form of one function of a program (`specs/Normal.antt`), as [`normalise`](crate::normalise) has it.
+///
+/// # Errors
+///
+/// That the function is too large, or `Memory`.
+pub fn normalise_function(
+    known: &Known<'_>,
     decl: &FunDecl,
     kinds: &FunKinds,
 ) -> Result<NormalFunction, NormalFault>
     requires { length decl.now.params.items ≤ 16 }
-    ensures function { IfOk result (λ f. normal_function_of f ≡ normal_function (source_in known.now.typed.now) (signatures_in known.now.typed.now) (function_of decl.now) (signature_of (function_of decl.now) (kinds_of kinds.now))) }
-    ensures finds { Finds result (fault_of (source_in known.now.typed.now) (function_of decl.now)) }
+
+    // It is the function's normal form, with these kinds.
+    ensures function { let t = typing_of known.now.typed.now in IfOk result (λ f. normal_function_of f ≡ normal_function t.source t.signatures (function_of decl.now) (signature_of (function_of decl.now) (kinds_of kinds.now))) }
+
+    // An error is that the function is too large, unless memory ran out.
+    ensures finds { Finds result (fault_of (typing_of known.now.typed.now).source (function_of decl.now)) }
 {
     check_size(known, decl)?;
     Ok(make_function(known, decl, kinds)?)

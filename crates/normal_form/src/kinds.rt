@@ -84,7 +84,7 @@ fn either(first: PartKinds, second: PartKinds) -> Result<PartKinds, AllocError>
 /// The kinds of an expression whose value is wanted.
 #[cycle(kinds)]
 pub(crate) fn kinds<'a>(
-    known: &Known<'_, '_>,
+    known: &Known<'_>,
     scope: &mut Scope<'a, Kind>,
     expr: &'a Expr,
 ) -> Result<PartKinds, AllocError>
@@ -103,7 +103,7 @@ pub(crate) fn kinds<'a>(
 // An operator or a conditional, around its first part.
 #[cycle(kinds)]
 fn kinds_around<'a>(
-    known: &Known<'_, '_>,
+    known: &Known<'_>,
     scope: &mut Scope<'a, Kind>,
     parent: &'a Expr,
     first: PartKinds,
@@ -129,7 +129,7 @@ fn kinds_around<'a>(
 // The kinds of an expression behind those of a part, whose value is meant.
 #[cycle(kinds)]
 fn kinds_behind<'a>(
-    known: &Known<'_, '_>,
+    known: &Known<'_>,
     scope: &mut Scope<'a, Kind>,
     first: PartKinds,
     expr: &'a Expr,
@@ -151,7 +151,7 @@ fn kinds_behind<'a>(
 // The innermost part of a left end.
 #[cycle(kinds)]
 fn leaf_kinds<'a>(
-    known: &Known<'_, '_>,
+    known: &Known<'_>,
     scope: &mut Scope<'a, Kind>,
     expr: &'a Expr,
 ) -> Result<PartKinds, AllocError>
@@ -183,7 +183,7 @@ fn leaf_kinds<'a>(
 // A local's value, and what it is for.
 #[cycle(kinds)]
 fn let_kinds<'a>(
-    known: &Known<'_, '_>,
+    known: &Known<'_>,
     scope: &mut Scope<'a, Kind>,
     name: &'a Name,
     value: &'a Expr,
@@ -203,7 +203,7 @@ fn let_kinds<'a>(
 /// The kinds of arguments.
 #[cycle(kinds)]
 pub(crate) fn args_kinds<'a>(
-    known: &Known<'_, '_>,
+    known: &Known<'_>,
     scope: &mut Scope<'a, Kind>,
     args: &'a [Expr],
 ) -> Result<Vec<Kind>, AllocError>
@@ -221,7 +221,7 @@ pub(crate) fn args_kinds<'a>(
 // A scrutinee and its arms.
 #[cycle(kinds)]
 fn match_kinds<'a>(
-    known: &Known<'_, '_>,
+    known: &Known<'_>,
     scope: &mut Scope<'a, Kind>,
     on: &'a Expr,
     arms: &'a [Arm],
@@ -237,7 +237,7 @@ fn match_kinds<'a>(
 // An arm, where there is one for the constructor.
 #[cycle(kinds)]
 fn arm_kinds<'a>(
-    known: &Known<'_, '_>,
+    known: &Known<'_>,
     scope: &mut Scope<'a, Kind>,
     arm: Option<&'a Arm>,
 ) -> Result<PartKinds, AllocError>
@@ -264,7 +264,7 @@ fn arm_kinds<'a>(
 // All arms, of which the first gives the kind.
 #[cycle(kinds)]
 fn all_arm_kinds<'a>(
-    known: &Known<'_, '_>,
+    known: &Known<'_>,
     scope: &mut Scope<'a, Kind>,
     arms: &'a [Arm],
 ) -> Result<PartKinds, AllocError>

@@ -26,7 +26,7 @@ pub(crate) fn operator_kind(op: PrimOp) -> Kind
 }
 
 /// The kind of the values of the constructor of this name.
-pub(crate) fn build_kind(known: &Known<'_, '_>, name: &Name) -> Kind
+pub(crate) fn build_kind(known: &Known<'_>, name: &Name) -> Kind
     ensures { result ≡ kind_of_build (source_in known.now.typed.now) name.now }
 {
     match known.typed.types.type_of(con_of(known, name)) {
@@ -36,7 +36,7 @@ pub(crate) fn build_kind(known: &Known<'_, '_>, name: &Name) -> Kind
 }
 
 /// The kind of what the function of this name gives.
-pub(crate) fn call_kind(known: &Known<'_, '_>, name: &Name) -> Kind
+pub(crate) fn call_kind(known: &Known<'_>, name: &Name) -> Kind
     ensures { result ≡ kind_of_call (signatures_in known.now.typed.now) name.now }
 {
     let Some(number) = known.funs.number(name.word.bytes()) else {
@@ -50,7 +50,7 @@ pub(crate) fn call_kind(known: &Known<'_, '_>, name: &Name) -> Kind
 }
 
 /// The kinds of the fields of the constructor of this name.
-pub(crate) fn field_kinds<'a>(known: &Known<'a, '_>, name: &Name) -> &'a [Kind]
+pub(crate) fn field_kinds<'a>(known: &Known<'a>, name: &Name) -> &'a [Kind]
     ensures { result.now ≡ fields_of (types_of (source_in known.now.typed.now)) (con_of (source_in known.now.typed.now) name.now) }
 {
     match known.typed.types.con(con_of(known, name)) {
@@ -77,7 +77,7 @@ fn bind_field_kinds<'a>(
 
 /// Binds the names of an arm to their kinds.
 pub(crate) fn bind_arm_kinds<'a>(
-    known: &Known<'_, '_>,
+    known: &Known<'_>,
     scope: &mut Scope<'a, Kind>,
     arm: &'a Arm,
 ) -> Result<(), AllocError>
@@ -91,7 +91,7 @@ pub(crate) fn bind_arm_kinds<'a>(
 }
 
 /// The kinds of what an arm makes at its beginning.
-pub(crate) fn bound_kinds(known: &Known<'_, '_>, arm: &Arm) -> Result<Vec<Kind>, AllocError>
+pub(crate) fn bound_kinds(known: &Known<'_>, arm: &Arm) -> Result<Vec<Kind>, AllocError>
     ensures { IfOk result (λ kinds. let a = branch_of arm.now in kinds.items ≡ bound_kinds (source_in known.now.typed.now) a.con a.cell) }
 {
     let mut kinds = Vec::from_slice(known.alloc, field_kinds(known, &arm.con))?;

@@ -25,5 +25,7 @@ mod tail_kinds;
 mod value;
 
 pub use fault::NormalFault;
+pub use functions::normalise_function;
+pub use known::Known;
 pub use normalising::normalise;
 pub use program::{Normal, NormalBlock, NormalFunction};

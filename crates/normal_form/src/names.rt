@@ -1,6 +1,5 @@
 //! The names of all constructors and functions.
 ghost use Rattle.std.specs.Prelude.{◌≡◌, ◌≤◌, map, length, IfOk, OnOk};
-ghost use Rattle.std.specs.List.{AllByRecursion};
 ghost use Rattle.camelot_values.specs.Kinds.{constructor_of, constructors};
 ghost use Rattle.camelot_tree.specs.Programs.{program_of};
 ghost use Rattle.camelot_tree.specs.Tree.{function_of};
@@ -51,11 +50,4 @@ pub(crate) fn law_of_few(typed: &Typed)
     ensures { length (constructors typed.now.types) ≤ 4096 }
 {
     typed.types.limits();
-}
-
-/// A function of a typed program has at most 16 parameters.
-pub(crate) fn law_of_params(typed: &Typed)
-    ensures { AllByRecursion (λ f. length f.params ≤ 16) (program_of typed.now.program).funs }
-{
-    let _funs = typed.funs.len();
 }

@@ -12,24 +12,23 @@ ghost use Rattle.normal_form.specs.Programs.{normal_function_of, normal_of};
 ghost use Rattle.normal_form.specs.Running.{run_of};
 ghost use Rattle.normal_form.specs.Tables.{signatures_in, source_in};
 
-use crate::copying::copy_types;
+use crate::facts::law_of_params;
 use crate::fault::NormalFault;
-use crate::functions::function_form;
+use crate::functions::normalise_function;
 use crate::known::Known;
-use crate::names::{constructor_names, function_names, law_of_few, law_of_params};
 use crate::program::{Normal, NormalFunction};
 use linear_use::Linear;
 use std::alloc::Global;
 
 // All functions in normal form, or the first fault.
-fn all_functions(known: &Known<'_, '_>) -> Result<Vec<NormalFunction>, NormalFault>
+fn all_functions(known: &Known<'_>) -> Result<Vec<NormalFunction>, NormalFault>
     ensures functions { IfOk result (λ all. map normal_function_of all.items ≡ normal_functions (source_in known.now.typed.now) (signatures_in known.now.typed.now) (source_in known.now.typed.now).funs (signatures_in known.now.typed.now)) }
     ensures finds { Finds result (program_fault (typing_of known.now.typed.now)) }
 {
     law_of_params(known.typed);
     let mut all = Vec::new(known.alloc);
     'funs: for (decl, kinds) in known.typed.program.funs.iter().zip(&known.typed.funs) {
-        all.push(function_form(known, decl, kinds)?)?;
+        all.push(normalise_function(known, decl, kinds)?)?;
     }
     Ok(all)
 }
@@ -53,19 +52,10 @@ pub fn normalise(alloc: Global, program: &Linear) -> Result<Normal, NormalFault>
     // A program with a function that is too large is refused by the first one, unless memory ran out.
     ensures refuses { (fault : NormalFault) → program_fault (typing_of program.now.typed) ≡ Some fault → Refuses fault result }
 {
-    let typed = &program.typed;
-    law_of_few(typed);
-    let cons = constructor_names(alloc, typed)?;
-    let funs = function_names(alloc, typed)?;
-    let known = Known {
-        alloc,
-        typed,
-        cons: &cons,
-        funs: &funs,
-    };
+    let known = Known::new(alloc, program)?;
     let functions = all_functions(&known)?;
     Ok(Normal {
-        types: copy_types(alloc, &typed.types)?,
+        types: known.types()?,
         functions,
     })
 }

@@ -15,7 +15,7 @@ use camelot_values::{Con, Types};
 use std::alloc::{AllocError, Global};
 
 /// The number of the constructor of this name, if there is one.
-pub(crate) fn con_number(known: &Known<'_, '_>, name: &Name) -> Option<usize>
+pub(crate) fn con_number(known: &Known<'_>, name: &Name) -> Option<usize>
     ensures number { result ≡ constructor_number (source_in known.now.typed.now) name.now }
     ensures within { IfSome result (λ i. i < 4096) }
 {
@@ -54,7 +54,7 @@ fn type_numbers(alloc: Global, types: &Types, number: u32) -> Result<Vec<u32>, A
 }
 
 // The number of the constructor of each of these arms.
-fn arm_numbers(known: &Known<'_, '_>, arms: &[Arm]) -> Result<Vec<Option<usize>>, AllocError>
+fn arm_numbers(known: &Known<'_>, arms: &[Arm]) -> Result<Vec<Option<usize>>, AllocError>
     ensures within { IfOk result (λ numbers. AllByRecursion (λ o. IfSome o (λ i. i < 4096)) numbers.items) }
     ensures numbers { IfOk result (λ numbers. numbers.items ≡ map (λ a. constructor_number (source_in known.now.typed.now) (branch_of a).con) arms.now) }
 {
@@ -67,7 +67,7 @@ fn arm_numbers(known: &Known<'_, '_>, arms: &[Arm]) -> Result<Vec<Option<usize>>
 
 // The arm of this constructor among arms with these numbers of constructors.
 fn arm_of<'a>(
-    known: &Known<'_, '_>,
+    known: &Known<'_>,
     numbers: &[Option<usize>],
     arms: &'a [Arm],
     con: usize,
@@ -75,7 +75,7 @@ fn arm_of<'a>(
     requires { numbers.now ≡ map (λ a. constructor_number (source_in known.now.typed.now) (branch_of a).con) arms.now }
     ensures { option_map (λ a. branch_of a.now) result ≡ arm_for (source_in known.now.typed.now) (tree.arms (map branch_of arms.now)) con }
 {
-    let _names = known.cons;
+    let _names = &known.cons;
     'arms: for (arm, number) in arms.iter().zip(numbers) {
         if *number == Some(con) {
             return Some(arm);
@@ -105,7 +105,7 @@ fn match_numbers(
 
 /// The arms of a match in the order of the constructors.
 pub(crate) fn arms_in_order<'a>(
-    known: &Known<'_, '_>,
+    known: &Known<'_>,
     arms: &'a [Arm],
 ) -> Result<Vec<Option<&'a Arm>>, AllocError>
     ensures { IfOk result (λ order. map (option_map (λ a. branch_of a.now)) order.items ≡ map (arm_for (source_in known.now.typed.now) (tree.arms (map branch_of arms.now))) (cons_of (source_in known.now.typed.now) (tree.arms (map branch_of arms.now)))) }

@@ -24,7 +24,7 @@ pub(crate) fn local_of(scope: &Scope<'_, u32>, name: &Name) -> u32
 }
 
 /// The number of the constructor of this name.
-pub(crate) fn con_of(known: &Known<'_, '_>, name: &Name) -> u32
+pub(crate) fn con_of(known: &Known<'_>, name: &Name) -> u32
     ensures { result ≡ con_of (source_in known.now.typed.now) name.now }
 {
     con_number(known, name).unwrap_or(0) as u32
@@ -49,7 +49,7 @@ pub(crate) fn prim_code(op: PrimOp) -> PrimCode
 
 /// Where this constructor is built.
 pub(crate) fn place_of(
-    known: &Known<'_, '_>,
+    known: &Known<'_>,
     scope: &Scope<'_, u32>,
     con: u32,
     place: &Option<Name>,
@@ -150,7 +150,7 @@ pub(crate) fn bound_of(arm: &Arm) -> u32
 }
 
 /// The number of the function of this name.
-pub(crate) fn fun_of(known: &Known<'_, '_>, name: &Name) -> u32
+pub(crate) fn fun_of(known: &Known<'_>, name: &Name) -> u32
     ensures { result ≡ fun_of (source_in known.now.typed.now) name.now }
 {
     known.funs.number(name.word.bytes()).unwrap_or(0) as u32

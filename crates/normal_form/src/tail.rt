@@ -20,7 +20,7 @@ use std::alloc::AllocError;
 
 // A value that the function returns.
 fn returned<'a>(
-    known: &Known<'_, '_>,
+    known: &Known<'_>,
     scope: &mut Scope<'a, u32>,
     at: At,
     expr: &'a Expr,
@@ -36,7 +36,7 @@ fn returned<'a>(
 
 // A call in tail position.
 fn tail_call<'a>(
-    known: &Known<'_, '_>,
+    known: &Known<'_>,
     scope: &mut Scope<'a, u32>,
     at: At,
     call: &'a Call,
@@ -57,7 +57,7 @@ fn tail_call<'a>(
 /// What ends a function, by an expression that begins here.
 #[cycle(tail)]
 pub(crate) fn tail<'a>(
-    known: &Known<'_, '_>,
+    known: &Known<'_>,
     scope: &mut Scope<'a, u32>,
     at: At,
     expr: &'a Expr,
@@ -83,7 +83,7 @@ pub(crate) fn tail<'a>(
 // A local's value, and what it is for.
 #[cycle(tail)]
 fn tail_let<'a>(
-    known: &Known<'_, '_>,
+    known: &Known<'_>,
     scope: &mut Scope<'a, u32>,
     at: At,
     name: &'a Name,
@@ -106,7 +106,7 @@ fn tail_let<'a>(
 // A conditional behind its condition.
 #[cycle(tail)]
 fn tail_branches<'a>(
-    known: &Known<'_, '_>,
+    known: &Known<'_>,
     scope: &mut Scope<'a, u32>,
     cond: Part,
     yes: &'a Expr,
@@ -129,7 +129,7 @@ fn tail_branches<'a>(
 // A scrutinee and its arms.
 #[cycle(tail)]
 fn tail_match<'a>(
-    known: &Known<'_, '_>,
+    known: &Known<'_>,
     scope: &mut Scope<'a, u32>,
     at: At,
     on: &'a Expr,
@@ -152,7 +152,7 @@ fn tail_match<'a>(
 // One arm more, where there is one for the constructor.
 #[cycle(tail)]
 fn tail_arm<'a>(
-    known: &Known<'_, '_>,
+    known: &Known<'_>,
     scope: &mut Scope<'a, u32>,
     mut arms: TailArms,
     arm: Option<&'a Arm>,
@@ -181,7 +181,7 @@ fn tail_arm<'a>(
 // All arms of a match, which begin here.
 #[cycle(tail)]
 fn tail_arms<'a>(
-    known: &Known<'_, '_>,
+    known: &Known<'_>,
     scope: &mut Scope<'a, u32>,
     at: At,
     arms: &'a [Arm],

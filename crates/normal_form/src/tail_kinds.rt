@@ -19,7 +19,7 @@ use std::alloc::AllocError;
 /// The kinds of the locals of an expression that ends the function.
 #[cycle(tail_kinds)]
 pub(crate) fn tail_kinds<'a>(
-    known: &Known<'_, '_>,
+    known: &Known<'_>,
     scope: &mut Scope<'a, Kind>,
     expr: &'a Expr,
 ) -> Result<Vec<Kind>, AllocError>
@@ -46,7 +46,7 @@ pub(crate) fn tail_kinds<'a>(
 // A local's value, and what it is for.
 #[cycle(tail_kinds)]
 fn tail_let_kinds<'a>(
-    known: &Known<'_, '_>,
+    known: &Known<'_>,
     scope: &mut Scope<'a, Kind>,
     name: &'a Name,
     value: &'a Expr,
@@ -67,7 +67,7 @@ fn tail_let_kinds<'a>(
 // A scrutinee and its arms.
 #[cycle(tail_kinds)]
 fn tail_match_kinds<'a>(
-    known: &Known<'_, '_>,
+    known: &Known<'_>,
     scope: &mut Scope<'a, Kind>,
     on: &'a Expr,
     arms: &'a [Arm],
@@ -84,7 +84,7 @@ fn tail_match_kinds<'a>(
 // An arm, where there is one for the constructor.
 #[cycle(tail_kinds)]
 fn tail_arm_kinds<'a>(
-    known: &Known<'_, '_>,
+    known: &Known<'_>,
     scope: &mut Scope<'a, Kind>,
     arm: Option<&'a Arm>,
 ) -> Result<Vec<Kind>, AllocError>
@@ -106,7 +106,7 @@ fn tail_arm_kinds<'a>(
 // All arms.
 #[cycle(tail_kinds)]
 fn all_tail_arm_kinds<'a>(
-    known: &Known<'_, '_>,
+    known: &Known<'_>,
     scope: &mut Scope<'a, Kind>,
     arms: &'a [Arm],
 ) -> Result<Vec<Kind>, AllocError>

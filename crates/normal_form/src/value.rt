@@ -25,7 +25,7 @@ use std::alloc::AllocError;
 /// What gives the value of an expression that begins here.
 #[cycle(value)]
 pub(crate) fn value<'a>(
-    known: &Known<'_, '_>,
+    known: &Known<'_>,
     scope: &mut Scope<'a, u32>,
     at: At,
     expr: &'a Expr,
@@ -47,7 +47,7 @@ pub(crate) fn value<'a>(
 // The innermost part of a left end.
 #[cycle(value)]
 fn value_leaf<'a>(
-    known: &Known<'_, '_>,
+    known: &Known<'_>,
     scope: &mut Scope<'a, u32>,
     at: At,
     expr: &'a Expr,
@@ -77,7 +77,7 @@ fn value_leaf<'a>(
 // An operator or a conditional, around its first part.
 #[cycle(value)]
 fn value_around<'a>(
-    known: &Known<'_, '_>,
+    known: &Known<'_>,
     scope: &mut Scope<'a, u32>,
     at: At,
     parent: &'a Expr,
@@ -103,7 +103,7 @@ fn value_around<'a>(
 // What gives the value of an expression, behind these lines. A local that is there needs no lines, and a literal no list of its own.
 #[cycle(value)]
 fn value_behind<'a>(
-    known: &Known<'_, '_>,
+    known: &Known<'_>,
     scope: &mut Scope<'a, u32>,
     lines: Vec<Line>,
     at: At,
@@ -132,7 +132,7 @@ fn value_behind<'a>(
 // A conditional behind its condition.
 #[cycle(value)]
 fn value_branches<'a>(
-    known: &Known<'_, '_>,
+    known: &Known<'_>,
     scope: &mut Scope<'a, u32>,
     cond: Part,
     yes: &'a Expr,
@@ -164,7 +164,7 @@ fn value_branches<'a>(
 // A constructor with its arguments.
 #[cycle(value)]
 fn value_build<'a>(
-    known: &Known<'_, '_>,
+    known: &Known<'_>,
     scope: &mut Scope<'a, u32>,
     at: At,
     build: &'a Build,
@@ -187,7 +187,7 @@ fn value_build<'a>(
 // A call that isn't in tail position.
 #[cycle(value)]
 fn value_call<'a>(
-    known: &Known<'_, '_>,
+    known: &Known<'_>,
     scope: &mut Scope<'a, u32>,
     at: At,
     call: &'a Call,
@@ -208,7 +208,7 @@ fn value_call<'a>(
 // A local's value, and what it is for.
 #[cycle(value)]
 fn value_let<'a>(
-    known: &Known<'_, '_>,
+    known: &Known<'_>,
     scope: &mut Scope<'a, u32>,
     at: At,
     name: &'a Name,
@@ -231,7 +231,7 @@ fn value_let<'a>(
 /// The values of arguments, from left to right.
 #[cycle(value)]
 pub(crate) fn value_args<'a>(
-    known: &Known<'_, '_>,
+    known: &Known<'_>,
     scope: &mut Scope<'a, u32>,
     at: At,
     args: &'a [Expr],
@@ -252,7 +252,7 @@ pub(crate) fn value_args<'a>(
 // A scrutinee and its arms.
 #[cycle(value)]
 fn value_match<'a>(
-    known: &Known<'_, '_>,
+    known: &Known<'_>,
     scope: &mut Scope<'a, u32>,
     at: At,
     on: &'a Expr,
@@ -275,7 +275,7 @@ fn value_match<'a>(
 // One arm more, where there is one for the constructor.
 #[cycle(value)]
 fn value_arm<'a>(
-    known: &Known<'_, '_>,
+    known: &Known<'_>,
     scope: &mut Scope<'a, u32>,
     mut arms: Arms,
     arm: Option<&'a Arm>,
@@ -304,7 +304,7 @@ fn value_arm<'a>(
 // All arms of a match, which begin here.
 #[cycle(value)]
 fn value_arms<'a>(
-    known: &Known<'_, '_>,
+    known: &Known<'_>,
     scope: &mut Scope<'a, u32>,
     at: At,
     arms: &'a [Arm],

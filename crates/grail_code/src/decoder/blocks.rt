@@ -11,6 +11,7 @@ use super::types::kind;
 use crate::code::{Block, Func};
 use camelot_values::Kind;
 use grail_blocks::{CaseArm, CaseCell, Term};
+use smallvec::SmallVec;
 use std::alloc::Global;
 
 #[tactic(auto, unfolding(crate::specs::CodeReader::cell_at, crate::specs::CodeReader::cell_rest, crate::specs::Reader::tag_at, crate::specs::Reader::byte_at))]
@@ -121,7 +122,11 @@ impl Decode for Block {
         let (params, rest) = list(alloc, 0, 256, bytes)?;
         let (lets, rest) = list(alloc, 0, 256, rest)?;
         let (term, rest) = term(alloc, rest)?;
-        let block = Block { params, lets, term };
+        let block = Block {
+            params: SmallVec::from_vec(params),
+            lets,
+            term,
+        };
         Ok((block, rest))
     }
 }

@@ -11,5 +11,5 @@ each-preserved c = record {
   have =
       subst (λ sets. HaveParams sets (map block_of c.args.blocks.now)) (sym c.in_ok-push.ensures.items)
       (one_block_more block_of c.each.sets.items c.of.result c.args.blocks.now c.block-item.result c.each.block-index c.each.invariant.count c.each-test.true c.block-item.is c.each.invariant.have
-      (subst (λ xs. MayHaveAll c.of.result xs) c.deref.ensures.value c.of.ensures));
+      (subst (λ xs. MayHaveAll c.of.result xs) c.deref.ensures c.of.ensures));
 }

@@ -13,7 +13,7 @@ loop-next-preserved c =
     let now = c.loop-next.invariant in
     let next = c.next_below-next-in-loop-next.ensures in
     record {
-      listed = c.in_ok-push.ensures.items ∙ listed_more (has c.args.self) c.args.end c.loop-next.next c.next_below-next-in-loop-next.result c.loop-next.locals.items now.listed (now.passing c.loop-next-test.true) next;
+      listed = c.in_ok-push.ensures.ok ∙ listed_more (has c.args.self) c.args.end c.loop-next.next c.next_below-next-in-loop-next.result c.loop-next.locals.items now.listed (now.passing c.loop-next-test.true) next;
       until = next.until;
       passing = next.passing;
     }

@@ -1,6 +1,6 @@
 use Rattle.typing_rules.specs.TypedPrograms.{typing_of}
 use Rattle.normal_form.proofs.FunctionLaws.{params_few}
-use Rattle.normal_form.proofs.names.law_of_params.Goals as goal
+use Rattle.normal_form.proofs.facts.law_of_params.Goals as goal
 
 pub returns : goal.returns
 returns c = params_few (typing_of c.args.typed.now) c.args.typed.now.typed
