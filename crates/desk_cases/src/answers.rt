@@ -3,6 +3,7 @@ ghost use Rattle.std.specs.Prelude.{IsTrue};
 ghost use Rattle.lease_desk.specs.Journal.{AreSizes};
 
 use crate::copied::Copied;
+use crate::replays::answer_journal;
 use cell_span::{Cell, Span};
 use lease_desk::{Desk, Event, Lease, Next};
 use std::io;
@@ -178,6 +179,10 @@ pub(crate) fn answer(
     if let Some(words) = line.strip_prefix("desk ") {
         leases.clear();
         return open(rt, words);
+    }
+    if let Some(words) = line.strip_prefix("replay ") {
+        answer_journal(rt, words)?;
+        return Ok(desk);
     }
     let Some(mut desk) = desk else {
         print!(rt; " no desk")?;

@@ -6,11 +6,13 @@
 //! - `mark J T`: writes the tag T into the first cell of job J's lease. `give J`: it goes back with a payload that has its cells. `withdraw J`: it goes back
 //!   without one.
 //! - `counts`: how many cells are free and in the largest hole, how many leases are out, and how many were withdrawn. `journal`: the events.
+//! - `replay N S1 S2 ..: E1, E2, ..`: what the journal of these events comes to, as `took J F S`, `full J N L` and `gave J F S`.
 //! - `finish`: ends the desk; its cells' tags, and the jobs with a payload.
 #![tactic(auto)]
 
 mod answers;
 mod copied;
+mod replays;
 
 use answers::answer;
 use copied::Copied;
