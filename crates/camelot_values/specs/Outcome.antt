@@ -29,11 +29,15 @@ peak_of Stuck = 0
 
 abbrev pub calls_of : {A : Type 0} → Outcome A → ℕ
 calls_of (Done v calls peak low) = calls
-calls_of o = 0
+calls_of (Fuel calls peak) = 0
+calls_of (Deep peak) = 0
+calls_of Stuck = 0
 
 abbrev pub net_of : {A : Type 0} → Outcome A → ℤ
 net_of (Done v calls peak low) = net peak low
-net_of o = pos 0
+net_of (Fuel calls peak) = pos 0
+net_of (Deep peak) = pos 0
+net_of Stuck = pos 0
 
 -- an outcome that comes after one of so many calls, this peak and this distance below it
 abbrev pub after : {A : Type 0} → ℕ → ℕ → ℕ → Outcome A → Outcome A

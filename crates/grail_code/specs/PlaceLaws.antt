@@ -1,11 +1,12 @@
 -- Laws, for the proofs of this crate and of those above it.
 -- Laws of places: that every ready local has a value of its kind is kept by a let, by the end of a block, and from a block on; and the
 -- induction over one run of a function with what is ready at each place.
-use Rattle.std.proofs.Common.{◌≡◌, ℕ, zero, suc, ◌+◌, ◌<◌, ◌≤◌, Bool, true, false, List, [], ◌∷◌, ◌++◌, length, map, Option, Some, None, refl, sym, ap, ◌∙◌, subst, arith, inl, inr}
+use Rattle.std.proofs.Common.{◌≡◌, ℕ, zero, suc, ◌+◌, ◌<◌, ◌≤◌, Bool, true, false, List, [], ◌∷◌, ◌++◌, length, map, drop, Option, Some, None, refl, sym, ap, ◌∙◌, subst, arith, inl, inr}
 use Rattle.std.specs.Prelude.{◌==◌, ◌||◌, if◌then◌else◌, slice_get, IsSomeAnd, ◌⊎◌}
 use Rattle.std.specs.List.{AllByRecursion}
 use Rattle.std.specs.Option.{option_map, option_map_or}
 use Rattle.std.proofs.lemmas.Bool.Decides.{nat_tests}
+use Rattle.std.proofs.lemmas.List.{length-drop}
 use Rattle.std.proofs.lemmas.Option.{slice_get-map}
 use Rattle.camelot_values.specs.Value as value
 use Rattle.camelot_values.specs.Value.{Value, Values, parts}
@@ -28,7 +29,7 @@ use Rattle.grail_blocks.specs.NarrowLaws.{bound_among}
 use Rattle.grail_blocks.specs.RunningLaws.{later_is_block}
 use Rattle.grail_code.specs.Code.{Op, Lit, Flag, Copy, Prim, Make, Call, Let, CaseArm, Term, Ret, Tail, Goto, If, Case, Block, Func, Code}
 use Rattle.grail_code.specs.WellFormed.{kind_of, is_heap_local, HaveKinds, PlaceFits, Gives, LetFits, kept_diamond, bound_by, CellFits, JumpFits, ArmFits, ArmsFit, data_type, TermFits, Use, Bind, taken, operands_of, term_uses, params_at, jump_events, ways, BlockFits, BlocksFit, FuncFits}
-use Rattle.grail_code.specs.Meaning.{Locals, Later, put, narrowed, in_front, values_of, operands, built, op_run, lets_run, put_all, cell_run, arm_run, arm_at, case_run, term_run, narrow, block_run, jumps_from, from_block}
+use Rattle.grail_code.specs.Meaning.{Locals, Later, put, narrowed, in_front, values_of, operands, built, op_run, lets_run, put_all, cell_run, arm_run, arm_at, case_run, term_run, narrow, block_run, jumps_from, from_block, from_place}
 use Rattle.grail_code.specs.Places.{Holds, LocalsFit, FitAt, FitsTarget, CallsSafe, JumpsTo, with_cell, cell_effect, Claim, IsKept}
 
 map_append : {A B : Type 0} (f : A → B) (xs ys : List A) → map f (xs ++ ys) ≡ map f xs ++ map f ys
@@ -397,6 +398,19 @@ pub step_safe : (p : Code) (f : Func) (enter : Enter) (number n : ℕ) (b : Bloc
     → slice_get b.lets n ≡ Some l → kind_of f l.target ≡ Some q → FitAt p f b n env → IsSafe p.types q (op_run enter k w env l.op)
 step_safe p f enter number n b l q env k w calls fits is here t fit = step_safe_in p f enter number n b l q env k w calls (fits_at p f number b fits is) here t fit
 
+-- What a jump means in a block holds, where the claim holds from each later block on.
+later_from : (p : Code) (f : Func) (enter : Enter) (claim : Claim) (number : ℕ)
+    → ((to : ℕ) (target : Block) → number < to → slice_get f.blocks to ≡ Some target → (k w : ℕ) (env : Locals) → FitAt p f target 0 env
+        → claim to 0 env (block_run p.types enter (jumps_from p.types enter (map narrow f.blocks) to) (narrow target) k w env))
+    → LaterHolds p f claim number (jumps_from p.types enter (map narrow f.blocks) number)
+later_from p f enter claim number from = λ to j u target env less t hand.
+    subst (claim to 0 (narrowed target.params env)) (sym (there to j u target env less t)) (from to target less t j u (narrowed target.params env) hand)
+  where
+    there : (to j u : ℕ) (target : Block) (env : Locals) → number < to → slice_get f.blocks to ≡ Some target
+        → jumps_from p.types enter (map narrow f.blocks) number to j u env ≡ block_run p.types enter (jumps_from p.types enter (map narrow f.blocks) to) (narrow target) j u (narrowed target.params env)
+    there to j u target env less t = later_is_block p.types enter (map narrow f.blocks) number to j u env less
+        ∙ ap (λ o. given o (λ body. block_run p.types enter (jumps_from p.types enter (map narrow f.blocks) to) body j u (body.takes env))) (slice_get-map narrow f.blocks to ∙ ap (option_map narrow) t)
+
 -- from a block on, with as many blocks behind it as there may be
 block_claim : (p : Code) (f : Func) (enter : Enter) → CallsSafe p enter → FuncFits p f → (claim : Claim) → IsKept p f enter claim → (left number : ℕ) → length f.blocks ≤ number + left → (b : Block) → slice_get f.blocks number ≡ Some b
     → (k w : ℕ) (env : Locals) → FitAt p f b 0 env → claim number 0 env (block_run p.types enter (jumps_from p.types enter (map narrow f.blocks) number) (narrow b) k w env)
@@ -408,14 +422,8 @@ block_claim p f enter calls fits claim kept zero number enough b is k w env fit 
     past (x ∷ xs) (suc i) h e = past xs i (omega (arith, h)) e
 block_claim p f enter calls fits claim kept (suc left) number enough b is k w env fit =
     lets_claim p f enter calls claim kept number b is (fits_at p f number b fits is) (jumps_from p.types enter (map narrow f.blocks) number)
-    (λ to j u target env' less t hand. subst (claim to 0 (narrowed target.params env')) (sym (there to j u target env' less t))
-    (block_claim p f enter calls fits claim kept left to (omega (arith, enough, less)) target t j u (narrowed target.params env') hand))
+    (later_from p f enter claim number (λ to target less t j u env' hand. block_claim p f enter calls fits claim kept left to (omega (arith, enough, less)) target t j u env' hand))
     b.lets 0 (λ i. ap (slice_get b.lets) (omega arith)) (omega arith) k w env fit
-  where
-    there : (to j u : ℕ) (target : Block) (env' : Locals) → number < to → slice_get f.blocks to ≡ Some target
-        → jumps_from p.types enter (map narrow f.blocks) number to j u env' ≡ block_run p.types enter (jumps_from p.types enter (map narrow f.blocks) to) (narrow target) j u (narrowed target.params env')
-    there to j u target env' less t = later_is_block p.types enter (map narrow f.blocks) number to j u env' less
-        ∙ ap (λ o. given o (λ body. block_run p.types enter (jumps_from p.types enter (map narrow f.blocks) to) body j u (body.takes env'))) (slice_get-map narrow f.blocks to ∙ ap (option_map narrow) t)
 
 -- A claim that lets and ends of blocks keep holds from each block on, where every ready local has a value of its kind.
 pub holds_from_block : (p : Code) (f : Func) (enter : Enter) → CallsSafe p enter → FuncFits p f → (claim : Claim) → IsKept p f enter claim → (number : ℕ) (b : Block) → slice_get f.blocks number ≡ Some b
@@ -423,3 +431,16 @@ pub holds_from_block : (p : Code) (f : Func) (enter : Enter) → CallsSafe p ent
 holds_from_block p f enter calls fits claim kept number b is k w env fit =
     subst (claim number 0 env) (sym (ap (λ o. given o (λ body. block_run p.types enter (jumps_from p.types enter (map narrow f.blocks) number) body k w env)) (slice_get-map narrow f.blocks number ∙ ap (option_map narrow) is)))
     (block_claim p f enter calls fits claim kept (length f.blocks) number (omega arith) b is k w env fit)
+
+found_further : {A : Type 0} (xs : List A) (n i : ℕ) → slice_get (drop n xs) i ≡ slice_get xs (n + i)
+found_further xs zero i = let e : i ≡ 0 + i = omega arith in ap (slice_get xs) e
+found_further [] (suc n) i = refl
+found_further (x ∷ xs) (suc n) i = let e : suc n + i ≡ suc (n + i) = omega arith in found_further xs n i ∙ sym (ap (slice_get (x ∷ xs)) e)
+
+-- Such a claim holds from each place of each block on, too.
+pub holds_from_place : (p : Code) (f : Func) (enter : Enter) → CallsSafe p enter → FuncFits p f → (claim : Claim) → IsKept p f enter claim → (number place : ℕ) (b : Block) → slice_get f.blocks number ≡ Some b
+    → place ≤ length b.lets → (k w : ℕ) (env : Locals) → FitAt p f b place env → claim number place env (from_place p.types enter f b number place env k w)
+holds_from_place p f enter calls fits claim kept number place b is within k w env fit =
+    lets_claim p f enter calls claim kept number b is (fits_at p f number b fits is) (jumps_from p.types enter (map narrow f.blocks) number)
+    (later_from p f enter claim number (λ to target less t j u env' hand. block_claim p f enter calls fits claim kept (length f.blocks) to (omega arith) target t j u env' hand))
+    (drop place b.lets) place (λ i. found_further b.lets place i) (omega (arith, within, length-drop place b.lets)) k w env fit

@@ -3,6 +3,7 @@ pub mod Books
 pub mod Rules
 pub mod Fitting
 pub mod Checks
+pub mod Worth
 pub mod Bound
 pub mod Licensed
 pub mod Failing

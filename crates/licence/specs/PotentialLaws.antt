@@ -10,14 +10,17 @@ use Rattle.camelot_values.specs.Typing.{ArgumentsFit}
 use Rattle.camelot_values.specs.Outcome.{Outcome, Done, Fuel, Deep, Stuck, peak_of}
 use Rattle.camelot_values.specs.Bounds.{IsPaidBy}
 use Rattle.camelot_values.specs.declared.kinds.Kind.{Kind}
-use Rattle.grail_code.specs.Code.{Func, Code}
-use Rattle.grail_code.specs.Meaning.{run_of}
+use Rattle.camelot_values.specs.Runs.{entering}
+use Rattle.grail_code.specs.Code.{Block, Func, Code}
+use Rattle.grail_code.specs.Meaning.{Locals, bodies, from_place, run_of}
+use Rattle.grail_code.specs.Places.{FitAt}
 use Rattle.grail_code.specs.Soundness.{HaveBlocks}
 use Rattle.grail_code.specs.WellFormed.{IsWellFormed}
 use Rattle.annotations.specs.Vectors.{potential, potentials}
 use Rattle.certificate.specs.Certificates.{Cert}
 use Rattle.licence.specs.Books.{Carried, Book, book_of}
 use Rattle.licence.specs.Rules.{Pays}
+use Rattle.licence.specs.Worth.{worth_at}
 use Rattle.licence.specs.Bound.{arguments_carry, units_at, bound, lease}
 use Rattle.licence.specs.theory.Sound as sound
 
@@ -41,6 +44,12 @@ run_paid p book well some types pays limit entry fuel args f is fit =
     subst (λ n. IsPaidBy book.unit (book.need entry + n) (λ v. book.back entry + potential p.types (book.result entry) v) (run_of p limit entry fuel args))
     (ap (λ n. potentials p.types (map (book.param entry) (range_with_len 0 n)) args) (sym (as_many p.types f.params args fit)) ∙ carry_is p.types (book.param entry) 0 args)
     (sound.run_paid p book well some types pays limit entry fuel args f is fit)
+
+-- What follows a place is paid for by what the place is worth.
+pub place_paid : (p : Code) (book : Book ℕ) → IsWellFormed p → HaveBlocks p → AreTypes p.types → Pays p book → (limit func number place fuel waits : ℕ) (f : Func) (b : Block) (env : Locals)
+    → slice_get p.funcs func ≡ Some f → slice_get f.blocks number ≡ Some b → place ≤ length b.lets → FitAt p f b place env
+    → IsPaidBy book.unit (worth_at p book func f number b place env) (λ v. book.back func + potential p.types (book.result func) v) (from_place p.types (entering (bodies p) limit) f b number place env fuel waits)
+place_paid = sound.place_paid
 
 peak_paid : (u top : ℕ) (left : Value → ℕ) (o : Outcome Value) → IsPaidBy u top left o → u * peak_of o ≤ top
 peak_paid u top left (Done v c p l) h = h.0

@@ -1,5 +1,7 @@
 ghost use Rattle.std.specs.Prelude.{◌≡◌};
 ghost use Rattle.grail_code.specs.Code.{code_of};
+ghost use Rattle.grail_code.specs.WellFormed.{IsWellFormed};
+ghost use Rattle.licence.specs.Fitting.{Grants};
 ghost use Rattle.licence.specs.Licensed.{Licensed, IsLicensed};
 
 use certificate::Cert;
@@ -27,9 +29,12 @@ impl Model for Licence {
 impl Licence {
     /// This code with this certificate, which grants it.
     pub fn seal(code: Code, cert: Cert) -> Licence
-        requires { IsLicensed (record { code = code_of code; cert = cert }) }
+        requires well { IsWellFormed (code_of code) }
+        requires grants { Grants (code_of code) cert }
         ensures { result ≡ record { code = code_of code; cert = cert } }
     {
+        code.limits();
+        cert.limits();
         Licence { code, cert }
     }
 
@@ -47,8 +52,8 @@ impl Licence {
         &self.cert
     }
 
-    /// What the type keeps: the code is well formed, and the certificate grants it. It does nothing; its clause is what whoever holds
-    /// a licence can use.
+    /// What the type keeps: the code is well formed and within the limits of code, and the certificate has its form and grants the code. It
+    /// does nothing; its clause is what whoever holds a licence can use.
     pub fn kept(&self)
         ensures { IsLicensed self.now }
     {

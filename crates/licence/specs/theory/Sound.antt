@@ -13,7 +13,7 @@ use Rattle.camelot_values.specs.Typing.{Fits, ArgumentsFit, IsSafe}
 use Rattle.camelot_values.specs.Outcome.{Outcome, Done, Deep, entered, first_then}
 use Rattle.camelot_values.specs.Bounds.{IsPaidBy}
 use Rattle.camelot_values.specs.BoundLaws.{yields_then, yields_after}
-use Rattle.camelot_values.specs.Runs.{Enter, is_too_deep, calls}
+use Rattle.camelot_values.specs.Runs.{Enter, is_too_deep, calls, entering}
 use Rattle.camelot_values.specs.declared.kinds.Kind.{Kind}
 use Rattle.camelot_values.specs.declared.kinds.Kind.TheVariants as kind
 use Rattle.grail_blocks.specs.declared.blocks.CaseCell.{CaseCell}
@@ -24,15 +24,16 @@ use Rattle.grail_blocks.specs.States.{Ready, State, nothing_bound, bind, after, 
 use Rattle.grail_blocks.specs.StateLaws.{after_append, ready_first, ready_second, state_next, state_last, ready_at}
 use Rattle.grail_code.specs.Code.{Let, CaseArm, Term, Ret, Tail, Goto, If, Case, Block, Func, Code}
 use Rattle.grail_code.specs.WellFormed.{Gives, LetFits, kind_of, is_heap_local, BlockFits, BlocksFit, FuncFits, IsWellFormed}
-use Rattle.grail_code.specs.Meaning.{Locals, put, narrowed, arguments, values_of, op_run, narrow, body_run, bodies, from_block, run_of}
+use Rattle.grail_code.specs.Meaning.{Locals, put, narrowed, arguments, values_of, op_run, narrow, body_run, bodies, from_block, from_place, run_of}
 use Rattle.grail_code.specs.Places.{Holds, LocalsFit, FitAt, FitsTarget, CallsSafe, JumpsTo, with_cell, cell_effect, TakesArm, Claim, IsKept}
-use Rattle.grail_code.specs.PlaceLaws.{fit_used, all_at, holds_from_block}
+use Rattle.grail_code.specs.PlaceLaws.{fit_used, all_at, holds_from_block, holds_from_place}
 use Rattle.grail_code.specs.SoundLaws.{arguments_fit, body_runs, calls_safe}
 use Rattle.grail_code.specs.Soundness.{HaveBlocks}
 use Rattle.annotations.specs.Vectors.{potential, potential_all, potentials, node_units, is_heap_con}
 use Rattle.annotations.specs.PotentialLaws.{potential_at_least}
 use Rattle.licence.specs.Books.{Units, Carried, Book}
 use Rattle.licence.specs.Rules.{Amounts, naturals, Account, account_at, all_carrying, after_op, after_lets, account_before, in_arm, freed, first_con, first_con_of, asked_by, AllCarry, JumpPays, ArmsPay, TermPays, BlockPays, Pays}
+use Rattle.licence.specs.Worth.{worth_at}
 use Rattle.licence.specs.theory.Paying.{paid_more, paid_beside, paid_in_turn, paid_at_once, paid_behind_free, paid_behind_entry}
 use Rattle.licence.specs.theory.Totals.{total, value_units, nothing_total, bind_plain}
 use Rattle.licence.specs.theory.Carrying.{AllHold, all_held, asked_units, use_total, uses_total, no_more, asked_values, params_total, narrowed_asked, fields_total}
@@ -578,3 +579,23 @@ calls_paid p book well some types pays limit (suc clock) (suc k) w t g args call
 pub run_paid : (p : Code) (book : Book ℕ) → IsWellFormed p → HaveBlocks p → AreTypes p.types → Pays p book → (limit func fuel : ℕ) (args : List Value) (f : Func) → slice_get p.funcs func ≡ Some f → ArgumentsFit p.types f.params args
     → IsPaidBy book.unit (book.need func + potentials p.types (asked_by book func f) args) (λ v. book.back func + potential p.types (book.result func) v) (run_of p limit func fuel args)
 run_paid p book well some types pays limit func fuel args f is fit = calls_paid p book well some types pays limit fuel fuel 0 true func args f is fit
+
+-- What follows a place, where every ready local has a value of its kind, is paid for by what the place is worth.
+pub place_paid : (p : Code) (book : Book ℕ) → IsWellFormed p → HaveBlocks p → AreTypes p.types → Pays p book → (limit func number place fuel waits : ℕ) (f : Func) (b : Block) (env : Locals)
+    → slice_get p.funcs func ≡ Some f → slice_get f.blocks number ≡ Some b → place ≤ length b.lets → FitAt p f b place env
+    → IsPaidBy book.unit (worth_at p book func f number b place env) (λ v. book.back func + potential p.types (book.result func) v) (from_place p.types (entering (bodies p) limit) f b number place env fuel waits)
+place_paid p book well some types pays limit func number place fuel waits f b env is at within fit = (claim number place b at within fuel waits env fit).1 b at
+  where
+    safe : CallsSafe p (entering (bodies p) limit)
+    safe k w t g args callee there args_fit = calls_safe p well some limit k k w t g args callee there args_fit
+
+    paid : CallsPaid p book (entering (bodies p) limit)
+    paid k w t g args callee there args_fit = calls_paid p book well some types pays limit k k w t g args callee there args_fit
+
+    fits : FuncFits p f
+    fits = all_at (FuncFits p) p.funcs func f well.funcs is
+
+    claim : (number place : ℕ) (b : Block) → slice_get f.blocks number ≡ Some b → place ≤ length b.lets → (k w : ℕ) (env : Locals) → FitAt p f b place env
+        → IsSafe p.types f.result (from_place p.types (entering (bodies p) limit) f b number place env k w) × Paid p f book func number place env (from_place p.types (entering (bodies p) limit) f b number place env k w)
+    claim = holds_from_place p f (entering (bodies p) limit) safe fits (λ number n env o. IsSafe p.types f.result o × Paid p f book func number n env o)
+        (both_kept p f book func (entering (bodies p) limit) types safe paid fits (λ number c there. pays.blocks func number f c is there))

@@ -31,6 +31,7 @@ use Rattle.annotations.specs.Vectors.{potential, potential_all, potentials, node
 use Rattle.annotations.specs.PotentialLaws.{nothing_of_heap_free, potentials_same}
 use Rattle.licence.specs.Books.{Units, Book}
 use Rattle.licence.specs.Rules.{naturals, Account, carrying, build_cost, after_op, asked_by, AllCarry, LetPays}
+pub use Rattle.licence.specs.Worth.{worth}
 use Rattle.licence.specs.theory.Paying.{paid_more, paid_beside, paid_at_once, paid_for_cell}
 use Rattle.licence.specs.theory.Totals.{total, value_units, bind_total, bind_plain}
 use Rattle.licence.specs.theory.Carrying.{asked_units, all_held, use_total, uses_total, no_more, asked_values}
@@ -43,10 +44,6 @@ CallsPaid p book enter = (k w : ℕ) (t : Bool) (g : ℕ) (args : List Value) (c
 map_append : {A B : Type 0} (f : A → B) (xs ys : List A) → map f (xs ++ ys) ≡ map f xs ++ map f ys
 map_append f [] ys = refl
 map_append f (x ∷ xs) ys = ap (λ l. f x ∷ l) (map_append f xs ys)
-
--- the account and the locals together
-abbrev pub worth : List DataType → Func → State → Locals → Account ℕ → ℕ
-worth types f s env account = account.left + total types f s env account.carried
 
 -- ---- lets that leave the account as it was
 

@@ -12,13 +12,9 @@ use Rattle.grail_code.specs.Meaning.{Locals, put}
 use Rattle.annotations.specs.Vectors.{potential}
 use Rattle.licence.specs.Books.{Units, Carried}
 use Rattle.licence.specs.Rules.{carrying}
+pub use Rattle.licence.specs.Worth.{sum_below, value_units, status_units, local_units, total}
 
 -- ---- sums
-
--- over the numbers below n
-abbrev pub sum_below : (ℕ → ℕ) → ℕ → ℕ
-sum_below F zero = 0
-sum_below F (suc n) = sum_below F n + F n
 
 pub sum_less : (F G : ℕ → ℕ) (n : ℕ) → ((y : ℕ) → y < n → F y ≤ G y) → sum_below F n ≤ sum_below G n
 sum_less F G zero h = omega arith
@@ -58,24 +54,6 @@ sum_less_at F G x extra (suc n) less others here = by_test (sum_less_at F G x ex
         omega (arith, all, one)
 
 -- ---- locals
-
--- what a local's value carries, if it has one
-abbrev pub value_units : List DataType → Units ℕ → Option Value → ℕ
-value_units types units None = 0
-value_units types units (Some v) = potential types units v
-
-abbrev pub status_units : Status → ℕ → ℕ
-status_units Ready n = n
-status_units Unbound n = 0
-status_units Spent n = 0
-
--- a local that isn't ready carries nothing
-abbrev pub local_units : List DataType → State → Locals → Carried ℕ → ℕ → ℕ
-local_units types s env carried x = status_units (s x) (value_units types (carried x) (env x))
-
--- all locals of a function together
-abbrev pub total : List DataType → Func → State → Locals → Carried ℕ → ℕ
-total types f s env carried = sum_below (local_units types s env carried) (length (local_kinds f))
 
 pub nothing_total : (types : List DataType) (f : Func) (env : Locals) (carried : Carried ℕ) → total types f nothing_bound env carried ≡ 0
 nothing_total types f env carried = all (length (local_kinds f))
