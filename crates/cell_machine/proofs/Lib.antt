@@ -11,4 +11,3 @@ pub mod Safety
 pub mod StateLaws
 pub mod StepLaws
 pub mod Unloading
-pub mod Planning

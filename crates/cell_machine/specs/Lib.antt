@@ -12,6 +12,7 @@ pub mod Loading
 pub mod MachineLaws
 pub mod Nodes
 pub mod Owners
+pub mod PlanLaws
 pub mod Plans
 pub mod Running
 pub mod Safe
@@ -21,4 +22,5 @@ pub mod State
 pub mod Steps
 pub mod Stopped
 pub mod Stops
+pub mod Wide
 pub mod theory

@@ -15,23 +15,28 @@ ghost use Rattle.grail_code.specs.WellFormed.{IsWellFormed};
 ghost use Rattle.cell_machine.specs.Cells.{inline_base};
 ghost use Rattle.cell_machine.specs.Coming.{IsWithinRoom, IsOnCourse, IsOnWay, KeepsCourse, EndsAsMeant};
 ghost use Rattle.cell_machine.specs.Loading.{cells_from, begun, steps};
+ghost use Rattle.licence.specs.Licensed.{Licensed, IsLicensed};
+ghost use Rattle.cell_machine.specs.Plans.{IsPlan, RunsAsPlanned};
+ghost use Rattle.cell_machine.specs.Wide.{wide, Widens};
 ghost use Rattle.cell_machine.specs.Owners.{TwoTake, OneTakesTwice, FreeIsTaken};
 ghost use Rattle.cell_machine.specs.Sound.{IsSound};
 ghost use Rattle.cell_machine.specs.Stands.{Stands, footprint, RepeatsNone};
 ghost use Rattle.cell_machine.specs.State.{State, Running};
 ghost use Rattle.cell_machine.specs.Steps.{step};
 
-/// One step of well-formed code. A sound state on its way to an outcome, in a range with room for the outcome's peak, has a
-/// step: behind it stands another such state, on its way to the same outcome with fewer steps to come, or the end that the
-/// outcome says. Its peak is within the room, and its net number of cells no further below 0 than there are cells beyond the
-/// room. A run on fitting arguments begins so, on its way to what the code means.
+/// One step of well-formed code. A sound state on its way to an outcome, of which what lies ahead takes no more cells at a time than are
+/// free, has a step: behind it stands another such state, on its way to the same outcome with fewer steps to come, or the end that the
+/// outcome says. The free cells and the net number of cells taken stay the same together: they are the room. Where the outcome's peak
+/// is within the room, so is the state's; and the net number of cells is no further below 0 than there are cells beyond the
+/// room. A run on fitting arguments begins so, on its way to what the code means, where there is room for its peak.
 pub fn law_of_steps()
-    ensures step { (program : Code) (limit room : ℕ) (outcome : Outcome Value) (s : State) → IsWellFormed program → IsWithinLimits program → IsWithinRoom room outcome
+    ensures step { (program : Code) (limit room : ℕ) (outcome : Outcome Value) (s : State) → IsWellFormed program → IsWithinLimits program
         → IsOnCourse program limit room outcome s → KeepsCourse program limit room outcome s (step program limit s) }
     ensures counters { (program : Code) (limit room : ℕ) (outcome : Outcome Value) (s : State) → IsWithinRoom room outcome → IsOnCourse program limit room outcome s
         → (s.peak ≤ room) × (room + s.low ≤ length s.cells + s.peak) }
     ensures begun { (program : Code) (limit entry : ℕ) (f : Func) (args : List Value) (fuel lease : ℕ) → IsWellFormed program → IsWithinLimits program
         → slice_get program.funcs entry ≡ Some f → ArgumentsFit program.types f.params args → length (cells_from program.types 0 (parts args)) ≤ lease → lease ≤ 2147483648 → 1 ≤ fuel
+        → IsWithinRoom (lease - length (cells_from program.types 0 (parts args))) (run_of program limit entry fuel args)
         → IsOnCourse program limit (lease - length (cells_from program.types 0 (parts args))) (run_of program limit entry fuel args) (begun program entry f args fuel lease) }
 {}
 
@@ -50,6 +55,19 @@ pub fn law_of_reuse()
         → IsOnWay program limit (lease - length (cells_from program.types 0 (parts args))) (run_of program limit entry fuel args) (steps program limit count (Running (begun program entry f args fuel lease))) }
 {}
 
+/// A step reads and writes only cells that are there. Where a state has a step, the state with more cells behind has just that step, and
+/// these cells stay as they are. So one step serves a machine in its own range and one in the middle of an arena.
+pub fn law_of_longer_lists()
+    ensures { (program : Code) (limit : ℕ) (more : List Cell) (s : State) → Widens more (step program limit s) (step program limit (wide more s)) }
+{}
+
+/// Plans of licensed code, as plain data: an entry, fitting arguments, fuel, and just as many cells as the licence says. The run ends as the
+/// code means, each state in which it goes on has a step, so that none finds its free list empty, and each has just that number of cells.
+pub fn law_of_plans()
+    ensures { (l : Licensed) (entry : ℕ) (f : Func) (args : List Value) (fuel cells : ℕ) → IsLicensed l → IsPlan l entry args fuel cells
+        → cells ≤ 2147483648 → slice_get l.code.funcs entry ≡ Some f → RunsAsPlanned l entry f args fuel cells }
+{}
+
 /// Words in cells. Kind, word and cells determine a value. A value that takes no cell twice takes at most as many as there
 /// are, and has at most four nodes for each of them, and one. Arguments take as many cells as are counted in them.
 pub fn law_of_words()
@@ -63,8 +81,8 @@ pub fn law_of_words()
         → length (cells_from types 0 (parts args)) ≡ cells_among types args }
 {}
 
-/// Each cell has one owner. A state is not sound where the values of two ready locals take the same cell, where the value of one takes a cell
-/// twice, or where it takes a cell of the free list.
+/// Each owned cell has one owner. A state is not sound where two ready locals own the same cell, where one owns a cell twice, or where it
+/// owns a cell of the free list.
 pub fn law_of_owners()
     ensures two { (program : Code) (s : State) → AreTypes program.types → TwoTake program s → ¬ (IsSound program s) }
     ensures twice { (program : Code) (s : State) → AreTypes program.types → OneTakesTwice program s → ¬ (IsSound program s) }

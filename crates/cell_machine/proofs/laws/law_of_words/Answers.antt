@@ -1,5 +1,5 @@
 use Rattle.cell_machine.specs.theory.Reading.{one_value, cells_few, items_few}
-use Rattle.cell_machine.proofs.FromArguments.{argument_cells}
+use Rattle.cell_machine.specs.theory.Laying.{argument_cells}
 use Rattle.cell_machine.proofs.laws.law_of_words.Goals as goal
 
 pub returns-clause-one_value : goal.returns-clause-one_value

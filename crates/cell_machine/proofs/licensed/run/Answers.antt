@@ -3,12 +3,12 @@ use Rattle.grail_code.specs.Code.{code_of}
 use Rattle.grail_code.specs.Meaning.{run_of}
 use Rattle.cell_machine.specs.Endings.{EndsWith}
 use Rattle.cell_machine.specs.State.{most_calls}
-use Rattle.cell_machine.proofs.Planning.{can_run}
+use Rattle.cell_machine.specs.PlanLaws.{can_run_code}
 use Rattle.cell_machine.proofs.licensed.run.Goals as goal
 
 pub run_code-requires-clause-run : goal.run_code-requires-clause-run
 run_code-requires-clause-run c =
-    can_run (code_of c.code-code.result.now) c.args.licence.now c.args.entry c.args.args.now c.args.fuel _ c.code-code.ensures c.kept.ensures c.limits.ensures.limits c.limits.ensures.blocks c.requires.plan
+    can_run_code (code_of c.code-code.result.now) c.args.licence.now c.args.entry c.args.args.now c.args.fuel _ c.code-code.ensures c.kept.ensures c.requires.plan
 
 pub returns-clause-ending : goal.returns-clause-ending
 returns-clause-ending c = subst (λ p. EndsWith (run_of p most_calls c.args.entry c.args.fuel c.args.args.now) c.run_code.result.ending) c.code-code.ensures c.run_code.ensures.ending
