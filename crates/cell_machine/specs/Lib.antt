@@ -24,3 +24,4 @@ pub mod Stopped
 pub mod Stops
 pub mod Wide
 pub mod theory
+pub mod Views

@@ -15,7 +15,7 @@ pub(crate) struct Home {
 /// Where each constructor stands, by its number.
 #[derive(Drop)]
 pub(crate) struct Homes {
-    homes: Vec<Home>,
+    pub(crate) homes: Vec<Home>,
 }
 
 // So many constructors more, those of the type of this number.

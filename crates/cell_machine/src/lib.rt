@@ -10,6 +10,7 @@ pub mod laws;
 mod licensed;
 mod loading;
 mod machine;
+mod reading;
 mod room;
 mod state;
 mod steps;

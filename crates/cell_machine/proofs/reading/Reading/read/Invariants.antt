@@ -1,7 +1,7 @@
 use Rattle.std.proofs.Common.{◌-◌}
 use Rattle.std.specs.Prelude.{vec_len, vec_capacity}
 use Rattle.cell_machine.specs.Due.{IsReadingOf}
-use Rattle.cell_machine.proofs.room.Room.read.Given as goal
+use Rattle.cell_machine.proofs.reading.Reading.read.Given as goal
 
 abbrev pub invariant-words : goal.invariant-words
 invariant-words l = IsReadingOf l.types l.span.cells l.fn.kind l.fn.word l.self

@@ -2,13 +2,13 @@ use Rattle.std.proofs.Common.{ap, ◌∙◌, arith, ◌∷◌, refl}
 use Rattle.std.specs.Prelude.{vec_capacity}
 use Rattle.cell_machine.specs.Due.{kinds_due, words_due}
 use Rattle.cell_machine.proofs.DueLaws.{begins, next_there, nodes_left, turn, one_value_read, value_read, nothing_due}
-use Rattle.cell_machine.proofs.room.Room.read.Goals as goal
+use Rattle.cell_machine.proofs.reading.Reading.read.Goals as goal
 
 pub words-init : goal.words-init
 words-init c = begins c.args.types.now c.args.span.now.cells c.args.kind c.args.word c.due_word.new.self c.requires.value
-    (ap (λ v. v.items) c.due_word.ensures.items.items ∙ c.requires.room.items)
-    (c.due_word.ensures.kinds ∙ ap (λ l. c.args.kind ∷ kinds_due l) c.requires.room.due) (c.due_word.ensures.words ∙ ap (λ l. c.args.word ∷ words_due l) c.requires.room.due)
-    (omega (arith, c.requires.room.items_room, ap (λ v. vec_capacity v) c.due_word.ensures.items.items)) (omega (arith, c.requires.room.due_room, c.due_word.ensures.room))
+    (ap (λ v. v.items) c.due_word.ensures.items.items ∙ c.requires.new.items)
+    (c.due_word.ensures.kinds ∙ ap (λ l. c.args.kind ∷ kinds_due l) c.requires.new.due) (c.due_word.ensures.words ∙ ap (λ l. c.args.word ∷ words_due l) c.requires.new.due)
+    (omega (arith, c.requires.nodes, ap (λ v. vec_capacity v) c.due_word.ensures.items.items)) (omega (arith, c.requires.words, c.due_word.ensures.room))
 
 pub read_node-requires-clause-node : goal.read_node-requires-clause-node
 read_node-requires-clause-node c = next_there c.args.types.now c.args.span.now.cells c.args.kind c.args.word c.words.self c.pop.new.self.items c.in-Some.next c.limits.ensures.each c.words.invariant c.in-Some.ensures.items
