@@ -15,7 +15,7 @@ use Rattle.licence.specs.Licensed.{Licensed, IsLicensed, FitsEntry}
 use Rattle.licence.specs.PotentialLaws.{lease_suffices}
 use Rattle.cell_machine.specs.Endings.{CanRun}
 use Rattle.cell_machine.specs.Plans.{IsPlan, planned_state, RunsAsPlanned}
-use Rattle.cell_machine.specs.State.{State, Machine, Running, Over, cells_of, most_calls}
+use Rattle.cell_machine.specs.State.{Configuration, Machine, Running, Over, cells_of, most_calls}
 use Rattle.cell_machine.specs.Steps.{step}
 use Rattle.cell_machine.specs.Loading.{cells_from, free_from, begun, go_on, steps}
 use Rattle.cell_machine.specs.Coming.{IsOnCourse, KeepsCourse, IsOnWay}
@@ -64,7 +64,7 @@ size_stays p limit room outcome well limits (suc n) (Running s) c = by_step (λ 
 
 -- ---- a plan's run
 
-has_step : (p : Code) (limit room : ℕ) (outcome : Outcome Value) (s : State) (o : Option Machine) → KeepsCourse p limit room outcome s o → (m : Machine) × (o ≡ Some m)
+has_step : (p : Code) (limit room : ℕ) (outcome : Outcome Value) (s : Configuration) (o : Option Machine) → KeepsCourse p limit room outcome s o → (m : Machine) × (o ≡ Some m)
 has_step p limit room outcome s None g = absurd g
 has_step p limit room outcome s (Some m) g = (m, refl)
 

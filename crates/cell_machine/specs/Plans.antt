@@ -6,7 +6,7 @@ use Rattle.camelot_values.specs.Counts.{size_all}
 use Rattle.grail_code.specs.Code.{Func}
 use Rattle.licence.specs.Bound.{lease}
 use Rattle.licence.specs.Licensed.{Licensed, FitsEntry}
-use Rattle.cell_machine.specs.State.{State, Machine, Running, cells_of, most_calls}
+use Rattle.cell_machine.specs.State.{Configuration, Machine, Running, cells_of, most_calls}
 use Rattle.cell_machine.specs.Steps.{step}
 use Rattle.cell_machine.specs.Loading.{begun, steps}
 use Rattle.cell_machine.specs.Coming.{EndsAsMeant}
@@ -26,5 +26,5 @@ planned_state l entry f args fuel cells count = steps l.code most_calls count (R
 -- the way has just the lease's number of cells.
 pub record RunsAsPlanned (l : Licensed) (entry : ℕ) (f : Func) (args : List Value) (fuel cells : ℕ) : Type 0 where
   pub ends : EndsAsMeant l.code most_calls entry f args fuel cells
-  pub goes : (count : ℕ) (s : State) → planned_state l entry f args fuel cells count ≡ Running s → (m : Machine) × (step l.code most_calls s ≡ Some m)
+  pub goes : (count : ℕ) (s : Configuration) → planned_state l entry f args fuel cells count ≡ Running s → (m : Machine) × (step l.code most_calls s ≡ Some m)
   pub size : (count : ℕ) → length (cells_of (planned_state l entry f args fuel cells count)) ≡ cells

@@ -21,7 +21,7 @@ ghost use Rattle.cell_machine.specs.Wide.{wide, Widens};
 ghost use Rattle.cell_machine.specs.Owners.{TwoTake, OneTakesTwice, FreeIsTaken};
 ghost use Rattle.cell_machine.specs.Sound.{IsSound};
 ghost use Rattle.cell_machine.specs.Stands.{Stands, footprint, RepeatsNone};
-ghost use Rattle.cell_machine.specs.State.{State, Running};
+ghost use Rattle.cell_machine.specs.State.{Configuration, Running};
 ghost use Rattle.cell_machine.specs.Steps.{step};
 
 /// One step of well-formed code. A sound state on its way to an outcome, of which what lies ahead takes no more cells at a time than are
@@ -30,9 +30,9 @@ ghost use Rattle.cell_machine.specs.Steps.{step};
 /// is within the room, so is the state's; and the net number of cells is no further below 0 than there are cells beyond the
 /// room. A run on fitting arguments begins so, on its way to what the code means, where there is room for its peak.
 pub fn law_of_steps()
-    ensures step { (program : Code) (limit room : ℕ) (outcome : Outcome Value) (s : State) → IsWellFormed program → IsWithinLimits program
+    ensures step { (program : Code) (limit room : ℕ) (outcome : Outcome Value) (s : Configuration) → IsWellFormed program → IsWithinLimits program
         → IsOnCourse program limit room outcome s → KeepsCourse program limit room outcome s (step program limit s) }
-    ensures counters { (program : Code) (limit room : ℕ) (outcome : Outcome Value) (s : State) → IsWithinRoom room outcome → IsOnCourse program limit room outcome s
+    ensures counters { (program : Code) (limit room : ℕ) (outcome : Outcome Value) (s : Configuration) → IsWithinRoom room outcome → IsOnCourse program limit room outcome s
         → (s.peak ≤ room) × (room + s.low ≤ length s.cells + s.peak) }
     ensures begun { (program : Code) (limit entry : ℕ) (f : Func) (args : List Value) (fuel lease : ℕ) → IsWellFormed program → IsWithinLimits program
         → slice_get program.funcs entry ≡ Some f → ArgumentsFit program.types f.params args → length (cells_from program.types 0 (parts args)) ≤ lease → lease ≤ 2147483648 → 1 ≤ fuel
@@ -58,7 +58,7 @@ pub fn law_of_reuse()
 /// A step reads and writes only cells that are there. Where a state has a step, the state with more cells behind has just that step, and
 /// these cells stay as they are. So one step serves a machine in its own range and one in the middle of an arena.
 pub fn law_of_longer_lists()
-    ensures { (program : Code) (limit : ℕ) (more : List Cell) (s : State) → Widens more (step program limit s) (step program limit (wide more s)) }
+    ensures { (program : Code) (limit : ℕ) (more : List Cell) (s : Configuration) → Widens more (step program limit s) (step program limit (wide more s)) }
 {}
 
 /// Plans of licensed code, as plain data: an entry, fitting arguments, fuel, and just as many cells as the licence says. The run ends as the
@@ -84,7 +84,7 @@ pub fn law_of_words()
 /// Each owned cell has one owner. A state is not sound where two ready locals own the same cell, where one owns a cell twice, or where it
 /// owns a cell of the free list.
 pub fn law_of_owners()
-    ensures two { (program : Code) (s : State) → AreTypes program.types → TwoTake program s → ¬ (IsSound program s) }
-    ensures twice { (program : Code) (s : State) → AreTypes program.types → OneTakesTwice program s → ¬ (IsSound program s) }
-    ensures free { (program : Code) (s : State) → AreTypes program.types → FreeIsTaken program s → ¬ (IsSound program s) }
+    ensures two { (program : Code) (s : Configuration) → AreTypes program.types → TwoTake program s → ¬ (IsSound program s) }
+    ensures twice { (program : Code) (s : Configuration) → AreTypes program.types → OneTakesTwice program s → ¬ (IsSound program s) }
+    ensures free { (program : Code) (s : Configuration) → AreTypes program.types → FreeIsTaken program s → ¬ (IsSound program s) }
 {}

@@ -1,7 +1,6 @@
 //! Answers about licensed runs.
 ghost use Rattle.std.specs.Prelude.{◌≡◌, ◌≤◌, length, IfOk};
-ghost use Rattle.cell_machine.specs.Due.{HasRoom};
-ghost use Rattle.cell_machine.specs.Endings.{IsStackFor};
+ghost use Rattle.cell_machine.specs.Views.{HasRoom, IsStackFor};
 ghost use Rattle.grail_code.specs.Code.{code_of};
 ghost use Rattle.licence.specs.Bound.{bound, lease};
 ghost use Rattle.licence_cases.specs.Jobs.{IsReady};
@@ -67,7 +66,7 @@ fn answer_ending(rt: &HostRuntime, job: &Job, cells: u32) -> io::Result<()>
 {
     let alloc = rt.alloc();
     let span = Span::new(alloc, cells)?;
-    let stack = Stack::new(alloc, job.licence.code())?;
+    let stack = Stack::new(alloc, &job.licence)?;
     let room = Room::new(alloc, cells)?;
     let ran = run_in(job, span, stack, room);
     print_ending(rt, &job.licence.code().types, &ran.ending)

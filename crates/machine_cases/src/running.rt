@@ -1,7 +1,6 @@
 //! Answers about runs in cells.
 ghost use Rattle.std.specs.Prelude.{◌≡◌, length, IfOk};
-ghost use Rattle.cell_machine.specs.Due.{HasRoom};
-ghost use Rattle.cell_machine.specs.Endings.{IsStackFor};
+ghost use Rattle.cell_machine.specs.Views.{HasRoom, IsStackFor};
 ghost use Rattle.grail_code.specs.Code.{code_of};
 ghost use Rattle.machine_cases.specs.Jobs.{IsReady};
 
@@ -27,7 +26,7 @@ fn place_of(alloc: Global, job: &Job) -> Result<Place, AllocError>
 {
     Ok(Place {
         span: Span::new(alloc, job.lease)?,
-        stack: Stack::new(alloc, &job.code)?,
+        stack: Stack::for_code(alloc, &job.code)?,
     })
 }
 
