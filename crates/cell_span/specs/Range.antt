@@ -1,20 +1,20 @@
 -- Cited by contracts.
--- Runs of the cells of an arena, as plain data: an arena is a number of cells, and a run is a part of it without gaps. The code
--- owns the cells themselves.
+-- Runs of the cells of an arena, as plain data: a run is a part of its arena without gaps. The code owns the cells themselves.
 use Rattle.std.specs.Prelude.{◌≡◌, ℕ, ◌+◌, ◌≤◌, List, ◌++◌, length, take, drop, slice_set, replicate}
 use Rattle.cell_span.specs.declared.cell.Cell.{Cell}
+use Rattle.cell_span.specs.Arenas.{Arena}
 
--- a run of cells: the index in the arena of its first one, the arena's number of cells, and the cells in order
+-- a run of cells: the index in the arena of its first one, the arena, and the cells in order
 pub record Range : Type 0 where
   pub first : ℕ
-  pub arena : ℕ
+  pub arena : Arena
   pub cells : List Cell
 
 -- at least one cell, all within the arena, and an arena of at most 2^31 cells
 pub record IsRange (r : Range) : Type 0 where
   pub some : 1 ≤ length r.cells
-  pub within : r.first + length r.cells ≤ r.arena
-  pub few : r.arena ≤ 2147483648
+  pub within : r.first + length r.cells ≤ r.arena.cells
+  pub few : r.arena.cells ≤ 2147483648
 
 -- a cell of tag 0 with words 0
 abbrev pub blank : Cell
@@ -22,7 +22,7 @@ blank = record { tag = 0; words = replicate 4 0 }
 
 -- a new arena of so many cells
 abbrev pub new_arena : ℕ → Range
-new_arena cells = record { first = 0; arena = cells; cells = replicate cells blank }
+new_arena cells = record { first = 0; arena = record { cells = cells }; cells = replicate cells blank }
 
 -- the cells before a place
 abbrev pub front : Range → ℕ → Range
@@ -48,4 +48,4 @@ pub record Meet (r next : Range) : Type 0 where
 -- the whole arena
 pub record IsWhole (r : Range) : Type 0 where
   pub from : r.first ≡ 0
-  pub all : length r.cells ≡ r.arena
+  pub all : length r.cells ≡ r.arena.cells

@@ -1,6 +1,8 @@
 ghost use Rattle.std.specs.Prelude.{◌≡◌, ◌<◌, ◌≤◌, length, slice_get, Some, MatchResult, IfOk};
+ghost use Rattle.cell_span.specs.Arenas.{arena_of};
 ghost use Rattle.cell_span.specs.Range.{Range, IsRange, Meet, IsWhole, new_arena, front, back, joined, written};
 
+use super::arena::Arena;
 use super::cell::Cell;
 use super::stretch::Stretch;
 use std::alloc::{AllocError, Global};
@@ -27,9 +29,9 @@ impl Model for Span {
 
     ghost Value = { Range };
 
-    ghost view = { λ s. record { first = s.first; arena = s.arena; cells = part s.stretch.start s.stretch.len s.stretch.cells.items } };
+    ghost view = { λ s. record { first = s.first; arena = record { cells = s.arena }; cells = part s.stretch.start s.stretch.len s.stretch.cells.items } };
 
-    ghost invariant = { λ s. IsRange (record { first = s.first; arena = s.arena; cells = part s.stretch.start s.stretch.len s.stretch.cells.items }) };
+    ghost invariant = { λ s. IsRange (record { first = s.first; arena = record { cells = s.arena }; cells = part s.stretch.start s.stretch.len s.stretch.cells.items }) };
 }
 
 /// The memory for a split ran out.
@@ -118,12 +120,12 @@ impl Span {
         self.first
     }
 
-    /// The number of cells of the arena.
-    pub fn arena(&self) -> u32
-        ensures count { result ≡ self.now.arena }
+    /// Which arena the run is part of.
+    pub fn arena(&self) -> Arena
+        ensures arena { arena_of result ≡ self.now.arena }
         ensures range { IsRange self.now }
     {
-        self.arena
+        Arena { cells: self.arena }
     }
 
     /// The cell at a place, counted from the run's first cell.

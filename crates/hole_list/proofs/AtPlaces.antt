@@ -6,6 +6,7 @@ use Rattle.std.proofs.lemmas.Bool.{cond-true, cond-false, lt-ltb, le-ltb, eq-eqb
 use Rattle.std.proofs.lemmas.List.{take_all, drop_all, drop_more, get_or_default, set-get_or}
 use Rattle.std.proofs.lemmas.List.Edits.{get_or-remove_below}
 use Rattle.cell_span.specs.declared.cell.Cell.{Cell}
+use Rattle.cell_span.specs.Arenas.{Arena}
 use Rattle.cell_span.specs.Range.{Range, Meet, front, back, joined}
 use Rattle.hole_list.specs.declared.run.Run.{Run}
 use Rattle.hole_list.specs.Placing.{end_of, AreOrdered, IsOut, with_run, without_run, AreFreeOf}
@@ -454,7 +455,7 @@ pub merged_between : (hs : List Range) (r : Range) (i : ℕ) → 1 ≤ length r.
 merged_between hs r i some is k meets meets' =
     sym (gives_between hs r i (get_or hs i r) (get_or hs (i + 1) r) some is k (get_or_default hs i r (get_or hs i r) (omega (arith, k))) meets (get_or_default hs (i + 1) r (get_or hs (i + 1) r) k) meets')
 
-arena_at : (a : ℕ) (hs : List Range) (i : ℕ) (d : Range) → AreOf a hs → i < length hs → (get_or hs i d).arena ≡ a
+arena_at : (a : Arena) (hs : List Range) (i : ℕ) (d : Range) → AreOf a hs → i < length hs → (get_or hs i d).arena ≡ a
 arena_at a [] i d o k = absurd (omega (arith, k))
 arena_at a (h ∷ hs) zero d o k = o.0
 arena_at a (h ∷ hs) (suc i) d o k = arena_at a hs i d o.1 (omega (arith, k))

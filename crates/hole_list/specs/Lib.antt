@@ -1,5 +1,6 @@
--- Holes of an arena.
+-- Holes of a run of an arena.
 pub mod Holes
+pub mod Inside
 pub mod HolesLaws
 pub mod KeptLaws
 pub mod OutLaws

@@ -2,6 +2,7 @@
 -- Where in the list of holes, and in that of the runs that are out, something is taken or given back.
 use Rattle.std.specs.List.{AllByRecursion}
 use Rattle.std.specs.Prelude.{◌≡◌, ℕ, zero, suc, ◌+◌, nat_le, nat_lt, if◌then◌else◌, List, [], ◌∷◌, length}
+use Rattle.cell_span.specs.Arenas.{Arena}
 use Rattle.cell_span.specs.Range.{Range, joined}
 use Rattle.hole_list.specs.declared.run.Run.{Run}
 use Rattle.hole_list.specs.Holes.{rest_of}
@@ -50,6 +51,6 @@ add_between [] at r = []
 add_between (h ∷ hs) zero r = add_first (joined h r) hs
 add_between (h ∷ hs) (suc at) r = h ∷ add_between hs at r
 
--- all are of an arena of so many cells
-abbrev pub AreOf : ℕ → List Range → Type 0
+-- all are of this arena
+abbrev pub AreOf : Arena → List Range → Type 0
 AreOf arena hs = AllByRecursion (λ h. h.arena ≡ arena) hs

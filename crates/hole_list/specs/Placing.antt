@@ -66,6 +66,11 @@ AreApart [] = Unit {0}
 AreApart (h ∷ []) = 1 ≤ h.size
 AreApart (h ∷ k ∷ hs) = (1 ≤ h.size) × (end_of h < k.first) × AreApart (k ∷ hs)
 
+-- the first run is a part of the second
+pub record IsPartOf (r base : Run) : Type 0 where
+  pub from : base.first ≤ r.first
+  pub to : end_of r ≤ end_of base
+
 -- the run has no cell of these
 abbrev pub AreFreeOf : List Run → Run → Type 0
 AreFreeOf [] r = Unit {0}
@@ -85,9 +90,9 @@ abbrev pub total : List Run → ℕ
 total [] = 0
 total (r ∷ rs) = r.size + total rs
 
--- Each cell of the arena is in one hole or in one run that is out, and in no other; so no two of all these runs overlap.
-abbrev pub AreParts : (arena : ℕ) → (holes out : List Run) → Type 0
-AreParts arena holes out = (index : ℕ) → index < arena → times_in holes index + times_in out index ≡ 1
+-- Each index of the base run is in just one hole or one run that is out, and no other index is in any; so no two of all these runs overlap.
+abbrev pub AreParts : (base : Run) → (holes out : List Run) → Type 0
+AreParts base holes out = (index : ℕ) → times_in holes index + times_in out index ≡ in_run base index
 
 -- ---- the runs that are out, in ascending order
 

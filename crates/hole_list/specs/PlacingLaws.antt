@@ -4,7 +4,7 @@ use Rattle.std.proofs.Common.{◌≡◌, ℕ, ◌+◌, ◌-◌, ◌<◌, ◌≤�
 use Rattle.std.specs.Option.{option_map}
 use Rattle.std.proofs.lemmas.Bool.{cases_lt, cases_order}
 use Rattle.hole_list.specs.declared.run.Run.{Run}
-use Rattle.hole_list.specs.Placing.{run, end_of, Taken, taken, rest_of_run, behind, take_run, largest, both, give_run, AreApart, AreFreeOf, in_run, times_in, total}
+use Rattle.hole_list.specs.Placing.{run, end_of, Taken, taken, rest_of_run, behind, take_run, largest, both, give_run, AreApart, IsPartOf, AreFreeOf, in_run, times_in, total}
 
 -- ---- which cells a run has
 
@@ -273,28 +273,40 @@ none_before (h ∷ hs) n b a =
     later [] q = tt
     later (j ∷ js) q = omega (arith, q, b)
 
--- holes that have all cells of an arena, and no others, are one hole
-pub one_hole : (arena : ℕ) (hs : List Run) → 1 ≤ arena → AreApart hs → ((i : ℕ) → times_in hs i ≡ times_in (run 0 arena ∷ []) i) → hs ≡ run 0 arena ∷ []
-one_hole arena [] some a k = absurd (omega (arith, k 0, in_yes (run 0 arena) 0 (omega arith) (omega (arith, some))))
-one_hole arena (h ∷ hs) some a k =
+-- holes that have all cells of a run, and no others, are one hole
+pub one_hole : (base : Run) (hs : List Run) → 1 ≤ base.size → AreApart hs → ((i : ℕ) → times_in hs i ≡ in_run base i) → hs ≡ base ∷ []
+one_hole base [] some a k = absurd (omega (arith, k base.first, in_yes base base.first (omega arith) (omega (arith, some))))
+one_hole base (h ∷ hs) some a k =
     let f = apart_front h hs a in
-    let first : h.first ≡ 0 = by_first (cases_lt 0 h.first) in
+    let first : h.first ≡ base.first = by_first (cases_order h.first base.first) in
     by_rest hs f.1 f.2 f.0 first (λ i. k i)
   where
-    by_first : (0 < h.first) ⊎ (h.first ≤ 0) → h.first ≡ 0
-    by_first (inl later) = absurd (omega (arith, k 0, none_before (h ∷ hs) 0 later a, in_yes (run 0 arena) 0 (omega arith) (omega (arith, some))))
-    by_first (inr now) = omega (arith, now)
+    by_first : (h.first ≡ base.first) ⊎ ((h.first < base.first) ⊎ (base.first < h.first)) → h.first ≡ base.first
+    by_first (inl e) = e
+    by_first (inr (inl before)) =
+        let one : in_run h h.first ≡ 1 = in_yes h h.first (omega arith) (omega (arith, (apart_front h hs a).0)) in
+        absurd (omega (arith, k h.first, one, in_before base h.first before))
+    by_first (inr (inr behind)) = absurd (omega (arith, k base.first, none_before (h ∷ hs) base.first behind a, in_yes base base.first (omega arith) (omega (arith, some))))
 
-    size_is : (js : List Run) → AreBehind (end_of h) js → AreApart js → 1 ≤ h.size → h.first ≡ 0 → ((i : ℕ) → in_run h i + times_in js i ≡ in_run (run 0 arena) i + 0) → (h.size ≡ arena)
-    size_is js b c some' first same = by_size (cases_order h.size arena)
+    size_is : (js : List Run) → AreBehind (end_of h) js → AreApart js → 1 ≤ h.size → h.first ≡ base.first → ((i : ℕ) → in_run h i + times_in js i ≡ in_run base i) → h.size ≡ base.size
+    size_is js b c some' first same = by_size (cases_order h.size base.size)
       where
-        by_size : (h.size ≡ arena) ⊎ ((h.size < arena) ⊎ (arena < h.size)) → h.size ≡ arena
+        by_size : (h.size ≡ base.size) ⊎ ((h.size < base.size) ⊎ (base.size < h.size)) → h.size ≡ base.size
         by_size (inl e) = e
-        by_size (inr (inl less)) = absurd (omega (arith, same (end_of h), in_behind h (end_of h) (omega arith), none_before js (end_of h) b c, in_yes (run 0 arena) (end_of h) (omega arith) (omega (arith, less, first))))
-        by_size (inr (inr more)) = absurd (omega (arith, same arena, in_yes h arena (omega (arith, first)) (omega (arith, more, first)), in_behind (run 0 arena) arena (omega arith)))
+        by_size (inr (inl less)) =
+            absurd (omega (arith, same (end_of h), in_behind h (end_of h) (omega arith), none_before js (end_of h) b c, in_yes base (end_of h) (omega (arith, first)) (omega (arith, less, first))))
+        by_size (inr (inr more)) =
+            absurd (omega (arith, same (end_of base), in_yes h (end_of base) (omega (arith, first)) (omega (arith, more, first)), in_behind base (end_of base) (omega arith)))
 
-    by_rest : (js : List Run) → AreBehind (end_of h) js → AreApart js → 1 ≤ h.size → h.first ≡ 0 → ((i : ℕ) → in_run h i + times_in js i ≡ in_run (run 0 arena) i + 0) → h ∷ js ≡ run 0 arena ∷ []
+    by_rest : (js : List Run) → AreBehind (end_of h) js → AreApart js → 1 ≤ h.size → h.first ≡ base.first → ((i : ℕ) → in_run h i + times_in js i ≡ in_run base i) → h ∷ js ≡ base ∷ []
     by_rest [] b c some' first same = ap (λ (r : Run). r ∷ []) (λ i. record { first = first i; size = size_is [] b c some' first same i })
     by_rest (j ∷ js) b c some' first same =
         let size = size_is (j ∷ js) b c some' first same in
-        absurd (omega (arith, same j.first, in_yes j j.first (omega arith) (omega (arith, (apart_front j js c).0)), in_behind (run 0 arena) j.first (omega (arith, b, size, first))))
+        absurd (omega (arith, same j.first, in_yes j j.first (omega arith) (omega (arith, (apart_front j js c).0)), in_behind base j.first (omega (arith, b, size, first))))
+
+-- a run whose cells are all in another one is a part of it
+pub part_of : (r base : Run) → 1 ≤ r.size → ((i : ℕ) → in_run r i ≤ in_run base i) → IsPartOf r base
+part_of r base some k =
+    let first = in_within base r.first (omega (arith, k r.first, in_yes r r.first (omega arith) (omega (arith, some)))) in
+    let last = in_within base (r.first + (r.size - 1)) (omega (arith, k (r.first + (r.size - 1)), in_yes r (r.first + (r.size - 1)) (omega arith) (omega (arith, some)))) in
+    record { from = first.0; to = omega (arith, last.1, some) }

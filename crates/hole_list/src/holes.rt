@@ -1,21 +1,23 @@
 ghost use Rattle.std.specs.Prelude.{◌≡◌, ◌<◌, ◌≤◌, [], ◌∷◌, length, map, Some, None, MatchResult, MatchOption};
-ghost use Rattle.cell_span.specs.Range.{IsRange, IsWhole};
-ghost use Rattle.hole_list.specs.Placing.{largest, total, with_run, without_run, IsOut};
-ghost use Rattle.hole_list.specs.Holes.{AreHoles, run_of, take_cells, taken_cells, give_cells};
+ghost use Rattle.cell_span.specs.Arenas.{arena_of};
+ghost use Rattle.cell_span.specs.Range.{IsRange};
+ghost use Rattle.hole_list.specs.Placing.{largest, total, IsOut};
+ghost use Rattle.hole_list.specs.Holes.{AreHoles, run_of, new_holes, TookFrom, TookNone, with_given};
 
 use super::merge::{GiveRefused, merge, take_first};
 use super::out::{add_run, count, remove_run};
 use super::run::Run;
-use cell_span::Span;
+use cell_span::{Arena, Span};
 use std::alloc::{AllocError, Global};
 use std::marker::Model;
 
-/// The holes of an arena, in ascending order, and where the runs lie that were taken out of it.
+/// The holes of a run of an arena, in ascending order, and where the runs lie that were taken out of it. That run is their base.
 ///
-/// Each cell of the arena is in one hole or in one run that is out.
+/// Each cell of the base is in one hole or in one run that is out.
 #[derive(Drop)]
 pub struct Holes {
-    arena: u32,
+    arena: Arena,
+    base: Run,
     most_out: u32,
     free: u32,
     spans: Vec<Span>,
@@ -26,27 +28,28 @@ impl Model for Holes {
     ghost use Rattle.std.specs.Prelude.{◌≡◌, ◌≤◌, map, vec_capacity};
     ghost use Rattle.hole_list.specs.Placing.{total};
     ghost use Rattle.hole_list.specs.Holes.{Holed, AreHoles, run_of};
+    ghost use Rattle.hole_list.specs.Inside.{holed_of};
 
     ghost Value = { Holed };
 
-    ghost view = { λ s. record { arena = s.arena; most_out = s.most_out; holes = s.spans.items; out = s.runs.items } };
+    ghost view = { holed_of };
 
-    ghost invariant = { λ s. record { holes : AreHoles (record { arena = s.arena; most_out = s.most_out; holes = s.spans.items; out = s.runs.items }); free : s.free ≡ total (map run_of s.spans.items); room : s.most_out ≤ vec_capacity s.runs } };
+    ghost invariant = { λ s. record { holes : AreHoles (holed_of s); free : s.free ≡ total (map run_of s.spans.items); room : s.most_out ≤ vec_capacity s.runs } };
 }
 
 /// The memory for holes ran out.
 #[derive(Drop)]
 pub struct HolesRefused {
-    /// The arena, as it was.
+    /// The span, as it was.
     pub span: Span,
 }
 
 impl Holes {
-    /// One hole that is the whole of an arena, of which at most so many runs will be out at a time. All room for holes and for runs is taken here.
+    /// One hole that is all of a span, of which at most so many runs will be out at a time. All room for holes and for runs is taken here. Where memory runs
+    /// out, the span comes back.
     #[tactic(auto, using(crate::proofs::Holding::new_holds, crate::proofs::Holding::new_free))]
     pub fn new(alloc: Global, span: Span, most_out: u32) -> Result<Holes, HolesRefused>
-        requires { IsWhole span }
-        ensures { MatchResult result (λ holes. holes ≡ record { arena = span.arena; most_out = most_out; holes = span ∷ []; out = [] }) (λ refused. refused.span ≡ span) }
+        ensures { MatchResult result (λ holes. holes ≡ new_holes span most_out) (λ refused. refused.span ≡ span) }
     {
         let Ok(mut spans) = Vec::with_capacity(alloc, most_out as usize + 1) else {
             return Err(HolesRefused { span });
@@ -54,13 +57,14 @@ impl Holes {
         let Ok(runs) = Vec::with_capacity(alloc, most_out as usize) else {
             return Err(HolesRefused { span });
         };
-        span.limits();
         let arena = span.arena();
+        let base = run_at(&span);
         match spans.push(span) {
             Ok(()) => Ok(Holes {
                 arena,
+                base,
                 most_out,
-                free: arena,
+                free: base.size,
                 spans,
                 runs,
             }),
@@ -68,7 +72,7 @@ impl Holes {
         }
     }
 
-    /// What holes keep: they lie apart in ascending order, and each cell of the arena is in one hole or in one run that is out. It does nothing; its clause
+    /// What holes keep: they lie apart in ascending order, and each cell of their base is in one hole or in one run that is out. It does nothing; its clause
     /// is what whoever has holes can use.
     pub fn kept(&self)
         ensures { AreHoles self.now }
@@ -76,11 +80,18 @@ impl Holes {
         let _ = &self.spans;
     }
 
-    /// The number of cells of the arena.
-    pub fn arena(&self) -> u32
-        ensures { result ≡ self.now.arena }
+    /// Which arena they are of.
+    pub fn arena(&self) -> Arena
+        ensures { arena_of result ≡ self.now.arena }
     {
         self.arena
+    }
+
+    /// Where their base lies: the span that they were made of.
+    pub fn base(&self) -> Run
+        ensures { result ≡ self.now.base }
+    {
+        self.base
     }
 
     /// How many runs are out.
@@ -109,7 +120,7 @@ impl Holes {
     pub fn take(&mut self, alloc: Global, size: u32) -> Result<Option<Span>, AllocError>
         requires some { 1 ≤ size }
         requires few { length self.old.out < self.old.most_out }
-        ensures { MatchResult result (λ taken. MatchOption taken ((take_cells self.old.holes size ≡ None) × (self.new ≡ self.old)) (λ range. (take_cells self.old.holes size ≡ Some (taken_cells range self.new.holes)) × (self.new.out ≡ with_run self.old.out (run_of range)) × (self.new.arena ≡ self.old.arena) × (self.new.most_out ≡ self.old.most_out))) (λ _. self.new ≡ self.old) }
+        ensures { MatchResult result (λ t. MatchOption t (TookNone self.old self.new size) (TookFrom self.old self.new size)) (λ _. self.new ≡ self.old) }
     {
         match take_first(&mut self.spans, alloc, size) {
             Ok(Some(span)) => {
@@ -128,7 +139,7 @@ impl Holes {
     pub fn give(&mut self, span: Span) -> Result<(), GiveRefused>
         requires arena { span.arena ≡ self.old.arena }
         requires out { IsOut self.old.out (run_of span) }
-        ensures { MatchResult result (λ _. self.new ≡ record { arena = self.old.arena; most_out = self.old.most_out; holes = give_cells self.old.holes span; out = without_run self.old.out span.first }) (λ refused. (refused.span ≡ span) × (self.new ≡ self.old)) }
+        ensures { MatchResult result (λ _. self.new ≡ with_given self.old span) (λ refused. (refused.span ≡ span) × (self.new ≡ self.old)) }
     {
         let run = run_at(&span);
         match merge(&mut self.spans, span) {
@@ -141,11 +152,14 @@ impl Holes {
         }
     }
 
-    /// The whole arena, where no run is out.
+    /// The span that they were made of, where no run is out: it has the same first cell, size and arena. Its cells may be others.
     pub fn finish(self) -> Span
         requires { self.out ≡ [] }
-        ensures whole { IsWhole result }
+        // It lies where the base does.
+        ensures base { run_of result ≡ self.base }
+        // It is the one hole that is left.
         ensures holes { self.holes ≡ result ∷ [] }
+        // It is of the same arena.
         ensures arena { result.arena ≡ self.arena }
     {
         let Holes { mut spans, .. } = self;

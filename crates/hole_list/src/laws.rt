@@ -3,8 +3,8 @@ ghost use Rattle.std.specs.Prelude.{◌≡◌, ℕ, ◌+◌, ◌<◌, ◌≤◌,
 ghost use Rattle.cell_span.specs.declared.cell.Cell.{Cell};
 ghost use Rattle.cell_span.specs.Range.{Range, IsRange};
 ghost use Rattle.hole_list.specs.declared.run.Run.{Run};
-ghost use Rattle.hole_list.specs.Placing.{Taken, taken, run, take_run, give_run, largest, AreApart, in_run, times_in, total, with_run, without_run, IsOut};
-ghost use Rattle.hole_list.specs.Holes.{run_of, Holed, AreHoles, TakenCells, take_cells, give_cells, AllPass};
+ghost use Rattle.hole_list.specs.Placing.{Taken, taken, take_run, give_run, largest, AreApart, in_run, times_in, total, IsOut};
+ghost use Rattle.hole_list.specs.Holes.{run_of, Holed, AreHoles, TakenCells, take_cells, with_taken, IsRangeIn, give_cells, with_given, AllPass};
 
 /// Where ranges are taken from and come back to is where their runs are.
 pub fn law_of_placing()
@@ -29,13 +29,16 @@ pub fn law_of_giving()
     ensures sum { (hs : List Run) (r : Run) → total (give_run hs r) ≡ total hs + r.size }
 {}
 
-/// Taking and giving back keep what holes keep: that they lie apart, and that each cell of the arena is in one hole or in one run that is out. What is taken
-/// is a range of so many cells of the arena. Where no run is out, the arena is one hole.
+/// Taking and giving back keep what holes keep: that they lie apart, and that each cell of their base is in one hole or in one run that is out.
 pub fn law_of_holes()
-    ensures range { (s : Holed) (size : ℕ) (t : TakenCells) → AreHoles s → 1 ≤ size → take_cells s.holes size ≡ Some t → IsRange t.range × (t.range.arena ≡ s.arena) × (length t.range.cells ≡ size) }
-    ensures taken { (s : Holed) (size : ℕ) (t : TakenCells) → AreHoles s → 1 ≤ size → length s.out < s.most_out → take_cells s.holes size ≡ Some t → AreHoles (record { arena = s.arena; most_out = s.most_out; holes = t.holes; out = with_run s.out (run_of t.range) }) }
-    ensures given { (s : Holed) (r : Range) → AreHoles s → IsRange r → r.arena ≡ s.arena → IsOut s.out (run_of r) → AreHoles (record { arena = s.arena; most_out = s.most_out; holes = give_cells s.holes r; out = without_run s.out r.first }) }
-    ensures whole { (s : Holed) → AreHoles s → s.out ≡ [] → map run_of s.holes ≡ run 0 s.arena ∷ [] }
+    // What is taken is a range of so many cells of the arena, and a part of the base.
+    ensures range { (s : Holed) (size : ℕ) (t : TakenCells) → AreHoles s → 1 ≤ size → take_cells s.holes size ≡ Some t → IsRangeIn s size t.range }
+    // Taking keeps it, where one more may be out.
+    ensures taken { (s : Holed) (n : ℕ) (t : TakenCells) → AreHoles s → 1 ≤ n → length s.out < s.most_out → take_cells s.holes n ≡ Some t → AreHoles (with_taken s t) }
+    // Giving back keeps it, of a range of this arena whose run is out.
+    ensures given { (s : Holed) (r : Range) → AreHoles s → IsRange r → r.arena ≡ s.arena → IsOut s.out (run_of r) → AreHoles (with_given s r) }
+    // Where no run is out, the base is one hole.
+    ensures whole { (s : Holed) → AreHoles s → s.out ≡ [] → map run_of s.holes ≡ s.base ∷ [] }
 {}
 
 /// Cells stay where they are: what a test says of each cell of the holes, and of the range that comes back, at its index in the arena, it says of each cell

@@ -1,4 +1,4 @@
-//! The holes of an arena: runs of its cells are taken by first fit, and merge with their neighbours when they come back.
+//! The holes of a run of an arena: parts of it are taken by first fit, and merge with their neighbours when they come back.
 #![tactic(auto)]
 
 mod holes;

@@ -7,11 +7,12 @@ use Rattle.std.proofs.lemmas.Bool.{cases_eq, cases_lt}
 use Rattle.std.proofs.lemmas.List.{length-set, length-replicate}
 use Rattle.std.proofs.lemmas.Option.{slice_get_within, slice_get-get_or, none-some}
 use Rattle.cell_span.specs.declared.cell.Cell.{Cell}
+use Rattle.cell_span.specs.Arenas.{Arena}
 use Rattle.cell_span.specs.Range.{Range, IsWhole, blank, front, back, joined}
 use Rattle.hole_list.specs.declared.run.Run.{Run}
 use Rattle.hole_list.specs.Placing.{run, taken, largest, IsOut, with_run, without_run}
 use Rattle.hole_list.specs.PlacingLaws.{some_same, at_most_one, none_taken}
-use Rattle.hole_list.specs.Holes.{Holed, run_of, TakenCells, taken_cells, take_cells, give_cells, rest_of, behind_cells}
+use Rattle.hole_list.specs.Holes.{Holed, run_of, new_holes, with_holes, TakenCells, taken_cells, take_cells, give_cells, rest_of, behind_cells}
 use Rattle.hole_list.specs.HolesLaws.{taken_runs, not_taken, given_runs, taken_all}
 use Rattle.lease_desk.specs.declared.event.Event.{Event}
 use Rattle.lease_desk.specs.declared.event.Event.TheVariants as event
@@ -22,7 +23,7 @@ use Rattle.lease_desk.specs.Outs.{AreReordered, copies}
 use Rattle.lease_desk.specs.BookView.{BookView, new_book, with_lease, with_asked, with_waiting, with_served}
 use Rattle.lease_desk.specs.Lease.{LeaseView, lease}
 use Rattle.lease_desk.specs.Desk.{DeskView, cells_in, filed_by, Takes, Waits, given_back, Knows, HasPayload, AllFiled}
-use Rattle.lease_desk.specs.Kept.{state_of, with_holes, desk_of, IsKept}
+use Rattle.lease_desk.specs.Kept.{state_of, desk_of, IsKept}
 use Rattle.lease_desk.specs.theory.Leases.{none_out_at, room_out, set_there}
 use Rattle.lease_desk.specs.theory.Moves.{after_next, after_left, after_back, replay_more}
 use Rattle.lease_desk.specs.theory.Filing.{holds_first, all_more, all_given, to_all, from_all, Known}
@@ -31,10 +32,10 @@ use Rattle.lease_desk.specs.theory.Outs.{out_more, out_less, is_copied, is_out, 
 
 -- ---- the arena of holes
 
-abbrev OfArena : ℕ → List Range → Type 0
+abbrev OfArena : Arena → List Range → Type 0
 OfArena arena hs = AllByRecursion (λ h. h.arena ≡ arena) hs
 
-taken_arena : (arena : ℕ) (hs : List Range) (size : ℕ) (t : TakenCells) → take_cells hs size ≡ Some t → OfArena arena hs → (t.range.arena ≡ arena) × OfArena arena t.holes
+taken_arena : (arena : Arena) (hs : List Range) (size : ℕ) (t : TakenCells) → take_cells hs size ≡ Some t → OfArena arena hs → (t.range.arena ≡ arena) × OfArena arena t.holes
 taken_arena arena [] size t e k = absurd (grind arith)
 taken_arena arena (h ∷ hs) size t e k = by_test (λ u is. taken_arena arena hs size u is k.1) (nat_le size (length h.cells)) e
   where
@@ -54,7 +55,7 @@ taken_arena arena (h ∷ hs) size t e k = by_test (λ u is. taken_arena arena hs
         subst (λ (v : TakenCells). (v.range.arena ≡ arena) × OfArena arena v.holes) (some_same (taken_cells (front h size) (rest_of h size hs)) t is) (k.0, by_back (length h.cells == size))
     by_test go false is = by_rest (take_cells hs size) go is
 
-given_arena : (arena : ℕ) (hs : List Range) (r : Range) → OfArena arena hs → r.arena ≡ arena → OfArena arena (give_cells hs r)
+given_arena : (arena : Arena) (hs : List Range) (r : Range) → OfArena arena hs → r.arena ≡ arena → OfArena arena (give_cells hs r)
 given_arena arena [] r k e = (e, tt)
 given_arena arena (h ∷ hs) r k e =
     by_tests (λ s f. given_arena arena hs s k.1 f) (nat_lt (r.first + length r.cells) h.first) ((r.first + length r.cells) == h.first) ((h.first + length h.cells) == r.first)
@@ -77,20 +78,16 @@ no_place zero job p e = grind arith
 no_place (suc n) zero p e = let q : None ≡ Some p = some_same None (Some p) e in grind arith
 no_place (suc n) (suc job) p e = no_place n job p e
 
--- the holes of a new desk, of this range
-abbrev pub new_holes : Range → ℕ → Holed
-new_holes range most = record { arena = range.arena; most_out = most; holes = range ∷ []; out = [] }
-
-pub whole_state : (range : Range) (sizes : List ℕ) (most : ℕ) → IsWhole range → state_of (new_holes range most) (new_book sizes) ≡ opened range.arena (length sizes)
+pub whole_state : (range : Range) (sizes : List ℕ) (most : ℕ) → IsWhole range → state_of (new_holes range most) (new_book sizes) ≡ opened range.arena.cells (length sizes)
 whole_state range sizes most w = λ i. record { asked = 0; waiting = []; holes = run (w.from i) (w.all i) ∷ []; leases = replicate (length sizes) None }
 
-pub kept_first : {P : Type 0} (number : P → ℕ) (cells : P → List Cell) (range : Range) (sizes : List ℕ) → IsWhole range → 1 ≤ range.arena → (n : ℕ) → range.cells ≡ replicate n blank
-    → AreSizes range.arena sizes → IsKept number cells (new_holes range (length sizes)) (new_book sizes) (replicate (length sizes) None) 0
+pub kept_first : {P : Type 0} (number : P → ℕ) (cells : P → List Cell) (range : Range) (sizes : List ℕ) → IsWhole range → 1 ≤ range.arena.cells → (n : ℕ) → range.cells ≡ replicate n blank
+    → AreSizes range.arena.cells sizes → IsKept number cells (new_holes range (length sizes)) (new_book sizes) (replicate (length sizes) None) 0
 kept_first {P} number cells range sizes w some n blanks fit = record {
   desk = record {
     some = some;
     fit = fit;
-    replayed = replay_none range.arena sizes ∙ ap (λ (s : DeskState). Some s) (sym (whole_state range sizes (length sizes) w));
+    replayed = replay_none range.arena.cells sizes ∙ ap (λ (s : DeskState). Some s) (sym (whole_state range sizes (length sizes) w));
     runs = refl;
     of_arena = (refl, tt);
     holds = (holds_first (filed_by cells (replicate (length sizes) None)) range n blanks, tt);
@@ -99,6 +96,7 @@ kept_first {P} number cells range sizes w some n blanks fit = record {
     sized = λ job p e. absurd (no_place (length sizes) job p e);
     all = λ z job k. absurd (omega (arith, k));
   };
+  base = λ i. run (w.from i) (w.all i);
   most_out = refl;
   out = record { copied = λ q. sym (ap (λ (rs : List Run). copies q rs) (none_leased (length sizes))); many = sym (ap (λ (rs : List Run). length rs) (none_leased (length sizes))) };
   few = omega arith;
@@ -116,8 +114,8 @@ place_here (y ∷ xs) (suc i) x m = place_here xs i x (omega (arith, m))
 -- ---- each move
 
 module _ {P : Type 0} (number : P → ℕ) (cells : P → List Cell) (h : Holed) (b : BookView) (ps : List (Option P)) (w : ℕ) (k : IsKept number cells h b ps w) where
-  pub sound : IsSound h.arena b.sizes b.journal (state_of h b)
-  sound = sound_behind h.arena b.sizes b.journal (state_of h b) k.desk.some k.desk.fit k.desk.replayed
+  pub sound : IsSound h.arena.cells b.sizes b.journal (state_of h b)
+  sound = sound_behind h.arena.cells b.sizes b.journal (state_of h b) k.desk.some k.desk.fit k.desk.replayed
 
   -- an event that gives nothing back
   moved_kept : (e : Event) (holes : List Range) (out : List Run) (b' : BookView) → b'.sizes ≡ b.sizes → b'.journal ≡ b.journal ++ e ∷ []
@@ -128,11 +126,11 @@ module _ {P : Type 0} (number : P → ℕ) (cells : P → List Cell) (h : Holed)
   moved_kept e holes out b' same more after outs of_arena holds gives = record {
     desk = record {
       some = k.desk.some;
-      fit = subst (λ (sizes : List ℕ). AreSizes h.arena sizes) (sym same) k.desk.fit;
+      fit = subst (λ (sizes : List ℕ). AreSizes h.arena.cells sizes) (sym same) k.desk.fit;
       replayed =
-          subst (λ (sizes : List ℕ). replay h.arena sizes b'.journal ≡ Some (state_of (with_holes h holes out) b')) (sym same)
-          (subst (λ (es : List Event). replay h.arena b.sizes es ≡ Some (state_of (with_holes h holes out) b')) (sym more)
-          (replay_more h.arena b.sizes b.journal (state_of h b) (state_of (with_holes h holes out) b') e k.desk.replayed after));
+          subst (λ (sizes : List ℕ). replay h.arena.cells sizes b'.journal ≡ Some (state_of (with_holes h holes out) b')) (sym same)
+          (subst (λ (es : List Event). replay h.arena.cells b.sizes es ≡ Some (state_of (with_holes h holes out) b')) (sym more)
+          (replay_more h.arena.cells b.sizes b.journal (state_of h b) (state_of (with_holes h holes out) b') e k.desk.replayed after));
       runs = refl;
       of_arena = of_arena;
       holds = subst (λ (es : List Event). AllByRecursion (HoldsFiled (filed_by cells ps) es) holes) (sym more) holds;
@@ -141,6 +139,7 @@ module _ {P : Type 0} (number : P → ℕ) (cells : P → List Cell) (h : Holed)
       sized = λ job p e'. subst (λ (sizes : List ℕ). slice_get sizes job ≡ Some (length (cells p))) (sym same) (k.desk.sized job p e');
       all = λ z job m. k.desk.all z job (omega (arith, m, gives job, ap (gave_times job) more));
     };
+    base = k.base;
     most_out = k.most_out ∙ ap (λ (sizes : List ℕ). length sizes) (sym same);
     out = outs;
     few = omega (arith, k.few, ap (λ (es : List Event). length es) more, length-append b.journal (e ∷ []));
@@ -152,8 +151,8 @@ module _ {P : Type 0} (number : P → ℕ) (cells : P → List Cell) (h : Holed)
       → (1 ≤ size) × (length h.out < h.most_out) × (slice_get b.leases b.asked ≡ Some None) × (length b.journal < 3 * length b.sizes) × (b.asked < length b.sizes)
   next_ready size is =
       let less : b.asked < length b.sizes = slice_get_within b.sizes b.asked size is in
-      let n = not_yet h.arena b.sizes b.journal (state_of h b) sound less in
-      ((size_at h.arena b.sizes b.asked size k.desk.fit is).0, omega (arith, k.out.many, k.most_out, room_out b.leases b.asked n.0, sound.places), n.0, omega (arith, sound.few, less), less)
+      let n = not_yet h.arena.cells b.sizes b.journal (state_of h b) sound less in
+      ((size_at h.arena.cells b.sizes b.asked size k.desk.fit is).0, omega (arith, k.out.many, k.most_out, room_out b.leases b.asked n.0, sound.places), n.0, omega (arith, sound.few, less), less)
 
   taken_holds : (size : ℕ) (range : Range) (holes : List Range) (e : Event) → take_cells h.holes size ≡ Some (taken_cells range holes)
       → ((i : ℕ) (known : Option Cell) → cell_after (filed_by cells ps) i known e ≡ known)
@@ -244,17 +243,17 @@ module _ {P : Type 0} (number : P → ℕ) (cells : P → List Cell) (h : Holed)
   pub left_ready : (job : ℕ) → slice_get b.waiting 0 ≡ Some job
       → (job < length b.sizes) × (1 ≤ length b.waiting) × (length h.out < h.most_out) × (slice_get b.leases job ≡ Some None) × (length b.journal < 3 * length b.sizes)
   left_ready job e =
-      let n = waits_at h.arena b.sizes b.journal (state_of h b) sound job (drop 1 b.waiting) (waiting_is job e) in
+      let n = waits_at h.arena.cells b.sizes b.journal (state_of h b) sound job (drop 1 b.waiting) (waiting_is job e) in
       let some : 1 ≤ length b.waiting = omega (arith, slice_get_within b.waiting 0 job e) in
       (omega (arith, n.0, sound.most), some, omega (arith, k.out.many, k.most_out, room_out b.leases job n.1, sound.places), n.1, omega (arith, sound.few, some, sound.most))
 
   pub left_size : (job size : ℕ) → slice_get b.sizes job ≡ Some size → 1 ≤ size
-  left_size job size is = (size_at h.arena b.sizes job size k.desk.fit is).0
+  left_size job size is = (size_at h.arena.cells b.sizes job size k.desk.fit is).0
 
   -- where no lease is out, each job fits
   pub left_never : (job size : ℕ) → leased b.leases ≡ [] → slice_get b.sizes job ≡ Some size → take_cells h.holes size ≡ None → ⊥
   left_never job size none is fits =
-      left_fits h.arena b.sizes b.journal (state_of h b) job size k.desk.some sound k.desk.fit none is (not_taken h.holes size fits)
+      left_fits h.arena.cells b.sizes b.journal (state_of h b) job size k.desk.some sound k.desk.fit none is (not_taken h.holes size fits)
 
   left_told : (job size : ℕ) (range : Range) (holes : List Range) → b.asked ≡ length b.sizes → leased b.leases ≡ [] → slice_get b.waiting 0 ≡ Some job → slice_get b.sizes job ≡ Some size
       → take_cells h.holes size ≡ Some (taken_cells range holes)
@@ -330,22 +329,23 @@ module _ {P : Type 0} (number : P → ℕ) (cells : P → List Cell) (h : Holed)
         desk = record {
           some = k.desk.some;
           fit = k.desk.fit;
-          replayed = replay_more h.arena b.sizes b.journal (state_of h b) (state_of (with_holes h (give_cells h.holes l.range) (without_run h.out l.range.first)) (with_lease b l.job None (event.Gave l.job l.range.first (length l.range.cells))))
+          replayed = replay_more h.arena.cells b.sizes b.journal (state_of h b) (state_of (with_holes h (give_cells h.holes l.range) (without_run h.out l.range.first)) (with_lease b l.job None (event.Gave l.job l.range.first (length l.range.cells))))
               (event.Gave l.job l.range.first (length l.range.cells)) k.desk.replayed
               (after_back b.sizes (state_of h b) l.job (run_of l.range) e.1
               ∙ ap (λ (holes : List Run). Some (let s : DeskState = record { asked = b.asked; waiting = b.waiting; holes = holes; leases = slice_set b.leases l.job None } in s)) (sym (given_runs h.holes l.range)));
           runs = refl;
           of_arena = given_arena h.arena h.holes l.range k.desk.of_arena e.0;
           holds = all_given (filed_by cells ps) (filed_by cells qs) b.journal l.job l.range h.holes
-              (λ job m. by_filed job m (cases_eq l.job job) n.3) filed (is_free h.arena b.sizes b.journal (state_of h b) sound l.job (run_of l.range) e.1) k.desk.holds;
+              (λ job m. by_filed job m (cases_eq l.job job) n.3) filed (is_free h.arena.cells b.sizes b.journal (state_of h b) sound l.job (run_of l.range) e.1) k.desk.holds;
           places = len ∙ k.desk.places;
           own = λ job p q. by_own job p q (cases_eq l.job job);
           sized = λ job p q. by_long job p q (cases_eq l.job job);
           all = λ z job m. by_all z job m (cases_eq l.job job);
         };
+        base = k.base;
         most_out = k.most_out;
-        out = out_less h.out b.leases l.job (run_of l.range) e.1 k.out (λ j s q. (size_at h.arena b.sizes j s.size k.desk.fit (sound.sized j s q)).0)
-            (λ i. omega (arith, sound.cells i, at_most_one (run 0 h.arena) i));
+        out = out_less h.out b.leases l.job (run_of l.range) e.1 k.out (λ j s q. (size_at h.arena.cells b.sizes j s.size k.desk.fit (sound.sized j s q)).0)
+            (λ i. omega (arith, sound.cells i, at_most_one (run 0 h.arena.cells) i));
         few = omega (arith, few, k.few, length-append b.journal (event.Gave l.job l.range.first (length l.range.cells) ∷ []));
       }
     where
@@ -415,7 +415,7 @@ module _ {P : Type 0} (number : P → ℕ) (cells : P → List Cell) (h : Holed)
 
   -- ---- the end
 
-  pub legal_of : leased b.leases ≡ [] → b.asked ≡ length b.sizes → b.waiting ≡ [] → IsLegal h.arena b.sizes b.journal
+  pub legal_of : leased b.leases ≡ [] → b.asked ≡ length b.sizes → b.waiting ≡ [] → IsLegal h.arena.cells b.sizes b.journal
   legal_of none all waiting = record { fit = k.desk.fit; last = state_of h b; replayed = k.desk.replayed; over = record { all = all; none_waits = waiting; none_out = none } }
 
   pub returned_filed : w ≡ 0 → (job : ℕ) → job < b.asked → times_at job b.waiting ≡ 0 → one_out (slice_get b.leases job) ≡ 0 → HasPayload number ps job
@@ -429,3 +429,9 @@ module _ {P : Type 0} (number : P → ℕ) (cells : P → List Cell) (h : Holed)
 
   pub out_is_none : leased b.leases ≡ [] → h.out ≡ []
   out_is_none none = out_none h.out b.leases k.out none
+
+  -- and its arena is whole
+  pub whole_of : (r : Range) → run_of r ≡ h.base → r.arena ≡ h.arena → IsWhole r
+  whole_of r is arena =
+      let same : run_of r ≡ run 0 h.arena.cells = is ∙ k.base in
+      record { from = ap (λ (x : Run). x.first) same; all = ap (λ (x : Run). x.size) same ∙ ap (λ (a : Arena). a.cells) (sym arena) }

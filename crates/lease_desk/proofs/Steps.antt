@@ -1,19 +1,18 @@
 -- What each call of a desk needs and leaves, in the words of its callees.
-use Rattle.std.proofs.Common.{◌≡◌, ℕ, ◌+◌, ◌*◌, ◌<◌, ◌≤◌, List, [], ◌∷◌, length, map, replicate, Option, Some, None, refl, sym, ap, ◌∙◌, subst, arith}
+use Rattle.std.proofs.Common.{◌≡◌, ℕ, ◌+◌, ◌*◌, ◌<◌, ◌≤◌, List, [], length, map, replicate, Option, Some, None, refl, sym, ap, ◌∙◌, subst, arith}
 use Rattle.std.specs.Prelude.{slice_get, slice_set}
 use Rattle.cell_span.specs.declared.cell.Cell.{Cell}
 use Rattle.cell_span.specs.Range.{Range, IsWhole, blank}
 use Rattle.hole_list.specs.Placing.{run, largest, with_run, without_run, IsOut, AreParts}
-use Rattle.hole_list.specs.Holes.{Holed, run_of, taken_cells, take_cells, give_cells}
+use Rattle.hole_list.specs.Holes.{Holed, run_of, new_holes, with_holes, take_cells, TookFrom, give_cells, with_given}
 use Rattle.lease_desk.specs.declared.event.Event.TheVariants as event
 use Rattle.lease_desk.specs.Journal.{leased, next_move, left_move, AreSizes}
 use Rattle.lease_desk.specs.Progress.{times_at, one_out, IsSound}
 use Rattle.lease_desk.specs.BookView.{BookView, new_book, with_lease, with_asked, with_waiting, with_served}
 use Rattle.lease_desk.specs.Lease.{LeaseView, lease}
 use Rattle.lease_desk.specs.Desk.{DeskView, Takes, Waits, filed_with, withdrawn_with, Knows, HasPayload, AllFiled}
-use Rattle.lease_desk.specs.Kept.{state_of, with_holes, desk_of, IsKept}
-use Rattle.lease_desk.specs.theory.Sound.{parts_of}
-use Rattle.lease_desk.proofs.Keeping.{sound, next_ready, next_kept, next_takes, waits_kept, waits_waits, over_is, all_asked, left_ready, left_size, left_never, left_kept, left_takes, none_waits, left_sized, give_ready, filed_kept, withdrawn_kept, given_is, returned_filed, filed_of, new_holes, kept_first}
+use Rattle.lease_desk.specs.Kept.{state_of, desk_of, IsKept}
+use Rattle.lease_desk.proofs.Keeping.{sound, next_ready, next_kept, next_takes, waits_kept, waits_waits, over_is, all_asked, left_ready, left_size, left_never, left_kept, left_takes, none_waits, left_sized, give_ready, filed_kept, withdrawn_kept, given_is, returned_filed, filed_of, kept_first}
 
 -- what the job's size is
 pub sized : (xs : List ℕ) (j a : ℕ) (o : Option ℕ) (n : ℕ) → j ≡ a → o ≡ slice_get xs j → o ≡ Some n → slice_get xs a ≡ Some n
@@ -21,13 +20,6 @@ sized xs j a o n e f g = ap (slice_get xs) (sym e) ∙ sym f ∙ g
 
 pub unsized : (xs : List ℕ) (j a : ℕ) (o : Option ℕ) → j ≡ a → o ≡ slice_get xs j → o ≡ None → slice_get xs a ≡ None
 unsized xs j a o e f g = ap (slice_get xs) (sym e) ∙ sym f ∙ g
-
--- what the list of holes answered
-abbrev pub TookFrom : Holed → Holed → ℕ → Range → Type 0
-TookFrom h h' size range = (take_cells h.holes size ≡ Some (taken_cells range h'.holes)) × (h'.out ≡ with_run h.out (run_of range)) × (h'.arena ≡ h.arena) × (h'.most_out ≡ h.most_out)
-
-holes_are : (h h' : Holed) (size : ℕ) (range : Range) → TookFrom h h' size range → h' ≡ with_holes h h'.holes (with_run h.out (run_of range))
-holes_are h h' size range q = λ i. record { arena = q.2 i; most_out = q.3 i; holes = h'.holes; out = q.1 i }
 
 taken_book : (b b1 : BookView) (j f n : ℕ) (range : Range) → b1 ≡ with_lease b j (Some (run f n)) (event.Took j f n) → f ≡ range.first → n ≡ length range.cells
     → b1 ≡ with_lease b j (Some (run_of range)) (event.Took j range.first (length range.cells))
@@ -38,20 +30,20 @@ gave_book : (b b1 : BookView) (j f n : ℕ) (range : Range) → b1 ≡ with_leas
 gave_book b b1 j f n range e ef en = e ∙ (λ i. with_lease b j None (event.Gave j (ef i) (en i)))
 
 pub first_kept : {P : Type 0} (number : P → ℕ) (cells : P → List Cell) (range : Range) (sizes : List ℕ) (n : ℕ) (h : Holed) (b : BookView) (ps : List (Option P)) → IsWhole range → 1 ≤ length range.cells
-    → range.cells ≡ replicate range.arena blank → AreSizes range.arena sizes → n ≡ length sizes
-    → h ≡ record { arena = range.arena; most_out = n; holes = range ∷ []; out = [] } → b ≡ new_book sizes → ps ≡ replicate n None → IsKept number cells h b ps 0
+    → range.cells ≡ replicate range.arena.cells blank → AreSizes range.arena.cells sizes → n ≡ length sizes
+    → h ≡ new_holes range n → b ≡ new_book sizes → ps ≡ replicate n None → IsKept number cells h b ps 0
 first_kept {P} number cells range sizes n h b ps w some blanks fit m eh eb ep =
-    let k = kept_first number cells range sizes w (omega (arith, some, w.all)) range.arena blanks fit in
+    let k = kept_first number cells range sizes w (omega (arith, some, w.all)) range.arena.cells blanks fit in
     subst (λ (x : Holed). IsKept number cells x b ps 0) (sym (eh ∙ ap (new_holes range) m))
     (subst (λ (y : BookView). IsKept number cells (new_holes range (length sizes)) y ps 0) (sym eb)
     (subst (λ (z : List (Option P)). IsKept number cells (new_holes range (length sizes)) (new_book sizes) z 0) (sym (ep ∙ ap (λ m. replicate m None) m)) k))
 
 module _ {P : Type 0} (number : P → ℕ) (cells : P → List Cell) (h : Holed) (b : BookView) (ps : List (Option P)) (w : ℕ) (k : IsKept number cells h b ps w) (d : DeskView P) (v : desk_of h b ps w ≡ d) where
-  pub sound_now : IsSound d.arena d.sizes d.journal d.state
-  sound_now = subst (λ (x : DeskView P). IsSound x.arena x.sizes x.journal x.state) v (sound number cells h b ps w k)
+  pub sound_now : IsSound d.arena.cells d.sizes d.journal d.state
+  sound_now = subst (λ (x : DeskView P). IsSound x.arena.cells x.sizes x.journal x.state) v (sound number cells h b ps w k)
 
-  pub parts_now : AreParts d.arena d.state.holes (leased d.state.leases)
-  parts_now = parts_of d.arena d.sizes d.journal d.state sound_now
+  pub parts_now : AreParts (run 0 d.arena.cells) d.state.holes (leased d.state.leases)
+  parts_now = sound_now.cells
 
   pub returned_now : d.withdrawn ≡ 0 → (job : ℕ) → job < d.state.asked → times_at job d.state.waiting ≡ 0 → one_out (slice_get d.state.leases job) ≡ 0 → HasPayload number d.payloads job
   returned_now = subst (λ (x : DeskView P). x.withdrawn ≡ 0 → (job : ℕ) → job < x.state.asked → times_at job x.state.waiting ≡ 0 → one_out (slice_get x.state.leases job) ≡ 0 → HasPayload number x.payloads job) v
@@ -83,7 +75,7 @@ module _ {P : Type 0} (number : P → ℕ) (cells : P → List Cell) (h : Holed)
     pub next_keeps : (h' : Holed) (b1 b2 : BookView) (first n : ℕ) (range : Range) → TookFrom h h' size range
         → b1 ≡ with_lease b j (Some (run first n)) (event.Took j first n) → first ≡ range.first → n ≡ length range.cells → b2 ≡ with_asked b1 → IsKept number cells h' b2 ps w
     next_keeps h' b1 b2 first n range q e1 ef en e2 =
-        subst (λ (x : Holed). IsKept number cells x b2 ps w) (sym (holes_are h h' size range q))
+        subst (λ (x : Holed). IsKept number cells x b2 ps w) (sym q.1)
         (subst (λ (y : BookView). IsKept number cells (with_holes h h'.holes (with_run h.out (run_of range))) y ps w) (sym (took b1 b2 first n range e1 ef en e2))
         (next_kept number cells h b ps w k size range h'.holes is q.0))
 
@@ -92,7 +84,7 @@ module _ {P : Type 0} (number : P → ℕ) (cells : P → List Cell) (h : Holed)
         → Takes (next_move d.sizes d.state) d (desk_of h' b2 ps w) l
     next_answers h' b1 b2 first n range l q e1 ef en e2 el =
         subst (λ (x : DeskView P). Takes (next_move x.sizes x.state) x (desk_of h' b2 ps w) l) v
-        (subst (λ (x : Holed). Takes (next_move b.sizes (state_of h b)) (desk_of h b ps w) (desk_of x b2 ps w) l) (sym (holes_are h h' size range q))
+        (subst (λ (x : Holed). Takes (next_move b.sizes (state_of h b)) (desk_of h b ps w) (desk_of x b2 ps w) l) (sym q.1)
         (subst (λ (y : BookView). Takes (next_move b.sizes (state_of h b)) (desk_of h b ps w) (desk_of (with_holes h h'.holes (with_run h.out (run_of range))) y ps w) l) (sym (took b1 b2 first n range e1 ef en e2))
         (subst
         (λ (m : LeaseView). Takes (next_move b.sizes (state_of h b)) (desk_of h b ps w)
@@ -148,7 +140,7 @@ module _ {P : Type 0} (number : P → ℕ) (cells : P → List Cell) (h : Holed)
         pub left_keeps : (h' : Holed) (b1 b2 : BookView) (first n : ℕ) (range : Range) → TookFrom h h' size range
             → b1 ≡ with_lease b job (Some (run first n)) (event.Took job first n) → first ≡ range.first → n ≡ length range.cells → b2 ≡ with_served b1 → IsKept number cells h' b2 ps w
         left_keeps h' b1 b2 first n range q e1 ef en e2 =
-            subst (λ (x : Holed). IsKept number cells x b2 ps w) (sym (holes_are h h' size range q))
+            subst (λ (x : Holed). IsKept number cells x b2 ps w) (sym q.1)
             (subst (λ (y : BookView). IsKept number cells (with_holes h h'.holes (with_run h.out (run_of range))) y ps w) (sym (served b1 b2 first n range e1 ef en e2))
             (left_kept number cells h b ps w k job size range h'.holes all_in none_in (sym e ∙ f) (sym es ∙ fs) q.0))
 
@@ -157,7 +149,7 @@ module _ {P : Type 0} (number : P → ℕ) (cells : P → List Cell) (h : Holed)
             → Takes (left_move d.sizes d.state) d (desk_of h' b2 ps w) l
         left_answers h' b1 b2 first n range l q e1 ef en e2 el =
             subst (λ (x : DeskView P). Takes (left_move x.sizes x.state) x (desk_of h' b2 ps w) l) v
-            (subst (λ (x : Holed). Takes (left_move b.sizes (state_of h b)) (desk_of h b ps w) (desk_of x b2 ps w) l) (sym (holes_are h h' size range q))
+            (subst (λ (x : Holed). Takes (left_move b.sizes (state_of h b)) (desk_of h b ps w) (desk_of x b2 ps w) l) (sym q.1)
             (subst (λ (y : BookView). Takes (left_move b.sizes (state_of h b)) (desk_of h b ps w) (desk_of (with_holes h h'.holes (with_run h.out (run_of range))) y ps w) l)
             (sym (served b1 b2 first n range e1 ef en e2))
             (subst
@@ -176,7 +168,7 @@ module _ {P : Type 0} (number : P → ℕ) (cells : P → List Cell) (h : Holed)
     give_now = let n = give_ready number cells h b ps w k (lease j r) known_in in (n.0, n.1, n.2, known_in.0, known_in.1, n.4)
 
     module _ (h' : Holed) (b1 : BookView) (first n : ℕ) (ef : first ≡ r.first) (en : n ≡ length r.cells)
-        (eh : h' ≡ record { arena = h.arena; most_out = h.most_out; holes = give_cells h.holes r; out = without_run h.out r.first }) (eb : b1 ≡ with_lease b j None (event.Gave j first n)) where
+        (eh : h' ≡ with_given h r) (eb : b1 ≡ with_lease b j None (event.Gave j first n)) where
       pub filed_keeps : (p : P) → number p ≡ l.job → cells p ≡ l.range.cells → IsKept number cells h' b1 (slice_set ps j (Some p)) w
       filed_keeps p en' ec =
           subst (λ (x : Holed). IsKept number cells x b1 (slice_set ps j (Some p)) w) (sym eh)

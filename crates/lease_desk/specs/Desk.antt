@@ -3,6 +3,7 @@
 use Rattle.std.specs.Prelude.{◌≡◌, ℕ, ◌+◌, ◌<◌, ◌≤◌, List, [], ◌∷◌, ◌++◌, length, map, replicate, slice_get, slice_set, Option, Some, None}
 use Rattle.std.specs.List.{AllByRecursion}
 use Rattle.cell_span.specs.declared.cell.Cell.{Cell}
+use Rattle.cell_span.specs.Arenas.{Arena}
 use Rattle.cell_span.specs.Range.{Range}
 use Rattle.hole_list.specs.Holes.{run_of, taken_cells, take_cells, give_cells}
 use Rattle.lease_desk.specs.declared.event.Event.{Event}
@@ -12,10 +13,10 @@ use Rattle.lease_desk.specs.Filing.{FiledCells, HoldsFiled}
 use Rattle.lease_desk.specs.Progress.{gave_times}
 use Rattle.lease_desk.specs.Lease.{LeaseView}
 
--- a desk: its arena's number of cells, the size of each job, its state, the holes with their cells, the journal, the payload of each job where one was filed,
+-- a desk: its arena, the size of each job, its state, the holes with their cells, the journal, the payload of each job where one was filed,
 -- and how many leases were withdrawn
 pub record DeskView (P : Type 0) : Type 0 where
-  pub arena : ℕ
+  pub arena : Arena
   pub sizes : List ℕ
   pub state : DeskState
   pub holes : List Range
@@ -42,10 +43,10 @@ module _ {P : Type 0} where
 
   -- for a payload's number and cells
   pub record IsDesk (number : P → ℕ) (cells : P → List Cell) (d : DeskView P) : Type 0 where
-    pub some : 1 ≤ d.arena
-    pub fit : AreSizes d.arena d.sizes
+    pub some : 1 ≤ d.arena.cells
+    pub fit : AreSizes d.arena.cells d.sizes
     -- its state is the one behind its journal
-    pub replayed : replay d.arena d.sizes d.journal ≡ Some d.state
+    pub replayed : replay d.arena.cells d.sizes d.journal ≡ Some d.state
     -- its holes are those of the state
     pub runs : map run_of d.holes ≡ d.state.holes
     pub of_arena : AllByRecursion (λ h. h.arena ≡ d.arena) d.holes
@@ -66,7 +67,7 @@ module _ {P : Type 0} where
   new_desk range sizes = record {
     arena = range.arena;
     sizes = sizes;
-    state = opened range.arena (length sizes);
+    state = opened range.arena.cells (length sizes);
     holes = range ∷ [];
     journal = [];
     payloads = replicate (length sizes) None;

@@ -1,19 +1,19 @@
 -- Laws, for the functions of laws.rt and for crates above.
 -- What holds behind each journal, and of legal ones.
 use Rattle.std.proofs.Common.{◌≡◌, ℕ, ◌<◌, ◌≤◌, nat_lt, List, ◌++◌, length, Some, ap, arith}
-use Rattle.hole_list.specs.Placing.{AreParts}
+use Rattle.hole_list.specs.Placing.{run, AreParts}
 use Rattle.lease_desk.specs.declared.event.Event.{Event}
 use Rattle.lease_desk.specs.Journal.{DeskState, opened, leased, replay, AreSizes, IsLegal}
 use Rattle.lease_desk.specs.Progress.{one_if, times_at, took_times, gave_times, IsSound}
 use Rattle.lease_desk.specs.theory.Leases.{none_out_at}
 use Rattle.lease_desk.specs.theory.Moves.{front_replayed}
-use Rattle.lease_desk.specs.theory.Sound.{sound_behind, parts_of, took_once, gave_once, asked_one}
+use Rattle.lease_desk.specs.theory.Sound.{sound_behind, took_once, gave_once, asked_one}
 
 pub behind_each : (arena : ℕ) (sizes : List ℕ) (journal : List Event) (s : DeskState) → 1 ≤ arena → AreSizes arena sizes → replay arena sizes journal ≡ Some s → IsSound arena sizes journal s
 behind_each arena sizes journal s some fit e = sound_behind arena sizes journal s some fit e
 
-pub parts_behind : (arena : ℕ) (sizes : List ℕ) (journal : List Event) (s : DeskState) → 1 ≤ arena → AreSizes arena sizes → replay arena sizes journal ≡ Some s → AreParts arena s.holes (leased s.leases)
-parts_behind arena sizes journal s some fit e = parts_of arena sizes journal s (sound_behind arena sizes journal s some fit e)
+pub parts_behind : (arena : ℕ) (sizes : List ℕ) (journal : List Event) (s : DeskState) → 1 ≤ arena → AreSizes arena sizes → replay arena sizes journal ≡ Some s → AreParts (run 0 arena) s.holes (leased s.leases)
+parts_behind arena sizes journal s some fit e = (sound_behind arena sizes journal s some fit e).cells
 
 pub took_behind : (arena : ℕ) (sizes : List ℕ) (journal : List Event) (s : DeskState) (job : ℕ) → 1 ≤ arena → AreSizes arena sizes → replay arena sizes journal ≡ Some s → took_times job journal ≤ 1
 took_behind arena sizes journal s job some fit e = took_once arena sizes journal s job (sound_behind arena sizes journal s some fit e)

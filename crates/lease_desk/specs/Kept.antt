@@ -2,8 +2,7 @@
 -- What a desk keeps of its holes and its book.
 use Rattle.std.specs.Prelude.{◌≡◌, ℕ, ◌≤◌, List, length, Option}
 use Rattle.cell_span.specs.declared.cell.Cell.{Cell}
-use Rattle.cell_span.specs.Range.{Range}
-use Rattle.hole_list.specs.declared.run.Run.{Run}
+use Rattle.hole_list.specs.Placing.{run}
 use Rattle.hole_list.specs.Holes.{Holed, run_of}
 use Rattle.std.specs.Prelude.{map}
 use Rattle.lease_desk.specs.Journal.{DeskState, leased}
@@ -13,10 +12,6 @@ use Rattle.lease_desk.specs.Desk.{DeskView, IsDesk}
 
 abbrev pub state_of : Holed → BookView → DeskState
 state_of h b = record { asked = b.asked; waiting = b.waiting; holes = map run_of h.holes; leases = b.leases }
-
--- with these holes, and these runs out
-abbrev pub with_holes : Holed → List Range → List Run → Holed
-with_holes h holes out = record { arena = h.arena; most_out = h.most_out; holes = holes; out = out }
 
 module _ {P : Type 0} where
   abbrev pub desk_of : Holed → BookView → List (Option P) → ℕ → DeskView P
@@ -32,6 +27,8 @@ module _ {P : Type 0} where
 
   pub record IsKept (number : P → ℕ) (cells : P → List Cell) (h : Holed) (b : BookView) (payloads : List (Option P)) (withdrawn : ℕ) : Type 0 where
     pub desk : IsDesk number cells (desk_of h b payloads withdrawn)
+    -- its holes are over the whole arena
+    pub base : h.base ≡ run 0 h.arena.cells
     -- the list of holes knows the leases as runs that are out, and has room for one of each job
     pub most_out : h.most_out ≡ length b.sizes
     pub out : AreReordered h.out (leased b.leases)

@@ -2,7 +2,7 @@
 -- How often a job occurs: among those that wait, among the leases that are out, and in a journal; and what holds of the state behind each journal.
 use Rattle.std.specs.Prelude.{◌≡◌, ℕ, ◌+◌, ◌*◌, ◌≤◌, ◌==◌, nat_lt, Bool, if◌then◌else◌, List, [], ◌∷◌, length, slice_get, Option, Some, None}
 use Rattle.hole_list.specs.declared.run.Run.{Run}
-use Rattle.hole_list.specs.Placing.{run, AreApart, times_in, total}
+use Rattle.hole_list.specs.Placing.{run, AreApart, AreParts, total}
 use Rattle.lease_desk.specs.declared.event.Event.{Event}
 use Rattle.lease_desk.specs.declared.event.Event.TheVariants as event
 use Rattle.lease_desk.specs.Journal.{DeskState, leased}
@@ -51,7 +51,7 @@ pub record IsSound (arena : ℕ) (sizes : List ℕ) (journal : List Event) (s : 
   pub places : length s.leases ≡ length sizes
   pub most : s.asked ≤ length sizes
   -- each cell of the arena is in just one hole or lease, and no other cell is in any
-  pub cells : (index : ℕ) → times_in s.holes index + times_in (leased s.leases) index ≡ times_in (run 0 arena ∷ []) index
+  pub cells : AreParts (run 0 arena) s.holes (leased s.leases)
   -- their sizes add up to the arena
   pub sum : total s.holes + total (leased s.leases) ≡ arena
   -- holes ascend, and no two meet

@@ -1,6 +1,6 @@
 ghost use Rattle.std.specs.Prelude.{◌≡◌, ℕ, ◌<◌, ◌≤◌, ◌↔◌, IsTrue, [], ◌∷◌, length, replicate, slice_get, MatchResult, MatchOption};
 ghost use Rattle.cell_span.specs.Range.{IsWhole, blank};
-ghost use Rattle.hole_list.specs.Placing.{AreParts, total, largest};
+ghost use Rattle.hole_list.specs.Placing.{run, AreParts, total, largest};
 ghost use Rattle.lease_desk.specs.Journal.{leased, left_move, AreSizes, IsLegal};
 ghost use Rattle.lease_desk.specs.Filing.{HoldsFiled};
 ghost use Rattle.lease_desk.specs.Progress.{times_at, one_out, IsSound};
@@ -91,9 +91,9 @@ impl<P: Filed> Desk<P> {
     /// out, the arena comes back.
     pub fn new(alloc: Global, span: Span, sizes: Vec<u32>) -> Result<Desk<P>, DeskRefused>
         requires whole { IsWhole span }
-        requires blanks { span.cells ≡ replicate span.arena blank }
+        requires blanks { span.cells ≡ replicate span.arena.cells blank }
         requires few { length sizes.items ≤ 4096 }
-        requires sizes { AreSizes span.arena sizes.items }
+        requires sizes { AreSizes span.arena.cells sizes.items }
         ensures { MatchResult result (λ desk. desk ≡ new_desk span sizes.items) (λ refused. refused.span ≡ span) }
     {
         span.limits();
@@ -115,12 +115,15 @@ impl<P: Filed> Desk<P> {
         }
     }
 
-    /// What each desk keeps: its state is the one behind its journal, and each cell of a hole is the one that was filed; holes and leases share no cell, and
-    /// have all cells of the arena; and where none was withdrawn, each job that was asked for, doesn't wait and isn't out has its payload. It does nothing.
+    /// What each desk keeps. It does nothing.
     pub fn kept(&self)
+        // Its state is the one behind its journal, and each cell of a hole is the one that was filed.
         ensures desk { IsDesk P.job P.cells self.now }
-        ensures sound { IsSound self.now.arena self.now.sizes self.now.journal self.now.state }
-        ensures parts { AreParts self.now.arena self.now.state.holes (leased self.now.state.leases) }
+        // What holds behind each journal holds of its state.
+        ensures sound { IsSound self.now.arena.cells self.now.sizes self.now.journal self.now.state }
+        // Holes and leases share no cell, and have all cells of the arena and no others.
+        ensures parts { AreParts (run 0 self.now.arena.cells) self.now.state.holes (leased self.now.state.leases) }
+        // Where none was withdrawn, each job that was asked for, doesn't wait and isn't out has its payload.
         ensures filed { self.now.withdrawn ≡ 0 → (job : ℕ) → job < self.now.state.asked → times_at job self.now.state.waiting ≡ 0 → one_out (slice_get self.now.state.leases job) ≡ 0 → HasPayload P.job self.now.payloads job }
     {
         let _ = &self.withdrawn;
@@ -229,7 +232,8 @@ impl<P: Filed> Desk<P> {
         ensures { IsTrue result ↔ Knows self.now lease.now }
     {
         let span = lease.span();
-        span.arena() == self.holes.arena() && self.book.knows(lease.job(), span.first(), span.len())
+        span.arena().is_same(self.holes.arena())
+            && self.book.knows(lease.job(), span.first(), span.len())
     }
 
     /// The number of leases that are out.
@@ -263,13 +267,21 @@ impl<P: Filed> Desk<P> {
     /// Ends a desk with no lease out: the whole arena with its cells, the journal and the payloads.
     pub fn finish(self) -> Finished<P>
         requires { leased self.state.leases ≡ [] }
+        // The span is a whole arena.
         ensures whole { IsWhole result.span }
+        // It is the one hole that is left.
         ensures hole { self.holes ≡ result.span ∷ [] }
+        // It is the desk's arena.
         ensures arena { result.span.arena ≡ self.arena }
+        // Each of its cells is the one that was filed.
         ensures cells { HoldsFiled (filed_by P.cells self.payloads) self.journal result.span }
+        // The journal is the desk's.
         ensures journal { result.journal.items ≡ self.journal }
+        // So are the payloads.
         ensures payloads { result.payloads.items ≡ self.payloads }
-        ensures legal { self.state.asked ≡ length self.sizes → self.state.waiting ≡ [] → IsLegal self.arena self.sizes self.journal }
+        // Where every job was asked for and none waits, the journal is legal.
+        ensures legal { self.state.asked ≡ length self.sizes → self.state.waiting ≡ [] → IsLegal self.arena.cells self.sizes self.journal }
+        // And where none was withdrawn either, each job has its payload.
         ensures filed { self.state.asked ≡ length self.sizes → self.state.waiting ≡ [] → self.withdrawn ≡ 0 → AllFiled P.job (length self.sizes) self.payloads }
     {
         let Desk {

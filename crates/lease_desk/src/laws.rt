@@ -1,6 +1,6 @@
 //! Laws of journals, as contracts of functions that do nothing.
 ghost use Rattle.std.specs.Prelude.{◌≡◌, ℕ, ◌<◌, ◌≤◌, List, ◌++◌, length, Some};
-ghost use Rattle.hole_list.specs.Placing.{AreParts};
+ghost use Rattle.hole_list.specs.Placing.{run, AreParts};
 ghost use Rattle.lease_desk.specs.declared.event.Event.{Event};
 ghost use Rattle.lease_desk.specs.Journal.{DeskState, leased, replay, AreSizes, IsLegal};
 ghost use Rattle.lease_desk.specs.Progress.{took_times, gave_times, IsSound};
@@ -10,7 +10,7 @@ ghost use Rattle.lease_desk.specs.Progress.{took_times, gave_times, IsSound};
 /// Took and at most one Gave.
 pub fn law_of_journals()
     ensures sound { (arena : ℕ) (sizes : List ℕ) (journal : List Event) (s : DeskState) → 1 ≤ arena → AreSizes arena sizes → replay arena sizes journal ≡ Some s → IsSound arena sizes journal s }
-    ensures parts { (arena : ℕ) (sizes : List ℕ) (journal : List Event) (s : DeskState) → 1 ≤ arena → AreSizes arena sizes → replay arena sizes journal ≡ Some s → AreParts arena s.holes (leased s.leases) }
+    ensures parts { (arena : ℕ) (sizes : List ℕ) (journal : List Event) (s : DeskState) → 1 ≤ arena → AreSizes arena sizes → replay arena sizes journal ≡ Some s → AreParts (run 0 arena) s.holes (leased s.leases) }
     ensures took { (arena : ℕ) (sizes : List ℕ) (journal : List Event) (s : DeskState) (job : ℕ) → 1 ≤ arena → AreSizes arena sizes → replay arena sizes journal ≡ Some s → took_times job journal ≤ 1 }
     ensures gave { (arena : ℕ) (sizes : List ℕ) (journal : List Event) (s : DeskState) (job : ℕ) → 1 ≤ arena → AreSizes arena sizes → replay arena sizes journal ≡ Some s → gave_times job journal ≤ 1 }
 {}

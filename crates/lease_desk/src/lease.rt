@@ -2,7 +2,7 @@ ghost use Rattle.std.specs.Prelude.{◌≡◌, length};
 ghost use Rattle.cell_span.specs.Range.{IsRange};
 ghost use Rattle.lease_desk.specs.Lease.{LeaseView, ClaimView, lease, claim_of};
 
-use cell_span::Span;
+use cell_span::{Arena, Span};
 use std::marker::Model;
 
 /// A run of cells that a desk gave to a job. It owns the cells.
@@ -26,15 +26,16 @@ pub struct Claim {
     job: u32,
     first: u32,
     size: u32,
-    arena: u32,
+    arena: Arena,
 }
 
 impl Model for Claim {
+    ghost use Rattle.cell_span.specs.Arenas.{arena_of};
     ghost use Rattle.lease_desk.specs.Lease.{ClaimView};
 
     ghost Value = { ClaimView };
 
-    ghost view = { λ c. record { job = c.job; first = c.first; size = c.size; arena = c.arena } };
+    ghost view = { λ c. record { job = c.job; first = c.first; size = c.size; arena = arena_of c.arena } };
 }
 
 impl Lease {

@@ -7,12 +7,12 @@ use Rattle.std.proofs.lemmas.Bool.{cases_eq}
 use Rattle.std.proofs.lemmas.List.{length-set, length-replicate}
 use Rattle.std.proofs.lemmas.Option.{slice_get_within}
 use Rattle.hole_list.specs.declared.run.Run.{Run}
-use Rattle.hole_list.specs.Placing.{in_run, run, Taken, take_run, largest, AreParts, times_in, total}
+use Rattle.hole_list.specs.Placing.{in_run, run, Taken, take_run, largest, times_in, total}
 use Rattle.lease_desk.specs.declared.event.Event.{Event}
 use Rattle.lease_desk.specs.declared.event.Event.TheVariants as event
 use Rattle.lease_desk.specs.Journal.{DeskState, opened, leased, Move, move, took_next, waits, took_left, gave, asked_for, next_move, left_with, first_left, is_none_out, left_move, give_lease, give_move, after_event, after_events, replay, AreSizes}
 use Rattle.lease_desk.specs.Progress.{one_if, times_at, one_out, one_took, one_gave, took_times, gave_times, IsSound}
-use Rattle.hole_list.specs.PlacingLaws.{at_most_one, in_yes, some_same, TakenOf, taken_of, taken_apart, give_times, give_total, give_apart, free_of, one_hole, none_taken}
+use Rattle.hole_list.specs.PlacingLaws.{at_most_one, some_same, TakenOf, taken_of, taken_apart, give_times, give_total, give_apart, free_of, one_hole, none_taken}
 use Rattle.lease_desk.specs.theory.Leases.{sum_times, sum_total, sum_length, sum_out, sum_back, set_here, set_there, get_within, out_cells}
 use Rattle.lease_desk.specs.theory.Moves.{Moves, next, left, back, moved, none_after}
 
@@ -102,7 +102,7 @@ one_of_some ls job o q e = ap one_out e
 module _ (arena : ℕ) (sizes : List ℕ) (es : List Event) (s : DeskState) (k : IsSound arena sizes es s) where
   -- a lease that goes out, at a place that is free
   out_cells_are : (job : ℕ) (t : Taken) (size i : ℕ) → slice_get s.leases job ≡ Some None → TakenOf s.holes size t
-      → times_in t.holes i + times_in (leased (slice_set s.leases job (Some t.run))) i ≡ times_in (run 0 arena ∷ []) i
+      → times_in t.holes i + times_in (leased (slice_set s.leases job (Some t.run))) i ≡ in_run (run 0 arena) i
   out_cells_are job t size i free tk =
       omega (arith, k.cells i, tk.times i, sum_out (λ r. in_run r i) s.leases job t.run free, sum_times i (leased s.leases), sum_times i (leased (slice_set s.leases job (Some t.run))))
 
@@ -369,12 +369,6 @@ sound_behind arena sizes es s some a e = sound_on arena sizes (opened arena (len
 
 -- ---- what follows
 
-in_arena : (arena i : ℕ) → i < arena → times_in (run 0 arena ∷ []) i ≡ 1
-in_arena arena i k = omega (arith, in_yes (run 0 arena) i (omega arith) (omega (arith, k)))
-
-pub parts_of : (arena : ℕ) (sizes : List ℕ) (es : List Event) (s : DeskState) → IsSound arena sizes es s → AreParts arena s.holes (leased s.leases)
-parts_of arena sizes es s k = λ i less. k.cells i ∙ in_arena arena i less
-
 pub one_at_most : (n job : ℕ) → one_if (nat_lt job n) ≤ 1
 one_at_most n job = grind arith
 
@@ -389,7 +383,7 @@ gave_once arena sizes es s job k = omega (arith, k.once job, one_at_most s.asked
 
 -- where no lease is out, the arena is one hole, so that each job fits
 pub none_out_one : (arena : ℕ) (sizes : List ℕ) (es : List Event) (s : DeskState) → 1 ≤ arena → IsSound arena sizes es s → leased s.leases ≡ [] → s.holes ≡ run 0 arena ∷ []
-none_out_one arena sizes es s some k none = one_hole arena s.holes some k.apart (λ i. omega (arith, k.cells i, ap (λ (rs : List Run). times_in rs i) none))
+none_out_one arena sizes es s some k none = one_hole (run 0 arena) s.holes some k.apart (λ i. omega (arith, k.cells i, ap (λ (rs : List Run). times_in rs i) none))
 
 pub left_fits : (arena : ℕ) (sizes : List ℕ) (es : List Event) (s : DeskState) (job size : ℕ) → 1 ≤ arena → IsSound arena sizes es s → AreSizes arena sizes → leased s.leases ≡ []
     → slice_get sizes job ≡ Some size → take_run s.holes size ≡ None → ⊥
