@@ -1,4 +1,6 @@
--- What the verifier answers, and its check of certificates as a walk.
+-- What the verifier accepts, all that it answers, and its check of certificates as a walk.
+pub mod Accepted
+pub mod AcceptedLaws
 pub mod Finding
 pub mod Numbered
 pub mod Remembered

@@ -5,6 +5,7 @@ mod books;
 mod ends;
 mod entry;
 mod judgement;
+pub mod laws;
 mod lets;
 mod memo;
 mod numbered;
