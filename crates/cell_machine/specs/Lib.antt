@@ -18,7 +18,7 @@ pub mod Running
 pub mod Safe
 pub mod Sound
 pub mod Stands
-pub mod Configuration
+pub mod State
 pub mod Steps
 pub mod Stopped
 pub mod Stops
