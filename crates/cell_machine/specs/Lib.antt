@@ -1,5 +1,6 @@
 pub mod Cells
 pub mod Coming
+pub mod Dead
 pub mod Due
 pub mod Endings
 pub mod Ends

@@ -19,3 +19,4 @@ pub mod Stepping
 pub mod Beginning
 pub mod WholeRuns
 pub mod Widening
+pub mod Living

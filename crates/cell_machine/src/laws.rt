@@ -14,6 +14,7 @@ ghost use Rattle.grail_code.specs.Meaning.{run_of};
 ghost use Rattle.grail_code.specs.WellFormed.{IsWellFormed};
 ghost use Rattle.cell_machine.specs.Cells.{inline_base};
 ghost use Rattle.cell_machine.specs.Coming.{IsWithinRoom, IsOnCourse, IsOnWay, KeepsCourse, EndsAsMeant};
+ghost use Rattle.cell_machine.specs.Dead.{live, live_next};
 ghost use Rattle.cell_machine.specs.Loading.{cells_from, begun, steps};
 ghost use Rattle.licence.specs.Licensed.{Licensed, IsLicensed};
 ghost use Rattle.cell_machine.specs.Plans.{IsPlan, RunsAsPlanned};
@@ -59,6 +60,13 @@ pub fn law_of_reuse()
 /// these cells stay as they are. So one step serves a machine in its own range and one in the middle of an arena.
 pub fn law_of_longer_lists()
     ensures { (program : Code) (limit : ℕ) (more : List Cell) (s : Configuration) → Widens more (step program limit s) (step program limit (wide more s)) }
+{}
+
+/// Dead words, those of locals that aren't ready, are read by no step: the step of a sound configuration in which they are 0 is its step,
+/// with the dead words behind it set to 0. So a configuration may be kept by its live words alone.
+pub fn law_of_dead_words()
+    ensures { (program : Code) (limit : ℕ) (s : Configuration) → IsWellFormed program → IsWithinLimits program → IsSound program s
+        → live_next program (step program limit (live program s)) ≡ live_next program (step program limit s) }
 {}
 
 /// Plans of licensed code, as plain data: an entry, fitting arguments, fuel, and just as many cells as the licence says. The run ends as the
