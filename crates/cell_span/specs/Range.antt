@@ -1,5 +1,6 @@
 -- Cited by contracts.
--- Runs of the cells of an arena, as plain data: a run is a part of its arena without gaps. The code owns the cells themselves.
+-- Runs of the cells of an arena, as plain data: a run is a part of its arena without gaps. The code owns the cells
+-- themselves.
 use Rattle.std.specs.Prelude.{◌≡◌, ℕ, ◌+◌, ◌≤◌, List, ◌++◌, length, take, drop, slice_set, replicate}
 use Rattle.cell_span.specs.declared.cell.Cell.{Cell}
 use Rattle.cell_span.specs.Arenas.{Arena}

@@ -14,7 +14,8 @@ run_of r = run r.first (length r.cells)
 
 -- ---- the state of holes
 
--- the arena, the run of it that the holes are over, how many runs may be out, the holes in ascending order, and the runs that are out in ascending order
+-- the arena, the run of it that the holes are over, and how many runs may be out; the holes and the runs that are out,
+-- both in ascending order
 pub record Holed : Type 0 where
   pub arena : Arena
   pub base : Run
@@ -26,7 +27,8 @@ pub record Holed : Type 0 where
 abbrev pub new_holes : Range → ℕ → Holed
 new_holes range most = record { arena = range.arena; base = run_of range; most_out = most; holes = range ∷ []; out = [] }
 
--- the holes are ranges of the arena that lie apart, and each index of the base run is in one hole or in one run that is out
+-- the holes are ranges of the arena that lie apart, and each index of the base run is in one hole or in one run that
+-- is out
 pub record AreHoles (s : Holed) : Type 0 where
   pub ranges : AllByRecursion IsRange s.holes
   pub of_arena : AllByRecursion (λ h. h.arena ≡ s.arena) s.holes

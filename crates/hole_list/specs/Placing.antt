@@ -90,7 +90,8 @@ abbrev pub total : List Run → ℕ
 total [] = 0
 total (r ∷ rs) = r.size + total rs
 
--- Each index of the base run is in just one hole or one run that is out, and no other index is in any; so no two of all these runs overlap.
+-- Each index of the base run is in just one hole or one run that is out, and no other index is in any. So no two of all
+-- these runs overlap.
 abbrev pub AreParts : (base : Run) → (holes out : List Run) → Type 0
 AreParts base holes out = (index : ℕ) → times_in holes index + times_in out index ≡ in_run base index
 

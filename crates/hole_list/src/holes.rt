@@ -11,7 +11,8 @@ use cell_span::{Arena, Span};
 use std::alloc::{AllocError, Global};
 use std::marker::Model;
 
-/// The holes of a run of an arena, in ascending order, and where the runs lie that were taken out of it. That run is their base.
+/// The holes of a run of an arena, in ascending order, and where the runs lie that were taken out of it. That run is
+/// their base.
 ///
 /// Each cell of the base is in one hole or in one run that is out.
 #[derive(Drop)]
@@ -45,8 +46,8 @@ pub struct HolesRefused {
 }
 
 impl Holes {
-    /// One hole that is all of a span, of which at most so many runs will be out at a time. All room for holes and for runs is taken here. Where memory runs
-    /// out, the span comes back.
+    /// One hole that is all of a span, of which at most so many runs will be out at a time. All room for holes and for
+    /// runs is taken here. Where memory runs out, the span comes back.
     #[tactic(auto, using(crate::proofs::Holding::new_holds, crate::proofs::Holding::new_free))]
     pub fn new(alloc: Global, span: Span, most_out: u32) -> Result<Holes, HolesRefused>
         ensures { MatchResult result (λ holes. holes ≡ new_holes span most_out) (λ refused. refused.span ≡ span) }
@@ -72,8 +73,8 @@ impl Holes {
         }
     }
 
-    /// What holes keep: they lie apart in ascending order, and each cell of their base is in one hole or in one run that is out. It does nothing; its clause
-    /// is what whoever has holes can use.
+    /// What holes keep: they lie apart in ascending order, and each cell of their base is in one hole or in one run that
+    /// is out. It does nothing; its clause is what whoever has holes can use.
     pub fn kept(&self)
         ensures { AreHoles self.now }
     {
@@ -152,7 +153,8 @@ impl Holes {
         }
     }
 
-    /// The span that they were made of, where no run is out: it has the same first cell, size and arena. Its cells may be others.
+    /// The span that they were made of, where no run is out: it begins at the same index, with the same size, in the same
+    /// arena. What its cells hold may have changed.
     pub fn finish(self) -> Span
         requires { self.out ≡ [] }
         // It lies where the base does.

@@ -29,7 +29,8 @@ pub fn law_of_giving()
     ensures sum { (hs : List Run) (r : Run) → total (give_run hs r) ≡ total hs + r.size }
 {}
 
-/// Taking and giving back keep what holes keep: that they lie apart, and that each cell of their base is in one hole or in one run that is out.
+/// Taking and giving back keep what holes keep: that they lie apart, and that each cell of their base is in one hole or
+/// in one run that is out.
 pub fn law_of_holes()
     // What is taken is a range of so many cells of the arena, and a part of the base.
     ensures range { (s : Holed) (size : ℕ) (t : TakenCells) → AreHoles s → 1 ≤ size → take_cells s.holes size ≡ Some t → IsRangeIn s size t.range }

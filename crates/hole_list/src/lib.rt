@@ -1,4 +1,5 @@
-//! The holes of a run of an arena: parts of it are taken by first fit, and merge with their neighbours when they come back.
+//! The holes of a run of an arena: parts of it are taken by first fit, and merge with their neighbours when they come
+//! back.
 #![tactic(auto)]
 
 mod holes;

@@ -13,8 +13,8 @@ use Rattle.lease_desk.specs.Filing.{FiledCells, HoldsFiled}
 use Rattle.lease_desk.specs.Progress.{gave_times}
 use Rattle.lease_desk.specs.Lease.{LeaseView}
 
--- a desk: its arena, the size of each job, its state, the holes with their cells, the journal, the payload of each job where one was filed,
--- and how many leases were withdrawn
+-- a desk: its arena, the size of each job, its state, the holes with their cells, the journal, the payload of each job
+-- where one was filed, and how many leases were withdrawn
 pub record DeskView (P : Type 0) : Type 0 where
   pub arena : Arena
   pub sizes : List ℕ
