@@ -1,4 +1,5 @@
 -- Holes of a run of an arena.
+pub mod CountLaws
 pub mod Holes
 pub mod Inside
 pub mod HolesLaws

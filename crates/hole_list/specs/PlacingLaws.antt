@@ -263,7 +263,7 @@ give_apart (h ∷ hs) r some a f = by_tests (λ s some' free. give_apart hs s so
 
 -- ---- one hole
 
-none_before : (hs : List Run) (n : ℕ) → AreBehind n hs → AreApart hs → times_in hs n ≡ 0
+pub none_before : (hs : List Run) (n : ℕ) → AreBehind n hs → AreApart hs → times_in hs n ≡ 0
 none_before [] n b a = refl
 none_before (h ∷ hs) n b a =
     let f = apart_front h hs a in

@@ -1,5 +1,5 @@
 //! Laws of holes, as the contracts of functions that do nothing.
-ghost use Rattle.std.specs.Prelude.{◌≡◌, ℕ, ◌+◌, ◌<◌, ◌≤◌, ◌↔◌, Bool, List, ◌∷◌, [], length, map, Some, None};
+ghost use Rattle.std.specs.Prelude.{◌≡◌, ℕ, suc, ◌+◌, ◌<◌, ◌≤◌, ◌↔◌, Bool, List, ◌∷◌, [], length, map, Some, None};
 ghost use Rattle.cell_span.specs.declared.cell.Cell.{Cell};
 ghost use Rattle.cell_span.specs.Range.{Range, IsRange};
 ghost use Rattle.hole_list.specs.declared.run.Run.{Run};
@@ -40,6 +40,8 @@ pub fn law_of_holes()
     ensures given { (s : Holed) (r : Range) → AreHoles s → IsRange r → r.arena ≡ s.arena → IsOut s.out (run_of r) → AreHoles (with_given s r) }
     // Where no run is out, the base is one hole.
     ensures whole { (s : Holed) → AreHoles s → s.out ≡ [] → map run_of s.holes ≡ s.base ∷ [] }
+    // There is at most one hole more than runs that are out.
+    ensures count { (s : Holed) → AreHoles s → length s.holes ≤ suc (length s.out) }
 {}
 
 /// Cells stay where they are: what a test says of each cell of the holes, and of the range that comes back, at its index in the arena, it says of each cell
