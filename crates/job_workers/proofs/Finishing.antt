@@ -25,7 +25,7 @@ none_out : (n : ℕ) → leased (replicate n None) ≡ []
 none_out zero = refl
 none_out (suc n) = none_out n
 
-pub new_serving : {P : Type 0} (ps : Planned) (d : DeskView P) → d.sizes ≡ leases_of ps.plans → d.state ≡ opened d.arena (length d.sizes) → d.payloads ≡ replicate (length d.sizes) None → d.withdrawn ≡ 0 → IsServing ps d
+pub new_serving : {P : Type 0} (ps : Planned) (d : DeskView P) → d.sizes ≡ leases_of ps.plans → d.state ≡ opened d.arena.cells (length d.sizes) → d.payloads ≡ replicate (length d.sizes) None → d.withdrawn ≡ 0 → IsServing ps d
 new_serving ps d sizes state payloads withdrawn = record {
   sizes = sizes;
   none_out = ap (λ s. leased s.leases) state ∙ none_out (length d.sizes);

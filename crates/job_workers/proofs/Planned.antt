@@ -9,7 +9,7 @@ use Rattle.licence.specs.Licensed.{Licensed}
 use Rattle.cell_machine.specs.State.{most_calls}
 use Rattle.cell_machine.specs.Plans.{IsPlan}
 use Rattle.cell_machine.specs.Loading.{last_cells}
-use Rattle.cell_machine.specs.Endings.{IsStackFor, EndsWith}
+use Rattle.cell_machine.specs.Endings.{EndsWith}
 use Rattle.job_workers.specs.declared.stacks.Kept.{Kept}
 use Rattle.job_workers.specs.Served.{EndsAsMeant}
 use Rattle.job_workers.specs.Serving.{IsKept, IsServed}
@@ -17,7 +17,7 @@ use Rattle.lease_desk.specs.Lease.{LeaseView, ClaimView, lease, claim_of}
 use Rattle.cell_span.specs.Range.{Range}
 use Rattle.camelot_values.specs.Value.{Value}
 use Rattle.cell_machine.specs.Laid.{SameRange}
-use Rattle.cell_machine.specs.Due.{HasRoom}
+use Rattle.cell_machine.specs.Views.{HasRoom, IsStackFor}
 use Rattle.cell_machine.specs.declared.room.Room.{Room}
 use Rattle.cell_machine.specs.declared.machine.Ending.{Ending}
 use Rattle.job_world.specs.Plans.{Plan, Planned, IsFit, AreFit, leases_of, run_with, run_at, cells_of, cells_with, cells_at, job_run, job_cells}

@@ -118,7 +118,7 @@ set_many [] job x = refl
 set_many (l ∷ ls) zero x = refl
 set_many (l ∷ ls) (suc job) x = ap suc (set_many ls job x)
 
-taken_due : {P : Type 0} (ps : Planned) (old new : DeskView P) (l : LeaseView) (next : Option Move) → IsServing ps old → IsSound new.arena new.sizes new.journal new.state → Takes next old new l
+taken_due : {P : Type 0} (ps : Planned) (old new : DeskView P) (l : LeaseView) (next : Option Move) → IsServing ps old → IsSound new.arena.cells new.sizes new.journal new.state → Takes next old new l
     → Taking old.sizes old.state new.state l.job l.range.first (length l.range.cells) → IsDue ps new l
 taken_due {P} ps old new l next serving sound takes k =
     let sizes : new.sizes ≡ old.sizes = ap (λ (d : DeskView P). d.sizes) takes.rest in
@@ -139,13 +139,13 @@ taken_due {P} ps old new l next serving sound takes k =
       only = ap (λ ls. leased (slice_set ls l.job None)) k.leases ∙ none_again old.state.leases l.job k.run serving.none_out;
     }
 
-pub next_due : {P : Type 0} (ps : Planned) (old new : DeskView P) (l : LeaseView) → IsServing ps old → IsSound new.arena new.sizes new.journal new.state → Takes (next_move old.sizes old.state) old new l
+pub next_due : {P : Type 0} (ps : Planned) (old new : DeskView P) (l : LeaseView) → IsServing ps old → IsSound new.arena.cells new.sizes new.journal new.state → Takes (next_move old.sizes old.state) old new l
     → IsDue ps new l × (new.state.asked ≡ suc old.state.asked) × (new.arena ≡ old.arena)
 next_due {P} ps old new l serving sound takes =
     let k = next_taking old.sizes old.state new.state l.job l.range.first (length l.range.cells) takes.told in
     (taken_due ps old new l (next_move old.sizes old.state) serving sound takes k.0, k.1, ap (λ (d : DeskView P). d.arena) takes.rest)
 
-pub left_due : {P : Type 0} (ps : Planned) (old new : DeskView P) (l : LeaseView) → IsServing ps old → IsSound new.arena new.sizes new.journal new.state → Takes (left_move old.sizes old.state) old new l
+pub left_due : {P : Type 0} (ps : Planned) (old new : DeskView P) (l : LeaseView) → IsServing ps old → IsSound new.arena.cells new.sizes new.journal new.state → Takes (left_move old.sizes old.state) old new l
     → IsDue ps new l × (new.state.asked ≡ old.state.asked) × (new.arena ≡ old.arena) × (length new.state.waiting < length old.state.waiting)
 left_due {P} ps old new l serving sound takes =
     let k = left_taking old.sizes old.state new.state l.job l.range.first (length l.range.cells) takes.told in

@@ -2,7 +2,7 @@
 -- The stack that is kept for the next run, what the run of a lease hands back, and what stands of a desk between two runs.
 use Rattle.std.specs.Prelude.{◌≡◌, ℕ, ◌<◌, List, [], length, slice_get, slice_set, Some, None}
 use Rattle.licence.specs.Licensed.{Licensed}
-use Rattle.cell_machine.specs.Endings.{IsStackFor}
+use Rattle.cell_machine.specs.Views.{IsStackFor}
 use Rattle.job_world.specs.Plans.{Planned, leases_of, job_cells}
 use Rattle.lease_desk.specs.Journal.{leased}
 use Rattle.lease_desk.specs.Lease.{LeaseView}

@@ -57,10 +57,10 @@ fn endings_in<N: JobName>(
 fn serve_named<N: JobName>(alloc: Global, span: Span, jobs: &Jobs) -> Result<ServedJobs, AllocError>
     requires plans { jobs.now ≡ N.planned }
     requires whole { IsWhole span }
-    requires blanks { span.cells ≡ replicate span.arena blank }
+    requires blanks { span.cells ≡ replicate span.arena.cells blank }
     requires few { length jobs.now.plans ≤ 4096 }
-    requires sizes { AreSizes span.arena (leases_of jobs.now.plans) }
-    ensures legal { IfOk result (λ served. IsLegal span.arena (leases_of jobs.now.plans) served.journal.items) }
+    requires sizes { AreSizes span.arena.cells (leases_of jobs.now.plans) }
+    ensures legal { IfOk result (λ served. IsLegal span.arena.cells (leases_of jobs.now.plans) served.journal.items) }
     ensures ended { IfOk result (λ served. AllEnded jobs.now served.endings.items) }
     ensures count { IfOk result (λ served. length served.endings.items ≡ length jobs.now.plans) }
     ensures whole { IfOk result (λ served. IsWhole served.span) }
@@ -86,11 +86,11 @@ fn serve_named<N: JobName>(alloc: Global, span: Span, jobs: &Jobs) -> Result<Ser
 /// where memory runs out: the arena is lost then.
 pub fn serve_planned(alloc: Global, span: Span, jobs: &Jobs) -> Result<ServedJobs, AllocError>
     requires whole { IsWhole span }
-    requires blanks { span.cells ≡ replicate span.arena blank }
+    requires blanks { span.cells ≡ replicate span.arena.cells blank }
     requires few { length jobs.now.plans ≤ 4096 }
-    requires sizes { AreSizes span.arena (leases_of jobs.now.plans) }
+    requires sizes { AreSizes span.arena.cells (leases_of jobs.now.plans) }
     // The journal is legal, from the first event to the last.
-    ensures legal { IfOk result (λ served. IsLegal span.arena (leases_of jobs.now.plans) served.journal.items) }
+    ensures legal { IfOk result (λ served. IsLegal span.arena.cells (leases_of jobs.now.plans) served.journal.items) }
     // Each job has its ending, which is the one that the meaning of its own plan says.
     ensures ended { IfOk result (λ served. AllEnded jobs.now served.endings.items) }
     // There are as many endings as jobs.

@@ -2,8 +2,8 @@
 ghost use Rattle.std.specs.Prelude.{◌≡◌, ◌<◌, length, slice_get, Some, IfSome, MatchResult};
 ghost use Rattle.grail_code.specs.Code as plain;
 ghost use Rattle.grail_code.specs.Meaning.{run_of};
-ghost use Rattle.cell_machine.specs.Due.{HasRoom};
-ghost use Rattle.cell_machine.specs.Endings.{EndsWith, IsStackFor};
+ghost use Rattle.cell_machine.specs.Views.{HasRoom, IsStackFor};
+ghost use Rattle.cell_machine.specs.Endings.{EndsWith};
 ghost use Rattle.cell_machine.specs.Laid.{SameRange};
 ghost use Rattle.cell_machine.specs.Loading.{last_cells};
 ghost use Rattle.cell_machine.specs.Plans.{IsPlan};

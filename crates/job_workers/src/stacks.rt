@@ -1,6 +1,6 @@
 //! Stacks, which are kept from one run to the next of the same licence.
 ghost use Rattle.std.specs.Prelude.{◌≡◌, slice_get, Some, IfOk, IfSome};
-ghost use Rattle.cell_machine.specs.Endings.{IsStackFor};
+ghost use Rattle.cell_machine.specs.Views.{IsStackFor};
 ghost use Rattle.job_workers.specs.Serving.{IsKept};
 
 use cell_machine::Stack;
@@ -32,9 +32,9 @@ pub(crate) fn stack_for(
             if kept.licence == number {
                 Ok(kept.stack)
             } else {
-                Stack::new(alloc, licence.code())
+                Stack::new(alloc, licence)
             }
         }
-        None => Stack::new(alloc, licence.code()),
+        None => Stack::new(alloc, licence),
     }
 }

@@ -154,11 +154,11 @@ pub fn serve_jobs<N: JobName>(
 ) -> Result<Finished<Answer<N>>, AllocError>
     requires plans { jobs.now ≡ N.planned }
     requires sizes { desk.sizes ≡ leases_of jobs.now.plans }
-    requires state { desk.state ≡ opened desk.arena (length desk.sizes) }
+    requires state { desk.state ≡ opened desk.arena.cells (length desk.sizes) }
     requires payloads { desk.payloads ≡ replicate (length desk.sizes) None }
     requires withdrawn { desk.withdrawn ≡ 0 }
     // The journal is legal, from the first event to the last.
-    ensures legal { IfOk result (λ f. IsLegal desk.arena (leases_of jobs.now.plans) f.journal.items) }
+    ensures legal { IfOk result (λ f. IsLegal desk.arena.cells (leases_of jobs.now.plans) f.journal.items) }
     // Each job has its answer, which is the ending that the meaning of its own plan says.
     ensures answered { IfOk result (λ f. AllAnswered jobs.now f.payloads.items) }
     ensures count { IfOk result (λ f. length f.payloads.items ≡ length jobs.now.plans) }

@@ -1,5 +1,5 @@
 use Rattle.std.proofs.Common.{◌≡◌, length}
-use Rattle.cell_machine.specs.Endings.{IsStackFor}
+use Rattle.cell_machine.specs.Views.{IsStackFor}
 use Rattle.grail_code.specs.Code.{code_of}
 use Rattle.machine_cases.specs.Jobs.{IsReady}
 use Rattle.machine_cases.proofs.running.answer_time.Given as goal
