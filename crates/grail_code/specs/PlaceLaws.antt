@@ -401,7 +401,7 @@ step_safe p f enter number n b l q env k w calls fits is here t fit = step_safe_
 -- What a jump means in a block holds, where the claim holds from each later block on.
 later_from : (p : Code) (f : Func) (enter : Enter) (claim : Claim) (number : ℕ)
     → ((to : ℕ) (target : Block) → number < to → slice_get f.blocks to ≡ Some target → (k w : ℕ) (env : Locals) → FitAt p f target 0 env
-        → claim to 0 env (block_run p.types enter (jumps_from p.types enter (map narrow f.blocks) to) (narrow target) k w env))
+    → claim to 0 env (block_run p.types enter (jumps_from p.types enter (map narrow f.blocks) to) (narrow target) k w env))
     → LaterHolds p f claim number (jumps_from p.types enter (map narrow f.blocks) number)
 later_from p f enter claim number from = λ to j u target env less t hand.
     subst (claim to 0 (narrowed target.params env)) (sym (there to j u target env less t)) (from to target less t j u (narrowed target.params env) hand)
