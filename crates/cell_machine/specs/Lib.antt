@@ -2,6 +2,7 @@ pub mod Cells
 pub mod Coming
 pub mod Dead
 pub mod Due
+pub mod EndingLaws
 pub mod Endings
 pub mod Ends
 pub mod FrameWords

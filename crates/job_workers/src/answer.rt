@@ -1,5 +1,6 @@
 ghost use Rattle.job_world.specs.Plans.{job_run, job_cells};
-ghost use Rattle.job_workers.specs.Served.{EndsAsMeant, EndsWith-prop};
+ghost use Rattle.cell_machine.specs.EndingLaws.{EndsWith-prop};
+ghost use Rattle.job_workers.specs.Served.{EndsAsMeant};
 
 use cell_machine::Ending;
 use job_world::JobName;

@@ -2,6 +2,7 @@
 #![tactic(auto)]
 
 mod fault;
+pub mod isolation;
 mod jobs;
 pub mod laws;
 mod name;

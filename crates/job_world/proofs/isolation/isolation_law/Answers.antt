@@ -1,0 +1,22 @@
+use Rattle.job_world.specs.WorldLaws.{lie_apart, is_alone, step_apart, filed_alone, are_equal}
+use Rattle.job_world.proofs.isolation.isolation_law.Goals as goal
+
+-- src/isolation.rt:12:1
+pub returns-clause-apart : goal.returns-clause-apart
+returns-clause-apart c = lie_apart
+
+-- src/isolation.rt:12:1
+pub returns-clause-own : goal.returns-clause-own
+returns-clause-own c = is_alone
+
+-- src/isolation.rt:12:1
+pub returns-clause-step : goal.returns-clause-step
+returns-clause-step c = step_apart
+
+-- src/isolation.rt:12:1
+pub returns-clause-filed : goal.returns-clause-filed
+returns-clause-filed c = filed_alone
+
+-- src/isolation.rt:12:1
+pub returns-clause-alike : goal.returns-clause-alike
+returns-clause-alike c = are_equal

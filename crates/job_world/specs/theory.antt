@@ -1,0 +1,7 @@
+-- Laws, for the laws of worlds.
+pub mod PutLaws
+pub mod Alone
+pub mod AloneLaws
+pub mod Desks
+pub mod Starting
+pub mod Worlds

@@ -1,0 +1,30 @@
+//! The law of isolation, as the contract of a function that does nothing.
+ghost use Rattle.std.specs.Prelude.{◌≡◌, ℕ, List, slice_get, Some};
+ghost use Rattle.hole_list.specs.declared.run.Run.{Run};
+ghost use Rattle.cell_machine.specs.State.{Final};
+ghost use Rattle.job_world.specs.Plans.{Planned};
+ghost use Rattle.job_world.specs.World.{Worker, WorldEvent, Step, after, world};
+ghost use Rattle.job_world.specs.Isolation.{CanHold, LieApart, IsAlone, StepsApart, EndsAlone, HaveSamePlan, AreEqual};
+
+/// Jobs in one arena do not touch each other. A world has the cells of the whole arena, the desk, and the machine of each job whose lease is out. Its events
+/// ask for the next job, let a job's machine step, or give a job's lease back, in any order. A machine steps in the whole list of cells, from the first one of
+/// its lease on, and nothing tests where the lease ends. The clauses hold behind any events, for fitting plans whose leases the arena can hold.
+pub fn isolation_law()
+    // Leases and holes share no cell and have all cells of the arena; the desk is the one behind the journal.
+    ensures apart { (arena : ℕ) (ps : Planned) (events : List WorldEvent) → CanHold arena ps → LieApart arena ps (world arena ps events) }
+    // The range and the frames of each lease are those of the job's lone machine, in a range of its own, after as many steps.
+    ensures own { (arena : ℕ) (ps : Planned) (events : List WorldEvent) (job : ℕ) (r : Run) → CanHold arena ps
+        → slice_get (world arena ps events).desk.leases job ≡ Some (Some r) → IsAlone ps (world arena ps events) job r }
+    // A step changes no cell outside of its job's range, no other machine, no end that was filed, and nothing of the desk.
+    ensures step { (arena : ℕ) (ps : Planned) (events : List WorldEvent) (job : ℕ) → CanHold arena ps
+        → StepsApart (world arena ps events) (after ps (world arena ps events) (Step job)) job }
+    // Each end that was filed is what the job's own plan comes to, with the cells that its lone machine leaves.
+    ensures filed { (arena : ℕ) (ps : Planned) (events : List WorldEvent) (job : ℕ) (f : Final) → CanHold arena ps
+        → slice_get (world arena ps events).filed job ≡ Some (Some f) → EndsAlone ps job f }
+    // In two worlds, whatever else they hold, jobs of the same plan after as many steps have the same cells and the same frames.
+    ensures alike { (arena size : ℕ) (ps qs : Planned) (events others : List WorldEvent) (job other : ℕ) (r q : Run) (k l : Worker)
+        → CanHold arena ps → CanHold size qs → HaveSamePlan ps qs job other
+        → slice_get (world arena ps events).desk.leases job ≡ Some (Some r) → slice_get (world size qs others).desk.leases other ≡ Some (Some q)
+        → slice_get (world arena ps events).workers job ≡ Some (Some k) → slice_get (world size qs others).workers other ≡ Some (Some l) → k.count ≡ l.count
+        → AreEqual (world arena ps events) (world size qs others) job other r q }
+{}
