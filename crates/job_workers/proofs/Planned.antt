@@ -11,7 +11,6 @@ use Rattle.cell_machine.specs.Plans.{IsPlan}
 use Rattle.cell_machine.specs.Loading.{last_cells}
 use Rattle.cell_machine.specs.Endings.{IsStackFor, EndsWith}
 use Rattle.job_workers.specs.declared.stacks.Kept.{Kept}
-use Rattle.job_workers.specs.declared.serving.Served.{Served}
 use Rattle.job_workers.specs.Served.{EndsAsMeant}
 use Rattle.job_workers.specs.Serving.{IsKept, IsServed}
 use Rattle.lease_desk.specs.Lease.{LeaseView, ClaimView, lease, claim_of}
@@ -89,11 +88,11 @@ pub meant_now : (ps : Planned) (job : ℕ) (l : LeaseView) (p : Plan) (li : Lice
     → EndsWith (run_of li.code most_calls p.entry p.fuel args) ending → EndsAsMeant ps job ending
 meant_now ps job l p li now args ending same ends = subst (λ o. EndsWith o ending) (ap (run_of li.code most_calls p.entry p.fuel) same ∙ sym now.run) ends
 
-pub served_now : (ps : Planned) (job : ℕ) (l : LeaseView) (p : Plan) (li : Licensed) → RunIs ps job p li (length l.range.cells) → (range_in : Range) (claim : ClaimView) (ran : Range) (args : List Value) (s : Served)
-    → job ≡ l.job → range_in ≡ l.range → claim ≡ claim_of l → args ≡ p.args → SameRange range_in ran
+pub served_now : (ps : Planned) (job : ℕ) (l : LeaseView) (p : Plan) (li : Licensed) → RunIs ps job p li (length l.range.cells) → (range_in : Range) (claim : ClaimView) (ran : Range) (args : List Value)
+    (back : LeaseView) (number : ℕ) (kept : Kept) → job ≡ l.job → range_in ≡ l.range → claim ≡ claim_of l → args ≡ p.args → SameRange range_in ran
     → ((f : Func) → slice_get li.code.funcs p.entry ≡ Some f → ran.cells ≡ last_cells li.code most_calls p.entry f args p.fuel (length range_in.cells))
-    → s.lease ≡ lease claim.job ran → s.answer.job ≡ job → s.answer.jobs.now ≡ ps → s.kept.licence ≡ p.licence → IsStackFor li.code s.kept.stack → IsServed ps l s
-served_now ps job l p li now range_in claim ran args s is opened claimed same range cells closed number of kept stack = record {
+    → back ≡ lease claim.job ran → number ≡ job → kept.licence ≡ p.licence → IsStackFor li.code kept.stack → IsServed ps l back number kept
+served_now ps job l p li now range_in claim ran args back number kept is opened claimed same range cells closed numbered licence stack = record {
   job = ap (λ (m : LeaseView). m.job) closed ∙ ap (λ (m : ClaimView). m.job) claimed;
   first = ap (λ (m : LeaseView). m.range.first) closed ∙ range.first ∙ ap (λ (r : Range). r.first) opened;
   arena = ap (λ (m : LeaseView). m.range.arena) closed ∙ range.arena ∙ ap (λ (r : Range). r.arena) opened;
@@ -101,10 +100,9 @@ served_now ps job l p li now range_in claim ran args s is opened claimed same ra
   cells = ap (λ (m : LeaseView). m.range.cells) closed
       ∙ now.left ran.cells (λ f at. cells f at ∙ ap (λ args. last_cells li.code most_calls p.entry f args p.fuel (length range_in.cells)) same
       ∙ ap (λ (r : Range). last_cells li.code most_calls p.entry f p.args p.fuel (length r.cells)) opened)
-      ∙ ap (job_cells ps) is;
-  number = number ∙ is;
-  of = of;
-  kept = λ other at. subst (λ (m : Licensed). IsStackFor m.code s.kept.stack) (some_is li other (sym now.licence ∙ ap (slice_get ps.licences) (sym kept) ∙ at)) stack;
+      ∙ ap (job_cells ps) (sym numbered);
+  same = numbered ∙ is;
+  fits = λ other at. subst (λ (m : Licensed). IsStackFor m.code kept.stack) (some_is li other (sym now.licence ∙ ap (slice_get ps.licences) (sym licence) ∙ at)) stack;
 }
   where
     some_is : (x y : Licensed) → Some x ≡ Some y → x ≡ y

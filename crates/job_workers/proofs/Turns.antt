@@ -12,9 +12,7 @@ use Rattle.lease_desk.specs.Progress.{IsSound}
 use Rattle.lease_desk.specs.Lease.{LeaseView}
 use Rattle.lease_desk.specs.Desk.{DeskView, Takes, filed_with}
 use Rattle.job_world.specs.Plans.{Plan, Planned, leases_of}
-use Rattle.job_workers.specs.declared.answer.Answer.{Answer}
-use Rattle.job_workers.specs.Filings.{AreOf}
-use Rattle.job_workers.specs.declared.serving.Served.{Served}
+use Rattle.job_workers.specs.declared.stacks.Kept.{Kept}
 use Rattle.job_workers.specs.Serving.{IsServed, IsDue, IsDone, IsServing}
 
 -- ---- leases that are out
@@ -120,13 +118,12 @@ set_many [] job x = refl
 set_many (l ∷ ls) zero x = refl
 set_many (l ∷ ls) (suc job) x = ap suc (set_many ls job x)
 
-taken_due : (ps : Planned) (old new : DeskView Answer) (l : LeaseView) (next : Option Move) → IsServing ps old → IsSound new.arena new.sizes new.journal new.state → Takes next old new l
+taken_due : {P : Type 0} (ps : Planned) (old new : DeskView P) (l : LeaseView) (next : Option Move) → IsServing ps old → IsSound new.arena new.sizes new.journal new.state → Takes next old new l
     → Taking old.sizes old.state new.state l.job l.range.first (length l.range.cells) → IsDue ps new l
-taken_due ps old new l next serving sound takes k =
-    let sizes : new.sizes ≡ old.sizes = ap (λ (d : DeskView Answer). d.sizes) takes.rest in
-    let arena : new.arena ≡ old.arena = ap (λ (d : DeskView Answer). d.arena) takes.rest in
-    let payloads : new.payloads ≡ old.payloads = ap (λ (d : DeskView Answer). d.payloads) takes.rest in
-    let withdrawn : new.withdrawn ≡ old.withdrawn = ap (λ (d : DeskView Answer). d.withdrawn) takes.rest in
+taken_due {P} ps old new l next serving sound takes k =
+    let sizes : new.sizes ≡ old.sizes = ap (λ (d : DeskView P). d.sizes) takes.rest in
+    let arena : new.arena ≡ old.arena = ap (λ (d : DeskView P). d.arena) takes.rest in
+    let withdrawn : new.withdrawn ≡ old.withdrawn = ap (λ (d : DeskView P). d.withdrawn) takes.rest in
     let within : l.job < length old.sizes = slice_get_within old.sizes l.job (length l.range.cells) k.sized in
     let many : length new.state.leases ≡ length old.state.leases = ap length k.leases ∙ set_many old.state.leases l.job (Some k.run) in
     let placed : l.job < length old.state.leases = omega (arith, many, sound.places, ap length sizes, within) in
@@ -136,41 +133,33 @@ taken_due ps old new l next serving sound takes k =
     record {
       sizes = sizes ∙ serving.sizes;
       none_withdrawn = withdrawn ∙ serving.none_withdrawn;
-      of = subst (AreOf ps) (sym payloads) serving.of;
       job = omega (arith, within, ap length serving.sizes, leases_many ps.plans);
       size = sym (ap (λ xs. slice_get xs l.job) serving.sizes) ∙ k.sized;
       knows = (takes.arena ∙ sym arena, out ∙ ap (λ r. Some (Some r)) is);
       only = ap (λ ls. leased (slice_set ls l.job None)) k.leases ∙ none_again old.state.leases l.job k.run serving.none_out;
     }
 
-pub next_due : (ps : Planned) (old new : DeskView Answer) (l : LeaseView) → IsServing ps old → IsSound new.arena new.sizes new.journal new.state → Takes (next_move old.sizes old.state) old new l
+pub next_due : {P : Type 0} (ps : Planned) (old new : DeskView P) (l : LeaseView) → IsServing ps old → IsSound new.arena new.sizes new.journal new.state → Takes (next_move old.sizes old.state) old new l
     → IsDue ps new l × (new.state.asked ≡ suc old.state.asked) × (new.arena ≡ old.arena)
-next_due ps old new l serving sound takes =
+next_due {P} ps old new l serving sound takes =
     let k = next_taking old.sizes old.state new.state l.job l.range.first (length l.range.cells) takes.told in
-    (taken_due ps old new l (next_move old.sizes old.state) serving sound takes k.0, k.1, ap (λ (d : DeskView Answer). d.arena) takes.rest)
+    (taken_due ps old new l (next_move old.sizes old.state) serving sound takes k.0, k.1, ap (λ (d : DeskView P). d.arena) takes.rest)
 
-pub left_due : (ps : Planned) (old new : DeskView Answer) (l : LeaseView) → IsServing ps old → IsSound new.arena new.sizes new.journal new.state → Takes (left_move old.sizes old.state) old new l
+pub left_due : {P : Type 0} (ps : Planned) (old new : DeskView P) (l : LeaseView) → IsServing ps old → IsSound new.arena new.sizes new.journal new.state → Takes (left_move old.sizes old.state) old new l
     → IsDue ps new l × (new.state.asked ≡ old.state.asked) × (new.arena ≡ old.arena) × (length new.state.waiting < length old.state.waiting)
-left_due ps old new l serving sound takes =
+left_due {P} ps old new l serving sound takes =
     let k = left_taking old.sizes old.state new.state l.job l.range.first (length l.range.cells) takes.told in
-    (taken_due ps old new l (left_move old.sizes old.state) serving sound takes k.taking, k.asked, ap (λ (d : DeskView Answer). d.arena) takes.rest, k.fewer)
+    (taken_due ps old new l (left_move old.sizes old.state) serving sound takes k.taking, k.asked, ap (λ (d : DeskView P). d.arena) takes.rest, k.fewer)
 
 -- ---- and comes back
 
-set_of : (ps : Planned) (xs : List (Option Answer)) (i : ℕ) (a : Answer) → AreOf ps xs → a.jobs.now ≡ ps → AreOf ps (slice_set xs i (Some a))
-set_of ps [] i a h e place b is = h place b is
-set_of ps (x ∷ xs) zero a h e zero b is = let same : a ≡ b = some_same a b (some_same (Some a) (Some b) is) in subst (λ (c : Answer). c.jobs.now ≡ ps) same e
-set_of ps (x ∷ xs) zero a h e (suc place) b is = h (suc place) b is
-set_of ps (x ∷ xs) (suc i) a h e zero b is = h zero b is
-set_of ps (x ∷ xs) (suc i) a h e (suc place) b is = set_of ps xs i a (λ place. h (suc place)) e place b is
-
-pub done_of : (ps : Planned) (old new : DeskView Answer) (l : LeaseView) (s : Served) → IsDue ps old l → IsServed ps l s → new ≡ filed_with old s.lease s.answer → IsDone ps old l new
-done_of ps old new l s due served e =
-    let serving : IsServing ps (filed_with old s.lease s.answer) = record {
+pub done_of : {P : Type 0} (ps : Planned) (old new : DeskView P) (l back : LeaseView) (answer : P) (number : ℕ) (kept : Kept) → IsDue ps old l → IsServed ps l back number kept → new ≡ filed_with old back answer
+    → IsDone ps old l new
+done_of {P} ps old new l back answer number kept due served e =
+    let serving : IsServing ps (filed_with old back answer) = record {
       sizes = due.sizes;
       none_out = ap (λ job. leased (slice_set old.state.leases job None)) served.job ∙ due.only;
       none_withdrawn = due.none_withdrawn;
-      of = set_of ps old.payloads s.lease.job s.answer due.of served.of;
     } in
-    let done : IsDone ps old l (filed_with old s.lease s.answer) = record { serving = serving; arena = refl; asked = refl; waiting = refl } in
+    let done : IsDone ps old l (filed_with old back answer) = record { serving = serving; arena = refl; asked = refl; waiting = refl } in
     subst (IsDone ps old l) (sym e) done

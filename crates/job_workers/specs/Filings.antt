@@ -1,22 +1,26 @@
 -- Cited by contracts.
 -- Answers that are filed.
-use Rattle.std.specs.Prelude.{◌≡◌, ℕ, ◌<◌, List, length, slice_get, Option, Some}
+use Rattle.std.specs.Prelude.{◌≡◌, ℕ, ◌<◌, List, length, slice_get, Option, Some, None}
+use Rattle.cell_machine.specs.declared.machine.Ending.{Ending}
 use Rattle.job_world.specs.Plans.{Planned}
+use Rattle.job_world.specs.declared.name.JobName as job_name
 use Rattle.job_workers.specs.declared.answer.Answer.{Answer}
 use Rattle.job_workers.specs.Served.{EndsAsMeant}
 
--- each answer that is filed is one of these jobs
-abbrev pub AreOf : Planned → List (Option Answer) → Type 0
-AreOf ps payloads = (place : ℕ) (a : Answer) → slice_get payloads place ≡ Some (Some a) → a.jobs.now ≡ ps
+-- answers of the jobs of a name
+module _ {N : Type 0} {j : job_name.Ghosts N} where
+  -- there is an answer, of this job, and its ending is the one that the meaning of the job's own plan says
+  pub record HasAnswer (ps : Planned) (job : ℕ) (payload : Option (Option (Answer N j))) : Type 0 where
+    pub answer : Answer N j
+    pub is : payload ≡ Some (Some answer)
+    pub number : answer.job ≡ job
+    pub meant : EndsAsMeant ps job answer.ending
 
--- there is an answer, of this job among these jobs, and its ending is the one that the meaning of the job's own plan says
-pub record HasAnswer (ps : Planned) (job : ℕ) (payload : Option (Option Answer)) : Type 0 where
-  pub answer : Answer
-  pub is : payload ≡ Some (Some answer)
-  pub of : answer.jobs.now ≡ ps
-  pub number : answer.job ≡ job
-  pub meant : EndsAsMeant ps job answer.ending
+  -- one for each job
+  abbrev pub AllAnswered : Planned → List (Option (Answer N j)) → Type 0
+  AllAnswered ps payloads = (job : ℕ) → job < length ps.plans → HasAnswer ps job (slice_get payloads job)
 
--- one for each job
-abbrev pub AllAnswered : Planned → List (Option Answer) → Type 0
-AllAnswered ps payloads = (job : ℕ) → job < length ps.plans → HasAnswer ps job (slice_get payloads job)
+  -- the ending of an answer that is there
+  abbrev pub ending_in : Option (Answer N j) → Option Ending
+  ending_in None = None
+  ending_in (Some answer) = Some answer.ending

@@ -1,4 +1,5 @@
 -- Jobs that are served.
 pub mod Served
+pub mod Ended
 pub mod Filings
 pub mod Serving

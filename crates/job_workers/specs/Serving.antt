@@ -1,52 +1,48 @@
 -- Private: words for functions of this crate.
 -- The stack that is kept for the next run, what the run of a lease hands back, and what stands of a desk between two runs.
-use Rattle.std.specs.Prelude.{◌≡◌, ◌<◌, List, [], length, slice_get, slice_set, Some, None}
+use Rattle.std.specs.Prelude.{◌≡◌, ℕ, ◌<◌, List, [], length, slice_get, slice_set, Some, None}
 use Rattle.licence.specs.Licensed.{Licensed}
 use Rattle.cell_machine.specs.Endings.{IsStackFor}
 use Rattle.job_world.specs.Plans.{Planned, leases_of, job_cells}
 use Rattle.lease_desk.specs.Journal.{leased}
 use Rattle.lease_desk.specs.Lease.{LeaseView}
 use Rattle.lease_desk.specs.Desk.{DeskView, Knows}
-use Rattle.job_workers.specs.declared.answer.Answer.{Answer}
-use Rattle.job_workers.specs.declared.serving.Served.{Served}
 use Rattle.job_workers.specs.declared.stacks.Kept.{Kept}
-use Rattle.job_workers.specs.Filings.{AreOf}
 
 -- the stack is one for the runs of the licence of its number
 abbrev pub IsKept : List Licensed → Kept → Type 0
 IsKept licences k = (l : Licensed) → slice_get licences k.licence ≡ Some l → IsStackFor l.code k.stack
 
--- The lease is the one that was served, with the cells that its job leaves, and the answer is its job's, of these jobs.
-pub record IsServed (ps : Planned) (l : LeaseView) (s : Served) : Type 0 where
-  pub job : s.lease.job ≡ l.job
-  pub first : s.lease.range.first ≡ l.range.first
-  pub arena : s.lease.range.arena ≡ l.range.arena
-  pub size : length s.lease.range.cells ≡ length l.range.cells
-  pub cells : s.lease.range.cells ≡ job_cells ps l.job
-  pub number : s.answer.job ≡ l.job
-  pub of : s.answer.jobs.now ≡ ps
-  pub kept : IsKept ps.licences s.kept
+-- The lease that comes back is the one that was served, with the cells that its job leaves; the answer's number is its job's.
+pub record IsServed (ps : Planned) (l back : LeaseView) (number : ℕ) (kept : Kept) : Type 0 where
+  pub job : back.job ≡ l.job
+  pub first : back.range.first ≡ l.range.first
+  pub arena : back.range.arena ≡ l.range.arena
+  pub size : length back.range.cells ≡ length l.range.cells
+  pub cells : back.range.cells ≡ job_cells ps number
+  pub same : number ≡ l.job
+  pub fits : IsKept ps.licences kept
 
--- The desk is one for these jobs, no lease is out, none was withdrawn, and each answer that is filed is of these jobs.
-pub record IsServing (ps : Planned) (d : DeskView Answer) : Type 0 where
-  pub sizes : d.sizes ≡ leases_of ps.plans
-  pub none_out : leased d.state.leases ≡ []
-  pub none_withdrawn : d.withdrawn ≡ 0
-  pub of : AreOf ps d.payloads
+-- for payloads of any sort
+module _ {P : Type 0} where
+  -- The desk is one for these jobs, no lease is out, and none was withdrawn.
+  pub record IsServing (ps : Planned) (d : DeskView P) : Type 0 where
+    pub sizes : d.sizes ≡ leases_of ps.plans
+    pub none_out : leased d.state.leases ≡ []
+    pub none_withdrawn : d.withdrawn ≡ 0
 
--- The desk just gave this lease, of the size of its job, and no other one is out.
-pub record IsDue (ps : Planned) (d : DeskView Answer) (l : LeaseView) : Type 0 where
-  pub sizes : d.sizes ≡ leases_of ps.plans
-  pub none_withdrawn : d.withdrawn ≡ 0
-  pub of : AreOf ps d.payloads
-  pub job : l.job < length ps.plans
-  pub size : slice_get (leases_of ps.plans) l.job ≡ Some (length l.range.cells)
-  pub knows : Knows d l
-  pub only : leased (slice_set d.state.leases l.job None) ≡ []
+  -- The desk just gave this lease, of the size of its job, and no other one is out.
+  pub record IsDue (ps : Planned) (d : DeskView P) (l : LeaseView) : Type 0 where
+    pub sizes : d.sizes ≡ leases_of ps.plans
+    pub none_withdrawn : d.withdrawn ≡ 0
+    pub job : l.job < length ps.plans
+    pub size : slice_get (leases_of ps.plans) l.job ≡ Some (length l.range.cells)
+    pub knows : Knows d l
+    pub only : leased (slice_set d.state.leases l.job None) ≡ []
 
--- Behind the run no lease is out; the arena, what was asked for and who waits are as before.
-pub record IsDone (ps : Planned) (old : DeskView Answer) (l : LeaseView) (new : DeskView Answer) : Type 0 where
-  pub serving : IsServing ps new
-  pub arena : new.arena ≡ old.arena
-  pub asked : new.state.asked ≡ old.state.asked
-  pub waiting : new.state.waiting ≡ old.state.waiting
+  -- Behind the run no lease is out; the arena, what was asked for and who waits are as before.
+  pub record IsDone (ps : Planned) (old : DeskView P) (l : LeaseView) (new : DeskView P) : Type 0 where
+    pub serving : IsServing ps new
+    pub arena : new.arena ≡ old.arena
+    pub asked : new.state.asked ≡ old.state.asked
+    pub waiting : new.state.waiting ≡ old.state.waiting

@@ -2,9 +2,11 @@
 #![tactic(auto)]
 
 mod answer;
+mod arena;
 mod serving;
 mod stacks;
 mod workers;
 
 pub use answer::Answer;
+pub use arena::{ServedJobs, serve_planned};
 pub use workers::serve_jobs;

@@ -1,5 +1,5 @@
 //! The run of one lease, and its way back to the desk.
-ghost use Rattle.std.specs.Prelude.{◌≡◌, ◌<◌, length, slice_get, Some, IfOk, IfSome};
+ghost use Rattle.std.specs.Prelude.{◌≡◌, ◌<◌, length, slice_get, Some, IfSome, MatchResult};
 ghost use Rattle.grail_code.specs.Code as plain;
 ghost use Rattle.grail_code.specs.Meaning.{run_of};
 ghost use Rattle.cell_machine.specs.Due.{HasRoom};
@@ -13,18 +13,21 @@ ghost use Rattle.job_workers.specs.Serving.{IsKept, IsServed};
 
 use crate::answer::Answer;
 use crate::stacks::{Kept, stack_for};
+use camelot_values::Flat;
 use cell_machine::{Ending, Ran, Room, Stack, run};
 use cell_span::Span;
-use job_world::{Jobs, Plan};
+use job_world::{JobName, Jobs, Plan};
 use lease_desk::Lease;
 use licence::Licence;
-use std::alloc::{AllocError, Global};
+use std::alloc::Global;
+use std::marker::PhantomData;
 
-/// What the run of a lease hands back: the lease with the cells as the run left them, the answer, and the stack for the next run.
+/// What the run of a lease hands back: the lease with the cells as the run left them, the answer, and the stack for the
+/// next run.
 #[derive(Drop)]
-pub(crate) struct Served<'a> {
+pub(crate) struct Served<N: JobName> {
     pub(crate) lease: Lease,
-    pub(crate) answer: Answer<'a>,
+    pub(crate) answer: Answer<N>,
     pub(crate) kept: Kept,
 }
 
@@ -44,42 +47,62 @@ fn run_plan(licence: &Licence, plan: &Plan, span: Span, stack: Stack, room: Room
     )
 }
 
-// The same ending, its value in just the memory that it needs: a run has room for the largest value that its cells may hold.
-fn compact(alloc: Global, ending: Ending) -> Result<Ending, AllocError>
-    ensures { IfOk result (λ same. same ≡ ending) }
+// The same value, in just the memory that it needs; in the memory that it has where there is no more.
+fn compact_value(alloc: Global, value: Flat) -> Flat
+    ensures { result ≡ value }
 {
-    match ending {
-        Ending::Done { value, calls, peak } => Ok(Ending::Done {
-            value: value.copy(alloc)?,
-            calls,
-            peak,
-        }),
-        stopped => Ok(stopped),
+    match value.copy(alloc) {
+        Ok(copy) => copy,
+        Err(_) => value,
     }
 }
 
-/// Runs the job of a lease in the lease's cells, which are as many as its plan says. It needs no desk. `AllocError` where memory runs out: the lease is lost then.
-pub(crate) fn serve_lease<'a>(
+// The same ending, its value in just the memory that it needs: a run has room for the largest value that its cells may
+// hold.
+fn compact(alloc: Global, ending: Ending) -> Ending
+    ensures { result ≡ ending }
+{
+    match ending {
+        Ending::Done { value, calls, peak } => Ending::Done {
+            value: compact_value(alloc, value),
+            calls,
+            peak,
+        },
+        stopped => stopped,
+    }
+}
+
+/// Runs the job of a lease in the lease's cells, which are as many as its plan says. It needs no desk. Where memory for a
+/// stack or for room runs out, the lease comes back as it was. Once the lease is opened nothing fails.
+pub(crate) fn serve_lease<N: JobName>(
     alloc: Global,
-    jobs: &'a Jobs,
+    jobs: &Jobs,
     lease: Lease,
     kept: Option<Kept>,
-) -> Result<Served<'a>, AllocError>
+) -> Result<Served<N>, Lease>
+    requires plans { jobs.now ≡ N.planned }
     requires job { lease.job < length jobs.now.plans }
     requires size { slice_get (leases_of jobs.now.plans) lease.job ≡ Some (length lease.range.cells) }
     requires kept { IfSome kept (IsKept jobs.now.licences) }
-    ensures { IfOk result (IsServed jobs.now lease) }
+    ensures { MatchResult result (λ served. IsServed jobs.now lease served.lease served.answer.job served.kept) (λ back. back ≡ lease) }
 {
     jobs.kept();
     let job = lease.job();
     let plan = jobs.plan(job);
     let licence = jobs.licence(job);
-    let stack = stack_for(alloc, jobs, plan.licence, licence, kept)?;
-    let room = Room::new(alloc, plan.lease)?;
+    let Ok(stack) = stack_for(alloc, jobs, plan.licence, licence, kept) else {
+        return Err(lease);
+    };
+    let Ok(room) = Room::new(alloc, plan.lease) else {
+        return Err(lease);
+    };
     let (span, claim) = lease.open();
     let ran = run_plan(licence, plan, span, stack, room);
-    let ending = compact(alloc, ran.ending)?;
-    let answer = Answer { job, ending, jobs };
+    let answer = Answer {
+        job,
+        ending: compact(alloc, ran.ending),
+        of: PhantomData,
+    };
     Ok(Served {
         lease: claim.close(ran.span),
         answer,

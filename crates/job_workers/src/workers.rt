@@ -11,36 +11,44 @@ ghost use Rattle.job_workers.specs.Serving.{IsKept, IsDue, IsDone, IsServing};
 use crate::answer::Answer;
 use crate::serving::serve_lease;
 use crate::stacks::Kept;
-use job_world::Jobs;
+use job_world::{JobName, Jobs};
 use lease_desk::{Desk, Finished, Lease, Next};
 use std::alloc::{AllocError, Global};
 
-// Runs the job of a lease that the desk just gave, and gives the lease back with the job's answer.
-fn run_and_give<'a>(
+// Runs the job of a lease that the desk just gave, and gives the lease back with the job's answer. Where memory for the
+// run is lacking, the lease goes back without one.
+fn run_and_give<N: JobName>(
     alloc: Global,
-    desk: &mut Desk<Answer<'a>>,
-    jobs: &'a Jobs,
+    desk: &mut Desk<Answer<N>>,
+    jobs: &Jobs,
     lease: Lease,
     kept: Option<Kept>,
 ) -> Result<Kept, AllocError>
+    requires plans { jobs.now ≡ N.planned }
     requires due { IsDue jobs.now desk.old lease }
     requires kept { IfSome kept (IsKept jobs.now.licences) }
     ensures { IfOk result (λ kept. IsDone jobs.now desk.old lease desk.new × IsKept jobs.now.licences kept) }
 {
-    let served = serve_lease(alloc, jobs, lease, kept)?;
-    match desk.give(served.lease, served.answer) {
-        Ok(()) => Ok(served.kept),
-        Err(_) => Err(AllocError),
+    match serve_lease(alloc, jobs, lease, kept) {
+        Ok(served) => match desk.give(served.lease, served.answer) {
+            Ok(()) => Ok(served.kept),
+            Err(_) => Err(AllocError),
+        },
+        Err(lease) => {
+            let _ = desk.withdraw(lease);
+            Err(AllocError)
+        }
     }
 }
 
 // Asks for the next job; where it is given a lease, runs it and gives the lease back.
-fn serve_next<'a>(
+fn serve_next<N: JobName>(
     alloc: Global,
-    desk: &mut Desk<Answer<'a>>,
-    jobs: &'a Jobs,
+    desk: &mut Desk<Answer<N>>,
+    jobs: &Jobs,
     kept: Option<Kept>,
 ) -> Result<Option<Kept>, AllocError>
+    requires plans { jobs.now ≡ N.planned }
     requires serving { IsServing jobs.now desk.old }
     requires more { desk.old.state.asked < length desk.old.sizes }
     requires kept { IfSome kept (IsKept jobs.now.licences) }
@@ -62,11 +70,12 @@ fn serve_next<'a>(
 }
 
 // Asks for every job.
-fn serve_asked<'a>(
+fn serve_asked<N: JobName>(
     alloc: Global,
-    desk: &mut Desk<Answer<'a>>,
-    jobs: &'a Jobs,
+    desk: &mut Desk<Answer<N>>,
+    jobs: &Jobs,
 ) -> Result<Option<Kept>, AllocError>
+    requires plans { jobs.now ≡ N.planned }
     requires serving { IsServing jobs.now desk.old }
     requires asked { desk.old.state.asked ≡ 0 }
     ensures serving { OnOk result (IsServing jobs.now desk.new) }
@@ -82,12 +91,13 @@ fn serve_asked<'a>(
 }
 
 // Takes the job that waits first, once no lease is out, runs it and gives its lease back; `None` where none waits.
-fn serve_next_left<'a>(
+fn serve_next_left<N: JobName>(
     alloc: Global,
-    desk: &mut Desk<Answer<'a>>,
-    jobs: &'a Jobs,
+    desk: &mut Desk<Answer<N>>,
+    jobs: &Jobs,
     kept: Option<Kept>,
 ) -> Result<Option<Kept>, AllocError>
+    requires plans { jobs.now ≡ N.planned }
     requires serving { IsServing jobs.now desk.old }
     requires asked { desk.old.state.asked ≡ length desk.old.sizes }
     requires kept { IfSome kept (IsKept jobs.now.licences) }
@@ -108,12 +118,13 @@ fn serve_next_left<'a>(
 }
 
 // Serves the jobs that wait.
-fn serve_left<'a>(
+fn serve_left<N: JobName>(
     alloc: Global,
-    desk: &mut Desk<Answer<'a>>,
-    jobs: &'a Jobs,
+    desk: &mut Desk<Answer<N>>,
+    jobs: &Jobs,
     kept: Option<Kept>,
 ) -> Result<(), AllocError>
+    requires plans { jobs.now ≡ N.planned }
     requires serving { IsServing jobs.now desk.old }
     requires asked { desk.old.state.asked ≡ length desk.old.sizes }
     requires kept { IfSome kept (IsKept jobs.now.licences) }
@@ -132,26 +143,29 @@ fn serve_left<'a>(
     }
 }
 
-/// Serves planned jobs on a new desk for them, by one worker: it asks the desk for one job after the other, runs each one that is given a lease in the lease's cells, and gives the lease back
-/// with the job's ending; then it does the same with the jobs that wait, and ends the desk. A run takes no memory; its stack is kept for the next job of the same licence. `AllocError` where
-/// memory runs out: the arena is lost then.
-pub fn serve_jobs<'a>(
+/// Serves the planned jobs of the name on a new desk for them, by one worker. It asks the desk for one job after the
+/// other, runs each one that is given a lease in the lease's cells, and gives the lease back with the job's ending. Then
+/// it does the same with the jobs that wait, and ends the desk. A run takes no memory; its stack is kept for the next job
+/// of the same licence. `AllocError` where memory runs out: the arena is lost then.
+pub fn serve_jobs<N: JobName>(
     alloc: Global,
-    desk: Desk<Answer<'a>>,
-    jobs: &'a Jobs,
-) -> Result<Finished<Answer<'a>>, AllocError>
+    desk: Desk<Answer<N>>,
+    jobs: &Jobs,
+) -> Result<Finished<Answer<N>>, AllocError>
+    requires plans { jobs.now ≡ N.planned }
     requires sizes { desk.sizes ≡ leases_of jobs.now.plans }
     requires state { desk.state ≡ opened desk.arena (length desk.sizes) }
     requires payloads { desk.payloads ≡ replicate (length desk.sizes) None }
     requires withdrawn { desk.withdrawn ≡ 0 }
     // The journal is legal, from the first event to the last.
-    ensures legal { IfOk result (λ f. IsLegal desk.entry.arena (leases_of jobs.now.plans) f.journal.items) }
+    ensures legal { IfOk result (λ f. IsLegal desk.arena (leases_of jobs.now.plans) f.journal.items) }
     // Each job has its answer, which is the ending that the meaning of its own plan says.
     ensures answered { IfOk result (λ f. AllAnswered jobs.now f.payloads.items) }
     ensures count { IfOk result (λ f. length f.payloads.items ≡ length jobs.now.plans) }
-    // The whole arena comes back, and each cell is the one that the machine left there for the last job whose lease went over it, and a blank one where none did.
+    // The whole arena comes back. Each cell is the one that the machine left there for the last job whose lease went
+    // over it, and a blank one where none did.
     ensures whole { IfOk result (λ f. IsWhole f.span) }
-    ensures arena { IfOk result (λ f. f.span.arena ≡ desk.entry.arena) }
+    ensures arena { IfOk result (λ f. f.span.arena ≡ desk.arena) }
     ensures cells { IfOk result (λ f. HoldsFiled (all_cells jobs.now) f.journal.items f.span) }
 {
     let mut desk = desk;

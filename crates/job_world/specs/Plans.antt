@@ -7,7 +7,7 @@ use Rattle.camelot_values.specs.Outcome.{Outcome, Stuck}
 use Rattle.cell_span.specs.declared.cell.Cell.{Cell}
 use Rattle.grail_code.specs.Code.{Func}
 use Rattle.grail_code.specs.Meaning.{run_of}
-use Rattle.licence.specs.Licensed.{Licensed}
+use Rattle.licence.specs.Licensed.{Licensed, IsLicensed}
 use Rattle.cell_machine.specs.State.{most_calls}
 use Rattle.cell_machine.specs.Plans.{IsPlan}
 use Rattle.cell_machine.specs.Loading.{last_cells}
@@ -25,9 +25,11 @@ pub record Planned : Type 0 where
   pub licences : List Licensed
   pub plans : List Plan
 
--- The licence is there, the entry is one of its functions, the arguments are of its kinds and have at most 65,536 nodes, there is fuel, and the lease is the one that the licence says; it
--- has at most 2^31 cells.
+-- The licence is there, and it is one: well-formed code with a certificate that grants it. The entry is one of its
+-- functions, the arguments are of its kinds and have at most 65,536 nodes, and there is fuel. The lease is the one that
+-- the licence says, and has at most 2^31 cells.
 pub record IsFit (licences : List Licensed) (p : Plan) : Type 0 where
+  pub licensed : IsSomeAnd (slice_get licences p.licence) IsLicensed
   pub plan : IsSomeAnd (slice_get licences p.licence) (λ l. IsPlan l p.entry p.args p.fuel p.lease)
   pub few : p.lease ≤ 2147483648
 

@@ -2,7 +2,7 @@ ghost use Rattle.std.specs.Prelude.{◌≡◌, ◌+◌, ◌<◌, ◌≤◌, ◌+
 ghost use Rattle.camelot_values.specs.Value.{parts};
 ghost use Rattle.camelot_values.specs.Counts.{size_all};
 ghost use Rattle.licence.specs.Bound.{lease};
-ghost use Rattle.licence.specs.Licensed.{Licensed, FitsEntry};
+ghost use Rattle.licence.specs.Licensed.{Licensed, IsLicensed, FitsEntry};
 ghost use Rattle.job_world.specs.Asking.{CanPlan, IsLarger, NeedsOf};
 ghost use Rattle.job_world.specs.Plans.{AreFit, Planned, leases_of};
 ghost use Rattle.job_world.specs.Words.{plan_of};
@@ -60,7 +60,8 @@ impl Jobs {
         self.plans.len()
     }
 
-    /// What the type keeps: each plan fits its licence. It does nothing; its clause is what whoever holds plans can use.
+    /// What the type keeps: each plan fits a licence, which is well-formed code with a certificate that grants it. It does
+    /// nothing; its clause is what whoever holds plans can use.
     pub fn kept(&self)
         ensures { AreFit self.now }
     {
@@ -107,12 +108,15 @@ impl Jobs {
         }
     }
 
-    // The lease that the licence of this number says.
+    // The lease that the licence of this number says. It is a licence by its type.
     fn lease_of(&self, licence: u32, entry: u32, args: &[Flat]) -> u64
         requires can { NeedsOf self.now.licences licence entry args.now }
-        ensures { (l : Licensed) → slice_get self.now.licences licence ≡ Some l → result ≡ lease l.code l.cert entry args.now }
+        ensures lease { (l : Licensed) → slice_get self.now.licences licence ≡ Some l → result ≡ lease l.code l.cert entry args.now }
+        ensures licensed { IsSomeAnd (slice_get self.now.licences licence) IsLicensed }
     {
-        self.licences[licence as usize].lease(entry, args)
+        let licence = &self.licences[licence as usize];
+        licence.kept();
+        licence.lease(entry, args)
     }
 
     /// The sizes of the plans' leases, in order. `AllocError` where memory runs out.

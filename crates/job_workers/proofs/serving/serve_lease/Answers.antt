@@ -1,29 +1,31 @@
 use Rattle.std.proofs.Common.{refl, sym, subst}
 use Rattle.cell_machine.specs.declared.machine.Ending.{Ending}
+use Rattle.job_world.specs.Plans.{Planned}
 use Rattle.job_world.specs.Words.{plan_of}
 use Rattle.job_workers.specs.Served.{EndsAsMeant}
 use Rattle.job_workers.proofs.Planned.{lease_now, plan_now, room_now, meant_now, served_now}
 use Rattle.job_workers.proofs.serving.serve_lease.Goals as goal
 
 pub run_plan-ran-requires-clause-plan : goal.run_plan-ran-requires-clause-plan
-run_plan-ran-requires-clause-plan c = plan_now c.args.jobs.now c.job-job.result c.args.lease (plan_of c.plan-plan.result.now) c.licence-licence.result.now
+run_plan-ran-requires-clause-plan g c = plan_now c.args.jobs.now c.job-job.result c.args.lease (plan_of c.plan-plan.result.now) c.licence-licence.result.now
     (lease_now c.args.jobs.now c.job-job.result c.args.lease (plan_of c.plan-plan.result.now) c.licence-licence.result.now c.kept.ensures c.job-job.ensures c.requires.size c.plan-plan.ensures.is c.licence-licence.ensures.is)
     c.open-span.result.0 c.plan-plan.result.now.args.items c.open-span.ensures.span refl
 
 pub run_plan-ran-requires-clause-room : goal.run_plan-ran-requires-clause-room
-run_plan-ran-requires-clause-room c = room_now c.args.jobs.now c.job-job.result c.args.lease (plan_of c.plan-plan.result.now) c.licence-licence.result.now
+run_plan-ran-requires-clause-room g c = room_now c.args.jobs.now c.job-job.result c.args.lease (plan_of c.plan-plan.result.now) c.licence-licence.result.now
     (lease_now c.args.jobs.now c.job-job.result c.args.lease (plan_of c.plan-plan.result.now) c.licence-licence.result.now c.kept.ensures c.job-job.ensures c.requires.size c.plan-plan.ensures.is c.licence-licence.ensures.is)
-    c.open-span.result.0 c.in_ok-room.room c.open-span.ensures.span c.in_ok-room.ensures.room
+    c.open-span.result.0 c.in-Ok-new.room c.open-span.ensures.span c.in-Ok-new.ensures.room
 
 pub invariant_of-answer : goal.invariant_of-answer
-invariant_of-answer c = record {
-  meant = subst (λ (e : Ending). EndsAsMeant c.args.jobs.now c.job-job.result e) (sym c.in_ok-ending.ensures) (meant_now c.args.jobs.now c.job-job.result c.args.lease (plan_of c.plan-plan.result.now) c.licence-licence.result.now
+invariant_of-answer g c = record {
+  meant = subst (λ (ps : Planned). EndsAsMeant ps c.job-job.result c.compact.result) c.requires.plans (subst (EndsAsMeant c.args.jobs.now c.job-job.result) (sym c.compact.ensures)
+      (meant_now c.args.jobs.now c.job-job.result c.args.lease (plan_of c.plan-plan.result.now) c.licence-licence.result.now
       (lease_now c.args.jobs.now c.job-job.result c.args.lease (plan_of c.plan-plan.result.now) c.licence-licence.result.now c.kept.ensures c.job-job.ensures c.requires.size c.plan-plan.ensures.is c.licence-licence.ensures.is)
-      c.plan-plan.result.now.args.items c.run_plan-ran.result.ending refl c.run_plan-ran.ensures.ending);
+      c.plan-plan.result.now.args.items c.run_plan-ran.result.ending refl c.run_plan-ran.ensures.ending));
 }
 
 pub returns : goal.returns
-returns c = served_now c.args.jobs.now c.job-job.result c.args.lease (plan_of c.plan-plan.result.now) c.licence-licence.result.now
+returns g c = served_now c.args.jobs.now c.job-job.result c.args.lease (plan_of c.plan-plan.result.now) c.licence-licence.result.now
     (lease_now c.args.jobs.now c.job-job.result c.args.lease (plan_of c.plan-plan.result.now) c.licence-licence.result.now c.kept.ensures c.job-job.ensures c.requires.size c.plan-plan.ensures.is c.licence-licence.ensures.is)
-    c.open-span.result.0 c.open-span.result.1 c.run_plan-ran.result.span c.plan-plan.result.now.args.items _ c.job-job.ensures c.open-span.ensures.span c.open-span.ensures.claim refl c.run_plan-ran.ensures.range
-    c.run_plan-ran.ensures.cells c.close.ensures refl refl refl c.run_plan-ran.ensures.stack
+    c.open-span.result.0 c.open-span.result.1 c.run_plan-ran.result.span c.plan-plan.result.now.args.items _ _ _ c.job-job.ensures c.open-span.ensures.span c.open-span.ensures.claim refl c.run_plan-ran.ensures.range
+    c.run_plan-ran.ensures.cells c.close.ensures refl refl c.run_plan-ran.ensures.stack

@@ -3,7 +3,7 @@ use Rattle.job_workers.specs.Serving.{IsKept, IsServing}
 use Rattle.job_workers.proofs.workers.serve_left.Given as goal
 
 abbrev pub invariant-turns : goal.invariant-turns
-invariant-turns l = record {
+invariant-turns g l = record {
   serving : IsServing l.jobs l.desk;
   arena : l.desk.arena ≡ l.initial.desk.arena;
   asked : l.desk.state.asked ≡ length l.desk.sizes;
@@ -11,4 +11,4 @@ invariant-turns l = record {
 }
 
 abbrev pub decreases-turns : goal.decreases-turns
-decreases-turns l = length l.desk.state.waiting
+decreases-turns g l = length l.desk.state.waiting

@@ -1,0 +1,106 @@
+//! Planned jobs served in an arena: the call that says which jobs they are.
+ghost use Rattle.std.specs.Prelude.{◌≡◌, ◌≤◌, length, map, replicate, IfOk};
+ghost use Rattle.cell_span.specs.Range.{IsWhole, blank};
+ghost use Rattle.job_world.specs.Plans.{leases_of};
+ghost use Rattle.lease_desk.specs.Journal.{AreSizes, IsLegal};
+ghost use Rattle.lease_desk.specs.Filing.{HoldsFiled};
+ghost use Rattle.job_workers.specs.Ended.{AllEnded};
+ghost use Rattle.job_workers.specs.Filings.{ending_in};
+ghost use Rattle.job_workers.specs.Served.{all_cells};
+
+use crate::answer::Answer;
+use crate::workers::serve_jobs;
+use cell_machine::Ending;
+use cell_span::Span;
+use job_world::{JobName, Jobs};
+use lease_desk::{Desk, Event};
+use std::alloc::{AllocError, Global};
+use std::marker::Brand;
+
+/// What comes of jobs that are served.
+#[derive(Drop)]
+pub struct ServedJobs {
+    /// The whole arena, with the cells that the runs left.
+    pub span: Span,
+    /// All events of the desk, in order.
+    pub journal: Vec<Event>,
+    /// The ending of each job, in the place of its number.
+    pub endings: Vec<Option<Ending>>,
+}
+
+// The ending of an answer that is there.
+fn ending_in<N: JobName>(payload: Option<Answer<N>>) -> Option<Ending>
+    ensures { result ≡ ending_in payload }
+{
+    match payload {
+        Some(answer) => Some(answer.ending),
+        None => None,
+    }
+}
+
+// The endings of answers, without the name of the jobs.
+fn endings_in<N: JobName>(
+    alloc: Global,
+    payloads: Vec<Option<Answer<N>>>,
+) -> Result<Vec<Option<Ending>>, AllocError>
+    ensures { IfOk result (λ endings. endings.items ≡ map ending_in payloads.items) }
+{
+    let mut endings = Vec::with_capacity(alloc, payloads.len())?;
+    'payloads: for payload in payloads {
+        endings.push(ending_in(payload))?;
+    }
+    Ok(endings)
+}
+
+// Serves the jobs of the name on a new desk. Nothing that it takes or hands out is of the name, so that its caller may
+// pick it.
+fn serve_named<N: JobName>(alloc: Global, span: Span, jobs: &Jobs) -> Result<ServedJobs, AllocError>
+    requires plans { jobs.now ≡ N.planned }
+    requires whole { IsWhole span }
+    requires blanks { span.cells ≡ replicate span.arena blank }
+    requires few { length jobs.now.plans ≤ 4096 }
+    requires sizes { AreSizes span.arena (leases_of jobs.now.plans) }
+    ensures legal { IfOk result (λ served. IsLegal span.arena (leases_of jobs.now.plans) served.journal.items) }
+    ensures ended { IfOk result (λ served. AllEnded jobs.now served.endings.items) }
+    ensures count { IfOk result (λ served. length served.endings.items ≡ length jobs.now.plans) }
+    ensures whole { IfOk result (λ served. IsWhole served.span) }
+    ensures arena { IfOk result (λ served. served.span.arena ≡ span.arena) }
+    ensures cells { IfOk result (λ served. HoldsFiled (all_cells jobs.now) served.journal.items served.span) }
+{
+    let sizes = jobs.sizes(alloc)?;
+    let desk = match Desk::<Answer<N>>::new(alloc, span, sizes) {
+        Ok(desk) => desk,
+        Err(_) => return Err(AllocError),
+    };
+    let finished = serve_jobs(alloc, desk, jobs)?;
+    let endings = endings_in(alloc, finished.payloads)?;
+    Ok(ServedJobs {
+        span: finished.span,
+        journal: finished.journal,
+        endings,
+    })
+}
+
+/// Serves planned jobs in a new arena, whose cells are all blank: on a new desk, as [`serve_jobs`] does. There are at
+/// most 4,096, and the lease of each fits into the arena. It is the call that picks which jobs are served. `AllocError`
+/// where memory runs out: the arena is lost then.
+pub fn serve_planned(alloc: Global, span: Span, jobs: &Jobs) -> Result<ServedJobs, AllocError>
+    requires whole { IsWhole span }
+    requires blanks { span.cells ≡ replicate span.arena blank }
+    requires few { length jobs.now.plans ≤ 4096 }
+    requires sizes { AreSizes span.arena (leases_of jobs.now.plans) }
+    // The journal is legal, from the first event to the last.
+    ensures legal { IfOk result (λ served. IsLegal span.arena (leases_of jobs.now.plans) served.journal.items) }
+    // Each job has its ending, which is the one that the meaning of its own plan says.
+    ensures ended { IfOk result (λ served. AllEnded jobs.now served.endings.items) }
+    // There are as many endings as jobs.
+    ensures count { IfOk result (λ served. length served.endings.items ≡ length jobs.now.plans) }
+    // The whole arena comes back, the one that was handed in.
+    ensures whole { IfOk result (λ served. IsWhole served.span) }
+    ensures arena { IfOk result (λ served. served.span.arena ≡ span.arena) }
+    // Each of its cells is the one that the machine left there for the last job whose lease went over it, and a blank
+    // one where none did.
+    ensures cells { IfOk result (λ served. HoldsFiled (all_cells jobs.now) served.journal.items served.span) }
+{
+    serve_named::<Brand>(alloc, span, jobs)
+}
