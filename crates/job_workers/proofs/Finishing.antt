@@ -14,7 +14,7 @@ use Rattle.job_world.specs.declared.name.JobName as job_name
 use Rattle.job_world.specs.Plans.{Plan, Planned, leases_of, job_run, job_cells}
 use Rattle.job_workers.specs.declared.answer.Answer.{Answer}
 use Rattle.job_workers.specs.Served.{cells_for, all_cells}
-use Rattle.job_workers.specs.Ended.{HasEnding, AllEnded}
+use Rattle.job_workers.specs.Ended.{AllEnded}
 use Rattle.job_workers.specs.Filings.{HasAnswer, AllAnswered, ending_in}
 use Rattle.job_workers.specs.Serving.{IsServing}
 use Rattle.job_workers.proofs.Turns.{leases_many}

@@ -1,4 +1,4 @@
--- The lines of jobs by what was filed are those by their plans.
+-- The lines of jobs by their endings are those by their plans.
 use Rattle.std.proofs.Common.{◌≡◌, ℕ, zero, suc, ◌+◌, ◌<◌, ◌≤◌, List, [], ◌∷◌, ◌++◌, length, map, drop, slice_get, slice_set, Option, Some, None, get_or, refl, sym, ap, ◌∙◌, subst, arith}
 use Rattle.std.proofs.Math.Seq.{drop-cons}
 use Rattle.std.proofs.lemmas.Option.{get_or_from_slice_get, slice_get_within}
@@ -14,15 +14,14 @@ use Rattle.cell_machine.specs.declared.machine.Ending.TheVariants as ending
 use Rattle.run_reports.specs.Report.{JobLine, ended_text, told_text}
 use Rattle.run_reports.specs.Told.{outcome_of, licence_types, line_of}
 use Rattle.job_world.specs.Plans.{Plan, Planned, job_run}
-use Rattle.job_workers.specs.declared.answer.Answer.{Answer}
-use Rattle.job_workers.specs.Filings.{AllAnswered, HasAnswer}
+use Rattle.job_workers.specs.Ended.{AllEnded, HasEnding}
 use Rattle.job_workers.specs.Served.{EndsAsMeant}
 use Rattle.script_plans.specs.declared.types.JobPlan.{JobPlan}
 use Rattle.script_plans.specs.declared.types.JobPlan.TheVariants as plan
 use Rattle.script_plans.specs.Lines.{next_behind, next_job, planned_line, planned_lines, types_at, fuel_at}
 use Rattle.std.specs.List.{AllByRecursion}
 use Rattle.script_service.specs.Service.{IsMeant, TellsMeaning}
-use Rattle.script_service.specs.Filed.{AnsweredFrom}
+use Rattle.script_service.specs.Filed.{EndedFrom}
 
 same_ended : (types : List DataType) (o : Outcome Value) (e : Ending) (fuel bound : ℕ) → EndsWith o e → ended_text types (outcome_of e) fuel bound ≡ ended_text types o fuel bound
 unfolding ended_text
@@ -40,16 +39,16 @@ same_ended types plain.Stuck (ending.Done w c p) fuel bound h = absurd h
 same_ended types plain.Stuck (ending.Fuel p) fuel bound h = absurd h
 same_ended types plain.Stuck (ending.Deep p) fuel bound h = absurd h
 
--- ---- answers
+-- ---- endings
 
-pub answer_is : (xs : List (Option Answer)) (i : ℕ) (a : Answer) (r d : Option Answer) → slice_get xs i ≡ Some (Some a) → r ≡ get_or xs i d → r ≡ Some a
-answer_is xs i a r d e f = f ∙ get_or_from_slice_get xs i (Some a) d e
+pub ending_is : (xs : List (Option Ending)) (i : ℕ) (a : Ending) (r d : Option Ending) → slice_get xs i ≡ Some (Some a) → r ≡ get_or xs i d → r ≡ Some a
+ending_is xs i a r d e f = f ∙ get_or_from_slice_get xs i (Some a) d e
 
-pub none_there : (xs : List (Option Answer)) (i : ℕ) (a : Answer) (r d : Option Answer) → slice_get xs i ≡ Some (Some a) → r ≡ get_or xs i d → r ≡ None → ⊥
-none_there xs i a r d e f n = let g : r ≡ Some a = answer_is xs i a r d e f in let h : None ≡ Some a = sym n ∙ g in absurd cc
+pub none_there : (xs : List (Option Ending)) (i : ℕ) (a : Ending) (r d : Option Ending) → slice_get xs i ≡ Some (Some a) → r ≡ get_or xs i d → r ≡ None → ⊥
+none_there xs i a r d e f n = let g : r ≡ Some a = ending_is xs i a r d e f in let h : None ≡ Some a = sym n ∙ g in absurd cc
 
-pub same_answer : (xs : List (Option Answer)) (i : ℕ) (a b : Answer) (r d : Option Answer) → slice_get xs i ≡ Some (Some a) → r ≡ get_or xs i d → r ≡ Some b → b ≡ a
-same_answer xs i a b r d e f n = let g : Some b ≡ Some a = sym n ∙ answer_is xs i a r d e f in cc
+pub same_ending : (xs : List (Option Ending)) (i : ℕ) (a b : Ending) (r d : Option Ending) → slice_get xs i ≡ Some (Some a) → r ≡ get_or xs i d → r ≡ Some b → b ≡ a
+same_ending xs i a b r d e f n = let g : Some b ≡ Some a = sym n ∙ ending_is xs i a r d e f in cc
 
 -- the line of an ending is that of the plan
 pub same_line : (ps : Planned) (p : Plan) (arena job bound : ℕ) (e : Ending) → slice_get ps.plans job ≡ Some p → EndsAsMeant ps job e
@@ -60,27 +59,27 @@ same_line ps p arena job bound e is meant =
 
 -- ---- what is left
 
-slice_get-other : (xs : List (Option Answer)) (i j : ℕ) (x : Option Answer) → i < j → slice_get (slice_set xs i x) j ≡ slice_get xs j
+slice_get-other : (xs : List (Option Ending)) (i j : ℕ) (x : Option Ending) → i < j → slice_get (slice_set xs i x) j ≡ slice_get xs j
 slice_get-other [] i j x lt = refl
 slice_get-other (y ∷ ys) i zero x lt = absurd (omega (arith, lt))
 slice_get-other (y ∷ ys) zero (suc j) x lt = refl
 slice_get-other (y ∷ ys) (suc i) (suc j) x lt = slice_get-other ys i j x (omega (arith, lt))
 
-pub answered_later : (ps : Planned) (job : ℕ) (payloads left : List (Option Answer)) → AnsweredFrom ps job payloads → left ≡ slice_set payloads job None → AnsweredFrom ps (suc job) left
-unfolding AnsweredFrom
-answered_later ps job payloads left all e = λ j le lt. subst (HasAnswer ps j) (sym (ap (λ l. slice_get l j) e ∙ slice_get-other payloads job j None (omega (arith, le)))) (all j (omega (arith, le)) lt)
+pub ended_later : (ps : Planned) (job : ℕ) (endings left : List (Option Ending)) → EndedFrom ps job endings → left ≡ slice_set endings job None → EndedFrom ps (suc job) left
+unfolding EndedFrom
+ended_later ps job endings left all e = λ j le lt. subst (HasEnding ps j) (sym (ap (λ l. slice_get l j) e ∙ slice_get-other endings job j None (omega (arith, le)))) (all j (omega (arith, le)) lt)
 
-pub answered_within : (ps : Planned) (job : ℕ) (payloads : List (Option Answer)) → AnsweredFrom ps job payloads → suc job ≤ length ps.plans → job < length payloads
-unfolding AnsweredFrom
-answered_within ps job payloads all few = let h : HasAnswer ps job (slice_get payloads job) = all job (omega arith) (omega (arith, few)) in slice_get_within payloads job (Some h.answer) h.is
+pub ended_within : (ps : Planned) (job : ℕ) (endings : List (Option Ending)) → EndedFrom ps job endings → suc job ≤ length ps.plans → job < length endings
+unfolding EndedFrom
+ended_within ps job endings all few = let h : HasEnding ps job (slice_get endings job) = all job (omega arith) (omega (arith, few)) in slice_get_within endings job (Some h.ending) h.is
 
-pub answered_here : (ps : Planned) (job : ℕ) (payloads : List (Option Answer)) → AnsweredFrom ps job payloads → suc job ≤ length ps.plans → HasAnswer ps job (slice_get payloads job)
-unfolding AnsweredFrom
-answered_here ps job payloads all few = all job (omega arith) (omega (arith, few))
+pub ended_here : (ps : Planned) (job : ℕ) (endings : List (Option Ending)) → EndedFrom ps job endings → suc job ≤ length ps.plans → HasEnding ps job (slice_get endings job)
+unfolding EndedFrom
+ended_here ps job endings all few = all job (omega arith) (omega (arith, few))
 
-pub all_answered : (ps : Planned) (payloads : List (Option Answer)) → AllAnswered ps payloads → AnsweredFrom ps 0 payloads
-unfolding AnsweredFrom
-all_answered ps payloads all = λ j le lt. all j lt
+pub all_ended : (ps : Planned) (endings : List (Option Ending)) → AllEnded ps endings → EndedFrom ps 0 endings
+unfolding EndedFrom
+all_ended ps endings all = λ j le lt. all j lt
 
 -- ---- numbers of jobs
 
@@ -112,12 +111,12 @@ ended_meant plain.Stuck (ending.Done w c p) h = absurd h
 ended_meant plain.Stuck (ending.Fuel p) h = absurd h
 ended_meant plain.Stuck (ending.Deep p) h = absurd h
 
-pub all_meant : (ps : Planned) (arena : ℕ) (payloads : List (Option Answer)) → AllAnswered ps payloads → (plans : List JobPlan) (job : ℕ) → next_behind plans job ≡ length ps.plans
+pub all_meant : (ps : Planned) (arena : ℕ) (endings : List (Option Ending)) → AllEnded ps endings → (plans : List JobPlan) (job : ℕ) → next_behind plans job ≡ length ps.plans
     → AllByRecursion TellsMeaning (planned_lines ps arena job plans)
-all_meant ps arena payloads all [] job e = tt
-all_meant ps arena payloads all (plan.Runs bound ∷ plans) job e =
+all_meant ps arena endings all [] job e = tt
+all_meant ps arena endings all (plan.Runs bound ∷ plans) job e =
     let below : suc job ≤ length ps.plans = next_below (plan.Runs bound) plans job (length ps.plans) e in
-    let has : HasAnswer ps job (slice_get payloads job) = all job (omega (arith, below)) in
-    (ended_meant (job_run ps job) has.answer.ending has.meant, all_meant ps arena payloads all plans (suc job) e)
-all_meant ps arena payloads all (plan.TooLarge needs ∷ plans) job e = (tt, all_meant ps arena payloads all plans job e)
-all_meant ps arena payloads all (plan.Refused cause ∷ plans) job e = (tt, all_meant ps arena payloads all plans job e)
+    let has : HasEnding ps job (slice_get endings job) = all job (omega (arith, below)) in
+    (ended_meant (job_run ps job) has.ending has.meant, all_meant ps arena endings all plans (suc job) e)
+all_meant ps arena endings all (plan.TooLarge needs ∷ plans) job e = (tt, all_meant ps arena endings all plans job e)
+all_meant ps arena endings all (plan.Refused cause ∷ plans) job e = (tt, all_meant ps arena endings all plans job e)

@@ -1,31 +1,29 @@
-//! The lines of jobs, from their plans and from what was filed.
+//! The lines of jobs, from their plans and from their endings.
 ghost use Rattle.std.specs.Prelude.{◌≡◌, ◌<◌, ◌≤◌, length, map, slice_get, slice_set, None, IfOk};
-ghost use Rattle.job_workers.specs.Filings.{AllAnswered, HasAnswer};
+ghost use Rattle.job_workers.specs.Ended.{AllEnded, HasEnding};
 ghost use Rattle.job_workers.specs.Served.{EndsAsMeant};
 ghost use Rattle.run_reports.specs.Report.{told_text};
 ghost use Rattle.run_reports.specs.Told.{line_of};
 ghost use Rattle.script_plans.specs.Lines.{next_behind, next_job, planned_line, planned_lines};
 ghost use Rattle.script_plans.specs.declared.types.JobPlan.TheVariants.{Runs};
-ghost use Rattle.script_service.specs.Filed.{AnsweredFrom};
+ghost use Rattle.script_service.specs.Filed.{EndedFrom};
 
 use cell_machine::Ending;
-use job_workers::Answer;
 use job_world::Jobs;
 use run_reports::JobLine;
 use script_plans::JobPlan;
 use std::alloc::{AllocError, Global};
 
-// The answer that was filed for a job.
-fn take_answer<'a>(payloads: &mut [Option<Answer<'a>>], jobs: &'a Jobs, job: u32) -> Answer<'a>
-    requires answer { HasAnswer jobs.now job (slice_get payloads.old job) }
-    requires there { job < length payloads.old }
-    ensures number { result.job ≡ job }
-    ensures of { result.jobs.now ≡ jobs.now }
-    ensures meant { EndsAsMeant jobs.now job result.ending }
-    ensures rest { payloads.new ≡ slice_set payloads.old job None }
+// The ending of a job.
+fn take_ending(endings: &mut [Option<Ending>], jobs: &Jobs, job: u32) -> Ending
+    requires ending { HasEnding jobs.now job (slice_get endings.old job) }
+    requires there { job < length endings.old }
+    ensures meant { EndsAsMeant jobs.now job result }
+    ensures rest { endings.new ≡ slice_set endings.old job None }
 {
-    match payloads[job as usize].take() {
-        Some(answer) => answer,
+    let _ = jobs;
+    match endings[job as usize].take() {
+        Some(ending) => ending,
         None => unreachable!(),
     }
 }
@@ -48,23 +46,23 @@ fn ended(jobs: &Jobs, arena: u32, job: u32, bound: u64, ending: Ending) -> JobLi
 }
 
 // The line of a plan, the next job to run being this one.
-#[tactic(auto, using(crate::proofs::Filing::answered_here, crate::proofs::Filing::answered_within, crate::proofs::Filing::answered_later))]
-fn planned<'a>(
-    jobs: &'a Jobs,
+#[tactic(auto, using(crate::proofs::Filing::ended_here, crate::proofs::Filing::ended_within, crate::proofs::Filing::ended_later))]
+fn planned(
+    jobs: &Jobs,
     arena: u32,
     job: u32,
     plan: &JobPlan,
-    payloads: &mut [Option<Answer<'a>>],
+    endings: &mut [Option<Ending>],
 ) -> JobLine
-    requires left { AnsweredFrom jobs.now job payloads.old }
+    requires left { EndedFrom jobs.now job endings.old }
     requires few { next_job plan.now job ≤ length jobs.now.plans }
     ensures line { told_text (line_of jobs.now.licences result) ≡ told_text (planned_line jobs.now arena job plan.now) }
-    ensures left { AnsweredFrom jobs.now (next_job plan.now job) payloads.new }
+    ensures left { EndedFrom jobs.now (next_job plan.now job) endings.new }
 {
     match plan {
         JobPlan::Runs { bound } => {
-            let answer = take_answer(payloads, jobs, job);
-            ended(jobs, arena, job, *bound, answer.ending)
+            let ending = take_ending(endings, jobs, job);
+            ended(jobs, arena, job, *bound, ending)
         }
         JobPlan::TooLarge { needs } => JobLine::TooLarge {
             needs: *needs,
@@ -87,15 +85,15 @@ fn number_behind(plan: &JobPlan, job: u32) -> u32
 }
 
 /// The line of each job: what its run came to, or why there was none.
-#[tactic(auto, using(crate::proofs::Filing::all_answered, crate::proofs::Filing::next_below_at, crate::proofs::Filing::job_below))]
-pub(crate) fn job_lines<'a>(
+#[tactic(auto, using(crate::proofs::Filing::all_ended, crate::proofs::Filing::next_below_at, crate::proofs::Filing::job_below))]
+pub(crate) fn job_lines(
     alloc: Global,
-    jobs: &'a Jobs,
+    jobs: &Jobs,
     arena: u32,
     plans: &[JobPlan],
-    payloads: &mut [Option<Answer<'a>>],
+    endings: &mut [Option<Ending>],
 ) -> Result<Vec<JobLine>, AllocError>
-    requires answered { AllAnswered jobs.now payloads.old }
+    requires ended { AllEnded jobs.now endings.old }
     requires count { next_behind plans.now 0 ≡ length jobs.now.plans }
     requires few { length jobs.now.plans ≤ 4096 }
     ensures { IfOk result (λ lines. map told_text (map (line_of jobs.now.licences) lines.items) ≡ map told_text (planned_lines jobs.now arena 0 plans.now)) }
@@ -103,7 +101,7 @@ pub(crate) fn job_lines<'a>(
     let mut lines = Vec::with_capacity(alloc, plans.len())?;
     let mut job = 0;
     'plans: for plan in plans {
-        let line = planned(jobs, arena, job, plan, payloads);
+        let line = planned(jobs, arena, job, plan, endings);
         lines.push(line)?;
         job = number_behind(plan, job);
     }

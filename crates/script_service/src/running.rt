@@ -2,7 +2,7 @@ ghost use Rattle.std.specs.Prelude.{◌≡◌, ◌≤◌, length, map, IfOk};
 ghost use Rattle.std.specs.List.{AllByRecursion};
 ghost use Rattle.cell_span.specs.Range.{IsWhole};
 ghost use Rattle.job_world.specs.Plans.{leases_of};
-ghost use Rattle.job_workers.specs.Filings.{AllAnswered};
+ghost use Rattle.job_workers.specs.Ended.{AllEnded};
 ghost use Rattle.lease_desk.specs.Journal.{AreSizes, IsLegal};
 ghost use Rattle.run_reports.specs.Report.{told_text};
 ghost use Rattle.run_reports.specs.Told.{line_of};
@@ -11,34 +11,25 @@ ghost use Rattle.script_service.specs.Service.{TellsMeaning};
 
 use crate::lines::job_lines;
 use cell_span::Span;
-use job_workers::{Answer, serve_jobs};
+use job_workers::{ServedJobs, serve_planned};
 use job_world::Jobs;
-use lease_desk::{Desk, Event, Finished};
+use lease_desk::Event;
 use run_reports::JobLine;
 use script_plans::JobPlan;
 use std::alloc::{AllocError, Global};
 
 /// Runs all planned jobs in a new arena of so many cells.
-pub(crate) fn run_jobs<'a>(
-    alloc: Global,
-    arena: u32,
-    jobs: &'a Jobs,
-) -> Result<Finished<Answer<'a>>, AllocError>
+pub(crate) fn run_jobs(alloc: Global, arena: u32, jobs: &Jobs) -> Result<ServedJobs, AllocError>
     requires arena { 1 ≤ arena }
     requires few_cells { arena ≤ 2147483648 }
     requires few_jobs { length jobs.now.plans ≤ 4096 }
     requires sizes { AreSizes arena (leases_of jobs.now.plans) }
     ensures legal { IfOk result (λ done. IsLegal arena (leases_of jobs.now.plans) done.journal.items) }
-    ensures answered { IfOk result (λ done. AllAnswered jobs.now done.payloads.items) }
+    ensures ended { IfOk result (λ done. AllEnded jobs.now done.endings.items) }
     ensures whole { IfOk result (λ done. IsWhole done.span) }
 {
     let span = Span::new(alloc, arena)?;
-    let sizes = jobs.sizes(alloc)?;
-    let desk = match Desk::new(alloc, span, sizes) {
-        Ok(desk) => desk,
-        Err(_) => return Err(AllocError),
-    };
-    serve_jobs(alloc, desk, jobs)
+    serve_planned(alloc, span, jobs)
 }
 
 /// The lines of planned jobs that ran, and the journal of their leases.
@@ -66,8 +57,8 @@ pub(crate) fn serve_plans(
 {
     let done = run_jobs(alloc, arena, jobs)?;
     done.span.end();
-    let mut payloads = done.payloads;
-    let lines = job_lines(alloc, jobs, arena, plans, &mut payloads)?;
+    let mut endings = done.endings;
+    let lines = job_lines(alloc, jobs, arena, plans, &mut endings)?;
     Ok(Served {
         lines,
         journal: done.journal,

@@ -1,5 +1,4 @@
 use Rattle.std.proofs.Common.{refl, sym, subst}
-use Rattle.cell_machine.specs.declared.machine.Ending.{Ending}
 use Rattle.job_world.specs.Plans.{Planned}
 use Rattle.job_world.specs.Words.{plan_of}
 use Rattle.job_workers.specs.Served.{EndsAsMeant}

@@ -1,28 +1,17 @@
-use mathlib.Core.List.{Mem}
-use Rattle.std.proofs.Common.{◌++◌, [], None, ap, ◌∙◌, subst, sym}
-use Rattle.std.proofs.lemmas.List.{append-nil}
+use Rattle.std.proofs.Common.{ap, subst, sym}
 use Rattle.std.specs.Prelude.{slice_set}
 use Rattle.job_workers.specs.Served.{EndsAsMeant}
-use Rattle.script_service.proofs.Filing.{none_there, same_answer}
-use Rattle.script_service.proofs.lines.take_answer.Goals as goal
-
-pub take-requires : goal.take-requires
-take-requires c κs = λ a m. subst (λ l. Mem a l) (append-nil (κs.1.0 ++ []) ∙ append-nil κs.1.0) m
+use Rattle.script_service.proofs.Filing.{none_there, same_ending}
+use Rattle.script_service.proofs.lines.take_ending.Goals as goal
 
 pub unreachable-requires : goal.unreachable-requires
-unreachable-requires c = none_there c.args.payloads.now c.args.job c.requires.answer.answer c.take.result _ c.requires.answer.is c.take.ensures.value c.in-None.is
+unreachable-requires c = none_there c.args.endings.now c.args.job c.requires.ending.ending c.take.result _ c.requires.ending.is c.take.ensures.value c.in-None.is
 
 pub unreachable-unreachable : goal.unreachable-unreachable
 unreachable-unreachable c = c.unreachable.type_inv
 
-pub returns-clause-number : goal.returns-clause-number
-returns-clause-number c = ap (λ x. x.job) (same_answer c.args.payloads.now c.args.job c.requires.answer.answer c.in-Some.answer c.take.result _ c.requires.answer.is c.take.ensures.value c.in-Some.is) ∙ c.requires.answer.number
-
-pub returns-clause-of : goal.returns-clause-of
-returns-clause-of c = ap (λ x. x.jobs.now) (same_answer c.args.payloads.now c.args.job c.requires.answer.answer c.in-Some.answer c.take.result _ c.requires.answer.is c.take.ensures.value c.in-Some.is) ∙ c.requires.answer.of
-
 pub returns-clause-meant : goal.returns-clause-meant
-returns-clause-meant c = subst (λ x. EndsAsMeant c.args.jobs.now c.args.job x.ending) (sym (same_answer c.args.payloads.now c.args.job c.requires.answer.answer c.in-Some.answer c.take.result _ c.requires.answer.is c.take.ensures.value c.in-Some.is)) c.requires.answer.meant
+returns-clause-meant c = subst (EndsAsMeant c.args.jobs.now c.args.job) (sym (same_ending c.args.endings.now c.args.job c.requires.ending.ending c.in-Some.ending c.take.result _ c.requires.ending.is c.take.ensures.value c.in-Some.is)) c.requires.ending.meant
 
 pub returns-clause-rest : goal.returns-clause-rest
-returns-clause-rest c = ap (λ x. slice_set c.args.payloads.now c.args.job x) c.take.ensures.after
+returns-clause-rest c = ap (λ x. slice_set c.args.endings.now c.args.job x) c.take.ensures.after
