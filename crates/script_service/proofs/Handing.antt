@@ -53,7 +53,7 @@ same_legal arena sizes leases journal e h = subst (λ s. IsLegal arena s journal
 
 pub handed : (s : ServedScript) → AllCamelot (script_of s.script).items → AreProgramLines (script_of s.script).items s.plans.programs.items
     → ArePlanned (script_of s.script).arena (script_of s.script).items s.plans.jobs s.plans.plans.items s.plans.asked.items → length s.plans.jobs.plans ≤ 4096 → AllEnded s.plans.jobs s.endings.items
-    → IsLegal (script_of s.script).arena (leases_of s.plans.jobs.plans) s.journal.items → IsWhole s.arena → s.arena.arena ≡ (script_of s.script).arena → HoldsFiled (all_cells s.plans.jobs) s.journal.items s.arena
+    → IsLegal (script_of s.script).arena (leases_of s.plans.jobs.plans) s.journal.items → IsWhole s.arena → s.arena.arena.cells ≡ (script_of s.script).arena → HoldsFiled (all_cells s.plans.jobs) s.journal.items s.arena
     → IsOf (script_of s.script) s
 handed s camelot programs planned few ended legal whole size cells =
     let script = script_of s.script in

@@ -53,7 +53,7 @@ pub record IsService (s : Service) : Type 0 where
   pub meant : AllByRecursion TellsMeaning (lines_of s.script.arena s.script.items s.fates)
   pub legal : IsLegal s.script.arena (sizes_of s.script.arena s.fates) s.journal
   pub whole : IsWhole s.arena
-  pub size : s.arena.arena ≡ s.script.arena
+  pub size : s.arena.arena.cells ≡ s.script.arena
   pub cells : HoldsFiled (cells_by s) s.journal s.arena
 
 -- The input is the text of the script, and of no other one, and this comes of it.

@@ -20,7 +20,7 @@ pub(crate) fn run_jobs(alloc: Global, arena: u32, jobs: &Jobs) -> Result<ServedJ
     ensures legal { IfOk result (λ done. IsLegal arena (leases_of jobs.now.plans) done.journal.items) }
     ensures ended { IfOk result (λ done. AllEnded jobs.now done.endings.items) }
     ensures whole { IfOk result (λ done. IsWhole done.span) }
-    ensures size { IfOk result (λ done. done.span.arena ≡ arena) }
+    ensures size { IfOk result (λ done. done.span.arena.cells ≡ arena) }
     ensures cells { IfOk result (λ done. HoldsFiled (all_cells jobs.now) done.journal.items done.span) }
 {
     let span = Span::new(alloc, arena)?;
