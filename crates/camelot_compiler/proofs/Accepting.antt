@@ -12,29 +12,31 @@ use Rattle.grail_verifier.specs.declared.refusal.Refusal.{Refusal}
 use Rattle.grail_verifier.specs.declared.refusal.Refusal.TheVariants as refusal
 use Rattle.grail_verifier.specs.Verdicts as verdicts
 use Rattle.grail_verifier.specs.Verdicts.{IsVerdict}
+use Rattle.grail_verifier.specs.Accepted.{IsAccepted}
+use Rattle.grail_verifier.specs.AcceptedLaws.{verdict_of}
 use Rattle.lp_constraints.specs.Inference as inference
 use Rattle.lp_constraints.specs.Inference.{Infers}
 use Rattle.refusals.specs.declared.cause.Cause.{Cause}
-use Rattle.camelot_compiler.specs.declared.bundle.Bundle.{Bundle}
+use Rattle.camelot_compiler.specs.Bundles.{Bundle}
 use Rattle.camelot_compiler.specs.declared.fault.CompileFault.{CompileFault}
 use Rattle.camelot_compiler.specs.declared.fault.CompileFault.TheVariants as compile_fault
 use Rattle.camelot_compiler.specs.Compiled.{Compiled, Bundled, Refused, compiled_of, IsCompiled, IsSo, Answers, OfCode, HasCertificate}
 use Rattle.camelot_compiler.specs.Licences.{HasLicence, IsLicence, IsLicensedOr, IsRefusedOr}
-use Rattle.camelot_compiler.specs.Accepted.{IsAccepted, IsMemory}
+use Rattle.camelot_compiler.specs.Accepted.{AreAccepted, IsMemory}
 
 -- ---- the verifier's answers
 
-pub is_memory : (code cert : List ℕ) (r : Refusal) → IsAccepted code cert → ((v : Result Licensed Refusal) → IsVerdict code cert v → verdicts.OrMemory (Err r) (Err r ≡ v)) → IsMemory r
+pub is_memory : (code cert : List ℕ) (r : Refusal) → AreAccepted code cert → ((v : Result Licensed Refusal) → IsVerdict code cert v → verdicts.OrMemory (Err r) (Err r ≡ v)) → IsMemory r
 is_memory code cert refusal.Memory verified exact = tt
-is_memory code cert (refusal.Code x) verified exact = let e : Err (refusal.Code x) ≡ Ok verified.licence = exact (Ok verified.licence) verified.verdict in cc
-is_memory code cert (refusal.Kinds x) verified exact = let e : Err (refusal.Kinds x) ≡ Ok verified.licence = exact (Ok verified.licence) verified.verdict in cc
-is_memory code cert (refusal.Cert x) verified exact = let e : Err (refusal.Cert x) ≡ Ok verified.licence = exact (Ok verified.licence) verified.verdict in cc
-is_memory code cert (refusal.Shape f b) verified exact = let e : Err (refusal.Shape f b) ≡ Ok verified.licence = exact (Ok verified.licence) verified.verdict in cc
-is_memory code cert (refusal.Need f b p h n) verified exact = let e : Err (refusal.Need f b p h n) ≡ Ok verified.licence = exact (Ok verified.licence) verified.verdict in cc
-is_memory code cert (refusal.Weak f b p c h n) verified exact = let e : Err (refusal.Weak f b p c h n) ≡ Ok verified.licence = exact (Ok verified.licence) verified.verdict in cc
+is_memory code cert (refusal.Code x) verified exact = let e : Err (refusal.Code x) ≡ Ok verified.licence = exact (Ok verified.licence) (verdict_of code cert verified.licence verified.accepted) in cc
+is_memory code cert (refusal.Kinds x) verified exact = let e : Err (refusal.Kinds x) ≡ Ok verified.licence = exact (Ok verified.licence) (verdict_of code cert verified.licence verified.accepted) in cc
+is_memory code cert (refusal.Cert x) verified exact = let e : Err (refusal.Cert x) ≡ Ok verified.licence = exact (Ok verified.licence) (verdict_of code cert verified.licence verified.accepted) in cc
+is_memory code cert (refusal.Shape f b) verified exact = let e : Err (refusal.Shape f b) ≡ Ok verified.licence = exact (Ok verified.licence) (verdict_of code cert verified.licence verified.accepted) in cc
+is_memory code cert (refusal.Need f b p h n) verified exact = let e : Err (refusal.Need f b p h n) ≡ Ok verified.licence = exact (Ok verified.licence) (verdict_of code cert verified.licence verified.accepted) in cc
+is_memory code cert (refusal.Weak f b p c h n) verified exact = let e : Err (refusal.Weak f b p c h n) ≡ Ok verified.licence = exact (Ok verified.licence) (verdict_of code cert verified.licence verified.accepted) in cc
 
-pub same_licence : (code cert : List ℕ) (m l : Licensed) → ((v : Result Licensed Refusal) → IsVerdict code cert v → verdicts.OrMemory (Ok m) (Ok m ≡ v)) → IsVerdict code cert (Ok l) → m ≡ l
-same_licence code cert m l exact verdict = let e : Ok m ≡ Ok l = exact (Ok l) verdict in cc
+pub same_licence : (code cert : List ℕ) (m l : Licensed) → ((v : Result Licensed Refusal) → IsVerdict code cert v → verdicts.OrMemory (Ok m) (Ok m ≡ v)) → IsAccepted code cert l → m ≡ l
+same_licence code cert m l exact accepted = let e : Ok m ≡ Ok l = exact (Ok l) (verdict_of code cert l accepted) in cc
 
 -- ---- a source's licence
 
@@ -42,7 +44,7 @@ same_licence code cert m l exact verdict = let e : Ok m ≡ Ok l = exact (Ok l) 
 pub record OfBundle (text code cert : List ℕ) : Type 0 where
   pub licence : Licensed
   pub is : IsLicence text licence
-  pub verdict : IsVerdict code cert (Ok licence)
+  pub accepted : IsAccepted code cert licence
 
 of_bundle : (text code cert : List ℕ) → IsCompiled text (Bundled code cert) → OfCode text (HasCertificate code cert) → OfBundle text code cert
 of_bundle text code cert is certified =
@@ -50,27 +52,27 @@ of_bundle text code cert is certified =
     let has : HasProgram text t.source = subst (HasProgram text) (sym is.says.source) is.program in
     let of : HasCertificate code cert (compiled t) = certified t has is.says.typed is.says.settled in
     let l : Licensed = record { code = compiled t; cert = of.certificate } in
-    let texts : IsVerdict code (text_of of.certificate) (Ok l) = subst (λ x. IsVerdict code x (Ok l)) (sym of.is.text) of.is.verdict in
-    let shown : IsVerdict (spelling (compiled t)) (text_of of.certificate) (Ok l) = subst (λ x. IsVerdict x (text_of of.certificate) (Ok l)) of.is.spelled.is texts in
+    let said : IsAccepted code cert l = of.is.accepted in
+    let shown : IsAccepted (spelling (compiled t)) (text_of of.certificate) l = record { spelled = record { fits = of.is.spelled.fits; is = refl }; well = said.well; formed = said.formed; text = refl; granted = said.granted } in
     record {
       licence = l;
-      is = record { typing = t; verdict = shown; has = record { program = has; typed = is.says.typed; settled = is.says.settled; rule = is.says.says.0; fits = is.says.says.1.0; code = refl; spelled = of.is.spelled.fits; inferred = of.is.inferred } };
-      verdict = of.is.verdict;
+      is = record { typing = t; accepted = shown; has = record { program = has; typed = is.says.typed; settled = is.says.settled; rule = is.says.says.0; fits = is.says.says.1.0; code = refl; spelled = of.is.spelled.fits; inferred = of.is.inferred } };
+      accepted = said;
     }
 
-pub accepted : (text : List ℕ) (b : Bundle) → IsCompiled text (Bundled b.code.items b.cert.items) → OfCode text (HasCertificate b.code.items b.cert.items) → IsAccepted b.code.items b.cert.items
-accepted text b is certified = let of : OfBundle text b.code.items b.cert.items = of_bundle text b.code.items b.cert.items is certified in record { licence = of.licence; verdict = of.verdict }
+pub accepted : (text : List ℕ) (b : Bundle) → IsCompiled text (Bundled b.code b.cert) → OfCode text (HasCertificate b.code b.cert) → AreAccepted b.code b.cert
+accepted text b is certified = let of : OfBundle text b.code b.cert = of_bundle text b.code b.cert is certified in record { licence = of.licence; accepted = of.accepted }
 
 -- what the verifier's answer says, where it is asked about a bundle
-module _ (text : List ℕ) (b : Bundle) (is : IsCompiled text (Bundled b.code.items b.cert.items)) (certified : OfCode text (HasCertificate b.code.items b.cert.items)) where
-  pub found_so : (r : Result Licensed CompileFault) → ((l : Licensed) → IsVerdict b.code.items b.cert.items (Ok l) → MatchResult r (λ licence. licence ≡ l) (λ x. x ≡ compile_fault.Memory)) → IsLicensedOr text r
-  found_so (Ok m) says = let of : OfBundle text b.code.items b.cert.items = of_bundle text b.code.items b.cert.items is certified in subst (IsLicence text) (sym (says of.licence of.verdict)) of.is
-  found_so (Err (compile_fault.Refused x)) says = let of : OfBundle text b.code.items b.cert.items = of_bundle text b.code.items b.cert.items is certified in let e : compile_fault.Refused x ≡ compile_fault.Memory = says of.licence of.verdict in cc
+module _ (text : List ℕ) (b : Bundle) (is : IsCompiled text (Bundled b.code b.cert)) (certified : OfCode text (HasCertificate b.code b.cert)) where
+  pub found_so : (r : Result Licensed CompileFault) → ((l : Licensed) → IsAccepted b.code b.cert l → MatchResult r (λ licence. licence ≡ l) (λ x. x ≡ compile_fault.Memory)) → IsLicensedOr text r
+  found_so (Ok m) says = let of : OfBundle text b.code b.cert = of_bundle text b.code b.cert is certified in subst (IsLicence text) (sym (says of.licence of.accepted)) of.is
+  found_so (Err (compile_fault.Refused x)) says = let of : OfBundle text b.code b.cert = of_bundle text b.code b.cert is certified in let e : compile_fault.Refused x ≡ compile_fault.Memory = says of.licence of.accepted in cc
   found_so (Err compile_fault.Memory) says = tt
 
-  pub found_accepts : (r : Result Licensed CompileFault) → ((l : Licensed) → IsVerdict b.code.items b.cert.items (Ok l) → MatchResult r (λ licence. licence ≡ l) (λ x. x ≡ compile_fault.Memory)) → MatchResult r (λ licence. Unit {0}) (λ x. x ≡ compile_fault.Memory)
+  pub found_accepts : (r : Result Licensed CompileFault) → ((l : Licensed) → IsAccepted b.code b.cert l → MatchResult r (λ licence. licence ≡ l) (λ x. x ≡ compile_fault.Memory)) → MatchResult r (λ licence. Unit {0}) (λ x. x ≡ compile_fault.Memory)
   found_accepts (Ok m) says = tt
-  found_accepts (Err x) says = let of : OfBundle text b.code.items b.cert.items = of_bundle text b.code.items b.cert.items is certified in says of.licence of.verdict
+  found_accepts (Err x) says = let of : OfBundle text b.code b.cert = of_bundle text b.code b.cert is certified in says of.licence of.accepted
 
 -- a text that is compiled isn't refused
 pub found_refuses : (text code cert : List ℕ) (cause : Cause) (A : Type 0) → ((answer : Compiled) → IsCompiled text answer → Bundled code cert ≡ answer) → IsCompiled text (Refused cause) → A

@@ -22,7 +22,7 @@ use Rattle.lp_constraints.specs.declared.fault.NoCert.TheVariants as no_cert
 use Rattle.lp_constraints.specs.Inference as inference
 use Rattle.lp_constraints.specs.Inference.{Inferred, Infers, inferred_of}
 use Rattle.refusals.specs.declared.cause.Cause.TheVariants as cause
-use Rattle.camelot_compiler.specs.declared.bundle.Bundle.{Bundle}
+use Rattle.camelot_compiler.specs.Bundles.{Bundle}
 use Rattle.camelot_compiler.specs.declared.fault.CompileFault.{CompileFault}
 use Rattle.camelot_compiler.specs.declared.fault.CompileFault.TheVariants as compile_fault
 use Rattle.camelot_compiler.specs.Compiled.{Compiled, Bundled, Refused, compiled_of, IsNoCert, IsCertified, IsNormalFault, IsGenerated, IsUseFault, IsLinear, IsSo, Answers, NoneGrants}
@@ -31,11 +31,11 @@ use Rattle.camelot_compiler.specs.Stages.{use_fault, normal_fault, inference_fau
 -- ---- certificates
 
 -- what a bundle is made of, unless memory ran out
-module _ (p : Code) (c : Cert) (r : Result Bundle CompileFault) (code : IfOk r (λ b. b.code.items ≡ spelling p)) (cert : IfOk r (λ b. b.cert.items ≡ text_of c)) (memory : IfErr r (λ fault. fault ≡ compile_fault.Memory)) where
+module _ (p : Code) (c : Cert) (r : Result Bundle CompileFault) (code : IfOk r (λ b. b.code ≡ spelling p)) (cert : IfOk r (λ b. b.cert ≡ text_of c)) (memory : IfErr r (λ fault. fault ≡ compile_fault.Memory)) where
   pub certified_found : FitsCode p → Infers p (inference.Found c) → IsSo (IsCertified p) (compiled_of r)
   certified_found fits inferred = by_result r code cert memory
     where
-      by_result : (r : Result Bundle CompileFault) → IfOk r (λ b. b.code.items ≡ spelling p) → IfOk r (λ b. b.cert.items ≡ text_of c) → IfErr r (λ fault. fault ≡ compile_fault.Memory) → IsSo (IsCertified p) (compiled_of r)
+      by_result : (r : Result Bundle CompileFault) → IfOk r (λ b. b.code ≡ spelling p) → IfOk r (λ b. b.cert ≡ text_of c) → IfErr r (λ fault. fault ≡ compile_fault.Memory) → IsSo (IsCertified p) (compiled_of r)
       by_result (Ok b) e f m = record { spelled = record { fits = fits; is = e }; certificate = c; inferred = inferred; text = sym f }
       by_result (Err (compile_fault.Refused x)) e f m = cc
       by_result (Err compile_fault.Memory) e f m = tt
@@ -43,14 +43,14 @@ module _ (p : Code) (c : Cert) (r : Result Bundle CompileFault) (code : IfOk r (
   pub certified_stands : IsWellFormed p → FitsCode p → IsCert c → IsLeastCertificate p c → Infers p (inference.Found c) → Stands (compiled_of r) p
   certified_stands well fits right least inferred = by_result r code cert memory
     where
-      by_result : (r : Result Bundle CompileFault) → IfOk r (λ b. b.code.items ≡ spelling p) → IfOk r (λ b. b.cert.items ≡ text_of c) → IfErr r (λ fault. fault ≡ compile_fault.Memory) → Stands (compiled_of r) p
+      by_result : (r : Result Bundle CompileFault) → IfOk r (λ b. b.code ≡ spelling p) → IfOk r (λ b. b.cert ≡ text_of c) → IfErr r (λ fault. fault ≡ compile_fault.Memory) → Stands (compiled_of r) p
       by_result (Ok b) e f m = record {
         certificate = c;
         is = record {
           spelled = record { fits = fits; is = e };
           text = sym f;
           inferred = inferred;
-          verdict = record { code = p; spelled = record { fits = fits; is = e }; says = (well, record { cert = c; right = right; text = sym f; says = (refl, least.grants) }) };
+          accepted = record { spelled = record { fits = fits; is = e }; well = well; formed = right; text = sym f; granted = least.grants };
           least = least;
         };
       }
@@ -67,12 +67,12 @@ module _ (p : Code) (c : Cert) (r : Result Bundle CompileFault) (code : IfOk r (
       never no_cert.Spent h = let e : inference.Found c ≡ inference.Spent = exact inference.Spent h in cc
       never no_cert.Memory h = absurd h
 
-      by_answer : (b : Bundle) → b.code.items ≡ spelling p → b.cert.items ≡ text_of c → (answer : Compiled) → IsCertified p answer → Bundled b.code.items b.cert.items ≡ answer
+      by_answer : (b : Bundle) → b.code ≡ spelling p → b.cert ≡ text_of c → (answer : Compiled) → IsCertified p answer → Bundled b.code b.cert ≡ answer
       by_answer b e f (Bundled code cert) h =
           let is : inference.Found c ≡ inference.Found h.certificate = exact (inference.Found h.certificate) h.inferred in
           let same : c ≡ h.certificate = cc in
-          let first : b.code.items ≡ code = e ∙ sym h.spelled.is in
-          let second : b.cert.items ≡ cert = f ∙ ap text_of same ∙ h.text in
+          let first : b.code ≡ code = e ∙ sym h.spelled.is in
+          let second : b.cert ≡ cert = f ∙ ap text_of same ∙ h.text in
           λ i. Bundled (first i) (second i)
       by_answer b e f (Refused (cause.Parse x)) h = absurd h
       by_answer b e f (Refused (cause.Types x)) h = absurd h
@@ -82,7 +82,7 @@ module _ (p : Code) (c : Cert) (r : Result Bundle CompileFault) (code : IfOk r (
       by_answer b e f (Refused (cause.Bundle x)) h = absurd h
       by_answer b e f (Refused (cause.Verify x)) h = absurd h
 
-      by_result : (r : Result Bundle CompileFault) → IfOk r (λ b. b.code.items ≡ spelling p) → IfOk r (λ b. b.cert.items ≡ text_of c) → IfErr r (λ fault. fault ≡ compile_fault.Memory) → (answer : Compiled) → IsCertified p answer → Answers (compiled_of r) answer
+      by_result : (r : Result Bundle CompileFault) → IfOk r (λ b. b.code ≡ spelling p) → IfOk r (λ b. b.cert ≡ text_of c) → IfErr r (λ fault. fault ≡ compile_fault.Memory) → (answer : Compiled) → IsCertified p answer → Answers (compiled_of r) answer
       by_result (Ok b) e f m answer h = by_answer b e f answer h
       by_result (Err (compile_fault.Refused x)) e f m answer h = cc
       by_result (Err compile_fault.Memory) e f m answer h = tt

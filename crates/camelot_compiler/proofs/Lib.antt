@@ -1,5 +1,6 @@
 pub mod Wrapping
 pub mod Named
+pub mod Parts
 pub mod Coding
 pub mod Reading
 pub mod Standing

@@ -1,7 +1,25 @@
 -- Cited by contracts.
--- The text of a bundle: the line `grail code`, the code's bytes in lower-case hexadecimal digits, 64 on a line, and the text of the certificate.
-use Rattle.std.specs.Prelude.{ℕ, zero, suc, List, [], ◌∷◌, ◌++◌, codes}
+-- Bundles, and the text of one: the line `grail code`, the code's bytes in lower-case hexadecimal digits, 64 on a
+-- line, and the text of the certificate.
+use Rattle.std.specs.Prelude.{◌≡◌, ℕ, zero, suc, ◌≤◌, List, [], ◌∷◌, ◌++◌, length, take, codes}
 use Rattle.hex.specs.Hex.{encode_lower}
+
+-- the bytes of code, and those of a certificate's text
+pub record Bundle : Type 0 where
+  pub code : List ℕ
+  pub cert : List ℕ
+
+-- the first line of each certificate's text
+abbrev pub first_line : List ℕ
+first_line = codes "grail certificate 1\n"
+
+-- There is some code, and the certificate begins with its first line: so the text of a bundle shows where its digits
+-- end.
+pub record HasParts (b : Bundle) : Type 0 where
+  pub code : 1 ≤ length b.code
+  pub cert : take (length first_line) b.cert ≡ first_line
+
+-- ---- the text
 
 -- these bytes with a line feed behind each 64 and behind the last; so many fit into the line that is begun
 abbrev pub wrapped : (room : ℕ) → List ℕ → List ℕ

@@ -26,14 +26,14 @@ use Rattle.certificate.specs.Certificates.{Cert}
 use Rattle.certificate.specs.Text.{text_of}
 use Rattle.licence.specs.Fitting.{Grants}
 use Rattle.bound_system.specs.Found.{IsLeastCertificate}
-use Rattle.grail_verifier.specs.Verdicts.{IsVerdict}
+use Rattle.grail_verifier.specs.Accepted.{IsAccepted}
 use Rattle.lp_constraints.specs.declared.fault.NoCert.{NoCert}
 use Rattle.lp_constraints.specs.declared.fault.NoCert.TheVariants as no_cert
 use Rattle.lp_constraints.specs.Inference as inference
 use Rattle.lp_constraints.specs.Inference.{Infers}
 use Rattle.refusals.specs.declared.cause.Cause.{Cause}
 use Rattle.refusals.specs.declared.cause.Cause.TheVariants as cause
-use Rattle.camelot_compiler.specs.declared.bundle.Bundle.{Bundle}
+use Rattle.camelot_compiler.specs.Bundles.{Bundle}
 use Rattle.camelot_compiler.specs.declared.fault.CompileFault.{CompileFault}
 use Rattle.camelot_compiler.specs.declared.fault.CompileFault.TheVariants as compile_fault
 
@@ -44,7 +44,7 @@ pub data Compiled : Type 0 where
 
 -- what an answer stands for; nothing where memory ran out
 abbrev pub compiled_of : Result Bundle CompileFault → Option Compiled
-compiled_of (Ok bundle) = Some (Bundled bundle.code.items bundle.cert.items)
+compiled_of (Ok bundle) = Some (Bundled bundle.code bundle.cert)
 compiled_of (Err (compile_fault.Refused cause)) = Some (Refused cause)
 compiled_of (Err compile_fault.Memory) = None
 
@@ -140,13 +140,13 @@ Answers None answer = Unit {0}
 abbrev pub OfCode : List ℕ → (Code → Type 0) → Type 0
 OfCode text Says = (typing : Typing) → HasProgram text typing.source → IsTyping typing → IsSettled typing → Says (compiled typing)
 
--- The bytes are the text of this certificate, the one that is inferred for this code. The verifier's verdict on code and certificate is yes, and the licence is of these two. No other
--- certificate that grants the code, with numbers of any size, costs less.
+-- The bytes are the text of this certificate, the one that is inferred for this code. The verifier accepts both texts,
+-- and its licence is of these two. No other certificate that grants the code, with numbers of any size, costs less.
 pub record IsCertifiedBy (code cert : List ℕ) (p : Code) (certificate : Cert) : Type 0 where
   pub spelled : IsSpelling p code
   pub text : text_of certificate ≡ cert
   pub inferred : Infers p (inference.Found certificate)
-  pub verdict : IsVerdict code cert (Ok (record { code = p; cert = certificate }))
+  pub accepted : IsAccepted code cert (record { code = p; cert = certificate })
   pub least : IsLeastCertificate p certificate
 
 pub record HasCertificate (code cert : List ℕ) (p : Code) : Type 0 where

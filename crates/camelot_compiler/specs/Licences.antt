@@ -10,7 +10,7 @@ use Rattle.code_gen.specs.Generated.{compiled}
 use Rattle.grail_code.specs.Spelling.{FitsCode, spelling}
 use Rattle.certificate.specs.Text.{text_of}
 use Rattle.licence.specs.Licensed.{Licensed}
-use Rattle.grail_verifier.specs.Verdicts.{IsVerdict}
+use Rattle.grail_verifier.specs.Accepted.{IsAccepted}
 use Rattle.lp_constraints.specs.Inference as inference
 use Rattle.lp_constraints.specs.Inference.{Infers}
 use Rattle.refusals.specs.declared.cause.Cause.{Cause}
@@ -30,11 +30,11 @@ pub record HasLicence (text : List ℕ) (t : Typing) (l : Licensed) : Type 0 whe
   pub spelled : FitsCode l.code
   pub inferred : Infers l.code (inference.Found l.cert)
 
--- The verifier's verdict on the spelling of its code and on the text of its certificate, as `compile` writes them, is a yes.
+-- The verifier accepts the spelling of its code and the text of its certificate, as `compile` writes them.
 pub record IsLicence (text : List ℕ) (l : Licensed) : Type 0 where
   pub typing : Typing
   pub has : HasLicence text typing l
-  pub verdict : IsVerdict (spelling l.code) (text_of l.cert) (Ok l)
+  pub accepted : IsAccepted (spelling l.code) (text_of l.cert) l
 
 -- what is answered is so; nothing is said where memory ran out
 abbrev pub IsLicensedOr : List ℕ → Result Licensed CompileFault → Type 0

@@ -1,10 +1,10 @@
-ghost use Rattle.std.specs.Prelude.{◌≡◌, ◌<◌, length, MatchResult, Ok};
+ghost use Rattle.std.specs.Prelude.{◌≡◌, ◌<◌, length, MatchResult};
 ghost use Rattle.typing_rules.specs.Typed.{Typing};
 ghost use Rattle.licence.specs.Licensed.{Licensed};
-ghost use Rattle.grail_verifier.specs.Verdicts.{IsVerdict};
+ghost use Rattle.grail_verifier.specs.Accepted.{IsAccepted};
 ghost use Rattle.refusals.specs.declared.cause.Cause.{Cause as PlainCause};
 ghost use Rattle.camelot_compiler.specs.declared.fault.CompileFault.TheVariants as fault;
-ghost use Rattle.camelot_compiler.specs.Accepted.{IsAccepted, IsMemory};
+ghost use Rattle.camelot_compiler.specs.Accepted.{AreAccepted, IsMemory};
 ghost use Rattle.camelot_compiler.specs.Compiled.{IsCompiled, Refused};
 ghost use Rattle.camelot_compiler.specs.Licences.{HasLicence, IsLicensedOr, IsRefusedOr};
 
@@ -32,10 +32,10 @@ fn want_of_memory(refusal: Refusal) -> CompileFault
 // Asks the verifier about bytes that it accepts.
 #[tactic(auto, using(crate::proofs::Accepting::is_memory, crate::proofs::Accepting::same_licence))]
 fn verify_bytes(alloc: Global, code: &[u8], cert: &[u8]) -> Result<Licence, CompileFault>
-    requires accepted { IsAccepted code.now cert.now }
+    requires accepted { AreAccepted code.now cert.now }
     requires code { length code.now < 4294967296 }
     requires cert { length cert.now < 4294967296 }
-    ensures { (l : Licensed) → IsVerdict code.now cert.now (Ok l) → MatchResult result (λ licence. licence ≡ l) (λ x. x ≡ fault.Memory) }
+    ensures { (l : Licensed) → IsAccepted code.now cert.now l → MatchResult result (λ licence. licence ≡ l) (λ x. x ≡ fault.Memory) }
 {
     match verify(alloc, code, cert) {
         Ok(licence) => Ok(licence),
@@ -45,16 +45,18 @@ fn verify_bytes(alloc: Global, code: &[u8], cert: &[u8]) -> Result<Licence, Comp
 
 // The licence of a bundle that the verifier accepts, from its bytes alone.
 fn verify_bundle(alloc: Global, bundle: &Bundle) -> Result<Licence, CompileFault>
-    requires { IsAccepted bundle.now.code.items bundle.now.cert.items }
-    ensures { (l : Licensed) → IsVerdict bundle.now.code.items bundle.now.cert.items (Ok l) → MatchResult result (λ licence. licence ≡ l) (λ x. x ≡ fault.Memory) }
+    requires { AreAccepted bundle.now.code bundle.now.cert }
+    ensures { (l : Licensed) → IsAccepted bundle.now.code bundle.now.cert l → MatchResult result (λ licence. licence ≡ l) (λ x. x ≡ fault.Memory) }
 {
-    if bundle.code.len() > MOST_BYTES {
+    let code = bundle.code();
+    if code.len() > MOST_BYTES {
         return Err(CompileFault::Memory);
     }
-    if bundle.cert.len() > MOST_BYTES {
+    let cert = bundle.cert();
+    if cert.len() > MOST_BYTES {
         return Err(CompileFault::Memory);
     }
-    verify_bytes(alloc, &bundle.code, &bundle.cert)
+    verify_bytes(alloc, code, cert)
 }
 
 /// The licence of a Camelot source: its program is compiled, and the verifier is asked about the bundle's bytes. That it accepts them is proved, so there is no

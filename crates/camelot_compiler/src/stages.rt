@@ -77,13 +77,13 @@ fn inference_fault(fault: NoCert) -> CompileFault
 // Code with its certificate, as bytes.
 fn bundle(alloc: Global, code: &Code, cert: &Cert) -> Result<Bundle, CompileFault>
     requires { FitsCode (code_of code.now) }
-    ensures code { IfOk result (λ b. b.code.items ≡ spelling (code_of code.now)) }
-    ensures cert { IfOk result (λ b. b.cert.items ≡ text_of cert.now) }
+    ensures code { IfOk result (λ b. b.code ≡ spelling (code_of code.now)) }
+    ensures cert { IfOk result (λ b. b.cert ≡ text_of cert.now) }
     ensures memory { IfErr result (λ fault. fault ≡ Memory) }
 {
     let code = encode(alloc, code)?;
     let cert = write_cert(alloc, cert)?;
-    Ok(Bundle { code, cert })
+    Ok(Bundle::new(code, cert))
 }
 
 // The certificate of code, and the bundle of both.

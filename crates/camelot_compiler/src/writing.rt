@@ -24,11 +24,11 @@ fn push_lines(text: &mut Vec<u8>, digits: &[u8]) -> Result<(), AllocError>
 /// memory runs out.
 #[tactic(auto, unfolding(crate::specs::Bundles::bundle_text))]
 pub fn write_bundle(alloc: Global, bundle: &Bundle) -> Result<Vec<u8>, AllocError>
-    ensures { IfOk result (λ text. text.items ≡ bundle_text bundle.now.code.items bundle.now.cert.items) }
+    ensures { IfOk result (λ text. text.items ≡ bundle_text bundle.now.code bundle.now.cert) }
 {
     let mut text = Vec::from_slice(alloc, b"grail code\n")?;
-    let digits = hex::encode(alloc, bundle.code.as_slice())?;
+    let digits = hex::encode(alloc, bundle.code())?;
     push_lines(&mut text, digits.as_bytes())?;
-    text.extend_from_slice(&bundle.cert)?;
+    text.extend_from_slice(bundle.cert())?;
     Ok(text)
 }

@@ -1,21 +1,20 @@
 -- Cited by contracts.
 -- What holds in every world, in whatever order its jobs are asked for, step and give back.
-use Rattle.std.specs.Prelude.{◌≡◌, ℕ, ◌+◌, ◌<◌, ◌≤◌, take, drop, slice_get, Some}
+use Rattle.std.specs.Prelude.{◌≡◌, ℕ, suc, ◌+◌, ◌<◌, ◌≤◌, take, drop, slice_get, Some, None}
+use Rattle.std.specs.List.{AllByRecursion}
 use Rattle.hole_list.specs.declared.run.Run.{Run}
 use Rattle.hole_list.specs.Placing.{run, AreParts, total}
-use Rattle.lease_desk.specs.Journal.{leased, replay, AreSizes}
-use Rattle.cell_machine.specs.State.{Final}
+use Rattle.lease_desk.specs.Journal.{leased, replay}
+use Rattle.cell_machine.specs.State.{Final, Over}
 use Rattle.cell_machine.specs.Coming.{EndsRight}
 use Rattle.job_world.specs.Plans.{Plan, Planned, AreFit, leases_of, job_run, job_cells}
 use Rattle.job_world.specs.Put.{machine_of}
 use Rattle.job_world.specs.World.{Start, start_of, lone, Worker, World}
 
--- an arena of at most 2^31 cells, and plans that fit their licences, each with a lease of at most the arena
+-- plans that fit their licences, each with a lease of at most the arena
 pub record CanHold (arena : ℕ) (ps : Planned) : Type 0 where
-  pub some : 1 ≤ arena
-  pub few : arena ≤ 2147483648
   pub fit : AreFit ps
-  pub sizes : AreSizes arena (leases_of ps.plans)
+  pub within : AllByRecursion (λ p. p.lease ≤ arena) ps.plans
 
 -- Leases and holes share no cell and have all cells of the arena, and their sizes add up to it. The desk's state is the one behind its journal.
 pub record LieApart (arena : ℕ) (ps : Planned) (w : World) : Type 0 where
@@ -42,6 +41,19 @@ pub record StepsApart (w new : World) (job : ℕ) : Type 0 where
   pub filed : new.filed ≡ w.filed
   pub desk : new.desk ≡ w.desk
   pub journal : new.journal ≡ w.journal
+
+-- The job's machine has done one step more.
+pub record HasGoneOn (old new : World) (job : ℕ) (k : Worker) : Type 0 where
+  pub worker : Worker
+  pub is : slice_get new.workers job ≡ Some (Some worker)
+  pub more : worker.count ≡ suc k.count
+
+-- The end of the job's machine is filed, with the cells of its run, and its lease is back.
+pub record HasGivenBack (old new : World) (job : ℕ) (r : Run) (k : Worker) : Type 0 where
+  pub final : Final
+  pub is : slice_get new.filed job ≡ Some (Some final)
+  pub over : machine_of (take r.size (drop r.first old.cells)) k.core ≡ Over final
+  pub back : slice_get new.desk.leases job ≡ Some None
 
 -- The end that was filed for a job is the one that the meaning of its own plan's code says, with the cells that its lone machine leaves.
 pub record EndsAlone (ps : Planned) (job : ℕ) (f : Final) : Type 0 where

@@ -1,34 +1,48 @@
 -- Laws, for the function of isolation.rt.
 -- What holds in each world, from what every world keeps.
-use Rattle.std.proofs.Common.{◌≡◌, ℕ, ◌+◌, ◌<◌, ◌≤◌, List, length, take, drop, Option, Some, None, refl, sym, ap, ◌∙◌, arith, inl, inr}
+use Rattle.std.proofs.Common.{◌≡◌, ℕ, suc, ◌+◌, ◌<◌, ◌≤◌, List, [], length, take, drop, Option, Some, None, refl, sym, ap, ◌∙◌, subst, arith, inl, inr}
 use Rattle.std.specs.Prelude.{slice_get, ◌⊎◌}
 use Rattle.std.proofs.lemmas.Bool.{cases_lt}
 use Rattle.cell_span.specs.declared.cell.Cell.{Cell}
 use Rattle.grail_code.specs.Code.{Func}
 use Rattle.hole_list.specs.declared.run.Run.{Run}
+use Rattle.hole_list.specs.Placing.{times_in, total}
+use Rattle.lease_desk.specs.Journal.{give_lease, give_move}
 use Rattle.lease_desk.specs.theory.Leases.{set_there}
+use Rattle.lease_desk.specs.theory.Sound.{none_leased}
 use Rattle.licence.specs.Licensed.{Licensed}
-use Rattle.cell_machine.specs.State.{Final, Machine, cells_of}
-use Rattle.job_world.specs.Plans.{Plan, Planned}
-use Rattle.job_world.specs.Put.{Core, Going, Ended, machine_of, core_of, one_step}
-use Rattle.job_world.specs.World.{Start, start_in, start_with, start_at, start_of, Worker, World, WorldEvent, Step, stepped, step_in, after_step, after, world}
-use Rattle.job_world.specs.Isolation.{CanHold, LieApart, IsAlone, IsOutside, StepsApart, EndsAlone, HaveSamePlan, AreEqual}
+use Rattle.cell_machine.specs.State.{End, Final, Machine, cells_of}
+use Rattle.job_world.specs.Plans.{Plan, Planned, leases_of}
+use Rattle.job_world.specs.Put.{Rest, Core, Going, Ended, machine_of, core_of, one_step}
+use Rattle.job_world.specs.World.{Start, start_in, start_with, start_at, start_of, Worker, World, WorldEvent, Step, Give, first_world, stepped, step_in, after_step, final_in, ended, give_in, after_give, after, world}
+use Rattle.job_world.specs.Isolation.{CanHold, LieApart, IsAlone, IsOutside, StepsApart, HasGoneOn, HasGivenBack, EndsAlone, HaveSamePlan, AreEqual}
 use Rattle.job_world.specs.theory.PutLaws.{put_get}
-use Rattle.job_world.specs.theory.AloneLaws.{step_puts}
+use Rattle.job_world.specs.theory.AloneLaws.{set_here, has_step, step_puts}
 use Rattle.job_world.specs.theory.Starting.{sized_plan, begins, start_is, code_or, starts_of, lone_or, goes_on}
-use Rattle.job_world.specs.theory.Worlds.{bare, IsWorld, sound, apart_now, world_holds}
+use Rattle.job_world.specs.theory.Worlds.{bare, IsWorld, Holds, item_at, within, first_holds, sound, apart_now, world_holds, holds, first_stays, world_stays, none_out, none_filed}
 
 -- ---- apart, alone and filed
 
-pub lie_apart : (arena : ℕ) (ps : Planned) (events : List WorldEvent) → CanHold arena ps → LieApart arena ps (world arena ps events)
-lie_apart arena ps events can =
-    let k = world_holds arena ps events can in
-    let s = sound arena ps can (world arena ps events) k in
-    record { parts = s.cells; sum = s.sum; replayed = k.replayed }
+first_apart : (arena : ℕ) (ps : Planned) → ps.plans ≡ [] → LieApart arena ps (first_world arena ps)
+first_apart arena ps none = record {
+  parts = λ i. omega (arith, ap (λ (rs : List Run). times_in rs i) (none_leased (length (leases_of ps.plans))));
+  sum = omega (arith, ap (λ (rs : List Run). total rs) (none_leased (length (leases_of ps.plans))));
+  replayed = (first_holds arena ps).replayed;
+}
 
-pub is_alone : (arena : ℕ) (ps : Planned) (events : List WorldEvent) (job : ℕ) (r : Run) → CanHold arena ps
+pub lie_apart : (arena : ℕ) (ps : Planned) (events : List WorldEvent) → CanHold arena ps → LieApart arena ps (world arena ps events)
+lie_apart arena ps events can = by_plans (holds arena ps can)
+  where
+    by_plans : Holds arena ps ⊎ (ps.plans ≡ []) → LieApart arena ps (world arena ps events)
+    by_plans (inl h) =
+        let k = world_holds arena ps events h in
+        let s = sound arena ps h (world arena ps events) k in
+        record { parts = s.cells; sum = s.sum; replayed = k.replayed }
+    by_plans (inr none) = subst (LieApart arena ps) (sym (world_stays arena ps events none)) (first_apart arena ps none)
+
+alone_in : (arena : ℕ) (ps : Planned) (events : List WorldEvent) (job : ℕ) (r : Run) → Holds arena ps
     → slice_get (world arena ps events).desk.leases job ≡ Some (Some r) → IsAlone ps (world arena ps events) job r
-is_alone arena ps events job r can g =
+alone_in arena ps events job r can g =
     let k = world_holds arena ps events can in
     let s = sound arena ps can (world arena ps events) k in
     let q = sized_plan ps job r.size can.fit (s.sized job r g) in
@@ -41,13 +55,28 @@ is_alone arena ps events job r can g =
       alone = (k.alone job r y.0 g y.1).alone ∙ ap (λ o. lone_or o y.0.count) (start_is q.0);
     }
 
+pub is_alone : (arena : ℕ) (ps : Planned) (events : List WorldEvent) (job : ℕ) (r : Run) → CanHold arena ps
+    → slice_get (world arena ps events).desk.leases job ≡ Some (Some r) → IsAlone ps (world arena ps events) job r
+is_alone arena ps events job r can g = by_plans (holds arena ps can)
+  where
+    by_plans : Holds arena ps ⊎ (ps.plans ≡ []) → IsAlone ps (world arena ps events) job r
+    by_plans (inl h) = alone_in arena ps events job r h g
+    by_plans (inr none) = absurd (none_out arena ps events job r none g)
+
 pub filed_alone : (arena : ℕ) (ps : Planned) (events : List WorldEvent) (job : ℕ) (f : Final) → CanHold arena ps
     → slice_get (world arena ps events).filed job ≡ Some (Some f) → EndsAlone ps job f
-filed_alone arena ps events job f can e = (world_holds arena ps events can).filed job f e
+filed_alone arena ps events job f can e = by_plans (holds arena ps can)
+  where
+    by_plans : Holds arena ps ⊎ (ps.plans ≡ []) → EndsAlone ps job f
+    by_plans (inl h) = (world_holds arena ps events h).filed job f e
+    by_plans (inr none) = absurd (none_filed arena ps events job f none e)
 
 -- ---- a step leaves alone what isn't its own
 
-module _ (arena : ℕ) (ps : Planned) (can : CanHold arena ps) (w : World) (k : IsWorld arena ps w) (job : ℕ) where
+nothing_new : (w : World) (job : ℕ) → StepsApart w w job
+nothing_new w job = record { cells = λ index out. refl; frames = λ other ne. refl; filed = refl; desk = refl; journal = refl }
+
+module _ (arena : ℕ) (ps : Planned) (can : Holds arena ps) (w : World) (k : IsWorld arena ps w) (job : ℕ) where
   outside_of : (r : Run) → slice_get w.desk.leases job ≡ Some (Some r) → (size index : ℕ) → size ≡ r.size → IsOutside w job index → (index < r.first) ⊎ (r.first + size ≤ index)
   outside_of r g size index n out = by_first (cases_lt index r.first) (cases_lt index (r.first + size))
     where
@@ -56,12 +85,9 @@ module _ (arena : ℕ) (ps : Planned) (can : CanHold arena ps) (w : World) (k : 
       by_first (inr h) (inr j) = inr j
       by_first (inr h) (inl j) = absurd (out r g h (omega (arith, j, n)))
 
-  nothing_new : StepsApart w w job
-  nothing_new = record { cells = λ index out. refl; frames = λ other ne. refl; filed = refl; desk = refl; journal = refl }
-
   by_step : (s : Start) → start_of ps job ≡ Some s → (q : Worker) → slice_get w.workers job ≡ Some (Some q) → (r : Run) → slice_get w.desk.leases job ≡ Some (Some r)
       → (o : Option Machine) → one_step s.code (machine_of (drop r.first w.cells) q.core) ≡ o → StepsApart w (stepped w job r.first q o) job
-  by_step s e q f r g None is = nothing_new
+  by_step s e q f r g None is = nothing_new w job
   by_step s e q f r g (Some m) is =
       let own = k.alone job r q g f in
       let code : code_or (start_of ps job) ≡ s.code = ap code_or e in
@@ -78,16 +104,79 @@ module _ (arena : ℕ) (ps : Planned) (can : CanHold arena ps) (w : World) (k : 
   steps_apart = by_start (start_of ps job) refl (slice_get w.workers job) refl (slice_get w.desk.leases job) refl
     where
       by_start : (o : Option Start) → start_of ps job ≡ o → (v : Option (Option Worker)) → slice_get w.workers job ≡ v → (l : Option (Option Run)) → slice_get w.desk.leases job ≡ l → StepsApart w (step_in w job o v l) job
-      by_start None e v f l g = nothing_new
-      by_start (Some s) e None f l g = nothing_new
-      by_start (Some s) e (Some None) f l g = nothing_new
-      by_start (Some s) e (Some (Some q)) f None g = nothing_new
-      by_start (Some s) e (Some (Some q)) f (Some None) g = nothing_new
+      by_start None e v f l g = nothing_new w job
+      by_start (Some s) e None f l g = nothing_new w job
+      by_start (Some s) e (Some None) f l g = nothing_new w job
+      by_start (Some s) e (Some (Some q)) f None g = nothing_new w job
+      by_start (Some s) e (Some (Some q)) f (Some None) g = nothing_new w job
       by_start (Some s) e (Some (Some q)) f (Some (Some r)) g = by_step s e q f r g (one_step s.code (machine_of (drop r.first w.cells) q.core)) refl
+
+  -- ---- a step of a machine that isn't over, and a lease that goes back
+
+  goes_on_by : (r : Run) → slice_get w.desk.leases job ≡ Some (Some r) → (q : Worker) → slice_get w.workers job ≡ Some (Some q) → (rest : Rest) → q.core ≡ Going rest → HasGoneOn w (after_step ps w job) job q
+  goes_on_by r g q f rest core =
+      let t = sized_plan ps job r.size can.fit ((sound arena ps can w k).sized job r g) in
+      let own = k.alone job r q g f in
+      let has = has_step (starts_of ps) (goes_on ps can.fit) (bare w) job r q g f own k.alone (apart_now arena ps can w k) rest core in
+      let code : (begins t.0).code ≡ code_or (start_of ps job) = sym (ap code_or (start_is t.0)) in
+      let one : one_step (begins t.0).code (machine_of (drop r.first w.cells) q.core) ≡ Some has.0 = ap (λ c. one_step c (machine_of (drop r.first w.cells) q.core)) code ∙ has.1 in
+      let now : after_step ps w job ≡ stepped w job r.first q (Some has.0) =
+      ap (λ o. step_in w job o (slice_get w.workers job) (slice_get w.desk.leases job)) (start_is t.0)
+      ∙ ap (λ o. step_in w job (Some (begins t.0)) o (slice_get w.desk.leases job)) f
+      ∙ ap (λ o. step_in w job (Some (begins t.0)) (Some (Some q)) o) g
+      ∙ ap (stepped w job r.first q) one in
+      subst (λ v. HasGoneOn w v job q) (sym now)
+      (record {
+        worker = record { core = core_of has.0; count = suc q.count };
+        is = set_here w.workers job (Some (record { core = core_of has.0; count = suc q.count })) (Some q) f;
+        more = refl;
+      })
+
+  gives_back_by : (r : Run) → slice_get w.desk.leases job ≡ Some (Some r) → (q : Worker) → slice_get w.workers job ≡ Some (Some q) → (end : End) (calls peak low : ℕ) → q.core ≡ Ended end calls peak low
+      → HasGivenBack w (after_give w job) job r q
+  gives_back_by r g q f end calls peak low core =
+      let t = sized_plan ps job r.size can.fit ((sound arena ps can w k).sized job r g) in
+      let file = item_at w.filed job (omega (arith, k.files, within ps.plans job t.0.plan t.0.is)) in
+      let now : after_give w job ≡ ended w job (Ended end calls peak low) r (give_lease w.desk job (Some (Some r))) =
+      ap (λ o. give_in w job o (slice_get w.desk.leases job)) f
+      ∙ ap (λ o. give_in w job (Some (Some q)) o) g
+      ∙ ap (λ c. ended w job c r (give_move w.desk job)) core
+      ∙ ap (λ o. ended w job (Ended end calls peak low) r (give_lease w.desk job o)) g in
+      subst (λ v. HasGivenBack w v job r q) (sym now)
+      (record {
+        final = final_in w.cells r end calls peak low;
+        is = set_here w.filed job (Some (final_in w.cells r end calls peak low)) file.0 file.1;
+        over = ap (machine_of (take r.size (drop r.first w.cells))) core;
+        back = set_here w.desk.leases job None (Some r) g;
+      })
 
 pub step_apart : (arena : ℕ) (ps : Planned) (events : List WorldEvent) (job : ℕ) → CanHold arena ps → StepsApart (world arena ps events) (after ps (world arena ps events) (Step job)) job
 unfolding after
-step_apart arena ps events job can = steps_apart arena ps can (world arena ps events) (world_holds arena ps events can) job
+step_apart arena ps events job can = by_plans (holds arena ps can)
+  where
+    by_plans : Holds arena ps ⊎ (ps.plans ≡ []) → StepsApart (world arena ps events) (after_step ps (world arena ps events) job) job
+    by_plans (inl h) = steps_apart arena ps h (world arena ps events) (world_holds arena ps events h) job
+    by_plans (inr none) =
+        subst (λ w. StepsApart w (after_step ps w job) job) (sym (world_stays arena ps events none))
+        (subst (λ w. StepsApart (first_world arena ps) w job) (sym (first_stays arena ps (Step job) none)) (nothing_new (first_world arena ps) job))
+
+pub goes_on_at : (arena : ℕ) (ps : Planned) (events : List WorldEvent) (job : ℕ) (r : Run) (k : Worker) (rest : Rest) → CanHold arena ps → slice_get (world arena ps events).desk.leases job ≡ Some (Some r)
+    → slice_get (world arena ps events).workers job ≡ Some (Some k) → k.core ≡ Going rest → HasGoneOn (world arena ps events) (after ps (world arena ps events) (Step job)) job k
+unfolding after
+goes_on_at arena ps events job r k rest can g f core = by_plans (holds arena ps can)
+  where
+    by_plans : Holds arena ps ⊎ (ps.plans ≡ []) → HasGoneOn (world arena ps events) (after_step ps (world arena ps events) job) job k
+    by_plans (inl h) = goes_on_by arena ps h (world arena ps events) (world_holds arena ps events h) job r g k f rest core
+    by_plans (inr none) = absurd (none_out arena ps events job r none g)
+
+pub gives_back_at : (arena : ℕ) (ps : Planned) (events : List WorldEvent) (job : ℕ) (r : Run) (k : Worker) (end : End) (calls peak low : ℕ) → CanHold arena ps → slice_get (world arena ps events).desk.leases job ≡ Some (Some r)
+    → slice_get (world arena ps events).workers job ≡ Some (Some k) → k.core ≡ Ended end calls peak low → HasGivenBack (world arena ps events) (after ps (world arena ps events) (Give job)) job r k
+unfolding after
+gives_back_at arena ps events job r k end calls peak low can g f core = by_plans (holds arena ps can)
+  where
+    by_plans : Holds arena ps ⊎ (ps.plans ≡ []) → HasGivenBack (world arena ps events) (after_give (world arena ps events) job) job r k
+    by_plans (inl h) = gives_back_by arena ps h (world arena ps events) (world_holds arena ps events h) job r g k f end calls peak low core
+    by_plans (inr none) = absurd (none_out arena ps events job r none g)
 
 -- ---- the same plan
 
@@ -121,15 +210,15 @@ core_again cells (Ended end calls peak low) = refl
 worker_same : (k l : Worker) → k.core ≡ l.core → k.count ≡ l.count → l ≡ k
 worker_same k l core count = λ i. record { core = sym core i; count = sym count i }
 
-pub are_equal : (arena size : ℕ) (ps qs : Planned) (events others : List WorldEvent) (job other : ℕ) (r q : Run) (k l : Worker) → CanHold arena ps → CanHold size qs → HaveSamePlan ps qs job other
+equal_in : (arena size : ℕ) (ps qs : Planned) (events others : List WorldEvent) (job other : ℕ) (r q : Run) (k l : Worker) → Holds arena ps → Holds size qs → HaveSamePlan ps qs job other
     → slice_get (world arena ps events).desk.leases job ≡ Some (Some r) → slice_get (world size qs others).desk.leases other ≡ Some (Some q)
     → slice_get (world arena ps events).workers job ≡ Some (Some k) → slice_get (world size qs others).workers other ≡ Some (Some l) → k.count ≡ l.count
     → AreEqual (world arena ps events) (world size qs others) job other r q
-are_equal arena size ps qs events others job other r q k l can may h g g' f f' count =
+equal_in arena size ps qs events others job other r q k l can may h g g' f f' count =
     let a = (world_holds arena ps events can).alone job r k g f in
     let b = (world_holds size qs others may).alone other q l g' f' in
     let machines : machine_of (take r.size (drop r.first (world arena ps events).cells)) k.core ≡ machine_of (take q.size (drop q.first (world size qs others).cells)) l.core =
-        a.alone ∙ ap (λ o. lone_or o k.count) (same_start ps qs job other h) ∙ ap (lone_or (start_of qs other)) count ∙ sym b.alone in
+    a.alone ∙ ap (λ o. lone_or o k.count) (same_start ps qs job other h) ∙ ap (lone_or (start_of qs other)) count ∙ sym b.alone in
     let cores : k.core ≡ l.core = sym (core_again (take r.size (drop r.first (world arena ps events).cells)) k.core) ∙ ap core_of machines ∙ core_again (take q.size (drop q.first (world size qs others).cells)) l.core in
     record {
       worker = k;
@@ -137,3 +226,14 @@ are_equal arena size ps qs events others job other r q k l can may h g g' f f' c
       also = f' ∙ ap (λ x. Some (Some x)) (worker_same k l cores count);
       cells = sym (cells_again (take r.size (drop r.first (world arena ps events).cells)) k.core) ∙ ap cells_of machines ∙ cells_again (take q.size (drop q.first (world size qs others).cells)) l.core;
     }
+
+pub are_equal : (arena size : ℕ) (ps qs : Planned) (events others : List WorldEvent) (job other : ℕ) (r q : Run) (k l : Worker) → CanHold arena ps → CanHold size qs → HaveSamePlan ps qs job other
+    → slice_get (world arena ps events).desk.leases job ≡ Some (Some r) → slice_get (world size qs others).desk.leases other ≡ Some (Some q)
+    → slice_get (world arena ps events).workers job ≡ Some (Some k) → slice_get (world size qs others).workers other ≡ Some (Some l) → k.count ≡ l.count
+    → AreEqual (world arena ps events) (world size qs others) job other r q
+are_equal arena size ps qs events others job other r q k l can may h g g' f f' count = by_plans (holds arena ps can) (holds size qs may)
+  where
+    by_plans : Holds arena ps ⊎ (ps.plans ≡ []) → Holds size qs ⊎ (qs.plans ≡ []) → AreEqual (world arena ps events) (world size qs others) job other r q
+    by_plans (inr none) b = absurd (none_out arena ps events job r none g)
+    by_plans (inl a) (inr none) = absurd (none_out size qs others other q none g')
+    by_plans (inl a) (inl b) = equal_in arena size ps qs events others job other r q k l a b h g g' f f' count

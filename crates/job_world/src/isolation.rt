@@ -1,14 +1,16 @@
 //! The law of isolation, as the contract of a function that does nothing.
 ghost use Rattle.std.specs.Prelude.{◌≡◌, ℕ, List, slice_get, Some};
 ghost use Rattle.hole_list.specs.declared.run.Run.{Run};
-ghost use Rattle.cell_machine.specs.State.{Final};
+ghost use Rattle.cell_machine.specs.State.{End, Final};
 ghost use Rattle.job_world.specs.Plans.{Planned};
-ghost use Rattle.job_world.specs.World.{Worker, WorldEvent, Step, after, world};
-ghost use Rattle.job_world.specs.Isolation.{CanHold, LieApart, IsAlone, StepsApart, EndsAlone, HaveSamePlan, AreEqual};
+ghost use Rattle.job_world.specs.Put.{Rest, Going, Ended};
+ghost use Rattle.job_world.specs.World.{Worker, WorldEvent, Step, Give, after, world};
+ghost use Rattle.job_world.specs.Isolation.{CanHold, LieApart, IsAlone, StepsApart, HasGoneOn, HasGivenBack, EndsAlone, HaveSamePlan, AreEqual};
 
 /// Jobs in one arena do not touch each other. A world has the cells of the whole arena, the desk, and the machine of each job whose lease is out. Its events
 /// ask for the next job, let a job's machine step, or give a job's lease back, in any order. A machine steps in the whole list of cells, from the first one of
-/// its lease on, and nothing tests where the lease ends. The clauses hold behind any events, for fitting plans whose leases the arena can hold.
+/// its lease on, and nothing tests where the lease ends. The clauses hold behind any events, in an arena of any size, for plans that fit their
+/// licences and have leases of at most the arena.
 pub fn isolation_law()
     // Leases and holes share no cell and have all cells of the arena; the desk is the one behind the journal.
     ensures apart { (arena : ℕ) (ps : Planned) (events : List WorldEvent) → CanHold arena ps → LieApart arena ps (world arena ps events) }
@@ -18,6 +20,14 @@ pub fn isolation_law()
     // A step changes no cell outside of its job's range, no other machine, no end that was filed, and nothing of the desk.
     ensures step { (arena : ℕ) (ps : Planned) (events : List WorldEvent) (job : ℕ) → CanHold arena ps
         → StepsApart (world arena ps events) (after ps (world arena ps events) (Step job)) job }
+    // A Step of a machine that isn't over is one step more: no job gets stuck.
+    ensures goes { (arena : ℕ) (ps : Planned) (events : List WorldEvent) (job : ℕ) (r : Run) (k : Worker) (rest : Rest) → CanHold arena ps
+        → slice_get (world arena ps events).desk.leases job ≡ Some (Some r) → slice_get (world arena ps events).workers job ≡ Some (Some k) → k.core ≡ Going rest
+        → HasGoneOn (world arena ps events) (after ps (world arena ps events) (Step job)) job k }
+    // A Give of a machine that is over files its end, and the lease is back.
+    ensures gives { (arena : ℕ) (ps : Planned) (events : List WorldEvent) (job : ℕ) (r : Run) (k : Worker) (end : End) (calls peak low : ℕ) → CanHold arena ps
+        → slice_get (world arena ps events).desk.leases job ≡ Some (Some r) → slice_get (world arena ps events).workers job ≡ Some (Some k) → k.core ≡ Ended end calls peak low
+        → HasGivenBack (world arena ps events) (after ps (world arena ps events) (Give job)) job r k }
     // Each end that was filed is what the job's own plan comes to, with the cells that its lone machine leaves.
     ensures filed { (arena : ℕ) (ps : Planned) (events : List WorldEvent) (job : ℕ) (f : Final) → CanHold arena ps
         → slice_get (world arena ps events).filed job ≡ Some (Some f) → EndsAlone ps job f }

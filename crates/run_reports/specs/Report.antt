@@ -44,17 +44,18 @@ ended_text types (Fuel calls peak) fuel bound = (codes " fuel " ++ decimal fuel)
 ended_text types (Deep peak) fuel bound = (codes " deep peak " ++ decimal peak) ++ (codes " bound " ++ decimal bound)
 ended_text types Stuck fuel bound = []
 
+-- why a job doesn't run
 unfoldable pub job_cause_text : JobCause → List ℕ
-job_cause_text job_cause.NoProgram = codes " refused no-program"
-job_cause_text job_cause.ProgramRefused = codes " refused program-refused"
-job_cause_text job_cause.NoEntry = codes " refused no-entry"
-job_cause_text (job_cause.Argument at) = codes " refused argument at " ++ decimal at
-job_cause_text (job_cause.Long items) = codes " refused long items " ++ decimal items
+job_cause_text job_cause.NoProgram = codes "no-program"
+job_cause_text job_cause.ProgramRefused = codes "program-refused"
+job_cause_text job_cause.NoEntry = codes "no-entry"
+job_cause_text (job_cause.Argument at) = codes "argument at " ++ decimal at
+job_cause_text (job_cause.Long items) = codes "long items " ++ decimal items
 
 abbrev pub told_text : JobLine → List ℕ
 told_text (Ended types outcome fuel bound) = ended_text types outcome fuel bound
 told_text (TooLarge needs arena) = (codes " too-large needs " ++ decimal needs) ++ (codes " arena " ++ decimal arena)
-told_text (Refused cause) = job_cause_text cause
+told_text (Refused cause) = codes " refused " ++ job_cause_text cause
 
 abbrev pub job_text : (name : List ℕ) → JobLine → List ℕ
 job_text name line = (codes "job " ++ name) ++ told_text line ++ codes "\n"

@@ -142,18 +142,27 @@ fn push_ended(
     }
 }
 
-// Why a job didn't run.
+// Why a job doesn't run.
 #[tactic(auto, unfolding(crate::specs::Report::job_cause_text))]
 fn push_cause(out: &mut Vec<u8>, cause: &JobCause) -> Result<(), AllocError>
     ensures { OnOk result (out.new.items ≡ out.old.items ++ job_cause_text cause.now) }
 {
     match cause {
-        JobCause::NoProgram => out.extend_from_slice(b" refused no-program"),
-        JobCause::ProgramRefused => out.extend_from_slice(b" refused program-refused"),
-        JobCause::NoEntry => out.extend_from_slice(b" refused no-entry"),
-        JobCause::Argument { at } => push_number(out, b" refused argument at ", *at),
-        JobCause::Long { items } => push_number(out, b" refused long items ", *items),
+        JobCause::NoProgram => out.extend_from_slice(b"no-program"),
+        JobCause::ProgramRefused => out.extend_from_slice(b"program-refused"),
+        JobCause::NoEntry => out.extend_from_slice(b"no-entry"),
+        JobCause::Argument { at } => push_number(out, b"argument at ", *at),
+        JobCause::Long { items } => push_number(out, b"long items ", *items),
     }
+}
+
+// That a job is refused, and why.
+#[tactic(auto, using(crate::proofs::Joining::two))]
+fn push_unfit(out: &mut Vec<u8>, cause: &JobCause) -> Result<(), AllocError>
+    ensures { OnOk result (out.new.items ≡ out.old.items ++ (codes " refused " ++ job_cause_text cause.now)) }
+{
+    out.extend_from_slice(b" refused ")?;
+    push_cause(out, cause)
 }
 
 // What is told of a job, behind its name.
@@ -179,7 +188,7 @@ fn push_told(
             b" arena ",
             *arena as u64,
         ),
-        JobLine::Refused { cause } => push_cause(out, cause),
+        JobLine::Refused { cause } => push_unfit(out, cause),
     }
 }
 

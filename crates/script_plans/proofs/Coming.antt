@@ -11,23 +11,16 @@ use Rattle.camelot_values.specs.Counts.{size_all}
 use Rattle.camelot_values.specs.Kinds.{DataType}
 use Rattle.camelot_values.specs.Outcome.{Outcome, peak_of}
 use Rattle.camelot_values.specs.Typing.{ArgumentsFit}
-use Rattle.camelot_values.specs.declared.kinds.Kind.{Kind}
-use Rattle.camelot_tree.specs.Meaning as source
-use Rattle.typing_rules.specs.Kinds.{types_of}
-use Rattle.typing_rules.specs.Typing.{Signature}
-use Rattle.typing_rules.specs.Typed.{IsTyping, Typing}
-use Rattle.linear_use.specs.Answers.{KeepsRule}
 use Rattle.grail_code.specs.Code.{Code, Func}
 use Rattle.grail_code.specs.Meaning.{run_of}
 use Rattle.grail_code.specs.ByName.{IsFirstNamed}
 use Rattle.value_text.specs.Grammar.{IsRead, IsTooLong, IsBadShape}
-use Rattle.code_gen.specs.Generated.{compiled}
 use Rattle.licence.specs.Bound.{bound}
 use Rattle.licence.specs.Licensed.{Licensed, FitsEntry}
 use Rattle.cell_machine.specs.State.{most_calls}
-use Rattle.job_world.specs.Plans.{Plan, Planned, run_at, run_with, job_run}
+use Rattle.job_world.specs.Plans.{Plan, Planned, run_at, run_with, job_run, cells_with}
+use Rattle.job_world.specs.Plans as world
 use Rattle.job_world.specs.PlanLaws.{found_behind}
-use Rattle.camelot_compiler.specs.Licences.{HasLicence}
 use Rattle.run_reports.specs.Told.{licence_types}
 use Rattle.run_reports.specs.Report.{Ended, TooLarge}
 use Rattle.run_reports.specs.declared.outcome.JobCause.{JobCause}
@@ -37,21 +30,17 @@ use Rattle.script_plans.specs.declared.asking.Asked.TheVariants as asked
 use Rattle.script_plans.specs.declared.rows.Known.{Known}
 use Rattle.script_plans.specs.declared.types.JobPlan.{JobPlan}
 use Rattle.script_plans.specs.declared.types.JobPlan.TheVariants as plan
-use Rattle.script_plans.specs.Fates.{Call, Unfit, Calls, IsRefused, OfEntry, IsCall, IsFate, outcome_of, bound_of, lease_of}
+use Rattle.script_plans.specs.Programs.{ProgramText, Meaning, value_types, run_by, IsLicenceOf}
+use Rattle.script_plans.specs.Fates.{Call, Unfit, Calls, IsRefused, OfEntry, IsCall, IsFate, outcome_of, bound_of, lease_of, left_by, cells_of}
 use Rattle.script_plans.specs.Lines.{types_at, fuel_at, planned_line, places_with}
 use Rattle.script_plans.specs.Rows.{Holds, IsKnown, Row, row_among, IsRow, AreRows}
 use Rattle.script_plans.specs.Turns.{IsBoundOf, IsBounded, IsOfArgs, IsOfEntry, IsAsked, CanBePlanned, IsAdded, IsPlanned, IsUsable, IsCalled, Comes, plan_for}
-use Rattle.script_plans.proofs.Naming.{code_named, entry_found, no_entry}
-
--- the code of a typed program that keeps the rule means what the program means
-abbrev pub MeansSame : Type 0
-MeansSame = (t : Typing) (limit func fuel : ℕ) (args : List Value) (s : Signature) → IsTyping t → KeepsRule t → slice_get t.signatures func ≡ Some s
-    → ArgumentsFit (types_of t.source) s.params args → run_of (compiled t) limit func fuel args ≡ source.run_of t.source limit func fuel args
+use Rattle.script_plans.proofs.Naming.{MeansSame, Agrees, agrees, spelled, code_named, entry_found, no_entry}
 
 -- ---- what can be asked and planned
 
-pub usable : (licences : List Licensed) (text : List ℕ) (k : Known) → Holds licences text k → IsUsable licences k
-usable licences text k h = record { licence = h.licence; at = h.at; knows = h.knows; named = code_named h.licence.code h.is.has.spelled }
+pub usable : (licences : List Licensed) (p : ProgramText) (k : Known) → Holds licences p k → IsUsable licences k
+usable licences p k h = record { licence = h.licence; at = h.at; knows = h.knows; named = code_named h.licence.code (spelled p h.licence h.meaning h.is) }
 
 pub number_within : (p : Code) (number : ℕ) (name : List ℕ) → IsFirstNamed p number name → number < length p.funcs
 number_within p number name first = by_case (slice_get p.funcs number) refl first.named
@@ -109,9 +98,9 @@ can_be_planned licences licence fuel l name text (asked.Fits entry args most) at
 none_added : (old new : Planned) → new ≡ old → new.plans ≡ old.plans ++ []
 none_added old new e = ap (λ (p : Planned). p.plans) e ∙ sym (append-nil old.plans)
 
-pub comes_refused : (text : Option (List ℕ)) (entry args : List ℕ) (fuel arena : ℕ) (old new : Planned) (cause : JobCause) → IsFate text entry args (Unfit cause) → new ≡ old
-    → Comes text entry args fuel arena old new (plan.Refused cause)
-comes_refused text entry args fuel arena old new cause h e = record {
+pub comes_refused : (p : Option ProgramText) (entry args : List ℕ) (fuel arena : ℕ) (old new : Planned) (cause : JobCause) → IsFate p entry args (Unfit cause) → new ≡ old
+    → Comes p entry args fuel arena old new (plan.Refused cause)
+comes_refused p entry args fuel arena old new cause h e = record {
   fate = Unfit cause;
   is = h;
   within = tt;
@@ -119,6 +108,7 @@ comes_refused text entry args fuel arena old new cause h e = record {
   more = [];
   plans = none_added old new e;
   leases = refl;
+  cells = refl;
   next = ap (λ (p : Planned). length p.plans) (sym e);
   places = λ place. refl;
   line = refl;
@@ -127,65 +117,39 @@ comes_refused text entry args fuel arena old new cause h e = record {
 pub no_program : (entry args : List ℕ) (fuel arena : ℕ) (ps : Planned) → Comes None entry args fuel arena ps ps (plan.Refused job_cause.NoProgram)
 no_program entry args fuel arena ps = comes_refused None entry args fuel arena ps ps job_cause.NoProgram tt refl
 
-pub program_refused : (text entry args : List ℕ) (fuel arena : ℕ) (ps : Planned) → IsRefused text → Comes (Some text) entry args fuel arena ps ps (plan.Refused job_cause.ProgramRefused)
-program_refused text entry args fuel arena ps h = comes_refused (Some text) entry args fuel arena ps ps job_cause.ProgramRefused h refl
+pub program_refused : (p : ProgramText) (entry args : List ℕ) (fuel arena : ℕ) (ps : Planned) → IsRefused p → Comes (Some p) entry args fuel arena ps ps (plan.Refused job_cause.ProgramRefused)
+program_refused p entry args fuel arena ps h = comes_refused (Some p) entry args fuel arena ps ps job_cause.ProgramRefused h refl
 
 -- why it isn't called
-unfit_fate : (text name args : List ℕ) (t : Typing) (l : Licensed) (cause : JobCause) → HasLicence text t l → IsAsked l name args (asked.Unfit cause) → IsFate (Some text) name args (Unfit cause)
-unfit_fate text name args t l job_cause.NoProgram has h = absurd h.of_args
-unfit_fate text name args t l job_cause.ProgramRefused has h = absurd h.of_args
-unfit_fate text name args t l job_cause.NoEntry has h = no_entry text name t l has h
-unfit_fate text name args t l (job_cause.Argument at) has h =
-    let e = entry_found text name t l h.number h.func has h.first h.is in
-    record {
-      typing = t;
-      licence = l;
-      has = has;
-      entry = h.number;
-      named = e.named;
-      signature = e.signed.signature;
-      is = e.signed.is;
-      says = subst (λ (ks : List Kind). IsBadShape (types_of t.source) ks args at) e.signed.params (subst (λ (ts : List DataType). IsBadShape ts h.func.params args at) e.types h.of_args);
-    }
-unfit_fate text name args t l (job_cause.Long items) has h =
-    let e = entry_found text name t l h.number h.func has h.first h.is in
-    record {
-      typing = t;
-      licence = l;
-      has = has;
-      entry = h.number;
-      named = e.named;
-      signature = e.signed.signature;
-      is = e.signed.is;
-      says = subst (λ (ks : List Kind). IsTooLong (types_of t.source) ks args items) e.signed.params (subst (λ (ts : List DataType). IsTooLong ts h.func.params args items) e.types h.of_args);
-    }
+unfit_fate : (p : ProgramText) (name args : List ℕ) (m : Meaning) (l : Licensed) (cause : JobCause) → IsLicenceOf p l m → Agrees l m → IsAsked l name args (asked.Unfit cause) → IsFate (Some p) name args (Unfit cause)
+unfit_fate p name args m l job_cause.NoProgram has agree h = absurd h.of_args
+unfit_fate p name args m l job_cause.ProgramRefused has agree h = absurd h.of_args
+unfit_fate p name args m l job_cause.NoEntry has agree h = no_entry p name m l has agree h
+unfit_fate p name args m l (job_cause.Argument at) has agree h =
+    entry_found p name m l h.number h.func (λ m l number params. IsBadShape (value_types m) params args at) has agree h.first h.is
+    (subst (λ (ts : List DataType). IsBadShape ts h.func.params args at) agree.types h.of_args)
+unfit_fate p name args m l (job_cause.Long items) has agree h =
+    entry_found p name m l h.number h.func (λ m l number params. IsTooLong (value_types m) params args items) has agree h.first h.is
+    (subst (λ (ts : List DataType). IsTooLong ts h.func.params args items) agree.types h.of_args)
 
 -- ---- a call
 
 -- the call and its fate
-record IsCallFate (text name args : List ℕ) (t : Typing) (l : Licensed) (number : ℕ) (values : List Value) : Type 0 where
-  is : OfEntry text name (IsCall args (record { typing = t; licence = l; entry = number; args = values }))
-  same : (fuel : ℕ) → run_of l.code most_calls number fuel values ≡ source.run_of t.source most_calls number fuel values
-  types : l.code.types ≡ types_of t.source
+record IsCallFate (p : ProgramText) (name args : List ℕ) (m : Meaning) (l : Licensed) (number : ℕ) (values : List Value) : Type 0 where
+  is : OfEntry p name (IsCall args (record { meaning = m; licence = l; entry = number; args = values }))
+  same : (fuel : ℕ) → run_of l.code most_calls number fuel values ≡ run_by m number fuel values
+  types : l.code.types ≡ value_types m
 
-call_fate : (text name args : List ℕ) (t : Typing) (l : Licensed) (number : ℕ) (values : List Value) (func : Func) → MeansSame → HasLicence text t l → IsFirstNamed l.code number name → slice_get l.code.funcs number ≡ Some func
-    → IsRead l.code.types func.params args values → IsCallFate text name args t l number values
-call_fate text name args t l number values func means has first is read =
-    let e = entry_found text name t l number func has first is in
-    let there = subst (λ (ks : List Kind). IsRead (types_of t.source) ks args values) e.signed.params (subst (λ (ts : List DataType). IsRead ts func.params args values) e.types read) in
+call_fate : (p : ProgramText) (name args : List ℕ) (m : Meaning) (l : Licensed) (number : ℕ) (values : List Value) (func : Func) → IsLicenceOf p l m → Agrees l m → IsFirstNamed l.code number name
+    → slice_get l.code.funcs number ≡ Some func → IsRead l.code.types func.params args values → IsCallFate p name args m l number values
+call_fate p name args m l number values func has agree first is read =
+    let there : IsRead (value_types m) func.params args values = subst (λ (ts : List DataType). IsRead ts func.params args values) agree.types read in
     record {
-      is = record {
-        typing = t;
-        licence = l;
-        has = has;
-        entry = number;
-        named = e.named;
-        signature = e.signed.signature;
-        is = e.signed.is;
-        says = record { args = values; read = there; is = refl };
-      };
-      same = λ fuel. ap (λ (p : Code). run_of p most_calls number fuel values) has.code ∙ means t most_calls number fuel values e.signed.signature has.typed has.rule e.signed.is there.text_of.fit;
-      types = e.types;
+      is =
+          entry_found p name m l number func (IsCall args (record { meaning = m; licence = l; entry = number; args = values })) has agree first is
+          (record { args = values; read = there; is = refl });
+      same = λ fuel. agree.same number fuel func values is read.text_of.fit;
+      types = agree.types;
     }
 
 -- the line of the plan that was added
@@ -197,6 +161,12 @@ added_line licences plans n arena fuel bound l entry args at =
     ap (λ (o : Option Plan). Ended (types_at licences o) (run_at licences o) (fuel_at o) bound) (found_behind plans p [])
     ∙ ap (λ (o : Option Licensed). Ended (licence_types o) (run_with o p) fuel bound) at
 
+-- the cells that its run leaves
+same_left : (m : Meaning) (l : Licensed) (number : ℕ) (values : List Value) (n fuel : ℕ) (o : Option Func)
+    → world.cells_of l (plan_for n fuel l number values) o ≡ left_by (record { meaning = m; licence = l; entry = number; args = values }) fuel o
+same_left m l number values n fuel None = refl
+same_left m l number values n fuel (Some f) = refl
+
 new_plans : (old new : Planned) (p : Plan) → new.licences ≡ old.licences → new.plans ≡ old.plans ++ p ∷ [] → new ≡ record { licences = old.licences; plans = old.plans ++ p ∷ [] }
 new_plans old new p e f = λ i. record { licences = e i; plans = f i }
 
@@ -204,63 +174,68 @@ length_end : {A : Type 0} (xs : List A) (x : A) → suc (length xs) ≡ length (
 length_end [] x = refl
 length_end (y ∷ xs) x = ap suc (length_end xs x)
 
-comes_call : (text name args : List ℕ) (fuel arena n : ℕ) (old new : Planned) (t : Typing) (l : Licensed) (number : ℕ) (values : List Value) (most : ℕ) (p : JobPlan) → HasLicence text t l → slice_get old.licences n ≡ Some l
-    → IsCallFate text name args t l number values → IsBoundOf l number values most → IsAdded arena (plan_for n fuel l number values) most old new p → Comes (Some text) name args fuel arena old new p
-comes_call text name args fuel arena n old new t l number values most (plan.Refused cause) has at c b h = absurd h
-comes_call text name args fuel arena n old new t l number values most (plan.TooLarge needs) has at c b h =
-    let call : Call = record { typing = t; licence = l; entry = number; args = values } in
+comes_call : (p : ProgramText) (name args : List ℕ) (fuel arena n : ℕ) (old new : Planned) (m : Meaning) (l : Licensed) (number : ℕ) (values : List Value) (most : ℕ) (q : JobPlan) → slice_get old.licences n ≡ Some l
+    → IsCallFate p name args m l number values → IsBoundOf l number values most → IsAdded arena (plan_for n fuel l number values) most old new q → Comes (Some p) name args fuel arena old new q
+comes_call p name args fuel arena n old new m l number values most (plan.Refused cause) at c b h = absurd h
+comes_call p name args fuel arena n old new m l number values most (plan.TooLarge needs) at c b h =
+    let call : Call = record { meaning = m; licence = l; entry = number; args = values } in
     let large : nat_lt arena (lease_of call) ≡ true = grind (arith, nat_tests, h.1) in
     record {
       fate = Calls call;
       is = c.is;
-      within = subst (λ (m : ℕ). peak_of (outcome_of call fuel) ≤ m) b.is (subst (λ (o : Outcome Value). peak_of o ≤ most) (c.same fuel) (b.peak fuel));
-      licences = ap (λ (q : Planned). q.licences) h.2;
+      within = subst (λ (x : ℕ). peak_of (outcome_of call fuel) ≤ x) b.is (subst (λ (o : Outcome Value). peak_of o ≤ most) (c.same fuel) (b.peak fuel));
+      licences = ap (λ (ps : Planned). ps.licences) h.2;
       more = [];
       plans = none_added old new h.2;
       leases = sym (ap (λ b. if b then [] else lease_of call ∷ []) large);
-      next = ap (λ (q : Planned). length q.plans) (sym h.2);
+      cells = sym (ap (λ b. if b then [] else cells_of call fuel ∷ []) large);
+      next = ap (λ (ps : Planned). length ps.plans) (sym h.2);
       places = λ place. ap (λ b. places_with (if b then [] else lease_of call ∷ []) place) large;
-      line = ap (λ m. TooLarge m arena) h.0 ∙ sym (ap (λ b. if b then TooLarge (lease_of call) arena else Ended (types_of t.source) (outcome_of call fuel) fuel (bound_of call)) large);
+      line = ap (λ x. TooLarge x arena) h.0 ∙ sym (ap (λ b. if b then TooLarge (lease_of call) arena else Ended (value_types m) (outcome_of call fuel) fuel (bound_of call)) large);
     }
-comes_call text name args fuel arena n old new t l number values most (plan.Runs bound) has at c b h =
-    let call : Call = record { typing = t; licence = l; entry = number; args = values } in
-    let q : Plan = plan_for n fuel l number values in
+comes_call p name args fuel arena n old new m l number values most (plan.Runs bound) at c b h =
+    let call : Call = record { meaning = m; licence = l; entry = number; args = values } in
+    let added : Plan = plan_for n fuel l number values in
     let fits : nat_lt arena (lease_of call) ≡ false = grind (arith, nat_tests, h.1) in
     record {
       fate = Calls call;
       is = c.is;
-      within = subst (λ (m : ℕ). peak_of (outcome_of call fuel) ≤ m) b.is (subst (λ (o : Outcome Value). peak_of o ≤ most) (c.same fuel) (b.peak fuel));
+      within = subst (λ (x : ℕ). peak_of (outcome_of call fuel) ≤ x) b.is (subst (λ (o : Outcome Value). peak_of o ≤ most) (c.same fuel) (b.peak fuel));
       licences = h.2;
-      more = q ∷ [];
+      more = added ∷ [];
       plans = h.3;
       leases = sym (ap (λ b. if b then [] else lease_of call ∷ []) fits);
-      next = length_end old.plans q ∙ sym (ap length h.3);
+      cells =
+          ap (λ (o : Option Licensed). cells_with o added ∷ []) at
+          ∙ ap (λ cells. cells ∷ []) (same_left m l number values n fuel (slice_get l.code.funcs number))
+          ∙ sym (ap (λ b. if b then [] else cells_of call fuel ∷ []) fits);
+      next = length_end old.plans added ∙ sym (ap length h.3);
       places = λ place. ap (λ b. places_with (if b then [] else lease_of call ∷ []) place) fits;
       line =
-          ap (λ (ps : Planned). planned_line ps arena (length old.plans) (plan.Runs bound)) (new_plans old new q h.2 h.3)
+          ap (λ (ps : Planned). planned_line ps arena (length old.plans) (plan.Runs bound)) (new_plans old new added h.2 h.3)
           ∙ added_line old.licences old.plans n arena fuel bound l number values at
           ∙ ap (λ (ts : List DataType). Ended ts (run_of l.code most_calls number fuel values) fuel bound) c.types
-          ∙ ap (λ (o : Outcome Value). Ended (types_of t.source) o fuel bound) (c.same fuel)
-          ∙ ap (λ m. Ended (types_of t.source) (outcome_of call fuel) fuel m) (h.0 ∙ b.is)
-          ∙ sym (ap (λ b. if b then TooLarge (lease_of call) arena else Ended (types_of t.source) (outcome_of call fuel) fuel (bound_of call)) fits);
+          ∙ ap (λ (o : Outcome Value). Ended (value_types m) o fuel bound) (c.same fuel)
+          ∙ ap (λ x. Ended (value_types m) (outcome_of call fuel) fuel x) (h.0 ∙ b.is)
+          ∙ sym (ap (λ b. if b then TooLarge (lease_of call) arena else Ended (value_types m) (outcome_of call fuel) fuel (bound_of call)) fits);
     }
 
-comes_planned : (text name args : List ℕ) (fuel arena n : ℕ) (old new : Planned) (t : Typing) (l : Licensed) (a : Asked) (p : JobPlan) → MeansSame → HasLicence text t l → slice_get old.licences n ≡ Some l → IsAsked l name args a
-    → IsPlanned arena fuel n l a old new p → Comes (Some text) name args fuel arena old new p
-comes_planned text name args fuel arena n old new t l (asked.Unfit cause) p means has at h k =
-    subst (Comes (Some text) name args fuel arena old new) (sym k.0) (comes_refused (Some text) name args fuel arena old new cause (unfit_fate text name args t l cause has h) k.1)
-comes_planned text name args fuel arena n old new t l (asked.Fits entry values most) p means has at h k =
+comes_planned : (p : ProgramText) (name args : List ℕ) (fuel arena n : ℕ) (old new : Planned) (m : Meaning) (l : Licensed) (a : Asked) (q : JobPlan) → IsLicenceOf p l m → Agrees l m → slice_get old.licences n ≡ Some l
+    → IsAsked l name args a → IsPlanned arena fuel n l a old new q → Comes (Some p) name args fuel arena old new q
+comes_planned p name args fuel arena n old new m l (asked.Unfit cause) q has agree at h k =
+    subst (Comes (Some p) name args fuel arena old new) (sym k.0) (comes_refused (Some p) name args fuel arena old new cause (unfit_fate p name args m l cause has agree h) k.1)
+comes_planned p name args fuel arena n old new m l (asked.Fits entry values most) q has agree at h k =
     let same : h.number ≡ entry = sym h.of_args.0 in
-    let b : IsBoundOf l entry values.items most = subst (λ (m : ℕ). IsBoundOf l m values.items most) same h.of_args.2 in
-    let first : IsFirstNamed l.code entry name = subst (λ (m : ℕ). IsFirstNamed l.code m name) same h.first in
-    let is : slice_get l.code.funcs entry ≡ Some h.func = subst (λ (m : ℕ). slice_get l.code.funcs m ≡ Some h.func) same h.is in
-    comes_call text name args fuel arena n old new t l entry values.items most p has at (call_fate text name args t l entry values.items h.func means has first is h.of_args.1) b k
+    let b : IsBoundOf l entry values.items most = subst (λ (x : ℕ). IsBoundOf l x values.items most) same h.of_args.2 in
+    let first : IsFirstNamed l.code entry name = subst (λ (x : ℕ). IsFirstNamed l.code x name) same h.first in
+    let is : slice_get l.code.funcs entry ≡ Some h.func = subst (λ (x : ℕ). slice_get l.code.funcs x ≡ Some h.func) same h.is in
+    comes_call p name args fuel arena n old new m l entry values.items most q at (call_fate p name args m l entry values.items h.func has agree first is h.of_args.1) b k
 
-pub comes_called : (text name args : List ℕ) (fuel arena : ℕ) (old new : Planned) (k : Known) (p : JobPlan) → MeansSame → Holds old.licences text k
-    → ((l : Licensed) → slice_get old.licences k.licence ≡ Some l → IsCalled arena fuel k.licence l name args old new p) → Comes (Some text) name args fuel arena old new p
-comes_called text name args fuel arena old new k p means h each =
+pub comes_called : (p : ProgramText) (name args : List ℕ) (fuel arena : ℕ) (old new : Planned) (k : Known) (q : JobPlan) → MeansSame → Holds old.licences p k
+    → ((l : Licensed) → slice_get old.licences k.licence ≡ Some l → IsCalled arena fuel k.licence l name args old new q) → Comes (Some p) name args fuel arena old new q
+comes_called p name args fuel arena old new k q means h each =
     let c = each h.licence h.at in
-    comes_planned text name args fuel arena k.licence old new h.is.typing h.licence c.a p means h.is.has h.at c.is c.planned
+    comes_planned p name args fuel arena k.licence old new h.meaning h.licence c.a q h.is (agrees p h.licence h.meaning means h.is) h.at c.is c.planned
 
 -- ---- rows
 
@@ -326,7 +301,7 @@ row_fits licences rows name r h e = row_found licences rows name r h (sym e)
 
 -- ---- what is answered
 
-pub row_comes : (text name args : List ℕ) (fuel arena : ℕ) (old new : Planned) (o : Option Known) (k : Known) (r : Result JobPlan AllocError) → MeansSame → IsKnown old.licences text o → o ≡ Some k
-    → ((l : Licensed) → slice_get old.licences k.licence ≡ Some l → IfOk r (IsCalled arena fuel k.licence l name args old new)) → IfOk r (Comes (Some text) name args fuel arena old new)
-row_comes text name args fuel arena old new o k (Err x) means h e each = tt
-row_comes text name args fuel arena old new o k (Ok p) means h e each = comes_called text name args fuel arena old new k p means (subst (IsKnown old.licences text) e h) each
+pub row_comes : (p : ProgramText) (name args : List ℕ) (fuel arena : ℕ) (old new : Planned) (o : Option Known) (k : Known) (r : Result JobPlan AllocError) → MeansSame → IsKnown old.licences p o → o ≡ Some k
+    → ((l : Licensed) → slice_get old.licences k.licence ≡ Some l → IfOk r (IsCalled arena fuel k.licence l name args old new)) → IfOk r (Comes (Some p) name args fuel arena old new)
+row_comes p name args fuel arena old new o k (Err x) means h e each = tt
+row_comes p name args fuel arena old new o k (Ok q) means h e each = comes_called p name args fuel arena old new k q means (subst (IsKnown old.licences p) e h) each

@@ -6,3 +6,4 @@ pub mod Programs
 pub mod Behind
 pub mod Taking
 pub mod OneFate
+pub mod Alike

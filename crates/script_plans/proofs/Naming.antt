@@ -1,4 +1,5 @@
--- The functions of compiled code are those of the source: the same names in order, with the parameters' kinds. The first one of a name is the same in both, and constructors have upper names.
+-- The code of a licence does what the calls of its program mean. Of compiled code: its functions are those of the source, the same names in order, with the parameters' kinds. The first one
+-- of a name is the same in both, and constructors have upper names.
 use Rattle.std.proofs.Common.{◌≡◌, ℕ, zero, suc, ◌<◌, Bool, true, false, List, [], ◌∷◌, ◌++◌, map, Some, None, refl, sym, ap, ◌∙◌, subst, arith}
 use Rattle.std.specs.Prelude.{slice_get, if◌then◌else◌, Option}
 use Rattle.std.specs.List.{AllByRecursion}
@@ -8,21 +9,28 @@ use Rattle.std.proofs.lemmas.Option.{slice_get-map}
 use Rattle.camelot_values.specs.Kinds.{DataType, Constructor}
 use Rattle.camelot_values.specs.Names.{IsUpperName, place_among}
 use Rattle.camelot_values.specs.NameLaws.{same_name, name_itself}
+use Rattle.camelot_values.specs.Value.{Value}
+use Rattle.camelot_values.specs.Typing.{ArgumentsFit}
+use Rattle.camelot_tree.specs.Meaning as source
 use Rattle.camelot_tree.specs.Tree.{Function, Source}
 use Rattle.typing_rules.specs.Kinds.{Globals, types_of}
 use Rattle.camelot_values.specs.declared.kinds.Kind.{Kind}
 use Rattle.typing_rules.specs.Typing.{Signature, FunctionsFit, globals_of}
-use Rattle.typing_rules.specs.Typed.{Typing}
+use Rattle.typing_rules.specs.Typed.{IsTyping, Typing}
+use Rattle.linear_use.specs.Answers.{KeepsRule}
 use Rattle.grail_code.specs.Code.{Code, Func}
+use Rattle.grail_code.specs.Meaning.{run_of}
 use Rattle.grail_code.specs.ByName.{HasName, IsFirstNamed}
 use Rattle.grail_code.specs.Spelling.{FitsCode, FitsType, FitsCon}
 use Rattle.value_text.specs.Grammar.{AreNamed}
 use Rattle.normal_form.specs.Normal.{normal_functions}
 use Rattle.normal_form.specs.Coded.{BlockParams, coded}
-use Rattle.code_gen.specs.Generated.{live_params}
+use Rattle.code_gen.specs.Generated.{compiled, live_params}
 use Rattle.licence.specs.Licensed.{Licensed}
 use Rattle.camelot_compiler.specs.Licences.{HasLicence}
-use Rattle.script_plans.specs.Fates.{HasNoEntry}
+use Rattle.cell_machine.specs.State.{most_calls}
+use Rattle.script_plans.specs.Programs.{ProgramText, CamelotText, GrailText, Meaning, OfSource, OfCode, function_names, function_params, value_types, run_by, IsLicenceOf}
+use Rattle.script_plans.specs.Fates.{OfEntry, HasNoEntry}
 
 -- ---- upper names
 
@@ -97,25 +105,76 @@ name_is p number name h = slice_get-map (λ (f : Func). f.name) p.funcs number �
 has_name : (p : Code) (number : ℕ) (name : List ℕ) → slice_get (map (λ (f : Func). f.name) p.funcs) number ≡ Some name → HasName p number name
 has_name p number name e = sym (slice_get-map (λ (f : Func). f.name) p.funcs number) ∙ e
 
--- the entry of this name, with its kinds, which are those of the code
-pub record IsEntry (text name : List ℕ) (t : Typing) (l : Licensed) (number : ℕ) (params : List Kind) : Type 0 where
-  pub named : place_among (map (λ f. f.name.word) t.source.funs) name ≡ Some number
-  pub signed : IsSigned t.signatures number params
-  pub types : l.code.types ≡ types_of t.source
+-- ---- what a licence's code has in common with the meaning of calls
 
-pub entry_found : (text name : List ℕ) (t : Typing) (l : Licensed) (number : ℕ) (func : Func) → HasLicence text t l → IsFirstNamed l.code number name → slice_get l.code.funcs number ≡ Some func
-    → IsEntry text name t l number func.params
-entry_found text name t l number func has first is = record {
-  named = subst (λ (ns : List (List ℕ)). place_among ns name ≡ Some number) (licence_names text t l has)
-      (first_place (map (λ (f : Func). f.name) l.code.funcs) number name (name_is l.code number name first.named) (λ earlier less here. first.first earlier less (has_name l.code earlier name here)));
-  signed = signed live_params t.source t.signatures t.source.funs t.signatures number func (subst (λ (p : Code). slice_get p.funcs number ≡ Some func) has.code is);
+-- the code of a typed program that keeps the rule means what the program means
+abbrev pub MeansSame : Type 0
+MeansSame = (t : Typing) (limit func fuel : ℕ) (args : List Value) (s : Signature) → IsTyping t → KeepsRule t → slice_get t.signatures func ≡ Some s
+    → ArgumentsFit (types_of t.source) s.params args → run_of (compiled t) limit func fuel args ≡ source.run_of t.source limit func fuel args
+
+-- The same functions in order, with parameters of the same kinds, over the same types; and each call on fitting arguments comes to the same.
+pub record Agrees (l : Licensed) (m : Meaning) : Type 0 where
+  pub names : map (λ f. f.name) l.code.funcs ≡ function_names m
+  pub params : (number : ℕ) (func : Func) → slice_get l.code.funcs number ≡ Some func → slice_get (function_params m) number ≡ Some func.params
+  pub types : l.code.types ≡ value_types m
+  pub same : (number fuel : ℕ) (func : Func) (args : List Value) → slice_get l.code.funcs number ≡ Some func → ArgumentsFit l.code.types func.params args
+      → run_of l.code most_calls number fuel args ≡ run_by m number fuel args
+
+source_signed : (text : List ℕ) (t : Typing) (l : Licensed) → HasLicence text t l → (number : ℕ) (func : Func) → slice_get l.code.funcs number ≡ Some func → IsSigned t.signatures number func.params
+source_signed text t l has number func is = signed live_params t.source t.signatures t.source.funs t.signatures number func (subst (λ (p : Code). slice_get p.funcs number ≡ Some func) has.code is)
+
+source_agrees : (text : List ℕ) (t : Typing) (l : Licensed) → MeansSame → HasLicence text t l → Agrees l (OfSource t)
+source_agrees text t l means has = record {
+  names = licence_names text t l has;
+  params = λ number func is.
+      let s = source_signed text t l has number func is in
+      slice_get-map (λ (s : Signature). s.params) t.signatures number ∙ ap (option_map (λ (s : Signature). s.params)) s.is ∙ ap Some (sym s.params);
   types = ap (λ (p : Code). p.types) has.code;
+  same = λ number fuel func args is fit.
+      let s = source_signed text t l has number func is in
+      let there : ArgumentsFit (types_of t.source) func.params args = subst (λ (ts : List DataType). ArgumentsFit ts func.params args) (ap (λ (p : Code). p.types) has.code) fit in
+      ap (λ (p : Code). run_of p most_calls number fuel args) has.code
+      ∙ means t most_calls number fuel args s.signature has.typed has.rule s.is (subst (λ (ks : List Kind). ArgumentsFit (types_of t.source) ks args) s.params there);
 }
 
-pub no_entry : (text name : List ℕ) (t : Typing) (l : Licensed) → HasLicence text t l → ((number : ℕ) → HasName l.code number name → ⊥) → HasNoEntry text name
-no_entry text name t l has none = record {
-  typing = t;
+code_agrees : (l : Licensed) → Agrees l (OfCode l.code)
+code_agrees l = record {
+  names = refl;
+  params = λ number func is. slice_get-map (λ (f : Func). f.params) l.code.funcs number ∙ ap (option_map (λ (f : Func). f.params)) is;
+  types = refl;
+  same = λ number fuel func args is fit. refl;
+}
+
+pub agrees : (p : ProgramText) (l : Licensed) (m : Meaning) → MeansSame → IsLicenceOf p l m → Agrees l m
+agrees (CamelotText text) l m means h = subst (Agrees l) (sym h.means) (source_agrees text h.is.typing l means h.is.has)
+agrees (GrailText text) l m means h = subst (Agrees l) (sym h.means) (code_agrees l)
+
+-- the code of a licence has a spelling
+pub spelled : (p : ProgramText) (l : Licensed) (m : Meaning) → IsLicenceOf p l m → FitsCode l.code
+spelled (CamelotText text) l m h = h.is.has.spelled
+spelled (GrailText text) l m h = let of_code = h.verdict in subst (λ (l : Licensed). FitsCode l.code) (sym of_code.says.1.says.0) of_code.spelled.fits
+
+-- ---- entries
+
+-- the first function of a name, of which this is said
+pub entry_found : (p : ProgramText) (name : List ℕ) (m : Meaning) (l : Licensed) (number : ℕ) (func : Func) (Says : Meaning → Licensed → (entry : ℕ) → List Kind → Type 0) → IsLicenceOf p l m → Agrees l m
+    → IsFirstNamed l.code number name → slice_get l.code.funcs number ≡ Some func → Says m l number func.params → OfEntry p name Says
+entry_found p name m l number func Says has agree first is says = record {
+  meaning = m;
   licence = l;
   has = has;
-  none = subst (λ (ns : List (List ℕ)). place_among ns name ≡ None) (licence_names text t l has) (no_place (map (λ (f : Func). f.name) l.code.funcs) name (λ number here. none number (has_name l.code number name here)));
+  entry = number;
+  named = subst (λ (ns : List (List ℕ)). place_among ns name ≡ Some number) agree.names
+      (first_place (map (λ (f : Func). f.name) l.code.funcs) number name (name_is l.code number name first.named) (λ earlier less here. first.first earlier less (has_name l.code earlier name here)));
+  params = func.params;
+  is = agree.params number func is;
+  says = says;
+}
+
+pub no_entry : (p : ProgramText) (name : List ℕ) (m : Meaning) (l : Licensed) → IsLicenceOf p l m → Agrees l m → ((number : ℕ) → HasName l.code number name → ⊥) → HasNoEntry p name
+no_entry p name m l has agree none = record {
+  meaning = m;
+  licence = l;
+  has = has;
+  none = subst (λ (ns : List (List ℕ)). place_among ns name ≡ None) agree.names (no_place (map (λ (f : Func). f.name) l.code.funcs) name (λ number here. none number (has_name l.code number name here)));
 }

@@ -14,29 +14,30 @@ use Rattle.refusals.specs.declared.cause.Cause.{Cause}
 use Rattle.run_reports.specs.declared.outcome.ProgramLine.{ProgramLine}
 use Rattle.run_reports.specs.declared.outcome.ProgramLine.TheVariants as program
 use Rattle.script_plans.specs.declared.rows.Known.{Known}
-use Rattle.script_plans.specs.Fates.{text_of_program}
+use Rattle.script_plans.specs.Programs.{ProgramText, CamelotText, GrailText, program_of, program_named, OfSource}
 use Rattle.script_plans.specs.Lines.{AreProgramLines}
-use Rattle.script_plans.specs.Rows.{Row, row_among, row_text, IsKnown, IsRow, AreRows, IsProgramAdded, IsTaken, AreLicensed}
+use Rattle.script_plans.specs.Rows.{Row, row_among, row_program, IsKnown, IsRow, AreRows, IsProgramAdded, IsTaken, AreLicensed}
 
--- the row's text, or else this one
-abbrev text_or : Option Row → Option (List ℕ) → Option (List ℕ)
-text_or None o = o
-text_or (Some r) o = Some r.text
+-- the row's program, or else this one
+abbrev program_or : Option Row → Option ProgramText → Option ProgramText
+program_or None o = o
+program_or (Some r) o = Some r.program
 
 -- The front entries have these lines, whatever lines the rest have, and the rows are theirs.
 pub record UpTo (script rest : List Entry) (rows : List Row) (licences : List Licensed) (lines : List ProgramLine) : Type 0 where
   pub told : (more : List ProgramLine) → AreProgramLines rest more → AreProgramLines script (lines ++ more)
   pub kept : AreRows licences rows
-  pub texts : (name : List ℕ) → text_of_program script name ≡ text_or (row_among rows name) (text_of_program rest name)
+  pub programs : (name : List ℕ) → program_named script name ≡ program_or (row_among rows name) (program_named rest name)
   pub few : length licences + length rest ≤ length script
 
 pub none_licensed : (script : List Entry) → UpTo script script [] [] []
-none_licensed script = record { told = λ more h. h; kept = tt; texts = λ name. refl; few = omega arith }
+none_licensed script = record { told = λ more h. h; kept = tt; programs = λ name. refl; few = omega arith }
 
-known_stays : (licences more : List Licensed) (text : List ℕ) (k : Option Known) → IsKnown licences text k → IsKnown (licences ++ more) text k
-known_stays licences more text None h = h
-known_stays licences more text (Some k) h = record {
+known_stays : (licences more : List Licensed) (p : ProgramText) (k : Option Known) → IsKnown licences p k → IsKnown (licences ++ more) p k
+known_stays licences more p None h = h
+known_stays licences more p (Some k) h = record {
   licence = h.licence;
+  meaning = h.meaning;
   at = front_stays licences more k.licence (slice_get_within licences k.licence h.licence h.at) ∙ h.at;
   is = h.is;
   knows = h.knows;
@@ -44,29 +45,29 @@ known_stays licences more text (Some k) h = record {
 
 rows_end : (licences more : List Licensed) (rows : List Row) (r : Row) → AreRows licences rows → IsRow (licences ++ more) r → AreRows (licences ++ more) (rows ++ r ∷ [])
 rows_end licences more [] r h k = (k, tt)
-rows_end licences more (q ∷ rows) r h k = (known_stays licences more q.text q.known h.0, rows_end licences more rows r h.1 k)
+rows_end licences more (q ∷ rows) r h k = (known_stays licences more q.program q.known h.0, rows_end licences more rows r h.1 k)
 
-texts_end : (rows : List Row) (r : Row) (name : List ℕ) (o : Option (List ℕ)) → text_or (row_among rows name) (if bytes_eq r.name name then Some r.text else o) ≡ text_or (row_among (rows ++ r ∷ []) name) o
-texts_end [] r name o = by_test (bytes_eq r.name name)
+programs_end : (rows : List Row) (r : Row) (name : List ℕ) (o : Option ProgramText) → program_or (row_among rows name) (if bytes_eq r.name name then Some r.program else o) ≡ program_or (row_among (rows ++ r ∷ []) name) o
+programs_end [] r name o = by_test (bytes_eq r.name name)
   where
-    by_test : (b : Bool) → (if b then Some r.text else o) ≡ text_or (if b then Some r else None) o
+    by_test : (b : Bool) → (if b then Some r.program else o) ≡ program_or (if b then Some r else None) o
     by_test true = refl
     by_test false = refl
-texts_end (q ∷ rows) r name o = by_test (bytes_eq q.name name) (texts_end rows r name o)
+programs_end (q ∷ rows) r name o = by_test (bytes_eq q.name name) (programs_end rows r name o)
   where
-    by_test : (b : Bool) → text_or (row_among rows name) (if bytes_eq r.name name then Some r.text else o) ≡ text_or (row_among (rows ++ r ∷ []) name) o
-        → text_or (if b then Some q else row_among rows name) (if bytes_eq r.name name then Some r.text else o) ≡ text_or (if b then Some q else row_among (rows ++ r ∷ []) name) o
+    by_test : (b : Bool) → program_or (row_among rows name) (if bytes_eq r.name name then Some r.program else o) ≡ program_or (row_among (rows ++ r ∷ []) name) o
+        → program_or (if b then Some q else row_among rows name) (if bytes_eq r.name name then Some r.program else o) ≡ program_or (if b then Some q else row_among (rows ++ r ∷ []) name) o
     by_test true go = refl
     by_test false go = go
 
 program_licensed : (script rest : List Entry) (p : Program) (rows rows2 : List Row) (licences licences2 : List Licensed) (lines lines2 : List ProgramLine) → UpTo script (AProgram p ∷ rest) rows licences lines
-    → IsProgramAdded p.name p.text rows rows2 licences licences2 lines lines2 → UpTo script rest rows2 licences2 lines2
+    → IsProgramAdded p.name (program_of p) rows rows2 licences licences2 lines lines2 → UpTo script rest rows2 licences2 lines2
 program_licensed script rest p rows rows2 licences licences2 lines lines2 u a =
-    let r : Row = record { name = p.name; text = p.text; known = a.known } in
+    let r : Row = record { name = p.name; program = program_of p; known = a.known } in
     record {
       told = λ more h. subst (λ l. AreProgramLines script (l ++ more)) (sym a.new_line) (subst (AreProgramLines script) (sym (append_assoc lines (a.line ∷ []) more)) (u.told (a.line ∷ more) (a.is, h)));
-      kept = subst (AreRows licences2) (sym a.new_row) (subst (λ ls. AreRows ls (rows ++ r ∷ [])) (sym a.new_licences) (rows_end licences a.more rows r u.kept (subst (λ ls. IsKnown ls p.text a.known) a.new_licences a.knows)));
-      texts = λ name. u.texts name ∙ texts_end rows r name (text_of_program rest name) ∙ ap (λ rs. text_or (row_among rs name) (text_of_program rest name)) (sym a.new_row);
+      kept = subst (AreRows licences2) (sym a.new_row) (subst (λ ls. AreRows ls (rows ++ r ∷ [])) (sym a.new_licences) (rows_end licences a.more rows r u.kept (subst (λ ls. IsKnown ls (program_of p) a.known) a.new_licences a.knows)));
+      programs = λ name. u.programs name ∙ programs_end rows r name (program_named rest name) ∙ ap (λ rs. program_or (row_among rs name) (program_named rest name)) (sym a.new_row);
       few = omega (arith, u.few, a.count);
     }
 
@@ -79,34 +80,46 @@ pub licensed_more : (script rest : List Entry) (entry : Entry) (rows rows2 : Lis
     → IsTaken entry rows rows2 licences licences2 lines lines2 → UpTo script rest rows2 licences2 lines2
 licensed_more script rest (AProgram p) rows rows2 licences licences2 lines lines2 u t = program_licensed script rest p rows rows2 licences licences2 lines lines2 u t
 licensed_more script rest (AJob j) rows rows2 licences licences2 lines lines2 u t =
-    job_passed script rest rows rows2 licences licences2 lines lines2 (record { told = u.told; kept = u.kept; texts = u.texts; few = omega (arith, u.few) }) t.0 t.1 t.2
+    job_passed script rest rows rows2 licences licences2 lines lines2 (record { told = u.told; kept = u.kept; programs = u.programs; few = omega (arith, u.few) }) t.0 t.1 t.2
 
-text_none : (o : Option Row) → text_or o None ≡ row_text o
-text_none None = refl
-text_none (Some r) = refl
+program_none : (o : Option Row) → program_or o None ≡ row_program o
+program_none None = refl
+program_none (Some r) = refl
 
 pub all_licensed : (script : List Entry) (rows : List Row) (licences : List Licensed) (lines : List ProgramLine) → UpTo script [] rows licences lines → AreLicensed script rows licences lines
 all_licensed script rows licences lines u = record {
   told = subst (AreProgramLines script) (append-nil lines) (u.told [] tt);
   kept = u.kept;
-  texts = λ name. u.texts name ∙ text_none (row_among rows name);
+  programs = λ name. u.programs name ∙ program_none (row_among rows name);
 }
 
 -- ---- one program
 
+-- a program of the script that is in Camelot
+pub in_camelot : (camelot : Bool) (name text : List ℕ) (rows rows2 : List Row) (licences licences2 : List Licensed) (lines lines2 : List ProgramLine) → camelot ≡ true
+    → IsProgramAdded name (CamelotText text) rows rows2 licences licences2 lines lines2 → IsProgramAdded name (if camelot then CamelotText text else GrailText text) rows rows2 licences licences2 lines lines2
+in_camelot camelot name text rows rows2 licences licences2 lines lines2 e a =
+    subst (λ (p : ProgramText). IsProgramAdded name p rows rows2 licences licences2 lines lines2) (sym (ap (λ b. if b then CamelotText text else GrailText text) e)) a
+
 pub accepted : (name text : List ℕ) (rows rows2 : List Row) (licences licences2 : List Licensed) (lines lines2 : List ProgramLine) (l : Licensed) (k : Known) (unit : ℕ) → IsLicence text l
-    → k.licence ≡ length licences → Knows l.code.types k.inhabited → unit ≡ l.cert.unit → licences2 ≡ licences ++ l ∷ [] → rows2 ≡ rows ++ record { name = name; text = text; known = Some k } ∷ []
-    → lines2 ≡ lines ++ program.Accepted unit ∷ [] → IsProgramAdded name text rows rows2 licences licences2 lines lines2
+    → k.licence ≡ length licences → Knows l.code.types k.inhabited → unit ≡ l.cert.unit → licences2 ≡ licences ++ l ∷ [] → rows2 ≡ rows ++ record { name = name; program = CamelotText text; known = Some k } ∷ []
+    → lines2 ≡ lines ++ program.Accepted unit ∷ [] → IsProgramAdded name (CamelotText text) rows rows2 licences licences2 lines lines2
 accepted name text rows rows2 licences licences2 lines lines2 l k unit is at knows units ls rs lns = record {
   line = program.Accepted unit;
-  is = record { licence = l; is = is; units = units };
+  is = record { licence = l; meaning = OfSource is.typing; is = record { is = is; means = refl }; units = units };
   new_line = lns;
   known = Some k;
   new_row = rs;
   more = l ∷ [];
   new_licences = ls;
   count = let n : length licences2 ≡ length licences + 1 = ap length ls ∙ length_end licences l in omega (arith, n);
-  knows = record { licence = l; at = ap (λ xs. slice_get xs k.licence) ls ∙ ap (slice_get (licences ++ l ∷ [])) at ∙ found_behind licences l []; is = is; knows = knows };
+  knows = record {
+    licence = l;
+    meaning = OfSource is.typing;
+    at = ap (λ xs. slice_get xs k.licence) ls ∙ ap (slice_get (licences ++ l ∷ [])) at ∙ found_behind licences l [];
+    is = record { is = is; means = refl };
+    knows = knows;
+  };
 }
   where
     length_end : (xs : List Licensed) (x : Licensed) → length (xs ++ x ∷ []) ≡ length xs + 1
@@ -114,7 +127,7 @@ accepted name text rows rows2 licences licences2 lines lines2 l k unit is at kno
     length_end (y ∷ xs) x = let go = length_end xs x in omega (arith, go)
 
 pub refused : (name text : List ℕ) (rows rows2 : List Row) (licences : List Licensed) (lines lines2 : List ProgramLine) (cause : Cause) → IsCompiled text (compiler.Refused cause)
-    → rows2 ≡ rows ++ record { name = name; text = text; known = None } ∷ [] → lines2 ≡ lines ++ program.Refused cause ∷ [] → IsProgramAdded name text rows rows2 licences licences lines lines2
+    → rows2 ≡ rows ++ record { name = name; program = CamelotText text; known = None } ∷ [] → lines2 ≡ lines ++ program.Refused cause ∷ [] → IsProgramAdded name (CamelotText text) rows rows2 licences licences lines lines2
 refused name text rows rows2 licences lines lines2 cause is rs lns = record {
   line = program.Refused cause;
   is = is;

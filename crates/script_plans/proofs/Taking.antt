@@ -1,19 +1,20 @@
 -- Jobs one by one: their fates, and what is planned of them.
 use Rattle.std.proofs.Common.{◌≡◌, ℕ, suc, ◌+◌, ◌≤◌, Bool, true, false, List, [], ◌∷◌, ◌++◌, length, refl, sym, ap, ◌∙◌, subst, append_assoc, append-nil, arith}
-use Rattle.std.specs.Prelude.{nat_lt, if◌then◌else◌, Option}
+use Rattle.std.specs.Prelude.{nat_lt, if◌then◌else◌, Option, slice_get}
 use Rattle.std.specs.List.{AllByRecursion}
 use Rattle.std.proofs.lemmas.List.{map-append}
 use Rattle.std.proofs.lemmas.Bool.Decides.{nat_tests}
 use Rattle.lease_desk.specs.Journal.{AreSizes}
 use Rattle.licence.specs.Licensed.{Licensed}
 use Rattle.job_script.specs.Scripts.{Program, Job, Entry, AProgram, AJob, job_names}
-use Rattle.job_world.specs.Plans.{Plan, Planned}
+use Rattle.job_world.specs.Plans.{Plan, Planned, cells_with}
 use Rattle.job_world.specs.Plans as world
 use Rattle.run_reports.specs.Report.{JobLine}
 use Rattle.script_plans.specs.declared.types.JobPlan.{JobPlan}
-use Rattle.script_plans.specs.Fates.{Fate, Unfit, Calls, lease_of, leases_of, line_of, text_of_program}
-use Rattle.script_plans.specs.Lines.{AreFates, lines_of, sizes_of, places_of, planned_line, planned_lines, next_job, next_behind, ArePlanned}
-use Rattle.script_plans.specs.Rows.{Row, AreRows, row_among, row_text}
+use Rattle.script_plans.specs.Programs.{ProgramText, program_named}
+use Rattle.script_plans.specs.Fates.{Fate, Unfit, Calls, lease_of, leases_of, line_of}
+use Rattle.script_plans.specs.Lines.{AreFates, lines_of, sizes_of, places_of, all_left, planned_cells, planned_line, planned_lines, next_job, next_behind, ArePlanned}
+use Rattle.script_plans.specs.Rows.{Row, AreRows, row_among, row_program}
 use Rattle.script_plans.specs.Turns.{IsJobTaken, IsEntryTaken, places_by}
 use Rattle.script_plans.proofs.Behind.{next_few, next_within, next_end, lines_end, lines_count, lines_stay}
 
@@ -22,12 +23,21 @@ pub record UpTo (arena : ℕ) (script rest : List Entry) (place : ℕ) (ps : Pla
   pub fates : List Fate
   pub are : (more : List Fate) → AreFates script rest more → AreFates script script (fates ++ more)
   pub leases : world.leases_of ps.plans ≡ sizes_of arena fates
+  pub cells : (more : List Fate) → planned_cells ps.licences ps.plans ++ all_left arena rest more ≡ all_left arena script (fates ++ more)
   pub places : (more : List Fate) → asked ++ places_of arena place rest more ≡ places_of arena 0 script (fates ++ more)
   pub lines : (more : List Fate) → planned_lines ps arena 0 plans ++ lines_of arena rest more ≡ lines_of arena script (fates ++ more)
   pub count : next_behind plans 0 ≡ length ps.plans
 
 pub none_taken : (arena : ℕ) (script : List Entry) (ps : Planned) → ps.plans ≡ [] → UpTo arena script script 0 ps [] []
-none_taken arena script ps e = record { fates = []; are = λ more h. h; leases = ap world.leases_of e; places = λ more. refl; lines = λ more. refl; count = sym (ap length e) }
+none_taken arena script ps e = record {
+  fates = [];
+  are = λ more h. h;
+  leases = ap world.leases_of e;
+  cells = λ more. ap (λ (plans : List Plan). planned_cells ps.licences plans ++ all_left arena script more) e;
+  places = λ more. refl;
+  lines = λ more. refl;
+  count = sym (ap length e);
+}
 
 sizes_end : (arena : ℕ) (fates : List Fate) (f : Fate) → sizes_of arena (fates ++ f ∷ []) ≡ sizes_of arena fates ++ leases_of arena f
 sizes_end arena [] f = append-nil (leases_of arena f)
@@ -35,7 +45,7 @@ sizes_end arena (g ∷ fates) f = ap (λ l. leases_of arena g ++ l) (sizes_end a
 
 program_taken : (arena : ℕ) (script rest : List Entry) (p : Program) (place : ℕ) (ps : Planned) (plans : List JobPlan) (asked : List ℕ)
     → UpTo arena script (AProgram p ∷ rest) place ps plans asked → UpTo arena script rest (suc place) ps plans asked
-program_taken arena script rest p place ps plans asked u = record { fates = u.fates; are = u.are; leases = u.leases; places = u.places; lines = u.lines; count = u.count }
+program_taken arena script rest p place ps plans asked u = record { fates = u.fates; are = u.are; leases = u.leases; cells = u.cells; places = u.places; lines = u.lines; count = u.count }
 
 grown : (old new : Planned) (more : List Plan) → new.licences ≡ old.licences → new.plans ≡ old.plans ++ more → new ≡ record { licences = old.licences; plans = old.plans ++ more }
 grown old new more e f = λ i. record { licences = e i; plans = f i }
@@ -52,7 +62,7 @@ new_lines arena fuel old new more plans p f e g count line =
 
 job_taken : (arena : ℕ) (script rest : List Entry) (j : Job) (place : ℕ) (old new : Planned) (plans plans2 : List JobPlan) (asked asked2 : List ℕ)
     → UpTo arena script (AJob j ∷ rest) place old plans asked
-    → IsJobTaken (text_of_program script j.program) j.entry j.args j.fuel arena place old new plans plans2 asked asked2
+    → IsJobTaken (program_named script j.program) j.entry j.args j.fuel arena place old new plans plans2 asked asked2
     → UpTo arena script rest (suc place) new plans2 asked2
 job_taken arena script rest j place old new plans plans2 asked asked2 u t =
     let c = t.comes in
@@ -66,6 +76,14 @@ job_taken arena script rest j place old new plans plans2 asked asked2 u t =
           ∙ ap (λ l. l ++ world.leases_of c.more) u.leases
           ∙ ap (λ l. sizes_of arena u.fates ++ l) c.leases
           ∙ sym (sizes_end arena u.fates f);
+      cells = λ more.
+          ap (λ (ls : List Licensed). planned_cells ls new.plans ++ all_left arena rest more) c.licences
+          ∙ ap (λ (ps : List Plan). planned_cells old.licences ps ++ all_left arena rest more) c.plans
+          ∙ ap (λ l. l ++ all_left arena rest more) (map-append (λ (p : Plan). cells_with (slice_get old.licences p.licence) p) old.plans c.more)
+          ∙ append_assoc (planned_cells old.licences old.plans) (planned_cells old.licences c.more) (all_left arena rest more)
+          ∙ ap (λ l. planned_cells old.licences old.plans ++ (l ++ all_left arena rest more)) c.cells
+          ∙ u.cells (f ∷ more)
+          ∙ ap (all_left arena script) (sym (append_assoc u.fates (f ∷ []) more));
       places = λ more.
           ap (λ l. l ++ places_of arena (suc place) rest more) t.new_place
           ∙ append_assoc asked (places_by t.p place) (places_of arena (suc place) rest more)
@@ -98,17 +116,17 @@ next_place : (arena : ℕ) (script rest : List Entry) (place : ℕ) (ps : Planne
 next_place arena script rest place ps plans asked u = let e : suc place ≡ place + 1 = omega arith in subst (λ (n : ℕ). UpTo arena script rest n ps plans asked) e u
 
 pub going_on : (arena : ℕ) (script rest : List Entry) (rows : List Row) (entry : Entry) (place : ℕ) (old new : Planned) (plans plans2 : List JobPlan) (asked asked2 : List ℕ)
-    → ((name : List ℕ) → text_of_program script name ≡ row_text (row_among rows name))
+    → ((name : List ℕ) → program_named script name ≡ row_program (row_among rows name))
     → Going arena script (entry ∷ rest) rows place old plans asked → IsEntryTaken rows arena place entry old new plans plans2 asked asked2
     → Going arena script rest rows (place + 1) new plans2 asked2
-going_on arena script rest rows (AProgram p) place old new plans plans2 asked asked2 texts g t =
+going_on arena script rest rows (AProgram p) place old new plans plans2 asked asked2 programs g t =
     subst (λ (ps : Planned). Going arena script rest rows (place + 1) ps plans2 asked2) (sym t.0)
     (subst (λ (ps : List JobPlan). Going arena script rest rows (place + 1) old ps asked2) (sym t.1)
     (subst (λ (as' : List ℕ). Going arena script rest rows (place + 1) old plans as') (sym t.2)
     (record { upto = next_place arena script rest place old plans asked (program_taken arena script rest p place old plans asked g.upto); kept = g.kept; few = omega (arith, g.few) })))
-going_on arena script rest rows (AJob j) place old new plans plans2 asked asked2 texts g t =
+going_on arena script rest rows (AJob j) place old new plans plans2 asked asked2 programs g t =
     let c = t.comes in
-    let there = subst (λ (o : Option (List ℕ)). IsJobTaken o j.entry j.args j.fuel arena place old new plans plans2 asked asked2) (sym (texts j.program)) t in
+    let there = subst (λ (o : Option ProgramText). IsJobTaken o j.entry j.args j.fuel arena place old new plans plans2 asked asked2) (sym (programs j.program)) t in
     record {
       upto = next_place arena script rest place new plans2 asked2 (job_taken arena script rest j place old new plans plans2 asked asked2 g.upto there);
       kept = subst (λ ls. AreRows ls rows) (sym c.licences) g.kept;
@@ -122,6 +140,7 @@ going_done arena script rows place ps plans asked g =
       fates = u.fates;
       are = subst (AreFates script script) (append-nil u.fates) (u.are [] tt);
       leases = u.leases;
+      cells = sym (append-nil (planned_cells ps.licences ps.plans)) ∙ u.cells [] ∙ ap (all_left arena script) (append-nil u.fates);
       places = sym (append-nil asked) ∙ u.places [] ∙ ap (places_of arena 0 script) (append-nil u.fates);
       lines = sym (append-nil (planned_lines ps arena 0 plans)) ∙ u.lines [] ∙ ap (lines_of arena script) (append-nil u.fates);
       count = u.count;

@@ -9,9 +9,9 @@ use Rattle.job_script.specs.declared.types.Entry.{Entry as DeclaredEntry}
 use Rattle.job_world.specs.Plans.{Planned}
 use Rattle.run_reports.specs.declared.outcome.ProgramLine.{ProgramLine}
 use Rattle.script_plans.specs.declared.types.JobPlan.{JobPlan}
-use Rattle.script_plans.specs.Fates.{text_of_program}
+use Rattle.script_plans.specs.Programs.{program_named}
 use Rattle.script_plans.specs.Lines.{ArePlanned}
-use Rattle.script_plans.specs.Rows.{Row, row_among, row_text, IsTaken, AreLicensed}
+use Rattle.script_plans.specs.Rows.{Row, row_among, row_program, IsTaken, AreLicensed}
 use Rattle.script_plans.specs.Turns.{IsEntryTaken}
 use Rattle.script_plans.proofs.Programs.{UpTo, licensed_more, all_licensed}
 use Rattle.script_plans.proofs.Taking.{Going, going_on, going_done}
@@ -37,10 +37,10 @@ pub one_fewer : (rest : List DeclaredEntry) (e : DeclaredEntry) (place whole : �
 one_fewer rest e place whole h is same = let n : length rest ≡ suc (length (behind rest)) = ap length (front_is rest e h is) in omega (arith, same, n)
 
 pub going_behind : (arena : ℕ) (script : List Entry) (rest : List DeclaredEntry) (e : DeclaredEntry) (rows : List Row) (place : ℕ) (old new : Planned) (plans plans2 : List JobPlan) (asked asked2 : List ℕ) → 1 ≤ length rest
-    → e ≡ get_or rest 0 e → ((name : List ℕ) → text_of_program script name ≡ row_text (row_among rows name)) → Going arena script (map entry_of rest) rows place old plans asked
+    → e ≡ get_or rest 0 e → ((name : List ℕ) → program_named script name ≡ row_program (row_among rows name)) → Going arena script (map entry_of rest) rows place old plans asked
     → IsEntryTaken rows arena place (entry_of e) old new plans plans2 asked asked2 → Going arena script (map entry_of (behind rest)) rows (place + 1) new plans2 asked2
-going_behind arena script rest e rows place old new plans plans2 asked asked2 h is texts g t =
-    going_on arena script (map entry_of (behind rest)) rows (entry_of e) place old new plans plans2 asked asked2 texts
+going_behind arena script rest e rows place old new plans plans2 asked asked2 h is programs g t =
+    going_on arena script (map entry_of (behind rest)) rows (entry_of e) place old new plans plans2 asked asked2 programs
     (subst (λ (l : List DeclaredEntry). Going arena script (map entry_of l) rows place old plans asked) (front_is rest e h is) g) t
 
 pub going_end : (arena : ℕ) (script : List Entry) (rest : List DeclaredEntry) (rows : List Row) (place : ℕ) (ps : Planned) (plans : List JobPlan) (asked : List ℕ) → length rest < 1

@@ -1,4 +1,5 @@
 -- What comes of scripts.
+pub mod Programs
 pub mod Fates
 pub mod Lines
 pub mod Rows

@@ -1,18 +1,20 @@
 -- Cited by contracts.
 -- All programs and all jobs of a script.
-use Rattle.std.specs.Prelude.{◌≡◌, ℕ, suc, true, List, [], ◌∷◌, ◌++◌, length, slice_get, Option, Some, None}
+use Rattle.std.specs.Prelude.{◌≡◌, ◌⊎◌, ℕ, suc, true, List, [], ◌∷◌, ◌++◌, length, map, slice_get, Option, Some, None}
 use Rattle.std.specs.List.{AllByRecursion}
 use Rattle.camelot_values.specs.Kinds.{DataType}
+use Rattle.cell_span.specs.declared.cell.Cell.{Cell}
 use Rattle.licence.specs.Licensed.{Licensed}
-use Rattle.job_script.specs.Scripts.{Entry, AProgram, AJob}
+use Rattle.job_script.specs.Scripts.{Job, Entry, AProgram, AJob, Script}
 use Rattle.run_reports.specs.declared.outcome.ProgramLine.{ProgramLine}
 use Rattle.run_reports.specs.Report.{JobLine, Ended, TooLarge, Refused}
 use Rattle.run_reports.specs.Told.{licence_types}
-use Rattle.job_world.specs.Plans.{Plan, Planned, job_run}
+use Rattle.job_world.specs.Plans.{Plan, Planned, job_run, cells_with}
 use Rattle.job_world.specs.Plans as world
 use Rattle.script_plans.specs.declared.types.JobPlan.{JobPlan}
 use Rattle.script_plans.specs.declared.types.JobPlan.TheVariants as plan
-use Rattle.script_plans.specs.Fates.{Fate, IsProgramLine, IsFate, IsWithinBound, text_of_program, line_of, leases_of}
+use Rattle.script_plans.specs.Programs.{program_of, program_named}
+use Rattle.script_plans.specs.Fates.{Fate, IsProgramLine, IsFate, IsWithinBound, line_of, leases_of, cells_left}
 
 -- every program is in Camelot
 abbrev pub IsCamelot : Entry → Type 0
@@ -25,7 +27,7 @@ AllCamelot entries = AllByRecursion IsCamelot entries
 -- each program of these entries has its own line
 abbrev pub AreProgramLines : List Entry → List ProgramLine → Type 0
 AreProgramLines [] [] = Unit {0}
-AreProgramLines (AProgram p ∷ entries) (line ∷ lines) = IsProgramLine p.text line × AreProgramLines entries lines
+AreProgramLines (AProgram p ∷ entries) (line ∷ lines) = IsProgramLine (program_of p) line × AreProgramLines entries lines
 AreProgramLines (AJob j ∷ entries) lines = AreProgramLines entries lines
 AreProgramLines entries lines = ⊥
 
@@ -33,7 +35,7 @@ AreProgramLines entries lines = ⊥
 abbrev pub AreFates : (script : List Entry) → List Entry → List Fate → Type 0
 AreFates script [] [] = Unit {0}
 AreFates script (AProgram p ∷ entries) fates = AreFates script entries fates
-AreFates script (AJob j ∷ entries) (fate ∷ fates) = IsFate (text_of_program script j.program) j.entry j.args fate × IsWithinBound j.fuel fate × AreFates script entries fates
+AreFates script (AJob j ∷ entries) (fate ∷ fates) = IsFate (program_named script j.program) j.entry j.args fate × IsWithinBound j.fuel fate × AreFates script entries fates
 AreFates script entries fates = ⊥
 
 -- the lines of the jobs, one for each
@@ -42,6 +44,24 @@ lines_of arena [] fates = []
 lines_of arena (AProgram p ∷ entries) fates = lines_of arena entries fates
 lines_of arena (AJob j ∷ entries) [] = lines_of arena entries []
 lines_of arena (AJob j ∷ entries) (fate ∷ fates) = line_of arena j.fuel fate ∷ lines_of arena entries fates
+
+-- this line is that of this job, where these lines stand for the jobs of these entries, in order
+abbrev pub IsLineOf : List Entry → List JobLine → Job → JobLine → Type 0
+IsLineOf (AProgram p ∷ entries) lines job line = IsLineOf entries lines job line
+IsLineOf (AJob j ∷ entries) (first ∷ lines) job line = ((j ≡ job) × (first ≡ line)) ⊎ IsLineOf entries lines job line
+IsLineOf entries lines job line = ⊥
+
+-- The script has this job and tells this line of it, as its report does: the line by the job's own fate.
+pub record TellsOf (s : Script) (job : Job) (line : JobLine) : Type 0 where
+  pub camelot : AllCamelot s.items
+  pub fates : List Fate
+  pub are : AreFates s.items s.items fates
+  pub is : IsLineOf s.items (lines_of s.arena s.items fates) job line
+
+-- The scripts have arenas of the same size, and the same program under the name of this job's program: in the same language with the same text, or none.
+pub record Agree (one other : Script) (job : Job) : Type 0 where
+  pub arena : one.arena ≡ other.arena
+  pub program : program_named one.items job.program ≡ program_named other.items job.program
 
 -- the leases of the jobs that go to the desk, in order
 abbrev pub sizes_of : (arena : ℕ) → List Fate → List ℕ
@@ -58,6 +78,13 @@ places_of arena place [] fates = []
 places_of arena place (AProgram p ∷ entries) fates = places_of arena (suc place) entries fates
 places_of arena place (AJob j ∷ entries) [] = []
 places_of arena place (AJob j ∷ entries) (fate ∷ fates) = places_with (leases_of arena fate) place ++ places_of arena (suc place) entries fates
+
+-- the cells that the machine leaves in these leases, in the same order
+abbrev pub all_left : (arena : ℕ) → List Entry → List Fate → List (List Cell)
+all_left arena [] fates = []
+all_left arena (AProgram p ∷ entries) fates = all_left arena entries fates
+all_left arena (AJob j ∷ entries) [] = []
+all_left arena (AJob j ∷ entries) (fate ∷ fates) = cells_left arena j.fuel fate ++ all_left arena entries fates
 
 -- ---- plans
 
@@ -91,12 +118,17 @@ abbrev pub planned_lines : Planned → (arena job : ℕ) → List JobPlan → Li
 planned_lines ps arena job [] = []
 planned_lines ps arena job (p ∷ plans) = planned_line ps arena job p ∷ planned_lines ps arena (next_job p job) plans
 
--- What is planned of the jobs of these entries is what comes of them: each has a fate, and the leases, the places and the lines of what is planned are those of the fates. There are as many
--- runs as jobs of the desk.
+-- the cells that the machine leaves of these plans, one for each
+abbrev pub planned_cells : List Licensed → List Plan → List (List Cell)
+planned_cells licences plans = map (λ (p : Plan). cells_with (slice_get licences p.licence) p) plans
+
+-- What is planned of the jobs of these entries is what comes of them: each has a fate, and the leases, the cells that are left in them, the places and the lines of what is planned are those
+-- of the fates. There are as many runs as jobs of the desk.
 pub record ArePlanned (arena : ℕ) (script : List Entry) (ps : Planned) (plans : List JobPlan) (asked : List ℕ) : Type 0 where
   pub fates : List Fate
   pub are : AreFates script script fates
   pub leases : world.leases_of ps.plans ≡ sizes_of arena fates
+  pub cells : planned_cells ps.licences ps.plans ≡ all_left arena script fates
   pub places : asked ≡ places_of arena 0 script fates
   pub lines : planned_lines ps arena 0 plans ≡ lines_of arena script fates
   pub count : next_behind plans 0 ≡ length ps.plans

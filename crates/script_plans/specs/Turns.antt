@@ -21,9 +21,10 @@ use Rattle.script_plans.specs.declared.asking.Asked.TheVariants as asked
 use Rattle.script_plans.specs.declared.rows.Known.{Known}
 use Rattle.script_plans.specs.declared.types.JobPlan.{JobPlan}
 use Rattle.script_plans.specs.declared.types.JobPlan.TheVariants as plan
-use Rattle.script_plans.specs.Fates.{Fate, IsFate, IsWithinBound, line_of, leases_of}
-use Rattle.script_plans.specs.Lines.{planned_line, next_job, places_with}
-use Rattle.script_plans.specs.Rows.{Row, row_text, row_among}
+use Rattle.script_plans.specs.Programs.{ProgramText}
+use Rattle.script_plans.specs.Fates.{Fate, IsFate, IsWithinBound, line_of, leases_of, cells_left}
+use Rattle.script_plans.specs.Lines.{planned_line, planned_cells, next_job, places_with}
+use Rattle.script_plans.specs.Rows.{Row, row_program, row_among}
 
 -- ---- what is asked of a licence
 
@@ -98,27 +99,28 @@ places_by (plan.Runs bound) place = place ∷ []
 places_by (plan.TooLarge needs) place = []
 places_by (plan.Refused cause) place = []
 
--- The job has a fate, and what is planned is so: these plans are added, their leases are those of the fate, and so is the line.
-pub record Comes (text : Option (List ℕ)) (entry args : List ℕ) (fuel arena : ℕ) (old new : Planned) (p : JobPlan) : Type 0 where
+-- The job has a fate, and what is planned is so: these plans are added, their leases are those of the fate, and so are the cells that are left in them, and the line.
+pub record Comes (program : Option ProgramText) (entry args : List ℕ) (fuel arena : ℕ) (old new : Planned) (p : JobPlan) : Type 0 where
   pub fate : Fate
-  pub is : IsFate text entry args fate
+  pub is : IsFate program entry args fate
   pub within : IsWithinBound fuel fate
   pub licences : new.licences ≡ old.licences
   pub more : List Plan
   pub plans : new.plans ≡ old.plans ++ more
   pub leases : world.leases_of more ≡ leases_of arena fate
+  pub cells : planned_cells old.licences more ≡ cells_left arena fuel fate
   pub next : next_job p (length old.plans) ≡ length new.plans
   pub places : (place : ℕ) → places_with (leases_of arena fate) place ≡ places_by p place
   pub line : planned_line new arena (length old.plans) p ≡ line_of arena fuel fate
 
 -- One job more is planned: its plan is the last one, and its place too where it runs.
-pub record IsJobTaken (text : Option (List ℕ)) (entry args : List ℕ) (fuel arena place : ℕ) (old new : Planned) (plans plans2 : List JobPlan) (asked asked2 : List ℕ) : Type 0 where
+pub record IsJobTaken (program : Option ProgramText) (entry args : List ℕ) (fuel arena place : ℕ) (old new : Planned) (plans plans2 : List JobPlan) (asked asked2 : List ℕ) : Type 0 where
   pub p : JobPlan
-  pub comes : Comes text entry args fuel arena old new p
+  pub comes : Comes program entry args fuel arena old new p
   pub new_plan : plans2 ≡ plans ++ p ∷ []
   pub new_place : asked2 ≡ asked ++ places_by p place
 
 -- the same of an entry: nothing is done for a program
 abbrev pub IsEntryTaken : List Row → (arena place : ℕ) → Entry → (old new : Planned) → (plans plans2 : List JobPlan) → (asked asked2 : List ℕ) → Type 0
 IsEntryTaken rows arena place (AProgram p) old new plans plans2 asked asked2 = (new ≡ old) × (plans2 ≡ plans) × (asked2 ≡ asked)
-IsEntryTaken rows arena place (AJob j) old new plans plans2 asked asked2 = IsJobTaken (row_text (row_among rows j.program)) j.entry j.args j.fuel arena place old new plans plans2 asked asked2
+IsEntryTaken rows arena place (AJob j) old new plans plans2 asked asked2 = IsJobTaken (row_program (row_among rows j.program)) j.entry j.args j.fuel arena place old new plans plans2 asked asked2

@@ -1,11 +1,13 @@
 //! Laws of plans, as contracts of functions that do nothing.
 ghost use Rattle.std.specs.Prelude.{◌≡◌, ◌≤◌, ℕ, List, Option};
 ghost use Rattle.std.specs.List.{AllByRecursion};
-ghost use Rattle.job_script.specs.Scripts.{Entry as PlainEntry};
+ghost use Rattle.job_script.specs.Scripts.{Entry as PlainEntry, Job, Script};
 ghost use Rattle.job_script.specs.Text.{EntryIsShort};
 ghost use Rattle.run_reports.specs.declared.outcome.ProgramLine.{ProgramLine as PlainLine};
+ghost use Rattle.run_reports.specs.Report.{JobLine, job_text};
+ghost use Rattle.script_plans.specs.Programs.{CamelotText, IsInCamelot, ProgramText};
 ghost use Rattle.script_plans.specs.Fates.{Fate, IsFate, IsProgramLine};
-ghost use Rattle.script_plans.specs.Lines.{AreFates, AreProgramLines};
+ghost use Rattle.script_plans.specs.Lines.{AllCamelot, AreFates, AreProgramLines, Agree, TellsOf};
 
 use camelot_compiler::laws::law_of_compiling;
 use code_gen::laws::law_of_compiler;
@@ -17,15 +19,28 @@ pub fn law_of_short()
     ensures { (most : ℕ) (entries : List PlainEntry) → most ≤ 4294967295 → AllByRecursion (EntryIsShort most) entries → AllByRecursion (EntryIsShort 4294967295) entries }
 {}
 
-/// What comes of a script is determined by its text: each program has one line, and each job one fate, so that each job has one line, whoever serves the script and whatever
-/// else it has.
+/// What comes of a script whose programs are all in Camelot is determined by its text: each program has one line, and each job one fate, so that each job has one line, whoever
+/// serves the script and whatever else it has.
 pub fn law_of_fates()
-    ensures program { (text : List ℕ) (first second : PlainLine) → IsProgramLine text first → IsProgramLine text second → first ≡ second }
-    ensures job { (text : Option (List ℕ)) (entry args : List ℕ) (first second : Fate) → IsFate text entry args first → IsFate text entry args second → first ≡ second }
-    ensures programs { (entries : List PlainEntry) (first second : List PlainLine) → AreProgramLines entries first → AreProgramLines entries second → first ≡ second }
-    ensures jobs { (script entries : List PlainEntry) (first second : List Fate) → AreFates script entries first → AreFates script entries second → first ≡ second }
+    ensures program { (text : List ℕ) (first second : PlainLine) → IsProgramLine (CamelotText text) first → IsProgramLine (CamelotText text) second → first ≡ second }
+    ensures job { (program : Option ProgramText) (entry args : List ℕ) (first second : Fate) → IsInCamelot program → IsFate program entry args first → IsFate program entry args second → first ≡ second }
+    ensures programs { (entries : List PlainEntry) (first second : List PlainLine) → AllCamelot entries → AreProgramLines entries first → AreProgramLines entries second → first ≡ second }
+    ensures jobs { (script entries : List PlainEntry) (first second : List Fate) → AllCamelot script → AreFates script entries first → AreFates script entries second → first ≡ second }
 {
     law_of_compiling();
     law_of_reading();
     law_of_compiler();
+}
+
+/// What is told of a job depends on nothing else that stands in its script. Where two scripts have arenas of the same size and both have a job with this name, program, entry, fuel and
+/// arguments, and the first program of that name has the same language and the same text in both, they tell the same line of it, whatever other jobs and programs they have.
+pub fn law_of_own_lines()
+    // As plain data.
+    ensures line { (one other : Script) (job : Job) (first second : JobLine) → Agree one other job
+        → TellsOf one job first → TellsOf other job second → first ≡ second }
+    // As the bytes of the report.
+    ensures text { (one other : Script) (job : Job) (first second : JobLine) → Agree one other job
+        → TellsOf one job first → TellsOf other job second → job_text job.name first ≡ job_text job.name second }
+{
+    law_of_fates();
 }

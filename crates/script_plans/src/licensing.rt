@@ -6,6 +6,8 @@ ghost use Rattle.camelot_compiler.specs.Compiled.{IsCompiled, Refused};
 ghost use Rattle.camelot_compiler.specs.Licences.{IsLicence};
 ghost use Rattle.job_script.specs.Text.{EntryIsShort};
 ghost use Rattle.job_script.specs.Words.{entry_of};
+ghost use Rattle.script_plans.specs.Lines.{AllCamelot, IsCamelot};
+ghost use Rattle.script_plans.specs.Programs.{CamelotText};
 ghost use Rattle.script_plans.specs.Rows.{AreLicensed, IsProgramAdded, IsTaken, row_of};
 
 use crate::rows::{Known, Row};
@@ -26,7 +28,7 @@ pub(crate) struct Programs<'a> {
     pub(crate) lines: Vec<ProgramLine>,
 }
 
-// Adds a program that has a licence.
+// Adds a Camelot program that has a licence.
 #[tactic(auto, using(crate::proofs::Programs::accepted))]
 fn accept<'a>(
     programs: &mut Programs<'a>,
@@ -36,7 +38,7 @@ fn accept<'a>(
 ) -> Result<(), AllocError>
     requires is { IsLicence text.now licence }
     requires few { length programs.old.licences.items < 4294967295 }
-    ensures { OnOk result (IsProgramAdded name.now text.now (map row_of programs.old.rows.items) (map row_of programs.new.rows.items) programs.old.licences.items programs.new.licences.items programs.old.lines.items programs.new.lines.items) }
+    ensures { OnOk result (IsProgramAdded name.now (CamelotText text.now) (map row_of programs.old.rows.items) (map row_of programs.new.rows.items) programs.old.licences.items programs.new.licences.items programs.old.lines.items programs.new.lines.items) }
 {
     let known = Known {
         licence: programs.licences.len() as u32,
@@ -53,7 +55,7 @@ fn accept<'a>(
     Ok(())
 }
 
-// Adds a program that is refused.
+// Adds a Camelot program that is refused.
 #[tactic(auto, using(crate::proofs::Programs::refused))]
 fn refuse<'a>(
     programs: &mut Programs<'a>,
@@ -62,7 +64,7 @@ fn refuse<'a>(
     cause: Cause,
 ) -> Result<(), AllocError>
     requires { IsCompiled text.now (Refused cause) }
-    ensures { OnOk result (IsProgramAdded name.now text.now (map row_of programs.old.rows.items) (map row_of programs.new.rows.items) programs.old.licences.items programs.new.licences.items programs.old.lines.items programs.new.lines.items) }
+    ensures { OnOk result (IsProgramAdded name.now (CamelotText text.now) (map row_of programs.old.rows.items) (map row_of programs.new.rows.items) programs.old.licences.items programs.new.licences.items programs.old.lines.items programs.new.lines.items) }
 {
     programs.rows.push(Row {
         name,
@@ -73,7 +75,7 @@ fn refuse<'a>(
     Ok(())
 }
 
-// Adds a program.
+// Adds a Camelot program.
 fn add_program<'a>(
     alloc: Global,
     programs: &mut Programs<'a>,
@@ -82,7 +84,7 @@ fn add_program<'a>(
 ) -> Result<(), AllocError>
     requires short { length text.now < 4294967296 }
     requires few { length programs.old.licences.items < 4294967295 }
-    ensures { OnOk result (IsProgramAdded name.now text.now (map row_of programs.old.rows.items) (map row_of programs.new.rows.items) programs.old.licences.items programs.new.licences.items programs.old.lines.items programs.new.lines.items) }
+    ensures { OnOk result (IsProgramAdded name.now (CamelotText text.now) (map row_of programs.old.rows.items) (map row_of programs.new.rows.items) programs.old.licences.items programs.new.licences.items programs.old.lines.items programs.new.lines.items) }
 {
     match license(alloc, text) {
         Ok(licence) => accept(programs, name, text, licence),
@@ -97,6 +99,7 @@ fn add_entry<'a>(
     programs: &mut Programs<'a>,
     entry: &'a Entry,
 ) -> Result<(), AllocError>
+    requires camelot { IsCamelot (entry_of entry.now) }
     requires short { EntryIsShort 4294967295 (entry_of entry.now) }
     requires few { length programs.old.licences.items < 4294967295 }
     ensures { OnOk result (IsTaken (entry_of entry.now) (map row_of programs.old.rows.items) (map row_of programs.new.rows.items) programs.old.licences.items programs.new.licences.items programs.old.lines.items programs.new.lines.items) }
@@ -107,12 +110,13 @@ fn add_entry<'a>(
     }
 }
 
-/// All programs of these entries.
+/// All programs of these entries, which are in Camelot.
 #[tactic(auto, using(crate::proofs::Programs::none_licensed, crate::proofs::Programs::licensed_more, crate::proofs::Programs::all_licensed))]
 pub(crate) fn license_all<'a>(
     alloc: Global,
     entries: &'a [Entry],
 ) -> Result<Programs<'a>, AllocError>
+    requires camelot { AllCamelot (map entry_of entries.now) }
     requires short { AllByRecursion (EntryIsShort 4294967295) (map entry_of entries.now) }
     requires few { length entries.now ≤ 4160 }
     ensures { IfOk result (λ p. AreLicensed (map entry_of entries.now) (map row_of p.rows.items) p.licences.items p.lines.items) }

@@ -6,9 +6,9 @@ ghost use Rattle.job_script.specs.Scripts.{IsScript, EntryIsWithin};
 ghost use Rattle.job_script.specs.Text.{EntryIsShort};
 ghost use Rattle.job_script.specs.Words.{entry_of, script_of};
 ghost use Rattle.job_world.specs.Plans.{leases_of};
-ghost use Rattle.script_plans.specs.Fates.{text_of_program};
+ghost use Rattle.script_plans.specs.Programs.{program_named};
 ghost use Rattle.script_plans.specs.Lines.{AllCamelot, AreProgramLines, ArePlanned};
-ghost use Rattle.script_plans.specs.Rows.{AreRows, row_of, row_among, row_text};
+ghost use Rattle.script_plans.specs.Rows.{AreRows, row_of, row_among, row_program};
 ghost use Rattle.script_plans.specs.Turns.{IsEntryTaken, IsJobTaken, places_by};
 
 use crate::calling::plan_job;
@@ -60,7 +60,7 @@ fn take_job(
     requires fuel { 1 ≤ fuel }
     requires arena { arena ≤ 2147483648 }
     requires few { length taken.old.jobs.plans < 4294967295 }
-    ensures { OnOk result (IsJobTaken (row_text (row_among (map row_of rows.now) program.now)) entry.now args.now fuel arena place taken.old.jobs taken.new.jobs taken.old.plans.items taken.new.plans.items taken.old.asked.items taken.new.asked.items) }
+    ensures { OnOk result (IsJobTaken (row_program (row_among (map row_of rows.now) program.now)) entry.now args.now fuel arena place taken.old.jobs taken.new.jobs taken.old.plans.items taken.new.plans.items taken.old.asked.items taken.new.asked.items) }
 {
     let plan = plan_job(
         alloc,
@@ -119,7 +119,7 @@ fn take_all(
     requires within { AllByRecursion EntryIsWithin (map entry_of entries.now) }
     requires few { length entries.now ≤ 4160 }
     requires arena { arena ≤ 2147483648 }
-    requires texts { (name : List ℕ) → text_of_program (map entry_of entries.now) name ≡ row_text (row_among (map row_of rows.now) name) }
+    requires programs { (name : List ℕ) → program_named (map entry_of entries.now) name ≡ row_program (row_among (map row_of rows.now) name) }
     ensures { IfOk result (λ t. ArePlanned arena (map entry_of entries.now) t.jobs t.plans.items t.asked.items) }
 {
     let mut taken = Taken {

@@ -1,4 +1,5 @@
 pub mod Filing
-pub mod Reporting
+pub mod SameReports
+pub mod Handing
 pub mod Languages
 pub mod OneReport

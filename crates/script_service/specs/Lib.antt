@@ -1,4 +1,5 @@
 -- Scripts that are served.
 pub mod Service
+pub mod Handed
 pub mod Steps
 pub mod Filed

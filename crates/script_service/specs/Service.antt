@@ -1,9 +1,9 @@
 -- Cited by contracts.
--- What `serve` writes for an input.
-use Rattle.std.specs.Prelude.{◌≡◌, ◌⊎◌, ℕ, ◌++◌, false, List, [], ◌∷◌, codes, decimal}
+-- What comes of an input, and what `serve` writes for it.
+use Rattle.std.specs.Prelude.{◌≡◌, ◌⊎◌, ℕ, ◌++◌, false, List, [], ◌∷◌, slice_get, codes, decimal}
 use Rattle.std.specs.List.{AllByRecursion}
 use Rattle.camelot_values.specs.Value.{Value}
-use Rattle.camelot_values.specs.Outcome.{Outcome, Stuck}
+use Rattle.camelot_values.specs.Outcome.{Outcome, Done, Fuel, Deep, Stuck}
 use Rattle.job_script.specs.Scripts.{Entry, AProgram, AJob, Script}
 use Rattle.job_script.specs.Text.{IsScriptText}
 use Rattle.job_script.specs.Answers.{IsFault}
@@ -11,10 +11,58 @@ use Rattle.job_script.specs.declared.reading.ScriptFault.{ScriptFault}
 use Rattle.job_script.specs.declared.reading.ScriptFault.TheVariants as script_fault
 use Rattle.lease_desk.specs.declared.event.Event.{Event}
 use Rattle.lease_desk.specs.Journal.{IsLegal}
+use Rattle.lease_desk.specs.Filing.{FiledCells, HoldsFiled}
+use Rattle.cell_span.specs.Range.{Range, IsWhole}
 use Rattle.run_reports.specs.declared.outcome.ProgramLine.{ProgramLine}
 use Rattle.run_reports.specs.Report.{JobLine, Ended, Told, report_text}
 use Rattle.script_plans.specs.Fates.{Fate}
-use Rattle.script_plans.specs.Lines.{AllCamelot, AreProgramLines, AreFates, lines_of, sizes_of, places_of}
+use Rattle.script_plans.specs.Lines.{AllCamelot, AreProgramLines, AreFates, lines_of, sizes_of, places_of, all_left}
+
+-- ---- what comes of a script
+
+-- what serving a script comes to: the script, a line for each of its programs, a fate for each of its jobs, the journal of the desk, and the arena at the end
+pub record Service : Type 0 where
+  pub script : Script
+  pub programs : List ProgramLine
+  pub fates : List Fate
+  pub journal : List Event
+  pub arena : Range
+
+-- a run that comes to something: no run of a typed program on fitting arguments is stuck
+abbrev pub IsMeant : Outcome Value → Type 0
+IsMeant (Done v calls peak low) = Unit {0}
+IsMeant (Fuel calls peak) = Unit {0}
+IsMeant (Deep peak) = Unit {0}
+IsMeant Stuck = ⊥
+
+-- a line tells what has a meaning
+abbrev pub TellsMeaning : JobLine → Type 0
+TellsMeaning (Ended types o fuel bound) = IsMeant o
+TellsMeaning line = Unit {0}
+
+-- the cells that the machine leaves in the lease of the desk's job of this number, by the fates
+abbrev pub cells_by : Service → FiledCells
+cells_by s = λ job. slice_get (all_left s.script.arena s.script.items s.fates) job
+
+-- The script's programs are all Camelot. Each program has its own line, its licence or its cause, and each job its own fate. The journal is legal for the leases of the jobs that went to the
+-- desk. The arena is whole at the end: each cell is the one that the machine left there for the last job whose lease went over it, and a blank one where none did.
+pub record IsService (s : Service) : Type 0 where
+  pub camelot : AllCamelot s.script.items
+  pub are_programs : AreProgramLines s.script.items s.programs
+  pub are_fates : AreFates s.script.items s.script.items s.fates
+  pub meant : AllByRecursion TellsMeaning (lines_of s.script.arena s.script.items s.fates)
+  pub legal : IsLegal s.script.arena (sizes_of s.script.arena s.fates) s.journal
+  pub whole : IsWhole s.arena
+  pub size : s.arena.arena.cells ≡ s.script.arena
+  pub cells : HoldsFiled (cells_by s) s.journal s.arena
+
+-- The input is the text of the script, and of no other one, and this comes of it.
+pub record IsServiceOf (input : List ℕ) (s : Service) : Type 0 where
+  pub text : IsScriptText input s.script
+  pub only : (t : Script) → IsScriptText input t → t ≡ s.script
+  pub comes : IsService s
+
+-- ---- the report
 
 -- what is told of a script: its programs' lines, its jobs' lines by their fates, the journal, and the whole arena free at the end
 abbrev pub told_of : Script → List ProgramLine → List Fate → List Event → Told
@@ -26,31 +74,14 @@ told_of s programs fates journal = record {
   free = s.arena;
 }
 
--- a run that comes to something: no run of a typed program on fitting arguments is stuck
-abbrev pub IsMeant : Outcome Value → Type 0
-IsMeant Stuck = ⊥
-IsMeant o = Unit {0}
+abbrev pub report_of : Service → List ℕ
+report_of s = report_text s.script.items (told_of s.script s.programs s.fates s.journal)
 
--- a line tells what has a meaning
-abbrev pub TellsMeaning : JobLine → Type 0
-TellsMeaning (Ended types o fuel bound) = IsMeant o
-TellsMeaning line = Unit {0}
-
--- The input is the text of a script, and of no other one, whose programs are all Camelot. The output is the report of this script, with a line for each program, which has its licence or
--- its cause; with a line for each job, by its own fate; and with one journal, which is legal for the leases of the jobs that went to the desk.
+-- The output is the report of what comes of the input. What comes of it has the arena as it is at the end too, by the same fates and the same journal.
 pub record IsReport (input output : List ℕ) : Type 0 where
-  pub script : Script
-  pub text : IsScriptText input script
-  pub only : (s : Script) → IsScriptText input s → s ≡ script
-  pub camelot : AllCamelot script.items
-  pub programs : List ProgramLine
-  pub are_programs : AreProgramLines script.items programs
-  pub fates : List Fate
-  pub are_fates : AreFates script.items script.items fates
-  pub meant : AllByRecursion TellsMeaning (lines_of script.arena script.items fates)
-  pub journal : List Event
-  pub legal : IsLegal script.arena (sizes_of script.arena fates) journal
-  pub is : output ≡ report_text script.items (told_of script programs fates journal)
+  pub service : Service
+  pub served : IsServiceOf input service
+  pub is : output ≡ report_of service
 
 -- ---- inputs that aren't served
 

@@ -5,8 +5,10 @@ mod faults;
 mod grail;
 pub mod laws;
 mod lines;
+mod reporting;
 mod running;
 mod service;
 
 pub use faults::fault_line;
-pub use service::{ServeFault, serve_script};
+pub use reporting::{ReportedScript, report_served};
+pub use service::{ServeFault, ServedScript, run_script, serve_script};

@@ -1,23 +1,40 @@
-ghost use Rattle.std.specs.Prelude.{◌≡◌, ◌<◌, ◌≤◌, length, IfOk, MatchResult};
+ghost use Rattle.std.specs.Prelude.{◌≡◌, ◌<◌, length, IfOk, MatchResult};
 ghost use Rattle.std.specs.List.{AllByRecursion};
 ghost use Rattle.job_script.specs.Scripts.{IsScript};
 ghost use Rattle.job_script.specs.Text.{EntryIsShort};
 ghost use Rattle.job_script.specs.Words.{script_of};
-ghost use Rattle.lease_desk.specs.Journal.{AreSizes};
-ghost use Rattle.job_world.specs.Plans.{leases_of};
-ghost use Rattle.script_plans.specs.Lines.{AllCamelot, AreProgramLines, ArePlanned};
+ghost use Rattle.script_plans.specs.Lines.{AllCamelot};
 ghost use Rattle.script_service.specs.Service.{IsReport};
-ghost use Rattle.script_service.specs.Steps.{IsReportOf, IsServed, IsUnserved, IsRefused, serve_fault};
+ghost use Rattle.script_service.specs.Handed.{IsHandedFor};
+ghost use Rattle.script_service.specs.Steps.{IsOf, IsUnserved, IsRefused, serve_fault};
 
 use crate::grail::has_grail;
-use crate::running::serve_plans;
+use crate::reporting::report_served;
+use crate::running::run_jobs;
+use cell_machine::Ending;
+use cell_span::Span;
 use job_script::laws::{law_of_lengths, law_of_scripts};
 use job_script::{Script, ScriptFault, read_script};
-use run_reports::{Outcome, report};
+use lease_desk::Event;
 use script_plans::laws::law_of_short;
 use script_plans::{Plans, plan_script};
 use std::alloc::{AllocError, Global};
 use thiserror::Error;
+
+/// What serving a script hands out.
+#[derive(Drop)]
+pub struct ServedScript {
+    /// The script, as it was read.
+    pub script: Script,
+    /// One line for each program, and what was planned of the jobs.
+    pub plans: Plans,
+    /// What the desk did.
+    pub journal: Vec<Event>,
+    /// The ending of each run that was planned, in the place of its number.
+    pub endings: Vec<Option<Ending>>,
+    /// The whole arena, with the cells that the runs left.
+    pub arena: Span,
+}
 
 /// Why an input isn't served.
 #[derive(Clone, Copy, Debug, PartialEq, Eq, Error)]
@@ -43,53 +60,62 @@ fn serve_fault(fault: ScriptFault) -> ServeFault
     }
 }
 
-// The report of a script, from its plans.
-fn report_plans(alloc: Global, script: &Script, plans: Plans) -> Result<Vec<u8>, AllocError>
-    requires arena { 1 ≤ (script_of script.now).arena }
-    requires few_cells { (script_of script.now).arena ≤ 2147483648 }
-    requires programs { AreProgramLines (script_of script.now).items plans.programs.items }
-    requires planned { ArePlanned (script_of script.now).arena (script_of script.now).items plans.jobs plans.plans.items plans.asked.items }
-    requires sizes { AreSizes (script_of script.now).arena (leases_of plans.jobs.plans) }
-    requires few { length plans.jobs.plans ≤ 4096 }
-    ensures { IfOk result (λ text. IsReportOf (script_of script.now) text.items) }
+// Serves a script whose programs are all Camelot.
+#[tactic(auto, using(crate::proofs::Handing::some_cells, crate::proofs::Handing::few_cells))]
+fn serve_camelot(alloc: Global, script: Script) -> Result<ServedScript, AllocError>
+    requires script { IsScript (script_of script) }
+    requires camelot { AllCamelot (script_of script).items }
+    requires short { AllByRecursion (EntryIsShort 4294967295) (script_of script).items }
+    ensures { IfOk result (IsOf (script_of script)) }
 {
-    let served = serve_plans(alloc, script.arena, &plans.jobs, &plans.plans)?;
-    let outcome = Outcome {
-        programs: plans.programs,
-        jobs: served.lines,
-        asked: plans.asked,
+    let plans = plan_script(alloc, &script)?;
+    let served = run_jobs(alloc, script.arena, &plans.jobs)?;
+    Ok(ServedScript {
+        script,
+        plans,
         journal: served.journal,
-        free: script.arena as u64,
-    };
-    let text = report(alloc, script, plans.jobs.licences(), &outcome)?;
-    Ok(text)
+        endings: served.endings,
+        arena: served.span,
+    })
 }
 
-// The report of a script whose programs are all Camelot.
-#[tactic(auto, using(crate::proofs::Reporting::some_cells, crate::proofs::Reporting::few_cells))]
-fn report_script(alloc: Global, script: &Script) -> Result<Vec<u8>, AllocError>
-    requires script { IsScript (script_of script.now) }
-    requires camelot { AllCamelot (script_of script.now).items }
-    requires short { AllByRecursion (EntryIsShort 4294967295) (script_of script.now).items }
-    ensures { IfOk result (λ text. IsReportOf (script_of script.now) text.items) }
-{
-    let plans = plan_script(alloc, script)?;
-    report_plans(alloc, script, plans)
-}
-
-// The report of a script that was read, where its programs are all Camelot.
+// Serves a script that was read, where its programs are all Camelot.
 #[tactic(auto, using(crate::proofs::Languages::has_grail, crate::proofs::Languages::all_camelot))]
-fn serve_read(alloc: Global, script: &Script) -> Result<Vec<u8>, ServeFault>
-    requires script { IsScript (script_of script.now) }
-    requires short { AllByRecursion (EntryIsShort 4294967295) (script_of script.now).items }
-    ensures { MatchResult result (λ text. IsServed (script_of script.now) text.items) (λ fault. IsUnserved (script_of script.now) fault) }
+fn serve_read(alloc: Global, script: Script) -> Result<ServedScript, ServeFault>
+    requires script { IsScript (script_of script) }
+    requires short { AllByRecursion (EntryIsShort 4294967295) (script_of script).items }
+    ensures { MatchResult result (IsOf (script_of script)) (IsUnserved (script_of script)) }
 {
     if has_grail(&script.items) {
         return Err(ServeFault::NotYet);
     }
-    match report_script(alloc, script) {
-        Ok(text) => Ok(text),
+    match serve_camelot(alloc, script) {
+        Ok(served) => Ok(served),
         Err(_) => Err(ServeFault::Memory),
+    }
+}
+
+/// Serves a script: its programs are compiled and verified, and its jobs run in one arena. Hands out the script, what was planned of it, the journal of the leases, the endings of the runs, and
+/// the arena as they left it. The input has fewer than 2^32 bytes; it is let go once the script is read.
+///
+/// # Errors
+///
+/// [`ServeFault::NoScript`] exactly where the input is no script, with its first wrong line; [`ServeFault::NotYet`] exactly where it is one with a Grail
+/// program; [`ServeFault::Memory`] where memory runs out: the arena is lost then.
+pub fn run_script(alloc: Global, input: Vec<u8>) -> Result<ServedScript, ServeFault>
+    requires { length input.items < 4294967296 }
+    // What is handed out is what comes of the script that the input is the text of; an input is refused for its cause.
+    ensures { MatchResult result (IsHandedFor input.items) (IsRefused input.items) }
+{
+    law_of_scripts();
+    law_of_lengths();
+    law_of_short();
+    match read_script(alloc, &input) {
+        Ok(script) => {
+            drop(input);
+            serve_read(alloc, script)
+        }
+        Err(fault) => Err(serve_fault(fault)),
     }
 }
 
@@ -99,20 +125,21 @@ fn serve_read(alloc: Global, script: &Script) -> Result<Vec<u8>, ServeFault>
 ///
 /// # Errors
 ///
-/// [`ServeFault::NoScript`] exactly where the input is no script, with its first wrong line; [`ServeFault::NotYet`] exactly where it is one with a Grail
-/// program; [`ServeFault::Memory`] where memory runs out.
+/// Those of [`run_script`].
+#[tactic(auto, using(crate::proofs::Handing::is_report, crate::proofs::Handing::whole_arena))]
 pub fn serve_script(alloc: Global, input: Vec<u8>) -> Result<Vec<u8>, ServeFault>
     requires { length input.items < 4294967296 }
-    ensures { MatchResult result (λ text. IsReport input.items text.items) (λ fault. IsRefused input.items fault) }
+    // What is answered is the report of what comes of the input; an input is refused for its cause.
+    ensures { MatchResult result (λ text. IsReport input.items text.items) (IsRefused input.items) }
 {
-    law_of_scripts();
-    law_of_lengths();
-    law_of_short();
-    match read_script(alloc, &input) {
-        Ok(script) => {
-            drop(input);
-            serve_read(alloc, &script)
-        }
-        Err(fault) => Err(serve_fault(fault)),
+    match run_script(alloc, input) {
+        Ok(served) => match report_served(alloc, served) {
+            Ok(reported) => {
+                reported.arena.end();
+                Ok(reported.text)
+            }
+            Err(_) => Err(ServeFault::Memory),
+        },
+        Err(fault) => Err(fault),
     }
 }

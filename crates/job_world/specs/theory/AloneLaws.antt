@@ -6,7 +6,7 @@ use Rattle.cell_span.specs.declared.cell.Cell.{Cell}
 use Rattle.grail_code.specs.Code.{Code}
 use Rattle.cell_machine.specs.State.{Configuration, Machine, Running, Over, cells_of, most_calls}
 use Rattle.cell_machine.specs.Steps.{step}
-use Rattle.job_world.specs.Put.{put_at, Core, Going, Ended, machine_of, core_of, one_step}
+use Rattle.job_world.specs.Put.{put_at, Core, Going, Ended, machine_of, core_of, one_step, Rest}
 use Rattle.job_world.specs.theory.PutLaws.{put_here, put_apart, put_length, taken, StepsSame, steps_same}
 use Rattle.hole_list.specs.declared.run.Run.{Run}
 use Rattle.hole_list.specs.PlacingLaws.{some_same}
@@ -107,6 +107,13 @@ module _ (ps : Starts) (goes : GoOn ps) (w : Bare) (job : ℕ) (r : Run) (k : Wo
           (collect (put_at r.first (cells_of same.other) w.cells) (record { core = core_of same.other; count = suc k.count })
           (own_behind m same' n next same.other (ap (λ c. one_step (ps.code job) (machine_of (drop r.first w.cells) c)) e ∙ same.is) same.cells same.core)
           (λ j q l ne el ew. subst (λ x. StandsAlone ps x j q l) (sym same.cells) (other_behind (cells_of m) n j q l ne el ew))))
+
+  -- where the run goes on there is a step
+  pub has_step : (rest : Rest) → k.core ≡ Going rest → (other : Machine) × (one_step (ps.code job) (machine_of (drop r.first w.cells) k.core) ≡ Some other)
+  has_step rest e =
+      let g = goes job k.count (record { cells = take r.size (drop r.first w.cells); head = rest.head; frame = rest.frame; waiting = rest.waiting; fuel = rest.fuel; calls = rest.calls; peak = rest.peak; low = rest.low }) (sym own.alone ∙ ap (machine_of (take r.size (drop r.first w.cells))) e) in
+      let same = steps_same (ps.code job) r.first r.size w.cells (Going rest) g.0 own.within g.1 (g.2 ∙ taken r.first r.size w.cells own.within) in
+      (same.other, ap (λ c. one_step (ps.code job) (machine_of (drop r.first w.cells) c)) e ∙ same.is)
 
   -- what a step puts back is as long as the range
   pub step_puts : (other : Machine) → one_step (ps.code job) (machine_of (drop r.first w.cells) k.core) ≡ Some other

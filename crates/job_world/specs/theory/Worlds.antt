@@ -1,20 +1,23 @@
 -- Laws, for the laws of the world.
 -- What every world keeps: it holds at first, and each event keeps it.
 use Rattle.std.proofs.Common.{◌≡◌, ℕ, zero, suc, ◌+◌, ◌<◌, ◌≤◌, List, [], ◌∷◌, ◌++◌, length, take, drop, replicate, Option, Some, None, refl, sym, ap, ◌∙◌, subst, arith, inl, inr}
-use Rattle.std.specs.Prelude.{slice_get, slice_set, ◌⊎◌}
-use Rattle.std.proofs.lemmas.Bool.{cases_eq}
+use Rattle.std.specs.Prelude.{slice_get, slice_set, ◌⊎◌, IsSomeAnd}
+use Rattle.std.specs.List.{AllByRecursion}
+use Rattle.std.proofs.lemmas.Bool.{cases_eq, cases_lt}
 use Rattle.std.proofs.lemmas.List.{length-set, length-replicate}
 use Rattle.cell_span.specs.Range.{blank}
 use Rattle.hole_list.specs.declared.run.Run.{Run}
 use Rattle.hole_list.specs.PlacingLaws.{some_same}
 use Rattle.lease_desk.specs.declared.event.Event.TheVariants as event
-use Rattle.lease_desk.specs.Journal.{Move, gave, next_move, left_move, give_lease, after_event, replay}
+use Rattle.lease_desk.specs.Journal.{Move, gave, next_move, left_move, give_lease, after_event, replay, AreSizes}
 use Rattle.lease_desk.specs.Progress.{IsSound}
 use Rattle.lease_desk.specs.theory.Leases.{set_there}
 use Rattle.lease_desk.specs.theory.Moves.{after_next, after_left, after_back, replay_more}
 use Rattle.lease_desk.specs.theory.Sound.{sound_behind}
+use Rattle.licence.specs.Licensed.{Licensed}
+use Rattle.cell_machine.specs.Plans.{IsPlan}
 use Rattle.cell_machine.specs.State.{Final, Machine, Running, Over, cells_of}
-use Rattle.job_world.specs.Plans.{Planned, leases_of}
+use Rattle.job_world.specs.Plans.{Plan, Planned, IsFit, AreFit, leases_of}
 use Rattle.job_world.specs.Put.{put_at, Core, Going, Ended, machine_of, core_of, one_step}
 use Rattle.job_world.specs.World.{Start, start_of, lone, Worker, World, WorldEvent, Next, Step, Give, first_world, told, loaded, gone_on, either_move, stepped, step_in, after_step, final_in, ended, give_in, after_give, after, behind, world}
 use Rattle.job_world.specs.World as worlds
@@ -39,6 +42,12 @@ pub record IsWorld (arena : ℕ) (ps : Planned) (w : World) : Type 0 where
   pub alone : AreAlone (starts_of ps) (bare w)
   pub filed : (job : ℕ) (f : Final) → slice_get w.filed job ≡ Some (Some f) → EndsAlone ps job f
 
+-- plans that an arena with a cell can hold
+pub record Holds (arena : ℕ) (ps : Planned) : Type 0 where
+  pub some : 1 ≤ arena
+  pub fit : AreFit ps
+  pub sizes : AreSizes arena (leases_of ps.plans)
+
 -- ---- lists
 
 none_there : {A : Type 0} (n i : ℕ) (x : A) → slice_get (replicate n None) i ≡ Some (Some x) → ⊥
@@ -46,12 +55,12 @@ none_there zero i x e = let k : None ≡ Some (Some x) = e in absurd cc
 none_there (suc n) zero x e = let k : None ≡ Some x = some_same None (Some x) e in absurd cc
 none_there (suc n) (suc i) x e = none_there n i x e
 
-item_at : {A : Type 0} (xs : List A) (i : ℕ) → i < length xs → (x : A) × (slice_get xs i ≡ Some x)
+pub item_at : {A : Type 0} (xs : List A) (i : ℕ) → i < length xs → (x : A) × (slice_get xs i ≡ Some x)
 item_at [] i h = absurd (omega (arith, h))
 item_at (x ∷ xs) zero h = (x, refl)
 item_at (x ∷ xs) (suc i) h = item_at xs i (omega (arith, h))
 
-within : {A : Type 0} (xs : List A) (i : ℕ) (x : A) → slice_get xs i ≡ Some x → i < length xs
+pub within : {A : Type 0} (xs : List A) (i : ℕ) (x : A) → slice_get xs i ≡ Some x → i < length xs
 within [] i x e = let k : None ≡ Some x = e in absurd cc
 within (y ∷ xs) zero x e = omega arith
 within (y ∷ xs) (suc i) x e = omega (arith, within xs i x e)
@@ -75,7 +84,7 @@ first_holds arena ps = record {
 
 -- ---- each event
 
-module _ (arena : ℕ) (ps : Planned) (can : CanHold arena ps) (w : World) (k : IsWorld arena ps w) where
+module _ (arena : ℕ) (ps : Planned) (can : Holds arena ps) (w : World) (k : IsWorld arena ps w) where
   sizes : List ℕ
   sizes = leases_of ps.plans
 
@@ -271,16 +280,70 @@ module _ (arena : ℕ) (ps : Planned) (can : CanHold arena ps) (w : World) (k : 
 
 -- ---- behind all events
 
-keeps : (arena : ℕ) (ps : Planned) → CanHold arena ps → (w : World) (e : WorldEvent) → IsWorld arena ps w → IsWorld arena ps (after ps w e)
+keeps : (arena : ℕ) (ps : Planned) → Holds arena ps → (w : World) (e : WorldEvent) → IsWorld arena ps w → IsWorld arena ps (after ps w e)
 unfolding after
 keeps arena ps can w Next k = next_holds arena ps can w k
 keeps arena ps can w (Step job) k = step_holds arena ps can w k job
 keeps arena ps can w (Give job) k = give_holds arena ps can w k job
 
-behind_holds : (arena : ℕ) (ps : Planned) → CanHold arena ps → (w : World) (es : List WorldEvent) → IsWorld arena ps w → IsWorld arena ps (behind ps w es)
+behind_holds : (arena : ℕ) (ps : Planned) → Holds arena ps → (w : World) (es : List WorldEvent) → IsWorld arena ps w → IsWorld arena ps (behind ps w es)
 behind_holds arena ps can w [] k = k
 behind_holds arena ps can w (e ∷ es) k = behind_holds arena ps can (after ps w e) es (keeps arena ps can w e k)
 
-pub world_holds : (arena : ℕ) (ps : Planned) (events : List WorldEvent) → CanHold arena ps → IsWorld arena ps (world arena ps events)
+pub world_holds : (arena : ℕ) (ps : Planned) (events : List WorldEvent) → Holds arena ps → IsWorld arena ps (world arena ps events)
 unfolding world
 world_holds arena ps events can = behind_holds arena ps can (first_world arena ps) events (first_holds arena ps)
+
+-- ---- an arena without a cell
+
+-- a lease has at least one cell
+some_cell : (licences : List Licensed) (p : Plan) → IsFit licences p → 1 ≤ p.lease
+some_cell licences p fit = by_licence (slice_get licences p.licence) fit.plan
+  where
+    by_licence : (o : Option Licensed) → IsSomeAnd o (λ l. IsPlan l p.entry p.args p.fuel p.lease) → 1 ≤ p.lease
+    by_licence None h = absurd h
+    by_licence (Some l) h = omega (arith, h.lease)
+
+sizes_hold : (arena : ℕ) (licences : List Licensed) (plans : List Plan) → AllByRecursion (IsFit licences) plans → AllByRecursion (λ p. p.lease ≤ arena) plans → AreSizes arena (leases_of plans)
+sizes_hold arena licences [] fit h = fit
+sizes_hold arena licences (p ∷ plans) fit h = ((some_cell licences p fit.0, h.0), sizes_hold arena licences plans fit.1 h.1)
+
+-- the arena has a cell, or there are no plans
+pub holds : (arena : ℕ) (ps : Planned) → CanHold arena ps → Holds arena ps ⊎ (ps.plans ≡ [])
+holds arena ps can = by_arena (cases_lt 0 arena)
+  where
+    by_plans : (plans : List Plan) → AllByRecursion (IsFit ps.licences) plans → AllByRecursion (λ p. p.lease ≤ arena) plans → arena ≤ 0 → plans ≡ []
+    by_plans [] fit h none = refl
+    by_plans (p ∷ plans) fit h none = absurd (omega (arith, some_cell ps.licences p fit.0, h.0, none))
+
+    by_arena : (0 < arena) ⊎ (arena ≤ 0) → Holds arena ps ⊎ (ps.plans ≡ [])
+    by_arena (inl some) = inl (record { some = some; fit = can.fit; sizes = sizes_hold arena ps.licences ps.plans can.fit can.within })
+    by_arena (inr none) = inr (by_plans ps.plans can.fit can.within none)
+
+none_steps : (w : World) (job : ℕ) (s : Option Start) (l : Option (Option Run)) → step_in w job s None l ≡ w
+none_steps w job None l = refl
+none_steps w job (Some s) l = refl
+
+stays_with : (arena : ℕ) (licences : List Licensed) (e : WorldEvent) → after (record { licences = licences; plans = [] }) (first_world arena (record { licences = licences; plans = [] })) e ≡ first_world arena (record { licences = licences; plans = [] })
+unfolding after
+stays_with arena licences Next = refl
+stays_with arena licences (Step job) = none_steps (first_world arena (record { licences = licences; plans = [] })) job (start_of (record { licences = licences; plans = [] }) job) None
+stays_with arena licences (Give job) = refl
+
+-- without plans nothing happens
+pub first_stays : (arena : ℕ) (ps : Planned) (e : WorldEvent) → ps.plans ≡ [] → after ps (first_world arena ps) e ≡ first_world arena ps
+first_stays arena ps e none = subst (λ plans. after (record { licences = ps.licences; plans = plans }) (first_world arena (record { licences = ps.licences; plans = plans })) e ≡ first_world arena (record { licences = ps.licences; plans = plans })) (sym none) (stays_with arena ps.licences e)
+
+behind_first : (arena : ℕ) (ps : Planned) (events : List WorldEvent) → ps.plans ≡ [] → behind ps (first_world arena ps) events ≡ first_world arena ps
+behind_first arena ps [] none = refl
+behind_first arena ps (e ∷ events) none = ap (λ w. behind ps w events) (first_stays arena ps e none) ∙ behind_first arena ps events none
+
+pub world_stays : (arena : ℕ) (ps : Planned) (events : List WorldEvent) → ps.plans ≡ [] → world arena ps events ≡ first_world arena ps
+unfolding world
+world_stays arena ps events none = behind_first arena ps events none
+
+pub none_out : (arena : ℕ) (ps : Planned) (events : List WorldEvent) (job : ℕ) (r : Run) → ps.plans ≡ [] → slice_get (world arena ps events).desk.leases job ≡ Some (Some r) → ⊥
+none_out arena ps events job r none e = none_there (length (leases_of ps.plans)) job r (sym (ap (λ (w : World). slice_get w.desk.leases job) (world_stays arena ps events none)) ∙ e)
+
+pub none_filed : (arena : ℕ) (ps : Planned) (events : List WorldEvent) (job : ℕ) (f : Final) → ps.plans ≡ [] → slice_get (world arena ps events).filed job ≡ Some (Some f) → ⊥
+none_filed arena ps events job f none e = none_there (length ps.plans) job f (sym (ap (λ (w : World). slice_get w.filed job) (world_stays arena ps events none)) ∙ e)

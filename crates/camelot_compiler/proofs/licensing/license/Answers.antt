@@ -8,7 +8,7 @@ pub returns-in-Ok-clause-accepts : goal.returns-in-Ok-clause-accepts
 returns-in-Ok-clause-accepts c = λ t l has. found_accepts c.args.text.now c.in-Ok.bundle c.in-Ok.ensures.found c.in-Ok.ensures.certified c.verify_bundle.result c.verify_bundle.ensures
 
 pub returns-in-Ok-clause-refuses : goal.returns-in-Ok-clause-refuses
-returns-in-Ok-clause-refuses c = λ cause h. found_refuses c.args.text.now c.in-Ok.bundle.code.items c.in-Ok.bundle.cert.items cause _ c.in-Ok.ensures.exact h
+returns-in-Ok-clause-refuses c = λ cause h. found_refuses c.args.text.now c.in-Ok.bundle.code c.in-Ok.bundle.cert cause _ c.in-Ok.ensures.exact h
 
 pub returns-in-Err-clause-accepts : goal.returns-in-Err-clause-accepts
 returns-in-Err-clause-accepts c = λ t l has. refused_accepts c.args.text.now c.in-Err.fault c.in-Err.ensures.exact t l has

@@ -1,4 +1,4 @@
-use Rattle.job_world.specs.WorldLaws.{lie_apart, is_alone, step_apart, filed_alone, are_equal}
+use Rattle.job_world.specs.WorldLaws.{lie_apart, is_alone, step_apart, goes_on_at, gives_back_at, filed_alone, are_equal}
 use Rattle.job_world.proofs.isolation.isolation_law.Goals as goal
 
 -- src/isolation.rt:12:1
@@ -20,3 +20,11 @@ returns-clause-filed c = filed_alone
 -- src/isolation.rt:12:1
 pub returns-clause-alike : goal.returns-clause-alike
 returns-clause-alike c = are_equal
+
+-- src/isolation.rt:12:1
+pub returns-clause-goes : goal.returns-clause-goes
+returns-clause-goes c = goes_on_at
+
+-- src/isolation.rt:12:1
+pub returns-clause-gives : goal.returns-clause-gives
+returns-clause-gives c = gives_back_at

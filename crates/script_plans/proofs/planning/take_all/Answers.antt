@@ -10,7 +10,7 @@ pub entries-preserved : goal.entries-preserved
 entries-preserved c = record {
   going =
       going_behind c.args.arena (map entry_of c.args.entries.now) c.entries.rest.now c.entry-item.result (map row_of c.args.rows.now) c.entries.place c.entries.taken.jobs c.take_entry.new.taken.jobs c.entries.taken.plans.items
-      c.take_entry.new.taken.plans.items c.entries.taken.asked.items c.take_entry.new.taken.asked.items c.in-len1-up.len_at_least c.entry-item.is c.requires.texts c.entries.invariant.going c.in_ok-take_entry.ensures;
+      c.take_entry.new.taken.plans.items c.entries.taken.asked.items c.take_entry.new.taken.asked.items c.in-len1-up.len_at_least c.entry-item.is c.requires.programs c.entries.invariant.going c.in_ok-take_entry.ensures;
   short = all_behind (EntryIsShort 4294967295) c.entries.rest.now c.entry-item.result c.in-len1-up.len_at_least c.entry-item.is c.entries.invariant.short;
   within = all_behind EntryIsWithin c.entries.rest.now c.entry-item.result c.in-len1-up.len_at_least c.entry-item.is c.entries.invariant.within;
   place = one_fewer c.entries.rest.now c.entry-item.result c.entries.place (length c.args.entries.now) c.in-len1-up.len_at_least c.entry-item.is c.entries.invariant.place;

@@ -1,0 +1,96 @@
+-- Cited by contracts.
+-- What a program is, by its language: its text, its licence, and what its calls mean.
+use Rattle.std.specs.Prelude.{◌≡◌, ℕ, if◌then◌else◌, List, [], ◌∷◌, map, Option, Some, None, Ok}
+use Rattle.std.specs.Str.{bytes_eq}
+use Rattle.camelot_values.specs.Value.{Value}
+use Rattle.camelot_values.specs.Kinds.{DataType}
+use Rattle.camelot_values.specs.Outcome.{Outcome}
+use Rattle.camelot_values.specs.declared.kinds.Kind.{Kind}
+use Rattle.camelot_tree.specs.Meaning as source
+use Rattle.typing_rules.specs.Kinds.{types_of}
+use Rattle.typing_rules.specs.Typed.{Typing}
+use Rattle.grail_code.specs.Code.{Code}
+use Rattle.grail_code.specs.Meaning as code
+use Rattle.licence.specs.Licensed.{Licensed}
+use Rattle.grail_verifier.specs.Verdicts.{IsVerdict}
+use Rattle.cell_machine.specs.State.{most_calls}
+use Rattle.refusals.specs.declared.cause.Cause.{Cause}
+use Rattle.camelot_compiler.specs.Bundles.{bundle_text}
+use Rattle.camelot_compiler.specs.Compiled.{IsCompiled, Refused}
+use Rattle.camelot_compiler.specs.Licences.{IsLicence}
+use Rattle.job_script.specs.Scripts.{Program, Entry, AProgram, AJob}
+
+-- ---- texts
+
+-- the text of a program: a source in Camelot, or a bundle of Grail code and its certificate
+pub data ProgramText : Type 0 where
+  CamelotText : List ℕ → ProgramText
+  GrailText : List ℕ → ProgramText
+
+-- that of a program of a script, in its language
+abbrev pub program_of : Program → ProgramText
+program_of p = if p.camelot then CamelotText p.text else GrailText p.text
+
+-- that of the first program of this name among these entries
+abbrev pub program_named : List Entry → (name : List ℕ) → Option ProgramText
+program_named [] name = None
+program_named (AProgram p ∷ entries) name = if bytes_eq p.name name then Some (program_of p) else program_named entries name
+program_named (AJob j ∷ entries) name = program_named entries name
+
+-- it is in Camelot, where there is one
+abbrev pub IsInCamelot : Option ProgramText → Type 0
+IsInCamelot None = Unit {0}
+IsInCamelot (Some (CamelotText text)) = Unit {0}
+IsInCamelot (Some (GrailText text)) = ⊥
+
+-- ---- meanings
+
+-- what the calls of a program mean: by its source, typed so, or by its code
+pub data Meaning : Type 0 where
+  OfSource : Typing → Meaning
+  OfCode : Code → Meaning
+
+-- the names of its functions, in order
+abbrev pub function_names : Meaning → List (List ℕ)
+function_names (OfSource t) = map (λ f. f.name.word) t.source.funs
+function_names (OfCode p) = map (λ f. f.name) p.funcs
+
+-- the kinds of their parameters, in the same order
+abbrev pub function_params : Meaning → List (List Kind)
+function_params (OfSource t) = map (λ s. s.params) t.signatures
+function_params (OfCode p) = map (λ f. f.params) p.funcs
+
+-- the types of its values
+abbrev pub value_types : Meaning → List DataType
+value_types (OfSource t) = types_of t.source
+value_types (OfCode p) = p.types
+
+-- what the call of a function on these arguments comes to with so much fuel
+abbrev pub run_by : Meaning → (entry fuel : ℕ) → List Value → Outcome Value
+run_by (OfSource t) entry fuel args = source.run_of t.source most_calls entry fuel args
+run_by (OfCode p) entry fuel args = code.run_of p most_calls entry fuel args
+
+-- ---- licences
+
+-- Of a source: its program is compiled, and the verifier accepts code and certificate from their bytes alone. Its calls mean what the program means, typed as it was for this.
+pub record IsSourceLicence (text : List ℕ) (l : Licensed) (m : Meaning) : Type 0 where
+  pub is : IsLicence text l
+  pub means : m ≡ OfSource is.typing
+
+-- Of a bundle: the verifier's verdict on the bytes of its code and of its certificate is yes, with this licence. Its calls mean what the licence's code means.
+pub record IsBundleLicence (text : List ℕ) (l : Licensed) (m : Meaning) : Type 0 where
+  pub code : List ℕ
+  pub cert : List ℕ
+  pub bundle : bundle_text code cert ≡ text
+  pub verdict : IsVerdict code cert (Ok l)
+  pub means : m ≡ OfCode l.code
+
+-- The program has this licence, and its calls mean this. This is the one place that says what the licence of a program is.
+abbrev pub IsLicenceOf : ProgramText → Licensed → Meaning → Type 0
+IsLicenceOf (CamelotText text) l m = IsSourceLicence text l m
+IsLicenceOf (GrailText text) l m = IsBundleLicence text l m
+
+-- The program is refused for this cause, and so has no licence: a source, for the first cause there is. For what a bundle is refused isn't said yet, and no script with one is served.
+abbrev pub IsRefusedFor : ProgramText → Cause → Type 0
+IsRefusedFor (CamelotText text) cause = IsCompiled text (Refused cause)
+IsRefusedFor (GrailText text) cause = ⊥

@@ -1,0 +1,131 @@
+-- What is handed out is what comes of the script.
+use Rattle.std.specs.Prelude.{MatchResult}
+use Rattle.std.proofs.Common.{◌≡◌, ℕ, ◌<◌, ◌≤◌, List, length, slice_get, Option, Some, None, Result, Ok, Err, refl, sym, ap, ◌∙◌, subst, arith}
+use Rattle.std.proofs.lemmas.Option.{slice_get-map}
+use Rattle.std.specs.List.{AllByRecursion}
+use Rattle.std.specs.Option.{option_map}
+use Rattle.cell_span.specs.declared.cell.Cell.{Cell}
+use Rattle.cell_span.specs.Range.{Range, IsWhole}
+use Rattle.job_script.specs.Scripts.{Entry, Script, IsFormed, IsScript}
+use Rattle.job_script.specs.Text.{IsScriptText, EntryIsShort, script_text}
+use Rattle.job_script.specs.Words.{script_of}
+use Rattle.job_script.specs.Answers.{IsFault}
+use Rattle.job_script.specs.declared.reading.ScriptFault.{ScriptFault}
+use Rattle.job_script.specs.declared.reading.ScriptFault.TheVariants as script_fault
+use Rattle.job_world.specs.Plans.{Plan, Planned, leases_of, cells_with, cells_at, job_cells}
+use Rattle.job_workers.specs.Ended.{AllEnded}
+use Rattle.job_workers.specs.Served.{all_cells, cells_for}
+use Rattle.lease_desk.specs.declared.event.Event.{Event}
+use Rattle.lease_desk.specs.Filing.{FiledCells, HoldsFiled}
+use Rattle.lease_desk.specs.Journal.{IsLegal}
+use Rattle.script_plans.specs.Lines.{AllCamelot, AreProgramLines, ArePlanned, planned_cells, sizes_of, all_left}
+use Rattle.script_service.specs.Service.{TellsMeaning, IsReport, report_of}
+use Rattle.script_service.specs.Handed.{service_of, IsHanded, IsHandedFor}
+use Rattle.script_service.specs.Steps.{IsOf, IsUnserved, IsRefused, serve_fault}
+use Rattle.script_service.specs.declared.service.ServedScript.{ServedScript}
+use Rattle.script_service.specs.declared.service.ServeFault.{ServeFault}
+use Rattle.script_service.specs.declared.service.ServeFault.TheVariants as fault
+use Rattle.script_service.proofs.Filing.{all_meant}
+
+-- ---- the arena
+
+-- the cells that a planned run leaves
+abbrev left_of : Planned → Plan → List Cell
+left_of ps p = cells_with (slice_get ps.licences p.licence) p
+
+left_at : (ps : Planned) (job : ℕ) (o : Option Plan) → slice_get ps.plans job ≡ o → cells_for ps job o ≡ option_map (left_of ps) o
+unfolding job_cells
+left_at ps job None e = refl
+left_at ps job (Some p) e = ap Some (ap (cells_at ps.licences) e)
+
+same_cells : (ps : Planned) (lefts : List (List Cell)) → planned_cells ps.licences ps.plans ≡ lefts → (job : ℕ) → all_cells ps job ≡ slice_get lefts job
+same_cells ps lefts e job = left_at ps job (slice_get ps.plans job) refl ∙ sym (slice_get-map (left_of ps) ps.plans job) ∙ ap (λ (ls : List (List Cell)). slice_get ls job) e
+
+cells_held : (ps : Planned) (lefts : List (List Cell)) (journal : List Event) (arena : Range) → planned_cells ps.licences ps.plans ≡ lefts → HoldsFiled (all_cells ps) journal arena → HoldsFiled (λ job. slice_get lefts job) journal arena
+cells_held ps lefts journal arena e h =
+    let same : all_cells ps ≡ (λ job. slice_get lefts job) = λ i job. same_cells ps lefts e job i in
+    subst (λ (f : FiledCells). HoldsFiled f journal arena) same h
+
+-- ---- a script
+
+same_legal : (arena : ℕ) (sizes leases : List ℕ) (journal : List Event) → leases ≡ sizes → IsLegal arena leases journal → IsLegal arena sizes journal
+same_legal arena sizes leases journal e h = subst (λ s. IsLegal arena s journal) e h
+
+pub handed : (s : ServedScript) → AllCamelot (script_of s.script).items → AreProgramLines (script_of s.script).items s.plans.programs.items
+    → ArePlanned (script_of s.script).arena (script_of s.script).items s.plans.jobs s.plans.plans.items s.plans.asked.items → length s.plans.jobs.plans ≤ 4096 → AllEnded s.plans.jobs s.endings.items
+    → IsLegal (script_of s.script).arena (leases_of s.plans.jobs.plans) s.journal.items → IsWhole s.arena → s.arena.arena.cells ≡ (script_of s.script).arena → HoldsFiled (all_cells s.plans.jobs) s.journal.items s.arena
+    → IsOf (script_of s.script) s
+handed s camelot programs planned few ended legal whole size cells =
+    let script = script_of s.script in
+    let ps = s.plans.jobs in
+    record {
+      same = refl;
+      handed = record {
+        planned = planned;
+        few = few;
+        ended = ended;
+        comes = record {
+          camelot = camelot;
+          are_programs = programs;
+          are_fates = planned.are;
+          meant = subst (AllByRecursion TellsMeaning) planned.lines (all_meant ps script.arena s.endings.items ended s.plans.plans.items 0 planned.count);
+          legal = same_legal script.arena (sizes_of script.arena planned.fates) (leases_of ps.plans) s.journal.items planned.leases legal;
+          whole = whole;
+          size = size;
+          cells = cells_held ps (all_left script.arena script.items planned.fates) s.journal.items s.arena planned.cells cells;
+        };
+      };
+    }
+
+pub some_cells : (s : Script) → IsScript s → 1 ≤ s.arena
+some_cells s h = h.within.arena.least
+
+pub few_cells : (s : Script) → IsScript s → s.arena ≤ 2147483648
+few_cells s h = let m : s.arena ≤ 4194304 = h.within.arena.most in omega (arith, m)
+
+-- ---- an input
+
+pub short_text : (input : List ℕ) (s : Script) → ((text : List ℕ) (s : Script) → IsScriptText text s → AllByRecursion (EntryIsShort (length text)) s.items)
+    → ((most : ℕ) (entries : List Entry) → most ≤ 4294967295 → AllByRecursion (EntryIsShort most) entries → AllByRecursion (EntryIsShort 4294967295) entries)
+    → IsScriptText input s → length input < 4294967296 → AllByRecursion (EntryIsShort 4294967295) s.items
+short_text input s short longer text few = longer (length input) s.items (omega (arith, few)) (short input s text)
+
+-- two scripts of one text are the same
+abbrev pub OneScript : Type 0
+OneScript = (s t : Script) → IsFormed s → IsFormed t → script_text s ≡ script_text t → s ≡ t
+
+handed_for : (input : List ℕ) (script : Script) (s : ServedScript) → OneScript → IsScriptText input script → IsOf script s → IsHandedFor input s
+handed_for input script s one text h = record {
+  text = subst (IsScriptText input) (sym h.same) text;
+  only = λ t is. one t script is.right.formed text.right.formed (is.is ∙ sym text.is) ∙ sym h.same;
+  handed = h.handed;
+}
+
+unserved : (input : List ℕ) (s : Script) (x : ServeFault) → IsScriptText input s → IsUnserved s x → IsRefused input x
+unserved input s (fault.NoScript y) text h = absurd h
+unserved input s fault.NotYet text h = record { script = s; text = text; grail = h }
+unserved input s fault.Memory text h = tt
+
+-- what comes of a script that was read, for an input that is its text
+pub all_served : (input : List ℕ) (script : Script) → OneScript → IsScriptText input script → (r : Result ServedScript ServeFault) → MatchResult r (IsOf script) (IsUnserved script)
+    → MatchResult r (IsHandedFor input) (IsRefused input)
+all_served input script one text (Ok s) h = handed_for input script s one text h
+all_served input script one text (Err x) h = unserved input script x text h
+
+pub refused : (input : List ℕ) (x : ScriptFault) (y : ServeFault) → y ≡ serve_fault x → IsFault input x → IsRefused input y
+refused input x y e h = subst (IsRefused input) (sym e) (by_fault x h)
+  where
+    by_fault : (x : ScriptFault) → IsFault input x → IsRefused input (serve_fault x)
+    by_fault (script_fault.Line n) h = h
+    by_fault (script_fault.Count n) h = h
+    by_fault (script_fault.Repeat n) h = h
+    by_fault script_fault.Memory h = tt
+
+-- ---- the report
+
+pub is_report : (input output : List ℕ) (s : ServedScript) (h : IsHandedFor input s) → ((handed : IsHanded s) → output ≡ report_of (service_of s handed.planned.fates)) → IsReport input output
+is_report input output s h each =
+    record { service = service_of s h.handed.planned.fates; served = record { text = h.text; only = h.only; comes = h.handed.comes }; is = each h.handed }
+
+pub whole_arena : (input : List ℕ) (s : ServedScript) (arena : Range) → IsHandedFor input s → arena ≡ s.arena → IsWhole arena
+whole_arena input s arena h e = subst IsWhole (sym e) h.handed.comes.whole

@@ -1,0 +1,42 @@
+-- Reports whose lines have the same texts are the same.
+use Rattle.std.specs.Prelude.{codes}
+use Rattle.std.proofs.Common.{◌≡◌, ℕ, List, [], ◌∷◌, ◌++◌, map, refl, ap, ◌∙◌}
+use Rattle.job_script.specs.Scripts.{Entry, AProgram, AJob, Script}
+use Rattle.job_world.specs.Plans.{Planned}
+use Rattle.script_plans.specs.declared.types.JobPlan.{JobPlan}
+use Rattle.script_plans.specs.Lines.{ArePlanned, planned_lines}
+use Rattle.script_service.specs.Service.{told_of}
+use Rattle.lease_desk.specs.declared.event.Event.{Event}
+use Rattle.run_reports.specs.declared.outcome.ProgramLine.{ProgramLine}
+use Rattle.run_reports.specs.Report.{JobLine, Told, program_lines, job_lines, told_text, event_lines, asked_name, end_text, report_text}
+
+head_is : (x y : List ℕ) (xs ys : List (List ℕ)) → x ∷ xs ≡ y ∷ ys → x ≡ y
+head_is x y xs ys e = cc
+
+tail_is : (x y : List ℕ) (xs ys : List (List ℕ)) → x ∷ xs ≡ y ∷ ys → xs ≡ ys
+tail_is x y xs ys e = cc
+
+same_lines : (entries : List Entry) (ls ms : List JobLine) → map told_text ls ≡ map told_text ms → job_lines entries ls ≡ job_lines entries ms
+same_lines [] ls ms e = refl
+same_lines (AProgram p ∷ entries) ls ms e = same_lines entries ls ms e
+same_lines (AJob j ∷ entries) [] [] e = same_lines entries [] [] refl
+same_lines (AJob j ∷ entries) [] (m ∷ ms) e = cc
+same_lines (AJob j ∷ entries) (l ∷ ls) [] e = cc
+same_lines (AJob j ∷ entries) (l ∷ ls) (m ∷ ms) e =
+    let here : told_text l ≡ told_text m = head_is (told_text l) (told_text m) (map told_text ls) (map told_text ms) e in
+    let rest : job_lines entries ls ≡ job_lines entries ms = same_lines entries ls ms (tail_is (told_text l) (told_text m) (map told_text ls) (map told_text ms) e) in
+    λ i. ((codes "job " ++ j.name) ++ here i ++ codes "\n") ++ rest i
+
+pub same_report : (entries : List Entry) (t u : Told) → t.programs ≡ u.programs → map told_text t.jobs ≡ map told_text u.jobs → t.asked ≡ u.asked → t.journal ≡ u.journal → t.free ≡ u.free → report_text entries t ≡ report_text entries u
+unfolding report_text
+same_report entries t u programs jobs asked journal free =
+    let lines : job_lines entries t.jobs ≡ job_lines entries u.jobs = same_lines entries t.jobs u.jobs jobs in
+    λ i. program_lines entries (programs i) ++ lines i ++ event_lines (asked_name entries (asked i)) (journal i) ++ end_text (free i)
+
+-- the report that is written of plans and of what was filed for them is that of the fates that they are planned by
+pub report_is : (script : Script) (ps : Planned) (programs : List ProgramLine) (plans : List JobPlan) (asked : List ℕ) (lines : List JobLine) (journal : List Event) (told : Told) (output : List ℕ)
+    → map told_text lines ≡ map told_text (planned_lines ps script.arena 0 plans)
+    → told.programs ≡ programs → told.jobs ≡ lines → told.asked ≡ asked → told.journal ≡ journal → told.free ≡ script.arena → output ≡ report_text script.items told
+    → (planned : ArePlanned script.arena script.items ps plans asked) → output ≡ report_text script.items (told_of script programs planned.fates journal)
+report_is script ps programs plans asked lines journal told output same ep ej ea el ef is planned =
+    is ∙ same_report script.items told (told_of script programs planned.fates journal) ep (ap (map told_text) ej ∙ same ∙ ap (map told_text) planned.lines) (ea ∙ planned.places) el ef

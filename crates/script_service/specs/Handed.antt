@@ -1,0 +1,28 @@
+-- Cited by contracts.
+-- What serving a script hands out.
+use Rattle.std.specs.Prelude.{◌≡◌, ℕ, ◌≤◌, List, length}
+use Rattle.job_script.specs.Scripts.{Script}
+use Rattle.job_script.specs.Text.{IsScriptText}
+use Rattle.job_script.specs.Words.{script_of}
+use Rattle.job_workers.specs.Ended.{AllEnded}
+use Rattle.script_plans.specs.Fates.{Fate}
+use Rattle.script_plans.specs.Lines.{ArePlanned}
+use Rattle.script_service.specs.Service.{Service, IsService}
+use Rattle.script_service.specs.declared.service.ServedScript.{ServedScript}
+
+-- what it comes to, where the script's jobs have these fates
+abbrev pub service_of : ServedScript → List Fate → Service
+service_of s fates = record { script = script_of s.script; programs = s.plans.programs.items; fates = fates; journal = s.journal.items; arena = s.arena }
+
+-- The runs are planned by the fates of the script's jobs, and what is handed out is what comes of the script by these; each run has its ending.
+pub record IsHanded (s : ServedScript) : Type 0 where
+  pub planned : ArePlanned (script_of s.script).arena (script_of s.script).items s.plans.jobs s.plans.plans.items s.plans.asked.items
+  pub few : length s.plans.jobs.plans ≤ 4096
+  pub ended : AllEnded s.plans.jobs s.endings.items
+  pub comes : IsService (service_of s planned.fates)
+
+-- The input is the text of the script, and of no other one, and this is handed out for it.
+pub record IsHandedFor (input : List ℕ) (s : ServedScript) : Type 0 where
+  pub text : IsScriptText input (script_of s.script)
+  pub only : (t : Script) → IsScriptText input t → t ≡ script_of s.script
+  pub handed : IsHanded s

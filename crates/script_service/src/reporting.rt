@@ -1,0 +1,75 @@
+//! The report of a script that was served.
+ghost use Rattle.std.specs.Prelude.{◌≡◌, ◌≤◌, length, IfOk};
+ghost use Rattle.job_script.specs.Words.{script_of};
+ghost use Rattle.job_workers.specs.Ended.{AllEnded};
+ghost use Rattle.run_reports.specs.Report.{report_text};
+ghost use Rattle.script_plans.specs.Lines.{ArePlanned, next_behind};
+ghost use Rattle.script_service.specs.Service.{report_of, told_of};
+ghost use Rattle.script_service.specs.Handed.{IsHanded, service_of};
+
+use crate::lines::job_lines;
+use crate::service::ServedScript;
+use cell_machine::Ending;
+use cell_span::Span;
+use job_script::Script;
+use lease_desk::Event;
+use run_reports::{Outcome, report};
+use script_plans::Plans;
+use std::alloc::{AllocError, Global};
+
+/// The report of a script that was served, and the arena as the runs left it.
+#[derive(Drop)]
+pub struct ReportedScript {
+    pub text: Vec<u8>,
+    pub arena: Span,
+}
+
+// The report of a script, from its plans, the endings of its runs and the journal.
+fn report_plans(
+    alloc: Global,
+    script: &Script,
+    plans: Plans,
+    journal: Vec<Event>,
+    endings: Vec<Option<Ending>>,
+) -> Result<Vec<u8>, AllocError>
+    requires count { next_behind plans.plans.items 0 ≡ length plans.jobs.plans }
+    requires few { length plans.jobs.plans ≤ 4096 }
+    requires ended { AllEnded plans.jobs endings.items }
+    ensures { (planned : ArePlanned (script_of script.now).arena (script_of script.now).items plans.jobs plans.plans.items plans.asked.items)
+        → IfOk result (λ text. text.items ≡ report_text (script_of script.now).items (told_of (script_of script.now) plans.programs.items planned.fates journal.items)) }
+{
+    let mut endings = endings;
+    let lines = job_lines(alloc, &plans.jobs, script.arena, &plans.plans, &mut endings)?;
+    let outcome = Outcome {
+        programs: plans.programs,
+        jobs: lines,
+        asked: plans.asked,
+        journal,
+        free: script.arena as u64,
+    };
+    let text = report(alloc, script, plans.jobs.licences(), &outcome)?;
+    Ok(text)
+}
+
+/// The report of a script that was served. The arena is handed on. `AllocError` where memory runs out: the arena is ended then.
+pub fn report_served(alloc: Global, served: ServedScript) -> Result<ReportedScript, AllocError>
+    requires { IsHanded served }
+    // It is the report of what comes of the script, by the fates of its jobs.
+    ensures text { (handed : IsHanded served) → IfOk result (λ r. r.text.items ≡ report_of (service_of served handed.planned.fates)) }
+    ensures arena { IfOk result (λ r. r.arena ≡ served.arena) }
+{
+    let ServedScript {
+        script,
+        plans,
+        journal,
+        endings,
+        arena,
+    } = served;
+    match report_plans(alloc, &script, plans, journal, endings) {
+        Ok(text) => Ok(ReportedScript { text, arena }),
+        Err(fault) => {
+            arena.end();
+            Err(fault)
+        }
+    }
+}
