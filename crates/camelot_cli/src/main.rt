@@ -2,6 +2,7 @@
 #![tactic(auto)]
 
 ghost use Rattle.std.specs.Prelude.{◌≡◌};
+ghost use Rattle.std.specs.IoError.{error_kind};
 ghost use Rattle.camelot_cli.specs.Exits.{exit_of};
 
 use camelot_host::{Status, host};
@@ -18,10 +19,23 @@ fn main(rt: HostRuntime) -> ExitCode {
             let mut sink = StdSink::new(io::writer(&rt));
             host(&rt, rt.alloc(), &words, &mut source, &mut sink)
         }
-        Err(error) if error.kind() == ErrorKind::OutOfMemory => Status::Memory,
-        Err(_) => Status::Usage,
+        Err(error) => status_without_words(&error),
     };
     ExitCode::from(exit_number(status))
+}
+
+// The status where the words can't be had. A word that isn't UTF-8 is part of no command.
+fn status_without_words(error: &io::Error) -> Status
+    // Memory for the words was refused.
+    ensures memory { error_kind error.now ≡ ErrorKind.OutOfMemory → result ≡ Status.Memory }
+    // A word isn't UTF-8, which is all that else stands in the way.
+    ensures usage { (error_kind error.now ≡ ErrorKind.OutOfMemory → ⊥) → result ≡ Status.Usage }
+{
+    if error.kind() == ErrorKind::OutOfMemory {
+        Status::Memory
+    } else {
+        Status::Usage
+    }
 }
 
 // The exit status that tells what the host answered.

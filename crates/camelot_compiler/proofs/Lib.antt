@@ -7,3 +7,4 @@ pub mod Standing
 pub mod Accepting
 pub mod OneInference
 pub mod OneAnswer
+pub mod Certified

@@ -11,6 +11,7 @@ use Rattle.grail_code.specs.Spelling.{FitsCode, spelling}
 use Rattle.certificate.specs.Text.{text_of}
 use Rattle.licence.specs.Licensed.{Licensed}
 use Rattle.grail_verifier.specs.Accepted.{IsAccepted}
+use Rattle.bound_system.specs.Found.{IsLeastCertificate}
 use Rattle.lp_constraints.specs.Inference as inference
 use Rattle.lp_constraints.specs.Inference.{Infers}
 use Rattle.refusals.specs.declared.cause.Cause.{Cause}
@@ -35,6 +36,14 @@ pub record IsLicence (text : List ℕ) (l : Licensed) : Type 0 where
   pub typing : Typing
   pub has : HasLicence text typing l
   pub accepted : IsAccepted (spelling l.code) (text_of l.cert) l
+
+-- What stands behind two texts that a source is compiled to: the verifier accepts them, and its licence is that of the source; no certificate that grants the
+-- licence's code, with numbers of any size, costs less than the licence's.
+pub record IsCertifiedFor (text code cert : List ℕ) : Type 0 where
+  pub licence : Licensed
+  pub is : IsLicence text licence
+  pub accepted : IsAccepted code cert licence
+  pub least : IsLeastCertificate licence.code licence.cert
 
 -- what is answered is so; nothing is said where memory ran out
 abbrev pub IsLicensedOr : List ℕ → Result Licensed CompileFault → Type 0

@@ -1,23 +1,26 @@
-//! Laws of compiling, as the contract of a function that does nothing.
+//! Laws of compiling, as the contracts of functions that do nothing.
 ghost use Rattle.std.specs.Prelude.{◌≡◌, ℕ, List};
 ghost use Rattle.typing_rules.specs.Typed.{Typing};
 ghost use Rattle.licence.specs.Licensed.{Licensed};
+ghost use Rattle.lp_constraints.specs.declared.fault.NoCert.TheVariants.{NoBound};
 ghost use Rattle.refusals.specs.declared.cause.Cause.{Cause};
-ghost use Rattle.camelot_compiler.specs.Compiled.{Compiled, Refused, IsCompiled};
-ghost use Rattle.camelot_compiler.specs.Licences.{HasLicence};
+ghost use Rattle.refusals.specs.declared.cause.Cause.TheVariants as cause;
+ghost use Rattle.camelot_compiler.specs.Compiled.{Compiled, Bundled, Refused, IsCompiled, OfCode, NoneGrants};
+ghost use Rattle.camelot_compiler.specs.Licences.{HasLicence, IsCertifiedFor};
 
-use bound_system::laws::law_of_size;
+use bound_system::laws::{law_of_form, law_of_least, law_of_size};
 use camelot_grammar::laws::{one_answer, tokens_give_form};
 use camelot_types::laws::one_verdict;
 use code_gen::laws::{law_of_compiler, law_of_limits};
-use dual_simplex::one_run;
+use dual_simplex::{law_of_outcomes, one_run};
 use linear_use::laws::rule_by_faults;
 use text_scan::laws::one_reading;
 use typing_rules::laws::law_of_one_typing;
 
-/// A text has one answer: one bundle or one cause, whoever compiles it. It has one licence at most, with one typing of its program; and where it has a
-/// licence, there is no cause for which it is refused. Each stage has one answer: a text its tokens or a fault, tokens their program or a fault, a program its
-/// settled typing or a fault, a typing its faults of use, and a system of inequalities its run.
+/// A text has one answer: one bundle or one cause, whoever compiles it. It has one licence at most, with one typing
+/// of its program; and where it has a licence, there is no cause for which it is refused. Each stage has one answer:
+/// a text its tokens or a fault, tokens their program or a fault, a program its settled typing or a fault, a typing
+/// its faults of use, and a system of inequalities its run.
 pub fn law_of_compiling()
     ensures one { (text : List ℕ) (first second : Compiled) → IsCompiled text first → IsCompiled text second → first ≡ second }
     ensures licence { (text : List ℕ) (t u : Typing) (l m : Licensed) → HasLicence text t l → HasLicence text u m → (t ≡ u) × (l ≡ m) }
@@ -33,4 +36,25 @@ pub fn law_of_compiling()
     law_of_limits();
     law_of_size();
     one_run();
+}
+
+/// The texts that a source is compiled to are accepted by the verifier, with the licence of the source, and the
+/// certificate is least among all that grant the code, with numbers of any size. Where the cause of a refusal is that
+/// there is no bound, no certificate grants the code of the source's program.
+pub fn law_of_bundles()
+    // From "the source is compiled to these texts" to the verifier's yes, and to "none costs less".
+    ensures accepted { (text code cert : List ℕ) → IsCompiled text (Bundled code cert) → IsCertifiedFor text code cert }
+    // From "no bound" to "none grants".
+    ensures none { (text : List ℕ) → IsCompiled text (Refused (cause.NoCert NoBound)) → OfCode text NoneGrants }
+{
+    one_reading();
+    one_answer();
+    tokens_give_form();
+    law_of_one_typing();
+    law_of_compiler();
+    law_of_limits();
+    law_of_size();
+    law_of_outcomes();
+    law_of_least();
+    law_of_form();
 }

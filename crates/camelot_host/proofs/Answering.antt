@@ -1,15 +1,15 @@
 -- What reading, working and writing come to together.
-use Rattle.std.proofs.Common.{◌≡◌, ℕ, ◌+◌, ◌<◌, ◌≤◌, Bool, true, List, [], ◌∷◌, map, get_or, length, Option, Some, None, ◌++◌, refl, sym, ap, ◌∙◌, subst, arith}
+use Rattle.std.proofs.Common.{◌≡◌, ℕ, ◌+◌, ◌<◌, ◌≤◌, Bool, true, false, List, [], ◌∷◌, map, get_or, length, Option, Some, None, ◌++◌, refl, sym, ap, ◌∙◌, subst, arith}
 use Rattle.std.proofs.lemmas.List.{append-nil, length-append}
 use Rattle.std.specs.Str.{bytes_eq}
 use Rattle.std.proofs.lemmas.Slice.Eq.{bytes_eq-Decides}
 use Rattle.std.specs.Io.KnownBytes.{Consumes, IsAtEnd}
 use Rattle.host_io.specs.Counts.{last_count, Rose}
 use Rattle.host_io.specs.Source.{Took, TookExactly}
-use Rattle.camelot_host.specs.Commands.{Command, IsCommand}
-use Rattle.camelot_host.specs.CommandLaws.{one_command}
+use Rattle.camelot_host.specs.Commands.{Command, IsCommand, IsInputBy, IsInput, reads}
+use Rattle.camelot_host.specs.CommandLaws.{one_command, all_read}
 use Rattle.camelot_host.specs.Due.{Verdict, Done, Refused, IsDue}
-use Rattle.camelot_host.specs.Answers.{input_limit, devices, Answers, Quiet, SourceFaults, SinkFaults, Completes}
+use Rattle.camelot_host.specs.Answers.{input_limit, Devices, ReadWhole, HasRead, devices, Answers, Quiet, SourceFaults, SinkFaults, Completes}
 use Rattle.camelot_host.specs.Replies.{Writes, Responds}
 use Rattle.camelot_host.specs.declared.status.Status.{Status}
 use Rattle.camelot_host.specs.declared.status.Status.TheVariants as status
@@ -45,11 +45,26 @@ written_quiet status.ReadFault v output t t' old new w = absurd w
 written_quiet status.Usage v output t t' old new w = absurd w
 written_quiet status.TooLong v output t t' old new w = absurd w
 
+-- what was read whole is the input of any command, since each reads
+has_read : (command : Command) (before after : Devices) (input : List ℕ) → ReadWhole before after input → HasRead (reads command) before after input
+has_read command before after input h = subst (λ b. HasRead b before after input) (sym (all_read command)) h
+
+-- where the source tells its input, that is the command's
+pub told_input : (command : Command) (left : Option (List ℕ)) (input : List ℕ) → IsInput command left input → left ≡ Some input
+told_input command left input h = subst (λ b. IsInputBy b left input) (all_read command) h
+
+never_unread : {A : Type 0} (command : Command) → reads command ≡ false → A
+never_unread command h = let e : true ≡ false = sym (all_read command) ∙ h in absurd cc
+
+-- a source of which a command took nothing is as it was
+pub unread : {S : Type 0} (command : Command) (old new : S) → reads command ≡ false → new ≡ old
+unread command old new h = never_unread command h
+
 pub answers_of : (s : Status) (words : List (List ℕ)) (command : Command) (input : List ℕ) (l l' t t' : Option (List ℕ)) (n n' : ℕ) → IsCommand words command → Responds s command input t t'
     → Took l l' n n' input → IsAtEnd l' → length input ≤ input_limit → Answers s words (devices l n t) (devices l' n' t')
-answers_of status.Ok words command input l l' t t' n n' c r k e h = record { command = command; spelled = c; input = input; read = record { took = k; at_end = e; within = h }; told = r }
-answers_of status.Refused words command input l l' t t' n n' c r k e h = record { command = command; spelled = c; input = input; read = record { took = k; at_end = e; within = h }; told = r }
-answers_of status.WriteFault words command input l l' t t' n n' c r k e h = record { command = command; spelled = c; input = input; read = record { took = k; at_end = e; within = h }; told = r }
+answers_of status.Ok words command input l l' t t' n n' c r k e h = record { command = command; spelled = c; input = input; read = has_read command (devices l n t) (devices l' n' t') input (record { took = k; at_end = e; within = h }); told = r }
+answers_of status.Refused words command input l l' t t' n n' c r k e h = record { command = command; spelled = c; input = input; read = has_read command (devices l n t) (devices l' n' t') input (record { took = k; at_end = e; within = h }); told = r }
+answers_of status.WriteFault words command input l l' t t' n n' c r k e h = record { command = command; spelled = c; input = input; read = has_read command (devices l n t) (devices l' n' t') input (record { took = k; at_end = e; within = h }); told = r }
 answers_of status.Memory words command input l l' t t' n n' c r k e h = record { gone = record { bytes = input; within = h; took = k }; silent = r }
 answers_of status.ReadFault words command input l l' t t' n n' c r k e h = absurd r
 answers_of status.Usage words command input l l' t t' n n' c r k e h = absurd r
@@ -74,9 +89,9 @@ same_input (Some xs) (Some ys) input bytes e c h = sym (append-nil bytes) ∙ ap
 
 -- what was told for the command that the words spell, and the bytes that were read
 pub completes : (s : Status) (words : List (List ℕ)) (command own : Command) (input bytes : List ℕ) (l l' t t' : Option (List ℕ)) (n n' g g' : ℕ) → IsCommand words own → Responds s own bytes t t'
-    → Took l l' n n' bytes → IsAtEnd l' → SinkFaults s g g' → IsCommand words command → l ≡ Some input → g < last_count → g' ≡ g → Completes s command input t t'
+    → Took l l' n n' bytes → IsAtEnd l' → SinkFaults s g g' → IsCommand words command → IsInput command l input → g < last_count → g' ≡ g → Completes s command input t t'
 completes s words command own input bytes l l' t t' n n' g g' spelled r k e f again h room same =
-    let r' = subst (λ b. Responds s own b t t') (same_input l l' input bytes h k.gone e) r in
+    let r' = subst (λ b. Responds s own b t t') (same_input l l' input bytes (told_input command l input h) k.gone e) r in
     told s (subst (λ d. Responds s d input t t') (one_command words own command spelled again) r') f
   where
     told : (s : Status) → Responds s command input t t' → SinkFaults s g g' → Completes s command input t t'
@@ -89,8 +104,8 @@ completes s words command own input bytes l l' t t' n n' g g' spelled r k e f ag
     told status.TooLong r f = absurd r
 
 -- more than the whole input can't be taken
-pub no_more : (input : List ℕ) (l l' : Option (List ℕ)) (n n' limit : ℕ) → TookExactly (limit + 1) l l' n n' → l ≡ Some input → length input ≤ limit → ⊥
-no_more input l l' n n' limit k h within = too_many input k.bytes l l' limit k.number k.took.gone h within
+pub no_more : (command : Command) (input : List ℕ) (l l' : Option (List ℕ)) (n n' limit : ℕ) → TookExactly (limit + 1) l l' n n' → IsInput command l input → length input ≤ limit → ⊥
+no_more command input l l' n n' limit k h within = too_many input k.bytes l l' limit k.number k.took.gone (told_input command l input h) within
 
 pub no_usage : (s : Status) (command : Command) (input : List ℕ) (t t' : Option (List ℕ)) → Responds s command input t t' → s ≡ status.Usage → ⊥
 no_usage s command input t t' r e = subst (λ x. Responds x command input t t') e r

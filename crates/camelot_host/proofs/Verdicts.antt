@@ -1,15 +1,20 @@
 -- What is served or compiled isn't refused.
+use Rattle.std.specs.Prelude.{codes}
 use Rattle.std.proofs.Common.{◌≡◌, ℕ, Bool, true, false, List, [], ◌∷◌, ◌⊎◌, inl, inr, sym, ◌∙◌, subst}
 use Rattle.job_script.specs.Scripts.{Entry, AProgram, AJob, Script}
 use Rattle.job_script.specs.Text.{IsScriptText, IsLineFault, IsCountFault, IsRepeatFault}
 use Rattle.job_script.specs.declared.reading.ScriptFault.{ScriptFault}
 use Rattle.job_script.specs.declared.reading.ScriptFault.TheVariants as fault
-use Rattle.camelot_compiler.specs.Compiled.{Compiled, Bundled, IsCompiled}
+use Rattle.lp_constraints.specs.declared.fault.NoCert.TheVariants.{NoBound}
+use Rattle.refusals.specs.declared.cause.Cause.TheVariants.{NoCert}
+use Rattle.camelot_compiler.specs.Compiled.{Compiled, Bundled, IsCompiled, OfCode, NoneGrants}
+use Rattle.camelot_compiler.specs.Licences.{IsCertifiedFor}
 use Rattle.camelot_compiler.specs.Compiled as compiler
 use Rattle.script_plans.specs.Lines.{AllCamelot}
 use Rattle.script_service.specs.Service.{HasGrail, IsScriptFault, NoScript, NotYet}
 use Rattle.camelot_host.specs.Commands.{Command, Serve, Compile}
 use Rattle.camelot_host.specs.Due.{Done, Refused, IsDue}
+use Rattle.camelot_host.proofs.Telling.{bound_told}
 
 no_grail : (entries : List Entry) → AllCamelot entries → HasGrail entries → ⊥
 no_grail [] all has = has
@@ -29,3 +34,14 @@ one_verdict line count repeat one Serve input output other done (NoScript faulty
     by_fault fault.Memory h = h
 one_verdict line count repeat one Serve input output other done (NotYet not_yet is) = no_grail done.script.items done.camelot (subst (λ s. HasGrail s.items) (done.only not_yet.script not_yet.text) not_yet.grail)
 one_verdict line count repeat one Compile input output other done refused = let e : Bundled done.code done.cert ≡ compiler.Refused refused.cause = one input (Bundled done.code done.cert) (compiler.Refused refused.cause) done.compiled refused.compiled in absurd cc
+
+-- ---- what is told of a source
+
+pub done_certified : ((text code cert : List ℕ) → IsCompiled text (Bundled code cert) → IsCertifiedFor text code cert) → (input output : List ℕ) (due : IsDue Compile input Done output) → IsCertifiedFor input due.code due.cert
+done_certified law input output due = law input due.code due.cert due.compiled
+
+pub refused_none : ((text : List ℕ) → IsCompiled text (compiler.Refused (NoCert NoBound)) → OfCode text NoneGrants) → (input output : List ℕ) (due : IsDue Compile input Refused output) → due.cause ≡ NoCert NoBound → OfCode input NoneGrants
+refused_none law input output due e = law input (subst (λ x. IsCompiled input (compiler.Refused x)) e due.compiled)
+
+pub told_none : ((text : List ℕ) → IsCompiled text (compiler.Refused (NoCert NoBound)) → OfCode text NoneGrants) → (input : List ℕ) → IsDue Compile input Refused (codes "refused no-bound\n") → OfCode input NoneGrants
+told_none law input due = law input (subst (λ x. IsCompiled input (compiler.Refused x)) (bound_told due.cause (sym due.is)) due.compiled)

@@ -1,11 +1,11 @@
 -- Cited by contracts.
 -- What stands behind each status of the host, whatever the command is.
-use Rattle.std.specs.Prelude.{◌≡◌, ℕ, ◌+◌, ◌≤◌, List, [], length, Option, ⊤}
+use Rattle.std.specs.Prelude.{◌≡◌, ℕ, ◌+◌, ◌≤◌, Bool, true, false, List, [], length, Option, ⊤}
 use Rattle.std.specs.Io.KnownBytes.{IsAtEnd}
 use Rattle.host_io.specs.Counts.{Rose}
 use Rattle.host_io.specs.Source.{Took, TookAtMost, TookExactly}
 use Rattle.host_io.specs.Sink.{Tells, TellsFront}
-use Rattle.camelot_host.specs.Commands.{Command, IsCommand}
+use Rattle.camelot_host.specs.Commands.{Command, IsCommand, reads}
 use Rattle.camelot_host.specs.Due.{Verdict, Done, Refused, IsDue}
 use Rattle.camelot_host.specs.declared.status.Status.{Status}
 use Rattle.camelot_host.specs.declared.status.Status.TheVariants as status
@@ -16,8 +16,8 @@ input_limit = 8388608
 
 -- ---- source and sink
 
--- the bytes that the source has left, where it tells them; how many were taken from it so far; and the bytes that the sink was
--- told so far, where it tells them
+-- the bytes that the source has left, where it tells them; how many were taken from it so far; and the bytes that the
+-- sink was told so far, where it tells them
 pub record Devices : Type 0 where
   pub left : Option (List ℕ)
   pub taken : ℕ
@@ -31,6 +31,17 @@ pub record ReadWhole (before after : Devices) (input : List ℕ) : Type 0 where
   pub took : Took before.left after.left before.taken after.taken input
   pub at_end : IsAtEnd after.left
   pub within : length input ≤ input_limit
+
+-- nothing was taken, and the input is empty
+pub record ReadNothing (before after : Devices) (input : List ℕ) : Type 0 where
+  pub left : after.left ≡ before.left
+  pub taken : after.taken ≡ before.taken
+  pub empty : input ≡ []
+
+-- the input of a command that reads was read whole, and for one that doesn't nothing was
+abbrev pub HasRead : Bool → (before after : Devices) → List ℕ → Type 0
+HasRead true before after input = ReadWhole before after input
+HasRead false before after input = ReadNothing before after input
 
 -- ---- what was told for an input
 
@@ -49,12 +60,12 @@ pub record ToldFront (command : Command) (input : List ℕ) (told told' : Option
 
 -- ---- what was taken and told, by the status
 
--- the words spell a command, the whole input was read, and an output that is due with this verdict was told
+-- the words spell a command, its input was read, and an output that is due with this verdict was told
 pub record Answered (words : List (List ℕ)) (verdict : Verdict) (before after : Devices) : Type 0 where
   pub command : Command
   pub spelled : IsCommand words command
   pub input : List ℕ
-  pub read : ReadWhole before after input
+  pub read : HasRead (reads command) before after input
   pub told : ToldDue command input verdict before.told after.told
 
 -- the same, but only a front of the output was told
@@ -62,7 +73,7 @@ pub record AnsweredInPart (words : List (List ℕ)) (before after : Devices) : T
   pub command : Command
   pub spelled : IsCommand words command
   pub input : List ℕ
-  pub read : ReadWhole before after input
+  pub read : HasRead (reads command) before after input
   pub told : ToldFront command input before.told after.told
 
 -- just some bytes were taken, at most so many, and nothing was told
@@ -85,8 +96,8 @@ Answers status.WriteFault words before after = AnsweredInPart words before after
 Answers status.Memory words before after = Broken input_limit before after
 Answers status.TooLong words before after = Overlong before after
 
--- what was told for an input of which the source told each byte, where no device failed: an output that is due, by the verdict,
--- or nothing where memory ran out
+-- what was told for a command and its input, where no device failed: an output that is due, by the verdict, or
+-- nothing where memory ran out
 abbrev pub Completes : Status → Command → List ℕ → (told told' : Option (List ℕ)) → Type 0
 Completes status.Ok command input told told' = ToldDue command input Done told told'
 Completes status.Refused command input told told' = ToldDue command input Refused told told'

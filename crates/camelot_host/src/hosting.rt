@@ -1,7 +1,7 @@
-ghost use Rattle.std.specs.Prelude.{◌≡◌, ℕ, ◌+◌, ◌<◌, ◌≤◌, ◌↔◌, List, Some, map, length, string_bytes, IfOk};
+ghost use Rattle.std.specs.Prelude.{◌≡◌, ℕ, ◌+◌, ◌<◌, ◌≤◌, ◌↔◌, false, List, map, length, string_bytes, IfOk};
 ghost use Rattle.host_io.specs.Counts.{last_count};
 ghost use Rattle.camelot_host.specs.Commands as plain;
-ghost use Rattle.camelot_host.specs.Commands.{IsCommand, IsNoCommand};
+ghost use Rattle.camelot_host.specs.Commands.{IsCommand, IsNoCommand, IsInput, reads};
 ghost use Rattle.camelot_host.specs.Answers.{input_limit, devices, Answers, Completes, Quiet, SourceFaults, SinkFaults};
 ghost use Rattle.camelot_host.specs.Replies.{command_named, verdict_named, IsReply, Writes, Responds};
 
@@ -57,9 +57,9 @@ fn respond<K: Sink>(alloc: Global, command: Command, input: Vec<u8>, sink: &mut 
 
 /// Runs one command, from the bytes that come in to the bytes that go out.
 ///
-/// The words spell the command, and the input is read to its end. What is due for an input is the command's own matter; all
-/// else is the same for each. The order is: words, reading, work, writing. The output is built whole before the first byte is
-/// written.
+/// The words spell the command, and a command that reads, as each of today does, has its input read to the end. What is
+/// due for an input is the command's own matter; all else is the same for each. The order is: words, reading, work,
+/// writing. The output is built whole before the first byte is written.
 ///
 /// The commands:
 ///
@@ -73,7 +73,7 @@ fn respond<K: Sink>(alloc: Global, command: Command, input: Vec<u8>, sink: &mut 
 /// what is written for it; [`Status::Usage`] where the words spell no command; [`Status::ReadFault`] and
 /// [`Status::WriteFault`] where a device failed; [`Status::TooLong`] where there are more than 8,388,608 bytes of input; and
 /// [`Status::Memory`] where memory ran out.
-#[tactic(auto, using(crate::proofs::Answering::answers_of, crate::proofs::Answering::no_usage, crate::proofs::Answering::not_long, crate::proofs::Answering::source_steady, crate::proofs::Answering::no_rise, crate::proofs::Answering::no_more))]
+#[tactic(auto, using(crate::proofs::Answering::answers_of, crate::proofs::Answering::no_usage, crate::proofs::Answering::not_long, crate::proofs::Answering::source_steady, crate::proofs::Answering::no_rise, crate::proofs::Answering::no_more, crate::proofs::Answering::unread))]
 pub fn host<R, S: Source, K: Sink>(
     _rt: &R,
     alloc: Global,
@@ -90,6 +90,9 @@ pub fn host<R, S: Source, K: Sink>(
     ensures usage { (result ≡ Status.Usage) ↔ IsNoCommand (map string_bytes words.now) }
     ensures untouched { result ≡ Status.Usage → (source.new ≡ source.old) × (sink.new ≡ sink.old) }
 
+    // A command that doesn't read leaves the source as it was.
+    ensures unread { (command : plain.Command) → IsCommand (map string_bytes words.now) command → reads command ≡ false → source.new ≡ source.old }
+
     // The sink isn't used at a status at which nothing is written.
     ensures quiet { Quiet result sink.old sink.new }
 
@@ -101,10 +104,10 @@ pub fn host<R, S: Source, K: Sink>(
     ensures too_long { S.taken source.old + input_limit < last_count →
         ((result ≡ Status.TooLong) ↔ (S.taken source.new ≡ S.taken source.old + (input_limit + 1))) }
 
-    // The same from the other side: where the words spell a command, the source tells its input, this is within the limit, and
-    // no device fails, an output that is due is told whole, unless memory runs out.
+    // The same from the other side: where the words spell a command, the source tells the input of one that reads, this
+    // is within the limit, and no device fails, an output that is due is told whole, unless memory runs out.
     ensures complete { (command : plain.Command) (input : List ℕ) → IsCommand (map string_bytes words.now) command
-        → S.left source.old ≡ Some input → length input ≤ input_limit
+        → IsInput command (S.left source.old) input → length input ≤ input_limit
         → S.faults source.old < last_count → S.faults source.new ≡ S.faults source.old
         → K.faults sink.old < last_count → K.faults sink.new ≡ K.faults sink.old
         → Completes result command input (K.told sink.old) (K.told sink.new) }

@@ -1,10 +1,14 @@
 //! Laws of the definitions that the contract of `host` cites. Each function does nothing: its clause is the law.
 
-ghost use Rattle.std.specs.Prelude.{◌≡◌, ℕ, List};
-ghost use Rattle.camelot_host.specs.Commands.{Command, IsCommand};
+ghost use Rattle.std.specs.Prelude.{◌≡◌, ℕ, List, codes};
+ghost use Rattle.lp_constraints.specs.declared.fault.NoCert.TheVariants.{NoBound};
+ghost use Rattle.refusals.specs.declared.cause.Cause.TheVariants.{NoCert};
+ghost use Rattle.camelot_compiler.specs.Compiled.{OfCode, NoneGrants};
+ghost use Rattle.camelot_compiler.specs.Licences.{IsCertifiedFor};
+ghost use Rattle.camelot_host.specs.Commands.{Command, Compile, IsCommand};
 ghost use Rattle.camelot_host.specs.Due.{Done, Refused, IsDue};
 
-use camelot_compiler::laws::law_of_compiling;
+use camelot_compiler::laws::{law_of_bundles, law_of_compiling};
 use job_script::laws::law_of_scripts;
 
 /// Words spell at most one command.
@@ -14,11 +18,26 @@ pub fn one_command()
         → IsCommand words first → IsCommand words second → first ≡ second }
 {}
 
-/// No output is due with one verdict for an input for which another is due with the other: an input is served or compiled, or it is refused.
+/// No output is due with one verdict for an input for which another is due with the other: an input is served or
+/// compiled, or it is refused.
 
 pub fn one_verdict()
     ensures { (command : Command) (input output other : List ℕ) → IsDue command input Done output → IsDue command input Refused other → ⊥ }
 {
     law_of_scripts();
     law_of_compiling();
+}
+
+/// What `compile` tells of a source, done or refused, in the words of the verifier and of certificates.
+pub fn law_of_compile()
+    // What is told as a bundle is accepted by the verifier, with the licence of the source, and no certificate that
+    // grants its code costs less.
+    ensures done { (input output : List ℕ) (due : IsDue Compile input Done output) → IsCertifiedFor input due.code due.cert }
+    // Where the cause that is told is that there is no bound, no certificate, with numbers of any size, grants the
+    // source's code.
+    ensures none { (input output : List ℕ) (due : IsDue Compile input Refused output) → due.cause ≡ NoCert NoBound → OfCode input NoneGrants }
+    // No other cause is told in this line, so that the line itself says it.
+    ensures told { (input : List ℕ) → IsDue Compile input Refused (codes "refused no-bound\n") → OfCode input NoneGrants }
+{
+    law_of_bundles();
 }

@@ -75,8 +75,12 @@ runs_as_planned l entry f args fuel cells h plan few is = record {
   goes = λ count s e. has_step l.code most_calls room (run_of l.code most_calls entry fuel args) s (step l.code most_calls s)
       (step_goes l.code most_calls room (run_of l.code most_calls entry fuel args) s h.well h.limits (subst (IsOnWay l.code most_calls room (run_of l.code most_calls entry fuel args)) e (way count)));
   size = λ count. size_stays l.code most_calls room (run_of l.code most_calls entry fuel args) h.well h.limits count (Running (begun l.code entry f args fuel cells)) (way 0)
-      ∙ omega (arith, enough, length-append (cells_from l.code.types 0 (parts args)) (free_from (length (cells_from l.code.types 0 (parts args))) (cells - length (cells_from l.code.types 0 (parts args)))),
-      length_free (length (cells_from l.code.types 0 (parts args))) (cells - length (cells_from l.code.types 0 (parts args))));
+      ∙ omega (
+        arith,
+        enough,
+        length-append (cells_from l.code.types 0 (parts args)) (free_from (length (cells_from l.code.types 0 (parts args))) (cells - length (cells_from l.code.types 0 (parts args)))),
+        length_free (length (cells_from l.code.types 0 (parts args))) (cells - length (cells_from l.code.types 0 (parts args))),
+      );
 }
   where
     room : ℕ

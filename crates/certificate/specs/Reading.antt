@@ -1,4 +1,4 @@
--- Private: words for functions of this crate.
+-- Laws, for the proofs of this crate and of those above it.
 -- The reader as functions on the words of a line: what comes of a function when one more line is added to it, the limits left out.
 use Rattle.std.specs.Prelude.{◌≡◌, ℕ, ◌+◌, ◌-◌, ◌*◌, ◌==◌, ◌&&◌, ◌||◌, not, nat_lt, Bool, true, false, if◌then◌else◌, Option, Some, None, List, [], ◌∷◌, ◌++◌, length, map, codes, min}
 use Rattle.std.specs.Option.{option_map}

@@ -13,8 +13,10 @@ use Rattle.dual_simplex.specs.Scans.{leaving, entering, run_from, outcome_of, pi
 use Rattle.dual_simplex.specs.Shape.{IsWellShaped}
 use Rattle.dual_simplex.specs.Reduced.{AllReduced}
 use Rattle.dual_simplex.specs.Systems.{Inequalities, IsProper, first_tableau}
+use Rattle.dual_simplex.specs.Promises.{SaysLeast, SaysNothing}
 use Rattle.dual_simplex.proofs.Names.{one_if, one_if-same, uses, uses_at, variables}
 use Rattle.dual_simplex.proofs.Pivots.{wide_at}
+use Rattle.dual_simplex.proofs.Truth.{answer_least, answer_nothing}
 use Rattle.dual_simplex.proofs.Good.{Good, good_first, good_turn, not_negative_at}
 use Rattle.dual_simplex.proofs.Chosen.{leaves_rightly, enters_rightly}
 use Rattle.dual_simplex.proofs.LowestTerms.{first_reduced, stays_reduced}
@@ -274,6 +276,16 @@ one_run system proper = record {
   run = is_run system (pivots_of system) (outcome_of system) proper refl refl;
   only = λ n o h. let so = only_run system 4096 0 (first_tableau system) n o (good_first system proper) h in (so.0 ∙ zero_plus (pivots_of system), so.1);
 }
+
+-- the outcome of the run is true of the system, whoever ran it
+only_outcome : (system : Inequalities) (o : Outcome) → IsProper system → IsOutcome system o → o ≡ outcome_of system
+only_outcome system o proper h = (only_run system 4096 0 (first_tableau system) h.pivots o (good_first system proper) h.run).1
+
+pub says_least : (system : Inequalities) (o : Outcome) → IsProper system → IsOutcome system o → SaysLeast system o
+says_least system o proper h = answer_least system o proper (only_outcome system o proper h)
+
+pub says_nothing : (system : Inequalities) (o : Outcome) → IsProper system → IsOutcome system o → SaysNothing system o
+says_nothing system o proper h = answer_nothing system o proper (only_outcome system o proper h)
 
 record Fine (system : Inequalities) (t : Tableau) : Type 0 where
   good : Good system t

@@ -10,5 +10,7 @@ mod solver;
 mod system;
 mod tableau;
 
-pub use solver::{lowest_terms, one_run, solve, solve_counted, tableaus_of_runs, weak_duality};
+pub use solver::{
+    law_of_outcomes, lowest_terms, one_run, solve, solve_counted, tableaus_of_runs, weak_duality,
+};
 pub use system::{Row, Run, Solved, Summand, System};

@@ -9,7 +9,7 @@ ghost use Rattle.dual_simplex.specs.Choices.{PicksLine, PicksColumn};
 ghost use Rattle.dual_simplex.specs.Reduced.{AllReduced, StaysReduced};
 ghost use Rattle.dual_simplex.specs.Shape.{IsWellShaped};
 ghost use Rattle.dual_simplex.specs.Tableau.{Tableau as PlainTableau, line_at};
-ghost use Rattle.dual_simplex.specs.Run.{plain_answer, IsRun, IsOutcome, HasOneRun, IsTableauOf};
+ghost use Rattle.dual_simplex.specs.Run.{Outcome, plain_answer, IsRun, IsOutcome, HasOneRun, IsTableauOf};
 ghost use Rattle.dual_simplex.specs.Scans.{run_from, outcome_of, pivots_from, pivots_of};
 ghost use Rattle.dual_simplex.specs.Promises.{SaysLeast, SaysPrices, SaysNothing, SaysPivots};
 
@@ -141,6 +141,13 @@ pub fn lowest_terms()
 #[tactic(auto, using(crate::proofs::Relation::one_run))]
 pub fn one_run()
     ensures { (system : Inequalities) → IsProper system → HasOneRun system }
+{}
+
+/// The outcome of a run is true of its system, whoever ran it: at Least no feasible solution costs less, and at Nothing there is none.
+#[tactic(auto, using(crate::proofs::Relation::says_least, crate::proofs::Relation::says_nothing))]
+pub fn law_of_outcomes()
+    ensures least { (system : Inequalities) (o : Outcome) → IsProper system → IsOutcome system o → SaysLeast system o }
+    ensures nothing { (system : Inequalities) (o : Outcome) → IsProper system → IsOutcome system o → SaysNothing system o }
 {}
 
 /// Every tableau of a run is well shaped, its equations are in lowest terms with positive divisors, and at most one variable can

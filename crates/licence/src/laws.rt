@@ -37,7 +37,7 @@ pub fn law_of_worth()
         → (limit func number place fuel waits : ℕ) (f : Func) (b : Block) (env : Locals)
         → slice_get p.funcs func ≡ Some f → slice_get f.blocks number ≡ Some b → place ≤ length b.lets → FitAt p f b place env
         → IsPaidBy book.unit (worth_at p book func f number b place env) (λ v. book.back func + potential p.types (book.result func) v)
-            (from_place p.types (entering (bodies p) limit) f b number place env fuel waits) }
+        (from_place p.types (entering (bodies p) limit) f b number place env fuel waits) }
 {}
 
 /// The rules, which have no order, hold exactly where a cell costs something and every check of the list holds.

@@ -1,4 +1,4 @@
--- Cited by contracts.
+-- Private: words for functions of this crate.
 -- A certificate from the values of the unknowns, taken one by one from the front: they come in the order of the certificate's lines.
 use Rattle.std.specs.Prelude.{ℕ, zero, suc, ◌-◌, List, [], ◌∷◌, ◌++◌, length, Option, Some, None, cond}
 use Rattle.std.specs.List.{range_with_len}

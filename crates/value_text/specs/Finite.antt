@@ -1,4 +1,4 @@
--- Private: words for functions of this crate.
+-- Cited by contracts.
 -- Which types have a value: a type has one where a constructor of it has none but fields that have.
 use Rattle.std.specs.Prelude.{◌≡◌, ℕ, Bool, true, false, List, slice_get, Some, ◌&&◌, not}
 use Rattle.std.specs.List.{list_all, list_any}
