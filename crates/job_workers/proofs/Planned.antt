@@ -1,6 +1,6 @@
 -- What the plan of a job says of its run.
 use Rattle.std.proofs.Common.{◌≡◌, ℕ, zero, suc, ◌≤◌, List, [], ◌∷◌, length, Option, Some, None, refl, sym, ap, ◌∙◌, subst, arith}
-use Rattle.std.specs.Prelude.{slice_get, IsSomeAnd, IfSome}
+use Rattle.std.specs.Prelude.{slice_get, IsSomeAnd}
 use Rattle.std.specs.List.{AllByRecursion}
 use Rattle.cell_span.specs.declared.cell.Cell.{Cell}
 use Rattle.grail_code.specs.Code.{Func}
@@ -10,14 +10,14 @@ use Rattle.cell_machine.specs.State.{most_calls}
 use Rattle.cell_machine.specs.Plans.{IsPlan}
 use Rattle.cell_machine.specs.Loading.{last_cells}
 use Rattle.cell_machine.specs.Endings.{IsStackFor, EndsWith}
-use Rattle.job_workers.specs.declared.stacks.Kept.{Kept}
 use Rattle.job_workers.specs.Served.{EndsAsMeant}
-use Rattle.job_workers.specs.Serving.{IsKept, IsServed}
+use Rattle.job_workers.specs.Serving.{IsStackAt, IsServed}
 use Rattle.lease_desk.specs.Lease.{LeaseView, ClaimView, lease, claim_of}
 use Rattle.cell_span.specs.Range.{Range}
 use Rattle.camelot_values.specs.Value.{Value}
 use Rattle.cell_machine.specs.Laid.{SameRange}
 use Rattle.cell_machine.specs.Due.{HasRoom}
+use Rattle.cell_machine.specs.declared.machine.Stack.{Stack}
 use Rattle.cell_machine.specs.declared.room.Room.{Room}
 use Rattle.cell_machine.specs.declared.machine.Ending.{Ending}
 use Rattle.job_world.specs.Plans.{Plan, Planned, IsFit, AreFit, leases_of, run_with, run_at, cells_of, cells_with, cells_at, job_run, job_cells}
@@ -64,11 +64,8 @@ run_is ps job p l cells fit e known size =
     }
 
 -- the stack that is kept is one for this licence
-pub kept_fits : (licences : List Licensed) (number : ℕ) (l : Licensed) (o : Option Kept) (k : Kept) → IfSome o (IsKept licences) → o ≡ Some k → k.licence ≡ number → slice_get licences number ≡ Some l
-    → IsStackFor l.code k.stack
-kept_fits licences number l o k h e same at =
-    let known : IsKept licences k = subst (λ (o : Option Kept). IfSome o (IsKept licences)) e h in
-    known l (ap (slice_get licences) same ∙ at)
+pub kept_fits : (licences : List Licensed) (kept number : ℕ) (l : Licensed) (stack : Stack) → IsStackAt licences kept stack → kept ≡ number → slice_get licences number ≡ Some l → IsStackFor l.code stack
+kept_fits licences kept number l stack h same at = h l (ap (slice_get licences) same ∙ at)
 
 -- ---- the run of a lease
 
@@ -89,10 +86,10 @@ pub meant_now : (ps : Planned) (job : ℕ) (l : LeaseView) (p : Plan) (li : Lice
 meant_now ps job l p li now args ending same ends = subst (λ o. EndsWith o ending) (ap (run_of li.code most_calls p.entry p.fuel) same ∙ sym now.run) ends
 
 pub served_now : (ps : Planned) (job : ℕ) (l : LeaseView) (p : Plan) (li : Licensed) → RunIs ps job p li (length l.range.cells) → (range_in : Range) (claim : ClaimView) (ran : Range) (args : List Value)
-    (back : LeaseView) (number : ℕ) (kept : Kept) → job ≡ l.job → range_in ≡ l.range → claim ≡ claim_of l → args ≡ p.args → SameRange range_in ran
+    (back : LeaseView) (number : ℕ) → job ≡ l.job → range_in ≡ l.range → claim ≡ claim_of l → args ≡ p.args → SameRange range_in ran
     → ((f : Func) → slice_get li.code.funcs p.entry ≡ Some f → ran.cells ≡ last_cells li.code most_calls p.entry f args p.fuel (length range_in.cells))
-    → back ≡ lease claim.job ran → number ≡ job → kept.licence ≡ p.licence → IsStackFor li.code kept.stack → IsServed ps l back number kept
-served_now ps job l p li now range_in claim ran args back number kept is opened claimed same range cells closed numbered licence stack = record {
+    → back ≡ lease claim.job ran → number ≡ job → IsServed ps l back number
+served_now ps job l p li now range_in claim ran args back number is opened claimed same range cells closed numbered = record {
   job = ap (λ (m : LeaseView). m.job) closed ∙ ap (λ (m : ClaimView). m.job) claimed;
   first = ap (λ (m : LeaseView). m.range.first) closed ∙ range.first ∙ ap (λ (r : Range). r.first) opened;
   arena = ap (λ (m : LeaseView). m.range.arena) closed ∙ range.arena ∙ ap (λ (r : Range). r.arena) opened;
@@ -102,8 +99,16 @@ served_now ps job l p li now range_in claim ran args back number kept is opened 
       ∙ ap (λ (r : Range). last_cells li.code most_calls p.entry f p.args p.fuel (length r.cells)) opened)
       ∙ ap (job_cells ps) (sym numbered);
   same = numbered ∙ is;
-  fits = λ other at. subst (λ (m : Licensed). IsStackFor m.code kept.stack) (some_is li other (sym now.licence ∙ ap (slice_get ps.licences) (sym licence) ∙ at)) stack;
 }
+
+-- the stack that a run hands back may be kept for the next one
+pub stack_now : (ps qs : Planned) (job : ℕ) (l : LeaseView) (p : Plan) (li : Licensed) → RunIs ps job p li (length l.range.cells) → (stack : Stack) → ps ≡ qs → IsStackFor li.code stack
+    → IsStackAt qs.licences p.licence stack
+stack_now ps qs job l p li now stack plans fits other at = subst (λ (m : Licensed). IsStackFor m.code stack) (some_is li other (sym now.licence ∙ ap (λ (ps : Planned). slice_get ps.licences p.licence) plans ∙ at)) fits
   where
     some_is : (x y : Licensed) → Some x ≡ Some y → x ≡ y
     some_is x y e = grind arith
+
+-- the number of a plan's licence leads to it, among those of the name too
+pub licence_now : (ps qs : Planned) (job : ℕ) (l : LeaseView) (p : Plan) (li : Licensed) → RunIs ps job p li (length l.range.cells) → ps ≡ qs → slice_get qs.licences p.licence ≡ Some li
+licence_now ps qs job l p li now plans = sym (ap (λ (ps : Planned). slice_get ps.licences p.licence) plans) ∙ now.licence

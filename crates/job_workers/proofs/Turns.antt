@@ -12,7 +12,6 @@ use Rattle.lease_desk.specs.Progress.{IsSound}
 use Rattle.lease_desk.specs.Lease.{LeaseView}
 use Rattle.lease_desk.specs.Desk.{DeskView, Takes, filed_with}
 use Rattle.job_world.specs.Plans.{Plan, Planned, leases_of}
-use Rattle.job_workers.specs.declared.stacks.Kept.{Kept}
 use Rattle.job_workers.specs.Serving.{IsServed, IsDue, IsDone, IsServing}
 
 -- ---- leases that are out
@@ -153,9 +152,9 @@ left_due {P} ps old new l serving sound takes =
 
 -- ---- and comes back
 
-pub done_of : {P : Type 0} (ps : Planned) (old new : DeskView P) (l back : LeaseView) (answer : P) (number : ℕ) (kept : Kept) → IsDue ps old l → IsServed ps l back number kept → new ≡ filed_with old back answer
+pub done_of : {P : Type 0} (ps : Planned) (old new : DeskView P) (l back : LeaseView) (answer : P) (number : ℕ) → IsDue ps old l → IsServed ps l back number → new ≡ filed_with old back answer
     → IsDone ps old l new
-done_of {P} ps old new l back answer number kept due served e =
+done_of {P} ps old new l back answer number due served e =
     let serving : IsServing ps (filed_with old back answer) = record {
       sizes = due.sizes;
       none_out = ap (λ job. leased (slice_set old.state.leases job None)) served.job ∙ due.only;

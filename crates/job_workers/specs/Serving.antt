@@ -1,27 +1,28 @@
 -- Private: words for functions of this crate.
--- The stack that is kept for the next run, what the run of a lease hands back, and what stands of a desk between two runs.
+-- The stack that is kept for the next run, what the run of a lease hands back, and what stands of a desk between two
+-- runs.
 use Rattle.std.specs.Prelude.{◌≡◌, ℕ, ◌<◌, List, [], length, slice_get, slice_set, Some, None}
 use Rattle.licence.specs.Licensed.{Licensed}
 use Rattle.cell_machine.specs.Endings.{IsStackFor}
+use Rattle.cell_machine.specs.declared.machine.Stack.{Stack}
 use Rattle.job_world.specs.Plans.{Planned, leases_of, job_cells}
 use Rattle.lease_desk.specs.Journal.{leased}
 use Rattle.lease_desk.specs.Lease.{LeaseView}
 use Rattle.lease_desk.specs.Desk.{DeskView, Knows}
-use Rattle.job_workers.specs.declared.stacks.Kept.{Kept}
 
--- the stack is one for the runs of the licence of its number
-abbrev pub IsKept : List Licensed → Kept → Type 0
-IsKept licences k = (l : Licensed) → slice_get licences k.licence ≡ Some l → IsStackFor l.code k.stack
+-- the stack is one for the runs of the licence of this number
+abbrev pub IsStackAt : List Licensed → (number : ℕ) → Stack → Type 0
+IsStackAt licences number stack = (l : Licensed) → slice_get licences number ≡ Some l → IsStackFor l.code stack
 
--- The lease that comes back is the one that was served, with the cells that its job leaves; the answer's number is its job's.
-pub record IsServed (ps : Planned) (l back : LeaseView) (number : ℕ) (kept : Kept) : Type 0 where
+-- The lease that comes back is the one that was served, with the cells that its job leaves. The answer's number is its
+-- job's.
+pub record IsServed (ps : Planned) (l back : LeaseView) (number : ℕ) : Type 0 where
   pub job : back.job ≡ l.job
   pub first : back.range.first ≡ l.range.first
   pub arena : back.range.arena ≡ l.range.arena
   pub size : length back.range.cells ≡ length l.range.cells
   pub cells : back.range.cells ≡ job_cells ps number
   pub same : number ≡ l.job
-  pub fits : IsKept ps.licences kept
 
 -- for payloads of any sort
 module _ {P : Type 0} where

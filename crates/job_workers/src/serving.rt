@@ -1,5 +1,5 @@
 //! The run of one lease, and its way back to the desk.
-ghost use Rattle.std.specs.Prelude.{◌≡◌, ◌<◌, length, slice_get, Some, IfSome, MatchResult};
+ghost use Rattle.std.specs.Prelude.{◌≡◌, ◌<◌, length, slice_get, Some, MatchResult};
 ghost use Rattle.grail_code.specs.Code as plain;
 ghost use Rattle.grail_code.specs.Meaning.{run_of};
 ghost use Rattle.cell_machine.specs.Due.{HasRoom};
@@ -9,7 +9,7 @@ ghost use Rattle.cell_machine.specs.Loading.{last_cells};
 ghost use Rattle.cell_machine.specs.Plans.{IsPlan};
 ghost use Rattle.cell_machine.specs.State.{most_calls};
 ghost use Rattle.job_world.specs.Plans.{leases_of};
-ghost use Rattle.job_workers.specs.Serving.{IsKept, IsServed};
+ghost use Rattle.job_workers.specs.Serving.{IsServed};
 
 use crate::answer::Answer;
 use crate::stacks::{Kept, stack_for};
@@ -28,7 +28,7 @@ use std::marker::PhantomData;
 pub(crate) struct Served<N: JobName> {
     pub(crate) lease: Lease,
     pub(crate) answer: Answer<N>,
-    pub(crate) kept: Kept,
+    pub(crate) kept: Kept<N>,
 }
 
 // Runs a plan by its licence, in as many cells as it says.
@@ -72,25 +72,24 @@ fn compact(alloc: Global, ending: Ending) -> Ending
     }
 }
 
-/// Runs the job of a lease in the lease's cells, which are as many as its plan says. It needs no desk. Where memory for a
-/// stack or for room runs out, the lease comes back as it was. Once the lease is opened nothing fails.
+/// Runs the job of a lease in the lease's cells, which are as many as its plan says. It needs no desk. Where memory for
+/// a stack or for room runs out, the lease comes back as it was. Once the lease is opened nothing fails.
 pub(crate) fn serve_lease<N: JobName>(
     alloc: Global,
     jobs: &Jobs,
     lease: Lease,
-    kept: Option<Kept>,
+    kept: Option<Kept<N>>,
 ) -> Result<Served<N>, Lease>
     requires plans { jobs.now ≡ N.planned }
     requires job { lease.job < length jobs.now.plans }
     requires size { slice_get (leases_of jobs.now.plans) lease.job ≡ Some (length lease.range.cells) }
-    requires kept { IfSome kept (IsKept jobs.now.licences) }
-    ensures { MatchResult result (λ served. IsServed jobs.now lease served.lease served.answer.job served.kept) (λ back. back ≡ lease) }
+    ensures { MatchResult result (λ served. IsServed jobs.now lease served.lease served.answer.job) (λ back. back ≡ lease) }
 {
     jobs.kept();
     let job = lease.job();
     let plan = jobs.plan(job);
     let licence = jobs.licence(job);
-    let Ok(stack) = stack_for(alloc, jobs, plan.licence, licence, kept) else {
+    let Ok(stack) = stack_for(alloc, plan.licence, licence, kept) else {
         return Err(lease);
     };
     let Ok(room) = Room::new(alloc, plan.lease) else {
@@ -103,12 +102,10 @@ pub(crate) fn serve_lease<N: JobName>(
         ending: compact(alloc, ran.ending),
         of: PhantomData,
     };
+    let kept = Kept::new(plan.licence, ran.stack);
     Ok(Served {
         lease: claim.close(ran.span),
         answer,
-        kept: Kept {
-            licence: plan.licence,
-            stack: ran.stack,
-        },
+        kept,
     })
 }

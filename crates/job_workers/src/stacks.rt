@@ -1,36 +1,76 @@
 //! Stacks, which are kept from one run to the next of the same licence.
-ghost use Rattle.std.specs.Prelude.{◌≡◌, slice_get, Some, IfOk, IfSome};
+ghost use Rattle.std.specs.Prelude.{◌≡◌, slice_get, Some, IfOk};
 ghost use Rattle.cell_machine.specs.Endings.{IsStackFor};
-ghost use Rattle.job_workers.specs.Serving.{IsKept};
+ghost use Rattle.job_workers.specs.Serving.{IsStackAt};
 
 use cell_machine::Stack;
-use job_world::Jobs;
+use job_world::JobName;
 use licence::Licence;
 use std::alloc::{AllocError, Global};
+use std::marker::{Model, PhantomData};
 
-/// A stack for the runs of the licence of this number.
+/// A stack that is kept for the next run. Its type keeps that it is one for the runs of the licence of its number.
 #[derive(Drop)]
-pub(crate) struct Kept {
-    pub(crate) licence: u32,
-    pub(crate) stack: Stack,
+pub(crate) struct Kept<N: JobName> {
+    licence: u32,
+    stack: Stack,
+    of: PhantomData<N>,
 }
 
-/// A stack for the runs of this licence, which has this number among those of the jobs: the one that is kept, where it is of that licence, else a new one. `AllocError` where memory runs out.
-pub(crate) fn stack_for(
+impl<N: JobName> Model for Kept<N> {
+    ghost use Rattle.std.specs.Prelude.{ℕ};
+    ghost use Rattle.job_workers.specs.Serving.{IsStackAt};
+
+    // the number of the licence
+    ghost Value = { ℕ };
+
+    ghost view = { λ k. k.licence };
+
+    ghost invariant = { λ k. IsStackAt N.planned.licences k.licence k.stack };
+}
+
+impl<N: JobName> Kept<N> {
+    /// Keeps a stack for the runs of the licence of this number.
+    pub(crate) fn new(licence: u32, stack: Stack) -> Kept<N>
+        requires { IsStackAt N.planned.licences licence stack }
+    {
+        Kept {
+            licence,
+            stack,
+            of: PhantomData,
+        }
+    }
+
+    // The number of the licence.
+    fn licence(&self) -> u32
+        ensures { result ≡ self.now }
+    {
+        self.licence
+    }
+
+    // The stack.
+    fn stack(self) -> Stack
+        ensures { IsStackAt N.planned.licences self result }
+    {
+        self.stack
+    }
+}
+
+/// A stack for the runs of this licence, which has this number: the one that is kept, where it is of that licence, else
+/// a new one. `AllocError` where memory runs out.
+pub(crate) fn stack_for<N: JobName>(
     alloc: Global,
-    jobs: &Jobs,
     number: u32,
     licence: &Licence,
-    kept: Option<Kept>,
+    kept: Option<Kept<N>>,
 ) -> Result<Stack, AllocError>
-    requires is { slice_get jobs.now.licences number ≡ Some licence.now }
-    requires kept { IfSome kept (IsKept jobs.now.licences) }
+    requires is { slice_get N.planned.licences number ≡ Some licence.now }
     ensures { IfOk result (IsStackFor licence.now.code) }
 {
     match kept {
         Some(kept) => {
-            if kept.licence == number {
-                Ok(kept.stack)
+            if kept.licence() == number {
+                Ok(kept.stack())
             } else {
                 Stack::new(alloc, licence.code())
             }

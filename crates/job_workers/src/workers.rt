@@ -1,12 +1,12 @@
 //! One worker at a desk: it asks for one job after the other, and then for those that wait.
-ghost use Rattle.std.specs.Prelude.{◌≡◌, ◌+◌, ◌<◌, [], length, replicate, None, IfOk, IfSome, OnOk, MatchOption};
+ghost use Rattle.std.specs.Prelude.{◌≡◌, ◌+◌, ◌<◌, [], length, replicate, None, IfOk, OnOk, MatchOption};
 ghost use Rattle.cell_span.specs.Range.{IsWhole};
 ghost use Rattle.job_world.specs.Plans.{leases_of};
 ghost use Rattle.lease_desk.specs.Journal.{opened, leased, IsLegal};
 ghost use Rattle.lease_desk.specs.Filing.{HoldsFiled};
 ghost use Rattle.job_workers.specs.Served.{all_cells};
 ghost use Rattle.job_workers.specs.Filings.{AllAnswered};
-ghost use Rattle.job_workers.specs.Serving.{IsKept, IsDue, IsDone, IsServing};
+ghost use Rattle.job_workers.specs.Serving.{IsDue, IsDone, IsServing};
 
 use crate::answer::Answer;
 use crate::serving::serve_lease;
@@ -22,12 +22,11 @@ fn run_and_give<N: JobName>(
     desk: &mut Desk<Answer<N>>,
     jobs: &Jobs,
     lease: Lease,
-    kept: Option<Kept>,
-) -> Result<Kept, AllocError>
+    kept: Option<Kept<N>>,
+) -> Result<Kept<N>, AllocError>
     requires plans { jobs.now ≡ N.planned }
     requires due { IsDue jobs.now desk.old lease }
-    requires kept { IfSome kept (IsKept jobs.now.licences) }
-    ensures { IfOk result (λ kept. IsDone jobs.now desk.old lease desk.new × IsKept jobs.now.licences kept) }
+    ensures { OnOk result (IsDone jobs.now desk.old lease desk.new) }
 {
     match serve_lease(alloc, jobs, lease, kept) {
         Ok(served) => match desk.give(served.lease, served.answer) {
@@ -46,16 +45,14 @@ fn serve_next<N: JobName>(
     alloc: Global,
     desk: &mut Desk<Answer<N>>,
     jobs: &Jobs,
-    kept: Option<Kept>,
-) -> Result<Option<Kept>, AllocError>
+    kept: Option<Kept<N>>,
+) -> Result<Option<Kept<N>>, AllocError>
     requires plans { jobs.now ≡ N.planned }
     requires serving { IsServing jobs.now desk.old }
     requires more { desk.old.state.asked < length desk.old.sizes }
-    requires kept { IfSome kept (IsKept jobs.now.licences) }
     ensures serving { OnOk result (IsServing jobs.now desk.new) }
     ensures arena { OnOk result (desk.new.arena ≡ desk.old.arena) }
     ensures asked { OnOk result (desk.new.state.asked ≡ desk.old.state.asked + 1) }
-    ensures kept { IfOk result (λ kept. IfSome kept (IsKept jobs.now.licences)) }
 {
     match desk.next(alloc) {
         Ok(Next::Granted(lease)) => {
@@ -74,16 +71,15 @@ fn serve_asked<N: JobName>(
     alloc: Global,
     desk: &mut Desk<Answer<N>>,
     jobs: &Jobs,
-) -> Result<Option<Kept>, AllocError>
+) -> Result<Option<Kept<N>>, AllocError>
     requires plans { jobs.now ≡ N.planned }
     requires serving { IsServing jobs.now desk.old }
     requires asked { desk.old.state.asked ≡ 0 }
     ensures serving { OnOk result (IsServing jobs.now desk.new) }
     ensures arena { OnOk result (desk.new.arena ≡ desk.old.arena) }
     ensures asked { OnOk result (desk.new.state.asked ≡ length desk.new.sizes) }
-    ensures kept { IfOk result (λ kept. IfSome kept (IsKept jobs.now.licences)) }
 {
-    let mut kept: Option<Kept> = None;
+    let mut kept: Option<Kept<N>> = None;
     'jobs: for _ in 0..jobs.count() {
         kept = serve_next(alloc, desk, jobs, kept)?;
     }
@@ -95,16 +91,15 @@ fn serve_next_left<N: JobName>(
     alloc: Global,
     desk: &mut Desk<Answer<N>>,
     jobs: &Jobs,
-    kept: Option<Kept>,
-) -> Result<Option<Kept>, AllocError>
+    kept: Option<Kept<N>>,
+) -> Result<Option<Kept<N>>, AllocError>
     requires plans { jobs.now ≡ N.planned }
     requires serving { IsServing jobs.now desk.old }
     requires asked { desk.old.state.asked ≡ length desk.old.sizes }
-    requires kept { IfSome kept (IsKept jobs.now.licences) }
     ensures serving { OnOk result (IsServing jobs.now desk.new) }
     ensures arena { OnOk result (desk.new.arena ≡ desk.old.arena) }
     ensures asked { OnOk result (desk.new.state.asked ≡ length desk.new.sizes) }
-    ensures left { IfOk result (λ kept. MatchOption kept (desk.new.state.waiting ≡ []) (λ kept. (length desk.new.state.waiting < length desk.old.state.waiting) × IsKept jobs.now.licences kept)) }
+    ensures left { IfOk result (λ kept. MatchOption kept (desk.new.state.waiting ≡ []) (λ _. length desk.new.state.waiting < length desk.old.state.waiting)) }
 {
     match desk.next_left(alloc) {
         Ok(Some(lease)) => {
@@ -122,12 +117,11 @@ fn serve_left<N: JobName>(
     alloc: Global,
     desk: &mut Desk<Answer<N>>,
     jobs: &Jobs,
-    kept: Option<Kept>,
+    kept: Option<Kept<N>>,
 ) -> Result<(), AllocError>
     requires plans { jobs.now ≡ N.planned }
     requires serving { IsServing jobs.now desk.old }
     requires asked { desk.old.state.asked ≡ length desk.old.sizes }
-    requires kept { IfSome kept (IsKept jobs.now.licences) }
     ensures serving { OnOk result (IsServing jobs.now desk.new) }
     ensures arena { OnOk result (desk.new.arena ≡ desk.old.arena) }
     ensures asked { OnOk result (desk.new.state.asked ≡ length desk.new.sizes) }
@@ -144,9 +138,9 @@ fn serve_left<N: JobName>(
 }
 
 /// Serves the planned jobs of the name on a new desk for them, by one worker. It asks the desk for one job after the
-/// other, runs each one that is given a lease in the lease's cells, and gives the lease back with the job's ending. Then
-/// it does the same with the jobs that wait, and ends the desk. A run takes no memory; its stack is kept for the next job
-/// of the same licence. `AllocError` where memory runs out: the arena is lost then.
+/// other, runs each one that is given a lease in the lease's cells, and gives the lease back with the job's ending.
+/// Then it does the same with the jobs that wait, and ends the desk. A run takes no memory; its stack is kept for the
+/// next job of the same licence. `AllocError` where memory runs out: the arena is lost then.
 pub fn serve_jobs<N: JobName>(
     alloc: Global,
     desk: Desk<Answer<N>>,

@@ -60,20 +60,21 @@ impl Jobs {
         self.plans.len()
     }
 
-    /// What the type keeps: each plan fits a licence, which is well-formed code with a certificate that grants it. It does
-    /// nothing; its clause is what whoever holds plans can use.
+    /// What the type keeps: each plan fits a licence, which is well-formed code with a certificate that grants it. It
+    /// does nothing; its clause is what whoever holds plans can use.
     pub fn kept(&self)
         ensures { AreFit self.now }
     {
         let _ = &self.plans;
     }
 
-    /// Plans a run for an arena of so many cells, at most 2^31, and answers its number: the run of an entry of the licence of this number on arguments of
-    /// its kinds, which have at most 65,536 nodes, with so much fuel, at least 1.
+    /// Plans a run for an arena of so many cells, at most 2^31, and answers its number: the run of an entry of the
+    /// licence of this number on arguments of its kinds, which have at most 65,536 nodes, with so much fuel, at least 1.
     ///
     /// # Errors
     ///
-    /// [`AddFault::Larger`] exactly where the lease is more than the arena, with the lease. [`AddFault::Memory`] where memory runs out. Nothing is planned then.
+    /// [`AddFault::Larger`] exactly where the lease is more than the arena, with the lease. [`AddFault::Memory`] where
+    /// memory runs out. Nothing is planned then.
     pub fn add(
         &mut self,
         licence: u32,

@@ -1,5 +1,5 @@
-use Rattle.std.proofs.Common.{◌≡◌, IfSome}
-use Rattle.job_workers.specs.Serving.{IsKept, IsServing}
+use Rattle.std.proofs.Common.{◌≡◌}
+use Rattle.job_workers.specs.Serving.{IsServing}
 use Rattle.job_workers.proofs.workers.serve_asked.Given as goal
 
 abbrev pub invariant-jobs : goal.invariant-jobs
@@ -7,5 +7,4 @@ invariant-jobs g l = record {
   serving : IsServing l.jobs l.desk;
   arena : l.desk.arena ≡ l.initial.desk.arena;
   asked : l.desk.state.asked ≡ l.counter;
-  kept : IfSome l.kept (IsKept l.jobs.licences);
 }
