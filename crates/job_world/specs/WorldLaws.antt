@@ -3,28 +3,32 @@
 use Rattle.std.proofs.Common.{◌≡◌, ℕ, suc, ◌+◌, ◌<◌, ◌≤◌, List, [], length, take, drop, Option, Some, None, refl, sym, ap, ◌∙◌, subst, arith, inl, inr}
 use Rattle.std.specs.Prelude.{slice_get, ◌⊎◌}
 use Rattle.std.proofs.lemmas.Bool.{cases_lt}
+use Rattle.std.proofs.lemmas.List.{length-replicate}
 use Rattle.cell_span.specs.declared.cell.Cell.{Cell}
+use Rattle.cell_span.specs.Range.{blank}
 use Rattle.grail_code.specs.Code.{Func}
 use Rattle.hole_list.specs.declared.run.Run.{Run}
 use Rattle.hole_list.specs.Placing.{times_in, total}
-use Rattle.lease_desk.specs.Journal.{give_lease, give_move}
+use Rattle.lease_desk.specs.Journal.{Move, give_lease, give_move}
 use Rattle.lease_desk.specs.theory.Leases.{set_there}
 use Rattle.lease_desk.specs.theory.Sound.{none_leased}
 use Rattle.licence.specs.Licensed.{Licensed}
 use Rattle.cell_machine.specs.State.{End, Final, Machine, cells_of}
 use Rattle.job_world.specs.Plans.{Plan, Planned, leases_of}
 use Rattle.job_world.specs.Put.{Rest, Core, Going, Ended, machine_of, core_of, one_step}
-use Rattle.job_world.specs.World.{Start, start_in, start_with, start_at, start_of, Worker, World, WorldEvent, Step, Give, first_world, stepped, step_in, after_step, final_in, ended, give_in, after_give, after, world}
-use Rattle.job_world.specs.Isolation.{CanHold, LieApart, IsAlone, IsOutside, StepsApart, HasGoneOn, HasGivenBack, EndsAlone, HaveSamePlan, AreEqual}
+use Rattle.job_world.specs.World.{Start, start_in, start_with, start_at, start_of, Worker, World, WorldEvent, Next, Step, Give, first_world, gone_on, stepped, step_in, after_step, final_in, ended, give_in, after_give, after, world}
+use Rattle.job_world.specs.World as worlds
+use Rattle.job_world.specs.Isolation.{CanHold, LieApart, IsAlone, IsOutside, StepsApart, HasGoneOn, HasGivenBack, move_of, HasAsked, EndsAlone, HaveSamePlan, AreEqual}
 use Rattle.job_world.specs.theory.PutLaws.{put_get}
 use Rattle.job_world.specs.theory.AloneLaws.{set_here, has_step, step_puts}
 use Rattle.job_world.specs.theory.Starting.{sized_plan, begins, start_is, code_or, starts_of, lone_or, goes_on}
-use Rattle.job_world.specs.theory.Worlds.{bare, IsWorld, Holds, item_at, within, first_holds, sound, apart_now, world_holds, holds, first_stays, world_stays, none_out, none_filed}
+use Rattle.job_world.specs.theory.Worlds.{bare, IsWorld, Holds, item_at, within, first_holds, sound, apart_now, next_asked, world_holds, holds, first_stays, world_stays, none_out, none_filed, none_asked}
 
 -- ---- apart, alone and filed
 
 first_apart : (arena : ℕ) (ps : Planned) → ps.plans ≡ [] → LieApart arena ps (first_world arena ps)
 first_apart arena ps none = record {
+  size = length-replicate arena blank;
   parts = λ i. omega (arith, ap (λ (rs : List Run). times_in rs i) (none_leased (length (leases_of ps.plans))));
   sum = omega (arith, ap (λ (rs : List Run). total rs) (none_leased (length (leases_of ps.plans))));
   replayed = (first_holds arena ps).replayed;
@@ -37,7 +41,7 @@ lie_apart arena ps events can = by_plans (holds arena ps can)
     by_plans (inl h) =
         let k = world_holds arena ps events h in
         let s = sound arena ps h (world arena ps events) k in
-        record { parts = s.cells; sum = s.sum; replayed = k.replayed }
+        record { size = k.many; parts = s.cells; sum = s.sum; replayed = k.replayed }
     by_plans (inr none) = subst (LieApart arena ps) (sym (world_stays arena ps events none)) (first_apart arena ps none)
 
 alone_in : (arena : ℕ) (ps : Planned) (events : List WorldEvent) (job : ℕ) (r : Run) → Holds arena ps
@@ -113,7 +117,7 @@ module _ (arena : ℕ) (ps : Planned) (can : Holds arena ps) (w : World) (k : Is
 
   -- ---- a step of a machine that isn't over, and a lease that goes back
 
-  goes_on_by : (r : Run) → slice_get w.desk.leases job ≡ Some (Some r) → (q : Worker) → slice_get w.workers job ≡ Some (Some q) → (rest : Rest) → q.core ≡ Going rest → HasGoneOn w (after_step ps w job) job q
+  goes_on_by : (r : Run) → slice_get w.desk.leases job ≡ Some (Some r) → (q : Worker) → slice_get w.workers job ≡ Some (Some q) → (rest : Rest) → q.core ≡ Going rest → HasGoneOn (after_step ps w job) job q
   goes_on_by r g q f rest core =
       let t = sized_plan ps job r.size can.fit ((sound arena ps can w k).sized job r g) in
       let own = k.alone job r q g f in
@@ -125,7 +129,7 @@ module _ (arena : ℕ) (ps : Planned) (can : Holds arena ps) (w : World) (k : Is
       ∙ ap (λ o. step_in w job (Some (begins t.0)) o (slice_get w.desk.leases job)) f
       ∙ ap (λ o. step_in w job (Some (begins t.0)) (Some (Some q)) o) g
       ∙ ap (stepped w job r.first q) one in
-      subst (λ v. HasGoneOn w v job q) (sym now)
+      subst (λ v. HasGoneOn v job q) (sym now)
       (record {
         worker = record { core = core_of has.0; count = suc q.count };
         is = set_here w.workers job (Some (record { core = core_of has.0; count = suc q.count })) (Some q) f;
@@ -147,7 +151,11 @@ module _ (arena : ℕ) (ps : Planned) (can : Holds arena ps) (w : World) (k : Is
         final = final_in w.cells r end calls peak low;
         is = set_here w.filed job (Some (final_in w.cells r end calls peak low)) file.0 file.1;
         over = ap (machine_of (take r.size (drop r.first w.cells))) core;
-        back = set_here w.desk.leases job None (Some r) g;
+        desk = ap (give_lease w.desk job) g;
+        journal = refl;
+        cells = refl;
+        frames = λ other ne. set_there w.workers job other None (λ same. ne (sym same));
+        others = λ other ne. set_there w.filed job other (Some (final_in w.cells r end calls peak low)) (λ same. ne (sym same));
       })
 
 pub step_apart : (arena : ℕ) (ps : Planned) (events : List WorldEvent) (job : ℕ) → CanHold arena ps → StepsApart (world arena ps events) (after ps (world arena ps events) (Step job)) job
@@ -161,11 +169,11 @@ step_apart arena ps events job can = by_plans (holds arena ps can)
         (subst (λ w. StepsApart (first_world arena ps) w job) (sym (first_stays arena ps (Step job) none)) (nothing_new (first_world arena ps) job))
 
 pub goes_on_at : (arena : ℕ) (ps : Planned) (events : List WorldEvent) (job : ℕ) (r : Run) (k : Worker) (rest : Rest) → CanHold arena ps → slice_get (world arena ps events).desk.leases job ≡ Some (Some r)
-    → slice_get (world arena ps events).workers job ≡ Some (Some k) → k.core ≡ Going rest → HasGoneOn (world arena ps events) (after ps (world arena ps events) (Step job)) job k
+    → slice_get (world arena ps events).workers job ≡ Some (Some k) → k.core ≡ Going rest → HasGoneOn (after ps (world arena ps events) (Step job)) job k
 unfolding after
 goes_on_at arena ps events job r k rest can g f core = by_plans (holds arena ps can)
   where
-    by_plans : Holds arena ps ⊎ (ps.plans ≡ []) → HasGoneOn (world arena ps events) (after_step ps (world arena ps events) job) job k
+    by_plans : Holds arena ps ⊎ (ps.plans ≡ []) → HasGoneOn (after_step ps (world arena ps events) job) job k
     by_plans (inl h) = goes_on_by arena ps h (world arena ps events) (world_holds arena ps events h) job r g k f rest core
     by_plans (inr none) = absurd (none_out arena ps events job r none g)
 
@@ -177,6 +185,64 @@ gives_back_at arena ps events job r k end calls peak low can g f core = by_plans
     by_plans : Holds arena ps ⊎ (ps.plans ≡ []) → HasGivenBack (world arena ps events) (after_give (world arena ps events) job) job r k
     by_plans (inl h) = gives_back_by arena ps h (world arena ps events) (world_holds arena ps events h) job r g k f end calls peak low core
     by_plans (inr none) = absurd (none_out arena ps events job r none g)
+
+pub asks_at : (arena : ℕ) (ps : Planned) (events : List WorldEvent) (m : Move) → CanHold arena ps → move_of ps (world arena ps events) ≡ Some m → HasAsked ps (world arena ps events) (after ps (world arena ps events) Next) m
+unfolding after
+asks_at arena ps events m can is = by_plans (holds arena ps can)
+  where
+    by_plans : Holds arena ps ⊎ (ps.plans ≡ []) → HasAsked ps (world arena ps events) (worlds.after_next ps (world arena ps events)) m
+    by_plans (inl h) = next_asked arena ps h (world arena ps events) (world_holds arena ps events h) m is
+    by_plans (inr none) = absurd (none_asked arena ps events m none is)
+
+-- ---- where nothing is to be done
+
+pub none_asks : (ps : Planned) (w : World) → move_of ps w ≡ None → after ps w Next ≡ w
+unfolding after
+none_asks ps w none = ap (gone_on ps w) none
+
+pub none_leased_at : (ps : Planned) (w : World) (job : ℕ) → ((r : Run) → slice_get w.desk.leases job ≡ Some (Some r) → ⊥) → (after ps w (Step job) ≡ w) × (after ps w (Give job) ≡ w)
+unfolding after
+none_leased_at ps w job out = by_lease (slice_get w.desk.leases job) refl
+  where
+    stays : (s : Option Start) (v : Option (Option Worker)) (l : Option (Option Run)) → ((r : Run) → l ≡ Some (Some r) → ⊥) → (step_in w job s v l ≡ w) × (give_in w job v l ≡ w)
+    stays None None l none = (refl, refl)
+    stays None (Some None) l none = (refl, refl)
+    stays None (Some (Some k)) None none = (refl, refl)
+    stays None (Some (Some k)) (Some None) none = (refl, refl)
+    stays None (Some (Some k)) (Some (Some r)) none = absurd (none r refl)
+    stays (Some s) None l none = (refl, refl)
+    stays (Some s) (Some None) l none = (refl, refl)
+    stays (Some s) (Some (Some k)) None none = (refl, refl)
+    stays (Some s) (Some (Some k)) (Some None) none = (refl, refl)
+    stays (Some s) (Some (Some k)) (Some (Some r)) none = absurd (none r refl)
+
+    by_lease : (l : Option (Option Run)) → slice_get w.desk.leases job ≡ l → (after_step ps w job ≡ w) × (after_give w job ≡ w)
+    by_lease l e = stays (start_of ps job) (slice_get w.workers job) (slice_get w.desk.leases job) out
+
+pub over_stays_at : (ps : Planned) (w : World) (job : ℕ) (k : Worker) (end : End) (calls peak low : ℕ) → slice_get w.workers job ≡ Some (Some k) → k.core ≡ Ended end calls peak low → after ps w (Step job) ≡ w
+unfolding after
+over_stays_at ps w job k end calls peak low f core =
+    ap (λ o. step_in w job (start_of ps job) o (slice_get w.desk.leases job)) f
+    ∙ by_all (start_of ps job) (slice_get w.desk.leases job)
+  where
+    by_all : (s : Option Start) (l : Option (Option Run)) → step_in w job s (Some (Some k)) l ≡ w
+    by_all None l = refl
+    by_all (Some s) None = refl
+    by_all (Some s) (Some None) = refl
+    by_all (Some s) (Some (Some r)) = ap (λ c. stepped w job r.first k (one_step s.code (machine_of (drop r.first w.cells) c))) core
+
+pub going_stays_at : (ps : Planned) (w : World) (job : ℕ) (k : Worker) (rest : Rest) → slice_get w.workers job ≡ Some (Some k) → k.core ≡ Going rest → after ps w (Give job) ≡ w
+unfolding after
+going_stays_at ps w job k rest f core = ap (λ o. give_in w job o (slice_get w.desk.leases job)) f ∙ by_lease (slice_get w.desk.leases job)
+  where
+    by_move : (r : Run) (o : Option Move) → ended w job (Going rest) r o ≡ w
+    by_move r None = refl
+    by_move r (Some m) = refl
+
+    by_lease : (l : Option (Option Run)) → give_in w job (Some (Some k)) l ≡ w
+    by_lease None = refl
+    by_lease (Some None) = refl
+    by_lease (Some (Some r)) = ap (λ c. ended w job c r (give_move w.desk job)) core ∙ by_move r (give_move w.desk job)
 
 -- ---- the same plan
 

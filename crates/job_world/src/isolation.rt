@@ -1,11 +1,12 @@
 //! The law of isolation, as the contract of a function that does nothing.
-ghost use Rattle.std.specs.Prelude.{◌≡◌, ℕ, List, slice_get, Some};
+ghost use Rattle.std.specs.Prelude.{◌≡◌, ℕ, List, [], ◌∷◌, ◌++◌, slice_get, Some, None};
 ghost use Rattle.hole_list.specs.declared.run.Run.{Run};
+ghost use Rattle.lease_desk.specs.Journal.{Move};
 ghost use Rattle.cell_machine.specs.State.{End, Final};
 ghost use Rattle.job_world.specs.Plans.{Planned};
 ghost use Rattle.job_world.specs.Put.{Rest, Going, Ended};
-ghost use Rattle.job_world.specs.World.{Worker, WorldEvent, Step, Give, after, world};
-ghost use Rattle.job_world.specs.Isolation.{CanHold, LieApart, IsAlone, StepsApart, HasGoneOn, HasGivenBack, EndsAlone, HaveSamePlan, AreEqual};
+ghost use Rattle.job_world.specs.World.{Worker, World, WorldEvent, Next, Step, Give, after, world};
+ghost use Rattle.job_world.specs.Isolation.{CanHold, LieApart, IsAlone, StepsApart, HasGoneOn, HasGivenBack, move_of, HasAsked, EndsAlone, HaveSamePlan, AreEqual};
 
 /// Jobs in one arena do not touch each other. A world has the cells of the whole arena, the desk, and the machine of each job whose lease is out. Its events
 /// ask for the next job, let a job's machine step, or give a job's lease back, in any order. A machine steps in the whole list of cells, from the first one of
@@ -20,14 +21,26 @@ pub fn isolation_law()
     // A step changes no cell outside of its job's range, no other machine, no end that was filed, and nothing of the desk.
     ensures step { (arena : ℕ) (ps : Planned) (events : List WorldEvent) (job : ℕ) → CanHold arena ps
         → StepsApart (world arena ps events) (after ps (world arena ps events) (Step job)) job }
+    // A Next is the desk's move. A job that is taken begins, and all else stays.
+    ensures asks { (arena : ℕ) (ps : Planned) (events : List WorldEvent) (m : Move) → CanHold arena ps → move_of ps (world arena ps events) ≡ Some m
+        → HasAsked ps (world arena ps events) (after ps (world arena ps events) Next) m }
     // A Step of a machine that isn't over is one step more: no job gets stuck.
     ensures goes { (arena : ℕ) (ps : Planned) (events : List WorldEvent) (job : ℕ) (r : Run) (k : Worker) (rest : Rest) → CanHold arena ps
         → slice_get (world arena ps events).desk.leases job ≡ Some (Some r) → slice_get (world arena ps events).workers job ≡ Some (Some k) → k.core ≡ Going rest
-        → HasGoneOn (world arena ps events) (after ps (world arena ps events) (Step job)) job k }
-    // A Give of a machine that is over files its end, and the lease is back.
+        → HasGoneOn (after ps (world arena ps events) (Step job)) job k }
+    // A Give of a machine that is over files its end and gives its lease back, and all else stays.
     ensures gives { (arena : ℕ) (ps : Planned) (events : List WorldEvent) (job : ℕ) (r : Run) (k : Worker) (end : End) (calls peak low : ℕ) → CanHold arena ps
         → slice_get (world arena ps events).desk.leases job ≡ Some (Some r) → slice_get (world arena ps events).workers job ≡ Some (Some k) → k.core ≡ Ended end calls peak low
         → HasGivenBack (world arena ps events) (after ps (world arena ps events) (Give job)) job r k }
+    // Where the desk has no move, a Next changes nothing, and without a lease neither does a Step or a Give.
+    ensures rests { (ps : Planned) (w : World) → move_of ps w ≡ None → after ps w Next ≡ w }
+    ensures idle { (ps : Planned) (w : World) (job : ℕ) → ((r : Run) → slice_get w.desk.leases job ≡ Some (Some r) → ⊥) → (after ps w (Step job) ≡ w) × (after ps w (Give job) ≡ w) }
+    // Nor does a Step of a machine that is over, or a Give of one that goes on.
+    ensures over { (ps : Planned) (w : World) (job : ℕ) (k : Worker) (end : End) (calls peak low : ℕ) → slice_get w.workers job ≡ Some (Some k)
+        → k.core ≡ Ended end calls peak low → after ps w (Step job) ≡ w }
+    ensures going { (ps : Planned) (w : World) (job : ℕ) (k : Worker) (rest : Rest) → slice_get w.workers job ≡ Some (Some k) → k.core ≡ Going rest → after ps w (Give job) ≡ w }
+    // One event more is that event behind the others.
+    ensures more { (arena : ℕ) (ps : Planned) (events : List WorldEvent) (e : WorldEvent) → world arena ps (events ++ e ∷ []) ≡ after ps (world arena ps events) e }
     // Each end that was filed is what the job's own plan comes to, with the cells that its lone machine leaves.
     ensures filed { (arena : ℕ) (ps : Planned) (events : List WorldEvent) (job : ℕ) (f : Final) → CanHold arena ps
         → slice_get (world arena ps events).filed job ≡ Some (Some f) → EndsAlone ps job f }

@@ -1,6 +1,6 @@
 -- Laws, for the laws of the world.
 -- What every world keeps: it holds at first, and each event keeps it.
-use Rattle.std.proofs.Common.{◌≡◌, ℕ, zero, suc, ◌+◌, ◌<◌, ◌≤◌, List, [], ◌∷◌, ◌++◌, length, take, drop, replicate, Option, Some, None, refl, sym, ap, ◌∙◌, subst, arith, inl, inr}
+use Rattle.std.proofs.Common.{◌≡◌, ℕ, zero, suc, ◌+◌, ◌<◌, ◌≤◌, List, [], ◌∷◌, ◌++◌, Bool, true, false, length, take, drop, replicate, Option, Some, None, refl, sym, ap, ◌∙◌, subst, arith, inl, inr}
 use Rattle.std.specs.Prelude.{slice_get, slice_set, ◌⊎◌, IsSomeAnd}
 use Rattle.std.specs.List.{AllByRecursion}
 use Rattle.std.proofs.lemmas.Bool.{cases_eq, cases_lt}
@@ -9,7 +9,7 @@ use Rattle.cell_span.specs.Range.{blank}
 use Rattle.hole_list.specs.declared.run.Run.{Run}
 use Rattle.hole_list.specs.PlacingLaws.{some_same}
 use Rattle.lease_desk.specs.declared.event.Event.TheVariants as event
-use Rattle.lease_desk.specs.Journal.{Move, gave, next_move, left_move, give_lease, after_event, replay, AreSizes}
+use Rattle.lease_desk.specs.Journal.{Move, gave, next_move, left_move, give_lease, after_event, replay, AreSizes, job_of}
 use Rattle.lease_desk.specs.Progress.{IsSound}
 use Rattle.lease_desk.specs.theory.Leases.{set_there}
 use Rattle.lease_desk.specs.theory.Moves.{after_next, after_left, after_back, replay_more}
@@ -21,8 +21,8 @@ use Rattle.job_world.specs.Plans.{Plan, Planned, IsFit, AreFit, leases_of}
 use Rattle.job_world.specs.Put.{put_at, Core, Going, Ended, machine_of, core_of, one_step}
 use Rattle.job_world.specs.World.{Start, start_of, lone, Worker, World, WorldEvent, Next, Step, Give, first_world, told, loaded, gone_on, either_move, stepped, step_in, after_step, final_in, ended, give_in, after_give, after, behind, world}
 use Rattle.job_world.specs.World as worlds
-use Rattle.job_world.specs.Isolation.{CanHold, EndsAlone}
-use Rattle.job_world.specs.theory.PutLaws.{put_length}
+use Rattle.job_world.specs.Isolation.{CanHold, move_of, HasBegun, HasAsked, EndsAlone}
+use Rattle.job_world.specs.theory.PutLaws.{put_get, put_length}
 use Rattle.job_world.specs.theory.Alone.{Bare, bare_stepped, bare_step_in, bare_take, AreAlone, AreApart}
 use Rattle.job_world.specs.theory.AloneLaws.{set_here, step_alone, take_alone, give_alone}
 use Rattle.job_world.specs.theory.Desks.{leases_apart, lease_within, Takes, Waits, next_tells, left_tells}
@@ -47,6 +47,13 @@ pub record Holds (arena : ℕ) (ps : Planned) : Type 0 where
   pub some : 1 ≤ arena
   pub fit : AreFit ps
   pub sizes : AreSizes arena (leases_of ps.plans)
+
+abbrev is_full : Event → Bool
+is_full (event.Full job need largest) = true
+is_full e = false
+
+not_took : {a b c d e f : ℕ} → event.Full a b c ≡ event.Took d e f → ⊥
+not_took k = let n : true ≡ false = ap is_full k in absurd cc
 
 -- ---- lists
 
@@ -221,6 +228,81 @@ module _ (arena : ℕ) (ps : Planned) (can : Holds arena ps) (w : World) (k : Is
           takes_holds m (after_left (leases_of ps.plans) w.desk m.event m.state t.all f) t.takes
       by_next (Some m) e p f = by_told m e (next_tells (leases_of ps.plans) w.desk m e)
 
+  waits_asked : (m : Move) → Waits w.desk m → HasAsked ps w (told ps (worlds.moved w m) m.event) m
+  waits_asked m t =
+      subst (λ e. HasAsked ps w (told ps (worlds.moved w m) e) m) (sym t.event_is)
+      (record {
+        desk = refl;
+        journal = refl;
+        filed = refl;
+        begun = λ job first size e. absurd (let f : event.Full t.job t.need t.largest ≡ event.Took job first size = sym t.event_is ∙ e in not_took f);
+        frames = λ other none. refl;
+        cells = λ index out. refl;
+      })
+
+  takes_asked : (m : Move) → Takes (leases_of ps.plans) w.desk m → HasAsked ps w (told ps (worlds.moved w m) m.event) m
+  takes_asked m t =
+      subst (λ e. HasAsked ps w (told ps (worlds.moved w m) e) m) (sym t.event_is)
+      (subst (λ o. HasAsked ps w (loaded (worlds.moved w m) t.job t.run.first o) m) (sym (start_is q.0))
+      (record {
+        desk = refl;
+        journal = refl;
+        filed = refl;
+        begun = λ job first size e. subst (HasBegun ps taken) (same_taken job first size e) has_begun;
+        frames = λ other none. set_there w.workers t.job other (Some worker) (λ same. none t.run.first t.size (subst (λ n. m.event ≡ event.Took n t.run.first t.size) same t.event_is));
+        cells = λ index out. put_get t.run.first (begins q.0).begins.cells w.cells index (outside index (out t.job t.run.first t.size t.event_is));
+      }))
+    where
+      q : (q : PlanAt ps t.job) × (q.plan.lease ≡ t.size)
+      q = sized_plan ps t.job t.size can.fit t.size_is
+
+      worker : Worker
+      worker = record { core = core_of (Running (begins q.0).begins); count = 0 }
+
+      taken : World
+      taken = record {
+        cells = put_at t.run.first (begins q.0).begins.cells w.cells;
+        desk = m.state;
+        journal = w.journal ++ m.event ∷ [];
+        workers = slice_set w.workers t.job (Some worker);
+        filed = w.filed;
+      }
+
+      place : (o : Option Worker) × (slice_get w.workers t.job ≡ Some o)
+      place = item_at w.workers t.job (omega (arith, k.places, within ps.plans t.job q.0.plan q.0.is))
+
+      has_begun : HasBegun ps taken t.job
+      has_begun = record { start = begins q.0; begins = start_is q.0; is = set_here w.workers t.job (Some worker) place.0 place.1 }
+
+      same_taken : (job first size : ℕ) → m.event ≡ event.Took job first size → t.job ≡ job
+      same_taken job first size e = ap job_of (sym t.event_is ∙ e)
+
+      size_is : length (begins q.0).begins.cells ≡ t.size
+      size_is = (runs q.0).size 0 ∙ q.1
+
+      outside : (index : ℕ) → (t.run.first ≤ index → index < t.run.first + t.size → ⊥) → (index < t.run.first) ⊎ (t.run.first + length (begins q.0).begins.cells ≤ index)
+      outside index out = by_first (cases_lt index t.run.first) (cases_lt index (t.run.first + t.size))
+        where
+          by_first : (index < t.run.first) ⊎ (t.run.first ≤ index) → (index < t.run.first + t.size) ⊎ (t.run.first + t.size ≤ index) → (index < t.run.first) ⊎ (t.run.first + length (begins q.0).begins.cells ≤ index)
+          by_first (inl h) j = inl h
+          by_first (inr h) (inl j) = absurd (out h j)
+          by_first (inr h) (inr j) = inr (omega (arith, j, size_is))
+
+  pub next_asked : (m : Move) → move_of ps w ≡ Some m → HasAsked ps w (worlds.after_next ps w) m
+  next_asked m is = by_next (next_move (leases_of ps.plans) w.desk) refl (left_move (leases_of ps.plans) w.desk) refl is
+    where
+      by_told : (n : Move) → n ≡ m → HasAsked ps w (told ps (worlds.moved w n) n.event) n → HasAsked ps w (gone_on ps w (Some n)) m
+      by_told n e h = subst (HasAsked ps w (gone_on ps w (Some n))) e h
+
+      by_first : (n : Move) → Takes (leases_of ps.plans) w.desk n ⊎ Waits w.desk n → HasAsked ps w (told ps (worlds.moved w n) n.event) n
+      by_first n (inl t) = takes_asked n t
+      by_first n (inr t) = waits_asked n t
+
+      by_next : (o : Option Move) → next_move (leases_of ps.plans) w.desk ≡ o → (p : Option Move) → left_move (leases_of ps.plans) w.desk ≡ p → either_move o p ≡ Some m → HasAsked ps w (gone_on ps w (either_move o p)) m
+      by_next None e None f is = let none : None ≡ Some m = is in absurd cc
+      by_next None e (Some n) f is = by_told n (some_same n m is) (takes_asked n (left_tells (leases_of ps.plans) w.desk n f).takes)
+      by_next (Some n) e p f is = by_told n (some_same n m is) (by_first n (next_tells (leases_of ps.plans) w.desk n e))
+
   -- ---- giving back
 
   pub give_holds : (job : ℕ) → IsWorld arena ps (after_give w job)
@@ -347,3 +429,21 @@ none_out arena ps events job r none e = none_there (length (leases_of ps.plans))
 
 pub none_filed : (arena : ℕ) (ps : Planned) (events : List WorldEvent) (job : ℕ) (f : Final) → ps.plans ≡ [] → slice_get (world arena ps events).filed job ≡ Some (Some f) → ⊥
 none_filed arena ps events job f none e = none_there (length ps.plans) job f (sym (ap (λ (w : World). slice_get w.filed job) (world_stays arena ps events none)) ∙ e)
+
+pub none_asked : (arena : ℕ) (ps : Planned) (events : List WorldEvent) (m : Move) → ps.plans ≡ [] → move_of ps (world arena ps events) ≡ Some m → ⊥
+none_asked arena ps events m none e =
+    moves_none ps.plans none (sym (ap (move_of ps) (world_stays arena ps events none)) ∙ e)
+  where
+    moves_none : (plans : List Plan) → plans ≡ [] → move_of (record { licences = ps.licences; plans = plans }) (first_world arena (record { licences = ps.licences; plans = plans })) ≡ Some m → ⊥
+    moves_none [] is e = let k : None ≡ Some m = e in absurd cc
+    moves_none (p ∷ plans) is e = let k : suc (length plans) ≡ 0 = ap (λ (ps : List Plan). length ps) is in absurd (omega (arith, k))
+
+-- ---- one event more
+
+behind_more : (ps : Planned) (w : World) (events : List WorldEvent) (e : WorldEvent) → behind ps w (events ++ e ∷ []) ≡ after ps (behind ps w events) e
+behind_more ps w [] e = refl
+behind_more ps w (f ∷ events) e = behind_more ps (after ps w f) events e
+
+pub world_more : (arena : ℕ) (ps : Planned) (events : List WorldEvent) (e : WorldEvent) → world arena ps (events ++ e ∷ []) ≡ after ps (world arena ps events) e
+unfolding world
+world_more arena ps events e = behind_more ps (first_world arena ps) events e
