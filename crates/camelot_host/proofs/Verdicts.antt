@@ -28,11 +28,11 @@ pub one_verdict : ((text : List ℕ) (s : Script) (n : ℕ) → IsScriptText tex
 one_verdict line count repeat one Serve input output other done (NoScript faulty) = by_fault faulty.fault faulty.cause
   where
     by_fault : (x : ScriptFault) → IsScriptFault input x → ⊥
-    by_fault (fault.Line n) h = line input done.script n done.text h
-    by_fault (fault.Count n) h = count input done.script n done.text h
-    by_fault (fault.Repeat n) h = repeat input done.script n done.text h
+    by_fault (fault.Line n) h = line input done.service.script n done.served.text h
+    by_fault (fault.Count n) h = count input done.service.script n done.served.text h
+    by_fault (fault.Repeat n) h = repeat input done.service.script n done.served.text h
     by_fault fault.Memory h = h
-one_verdict line count repeat one Serve input output other done (NotYet not_yet is) = no_grail done.script.items done.camelot (subst (λ s. HasGrail s.items) (done.only not_yet.script not_yet.text) not_yet.grail)
+one_verdict line count repeat one Serve input output other done (NotYet not_yet is) = no_grail done.service.script.items done.served.comes.camelot (subst (λ s. HasGrail s.items) (done.served.only not_yet.script not_yet.text) not_yet.grail)
 one_verdict line count repeat one Compile input output other done refused = let e : Bundled done.code done.cert ≡ compiler.Refused refused.cause = one input (Bundled done.code done.cert) (compiler.Refused refused.cause) done.compiled refused.compiled in absurd cc
 
 -- ---- what is told of a source

@@ -20,7 +20,6 @@ pub fn one_command()
 
 /// No output is due with one verdict for an input for which another is due with the other: an input is served or
 /// compiled, or it is refused.
-
 pub fn one_verdict()
     ensures { (command : Command) (input output other : List ℕ) → IsDue command input Done output → IsDue command input Refused other → ⊥ }
 {

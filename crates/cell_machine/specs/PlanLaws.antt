@@ -18,7 +18,7 @@ use Rattle.cell_machine.specs.Plans.{IsPlan, planned_state, RunsAsPlanned}
 use Rattle.cell_machine.specs.State.{Configuration, Machine, Running, Over, cells_of, most_calls}
 use Rattle.cell_machine.specs.Steps.{step}
 use Rattle.cell_machine.specs.Loading.{cells_from, free_from, begun, go_on, steps}
-use Rattle.cell_machine.specs.Coming.{IsOnCourse, KeepsCourse, IsOnWay}
+use Rattle.cell_machine.specs.Coming.{KeepsCourse, IsOnWay}
 use Rattle.cell_machine.specs.theory.Beginning.{length_free}
 use Rattle.cell_machine.specs.theory.Course.{blocks_there}
 use Rattle.cell_machine.specs.theory.Laying.{argument_cells}

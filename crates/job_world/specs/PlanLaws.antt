@@ -2,9 +2,6 @@
 -- What stands of a plan when others are planned behind it.
 use Rattle.std.proofs.Common.{◌≡◌, ℕ, zero, suc, ◌<◌, List, [], ◌∷◌, ◌++◌, length, Some, refl, ap, arith}
 use Rattle.std.specs.Prelude.{slice_get}
-use Rattle.camelot_values.specs.Value.{Value}
-use Rattle.camelot_values.specs.Outcome.{Outcome}
-use Rattle.cell_span.specs.declared.cell.Cell.{Cell}
 use Rattle.licence.specs.Licensed.{Licensed}
 use Rattle.job_world.specs.Plans.{Plan, run_at, cells_at, job_run, job_cells}
 

@@ -1,6 +1,6 @@
 -- Cited by contracts.
 -- The plain data of the code's types.
-use Rattle.std.specs.Prelude.{ℕ, List, map}
+use Rattle.std.specs.Prelude.{List, map}
 use Rattle.licence.specs.Licensed.{Licensed}
 use Rattle.job_world.specs.Plans.{Plan, Planned}
 use Rattle.job_world.specs.declared.plan.Plan.{Plan as DeclaredPlan}

@@ -12,7 +12,7 @@ use Rattle.typing_rules.specs.Typed.{Typing}
 use Rattle.grail_code.specs.Code.{Code}
 use Rattle.grail_code.specs.Meaning as code
 use Rattle.licence.specs.Licensed.{Licensed}
-use Rattle.grail_verifier.specs.Verdicts.{IsVerdict}
+use Rattle.grail_verifier.specs.Accepted.{IsAccepted}
 use Rattle.cell_machine.specs.State.{most_calls}
 use Rattle.refusals.specs.declared.cause.Cause.{Cause}
 use Rattle.camelot_compiler.specs.Bundles.{bundle_text}
@@ -77,12 +77,12 @@ pub record IsSourceLicence (text : List ℕ) (l : Licensed) (m : Meaning) : Type
   pub is : IsLicence text l
   pub means : m ≡ OfSource is.typing
 
--- Of a bundle: the verifier's verdict on the bytes of its code and of its certificate is yes, with this licence. Its calls mean what the licence's code means.
+-- Of a bundle: the verifier accepts the bytes of its code and of its certificate, with this licence. Its calls mean what the licence's code means.
 pub record IsBundleLicence (text : List ℕ) (l : Licensed) (m : Meaning) : Type 0 where
   pub code : List ℕ
   pub cert : List ℕ
   pub bundle : bundle_text code cert ≡ text
-  pub verdict : IsVerdict code cert (Ok l)
+  pub accepted : IsAccepted code cert l
   pub means : m ≡ OfCode l.code
 
 -- The program has this licence, and its calls mean this. This is the one place that says what the licence of a program is.

@@ -20,8 +20,8 @@ use Rattle.lease_desk.specs.Filing.{FiledCells, HoldsFiled}
 use Rattle.lease_desk.specs.Journal.{IsLegal}
 use Rattle.script_plans.specs.Lines.{AllCamelot, AreProgramLines, ArePlanned, planned_cells, sizes_of, all_left}
 use Rattle.script_service.specs.Service.{TellsMeaning, IsReport, report_of}
-use Rattle.script_service.specs.Handed.{service_of, IsHanded, IsHandedFor}
-use Rattle.script_service.specs.Steps.{IsOf, IsUnserved, IsRefused, serve_fault}
+use Rattle.script_service.specs.Handed.{service_of, IsHanded, IsHandedFor, IsRefused}
+use Rattle.script_service.specs.Steps.{IsOf, IsUnserved, serve_fault}
 use Rattle.script_service.specs.declared.service.ServedScript.{ServedScript}
 use Rattle.script_service.specs.declared.service.ServeFault.{ServeFault}
 use Rattle.script_service.specs.declared.service.ServeFault.TheVariants as fault

@@ -1,5 +1,5 @@
 -- Cited by contracts.
--- What serving a script hands out.
+-- What serving a script hands out, and why an input is refused.
 use Rattle.std.specs.Prelude.{◌≡◌, ℕ, ◌≤◌, List, length}
 use Rattle.job_script.specs.Scripts.{Script}
 use Rattle.job_script.specs.Text.{IsScriptText}
@@ -7,7 +7,9 @@ use Rattle.job_script.specs.Words.{script_of}
 use Rattle.job_workers.specs.Ended.{AllEnded}
 use Rattle.script_plans.specs.Fates.{Fate}
 use Rattle.script_plans.specs.Lines.{ArePlanned}
-use Rattle.script_service.specs.Service.{Service, IsService}
+use Rattle.script_service.specs.Service.{Service, IsService, IsScriptFault, IsNotYet}
+use Rattle.script_service.specs.declared.service.ServeFault.{ServeFault}
+use Rattle.script_service.specs.declared.service.ServeFault.TheVariants as fault
 use Rattle.script_service.specs.declared.service.ServedScript.{ServedScript}
 
 -- what it comes to, where the script's jobs have these fates
@@ -26,3 +28,9 @@ pub record IsHandedFor (input : List ℕ) (s : ServedScript) : Type 0 where
   pub text : IsScriptText input (script_of s.script)
   pub only : (t : Script) → IsScriptText input t → t ≡ script_of s.script
   pub handed : IsHanded s
+
+-- why an input is refused; nothing is said of want of memory
+abbrev pub IsRefused : List ℕ → ServeFault → Type 0
+IsRefused input (fault.NoScript x) = IsScriptFault input x
+IsRefused input fault.NotYet = IsNotYet input
+IsRefused input fault.Memory = Unit {0}

@@ -1,11 +1,11 @@
 -- Private: words for functions of this crate.
--- What is handed out for a script that was read, and why an input is refused.
+-- What is handed out for a script that was read, and why it isn't.
 use Rattle.std.specs.Prelude.{◌≡◌, ℕ, Bool, false, not, List}
 use Rattle.job_script.specs.Scripts.{Entry, AProgram, AJob, Script}
 use Rattle.job_script.specs.Words.{script_of}
 use Rattle.job_script.specs.declared.reading.ScriptFault.{ScriptFault}
 use Rattle.job_script.specs.declared.reading.ScriptFault.TheVariants as script_fault
-use Rattle.script_service.specs.Service.{HasGrail, IsScriptFault, IsNotYet}
+use Rattle.script_service.specs.Service.{HasGrail}
 use Rattle.script_service.specs.Handed.{IsHanded}
 use Rattle.script_service.specs.declared.service.ServeFault.{ServeFault}
 use Rattle.script_service.specs.declared.service.ServeFault.TheVariants as fault
@@ -21,12 +21,6 @@ abbrev pub IsUnserved : Script → ServeFault → Type 0
 IsUnserved script (fault.NoScript x) = ⊥
 IsUnserved script fault.NotYet = HasGrail script.items
 IsUnserved script fault.Memory = Unit {0}
-
--- of an input; nothing is said of want of memory
-abbrev pub IsRefused : List ℕ → ServeFault → Type 0
-IsRefused input (fault.NoScript x) = IsScriptFault input x
-IsRefused input fault.NotYet = IsNotYet input
-IsRefused input fault.Memory = Unit {0}
 
 abbrev pub serve_fault : ScriptFault → ServeFault
 serve_fault script_fault.Memory = fault.Memory

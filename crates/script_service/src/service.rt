@@ -5,8 +5,8 @@ ghost use Rattle.job_script.specs.Text.{EntryIsShort};
 ghost use Rattle.job_script.specs.Words.{script_of};
 ghost use Rattle.script_plans.specs.Lines.{AllCamelot};
 ghost use Rattle.script_service.specs.Service.{IsReport};
-ghost use Rattle.script_service.specs.Handed.{IsHandedFor};
-ghost use Rattle.script_service.specs.Steps.{IsOf, IsUnserved, IsRefused, serve_fault};
+ghost use Rattle.script_service.specs.Handed.{IsHandedFor, IsRefused};
+ghost use Rattle.script_service.specs.Steps.{IsOf, IsUnserved, serve_fault};
 
 use crate::grail::has_grail;
 use crate::reporting::report_served;

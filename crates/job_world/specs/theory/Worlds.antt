@@ -8,6 +8,7 @@ use Rattle.std.proofs.lemmas.List.{length-set, length-replicate}
 use Rattle.cell_span.specs.Range.{blank}
 use Rattle.hole_list.specs.declared.run.Run.{Run}
 use Rattle.hole_list.specs.PlacingLaws.{some_same}
+use Rattle.lease_desk.specs.declared.event.Event.{Event}
 use Rattle.lease_desk.specs.declared.event.Event.TheVariants as event
 use Rattle.lease_desk.specs.Journal.{Move, gave, next_move, left_move, give_lease, after_event, replay, AreSizes, job_of}
 use Rattle.lease_desk.specs.Progress.{IsSound}

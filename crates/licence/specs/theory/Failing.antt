@@ -1,7 +1,7 @@
 -- Laws, for the proofs of this crate and of those above it.
 -- At the place of the first check that fails, the rule fails.
-use Rattle.std.proofs.Common.{◌≡◌, ◌⊎◌, ℕ, zero, suc, ◌+◌, Bool, true, false, List, [], ◌∷◌, ◌++◌, length, map, Option, Some, None, refl, sym, ap, ◌∙◌, subst, arith, inl, inr}
-use Rattle.std.specs.Prelude.{slice_get, cond, take, ℤ, pos, ◌+ℤ◌, ◌-ℤ◌}
+use Rattle.std.proofs.Common.{◌≡◌, ◌⊎◌, ℕ, suc, ◌+◌, Bool, true, false, List, [], ◌∷◌, ◌++◌, length, map, Option, Some, None, refl, sym, ap, ◌∙◌, subst, arith, inl, inr}
+use Rattle.std.specs.Prelude.{slice_get, cond, take, ℤ, ◌+ℤ◌, ◌-ℤ◌}
 use Rattle.std.specs.List.{AllByRecursion}
 use Rattle.std.specs.Option.{option_map_or}
 use Rattle.camelot_values.specs.Kinds.{DataType}
@@ -11,7 +11,7 @@ use Rattle.grail_code.specs.Code.{Op, Lit, Flag, Copy, Prim, Make, Call, Let, Ca
 use Rattle.grail_code.specs.WellFormed.{kind_of}
 use Rattle.annotations.specs.Vectors.{is_heap_con}
 use Rattle.licence.specs.Books.{Units, Carried, Book}
-use Rattle.licence.specs.Rules.{Amounts, naturals, Account, account_at, build_cost, after_op, after_lets, in_arm, first_con_of, asked_by, LetPays, TermPays}
+use Rattle.licence.specs.Rules.{naturals, Account, account_at, build_cost, after_op, after_lets, in_arm, first_con_of, asked_by, LetPays, TermPays}
 use Rattle.licence.specs.Checks.{Check, Site, left_check, value_checks, local_checks, arguments_checks, op_checks, jump_checks, arms_checks, term_checks, lets_checks, blocks_checks, funcs_checks, checks_of, integers, in_integers, Holds, AllHold, FirstFails}
 use Rattle.licence.specs.Failing.{FailsIn, let_fails, end_fails, RuleFails}
 use Rattle.licence.specs.theory.Walks.{Same, op_same, after_same, term_same, start_same}

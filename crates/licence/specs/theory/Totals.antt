@@ -1,11 +1,11 @@
 -- Laws, for the proofs of this crate and of those above it.
 -- What the values of ready locals carry together, and how it changes.
-use Rattle.std.proofs.Common.{◌≡◌, ℕ, zero, suc, ◌+◌, ◌<◌, ◌≤◌, Bool, true, false, List, length, Option, Some, None, refl, sym, ◌∙◌, subst, arith}
+use Rattle.std.proofs.Common.{◌≡◌, ℕ, zero, suc, ◌+◌, ◌<◌, ◌≤◌, Bool, true, false, List, length, Some, refl, sym, ◌∙◌, subst, arith}
 use Rattle.std.specs.Prelude.{◌==◌, if◌then◌else◌}
 use Rattle.std.proofs.lemmas.Bool.Decides.{nat_tests}
 use Rattle.camelot_values.specs.Value.{Value}
 use Rattle.camelot_values.specs.Kinds.{DataType}
-use Rattle.grail_blocks.specs.States.{Status, Unbound, Ready, Spent, State, nothing_bound, bind}
+use Rattle.grail_blocks.specs.States.{Ready, State, nothing_bound, bind}
 use Rattle.grail_code.specs.Code.{Func}
 use Rattle.grail_code.specs.WellFormed.{local_kinds}
 use Rattle.grail_code.specs.Meaning.{Locals, put}
