@@ -23,8 +23,8 @@ pub fn compile(alloc: Global, text: &[u8]) -> Result<Bundle, CompileFault>
     ensures found { IsSo (IsCompiled text.now) (compiled_of result) }
     // What is so is answered, unless memory runs out.
     ensures exact { (answer : Compiled) → IsCompiled text.now answer → Answers (compiled_of result) answer }
-    // The verifier accepts the bundle: its verdict on it is the licence of the program's code and of one certificate, which is least among all that grant
-    // the code, with numbers of any size.
+    // The verifier accepts the bundle, with the licence of the program's code and of one certificate, which is least
+    // among all that grant the code, with numbers of any size.
     ensures certified { IfOk result (λ bundle. OfCode text.now (HasCertificate bundle.code bundle.cert)) }
     // Where there is said to be no bound, no certificate grants the code, with numbers of any size.
     ensures no_bound { result ≡ Err (Refused (cause.NoCert NoBound)) → OfCode text.now NoneGrants }

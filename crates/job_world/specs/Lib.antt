@@ -1,4 +1,4 @@
--- Plans of runs.
+-- Plans of runs, and the world in which they run beside each other.
 pub mod Plans
 pub mod Words
 pub mod Asking

@@ -1,4 +1,5 @@
-//! Plans of runs over licences.
+//! Plans of runs over licences, names for the jobs that are served, and the law that jobs in one arena leave each other
+//! alone.
 #![tactic(auto)]
 
 mod fault;

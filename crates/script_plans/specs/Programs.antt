@@ -90,7 +90,7 @@ abbrev pub IsLicenceOf : ProgramText → Licensed → Meaning → Type 0
 IsLicenceOf (CamelotText text) l m = IsSourceLicence text l m
 IsLicenceOf (GrailText text) l m = IsBundleLicence text l m
 
--- The program is refused for this cause, and so has no licence: a source, for the first cause there is. For what a bundle is refused isn't said yet, and no script with one is served.
+-- The program is refused for this cause, and so has no licence: a source, for the first cause there is. For what a bundle is refused isn't said, and no script with one is served.
 abbrev pub IsRefusedFor : ProgramText → Cause → Type 0
 IsRefusedFor (CamelotText text) cause = IsCompiled text (Refused cause)
 IsRefusedFor (GrailText text) cause = ⊥

@@ -1,4 +1,4 @@
-//! Scripts served on one worker: from the bytes of a script to its report.
+//! Scripts served on one worker: from the bytes of a script to what comes of it, and its report.
 #![tactic(auto)]
 
 mod faults;

@@ -1,4 +1,5 @@
 -- Laws, for the laws of the world.
+-- Items put over others in a list, and a step in the middle of a list of cells.
 use Rattle.std.proofs.Common.{◌≡◌, ℕ, zero, suc, ◌+◌, ◌<◌, ◌≤◌, List, [], ◌∷◌, ◌++◌, length, take, drop, Some, None, refl, sym, ap, ◌∙◌, subst, arith, inl, inr}
 use Rattle.std.specs.Prelude.{slice_get, ◌⊎◌}
 use Rattle.cell_span.specs.declared.cell.Cell.{Cell}
