@@ -1,6 +1,6 @@
 -- Cited by contracts.
 -- What a program is, by its language: its text, its licence, and what its calls mean.
-use Rattle.std.specs.Prelude.{◌≡◌, ℕ, if◌then◌else◌, List, [], ◌∷◌, map, Option, Some, None, Ok}
+use Rattle.std.specs.Prelude.{◌≡◌, ℕ, if◌then◌else◌, List, [], ◌∷◌, map, Option, Some, None}
 use Rattle.std.specs.Str.{bytes_eq}
 use Rattle.camelot_values.specs.Value.{Value}
 use Rattle.camelot_values.specs.Kinds.{DataType}

@@ -1,5 +1,5 @@
 -- The lines of jobs by their endings are those by their plans.
-use Rattle.std.proofs.Common.{◌≡◌, ℕ, zero, suc, ◌+◌, ◌<◌, ◌≤◌, List, [], ◌∷◌, ◌++◌, length, map, drop, slice_get, slice_set, Option, Some, None, get_or, refl, sym, ap, ◌∙◌, subst, arith}
+use Rattle.std.proofs.Common.{◌≡◌, ℕ, zero, suc, ◌<◌, ◌≤◌, List, [], ◌∷◌, ◌++◌, length, drop, slice_get, slice_set, Option, Some, None, get_or, refl, sym, ap, ◌∙◌, subst, arith}
 use Rattle.std.proofs.Math.Seq.{drop-cons}
 use Rattle.std.proofs.lemmas.Option.{get_or_from_slice_get, slice_get_within}
 use Rattle.std.specs.Prelude.{codes, decimal}
@@ -11,8 +11,8 @@ use Rattle.value_text.specs.Text.{value_text}
 use Rattle.cell_machine.specs.Endings.{EndsWith}
 use Rattle.cell_machine.specs.declared.machine.Ending.{Ending}
 use Rattle.cell_machine.specs.declared.machine.Ending.TheVariants as ending
-use Rattle.run_reports.specs.Report.{JobLine, ended_text, told_text}
-use Rattle.run_reports.specs.Told.{outcome_of, licence_types, line_of}
+use Rattle.run_reports.specs.Report.{ended_text, told_text}
+use Rattle.run_reports.specs.Told.{outcome_of, licence_types}
 use Rattle.job_world.specs.Plans.{Plan, Planned, job_run}
 use Rattle.job_workers.specs.Ended.{AllEnded, HasEnding}
 use Rattle.job_workers.specs.Served.{EndsAsMeant}

@@ -1,6 +1,6 @@
 -- Private: words for functions of this crate.
 -- What is handed out for a script that was read, and why it isn't.
-use Rattle.std.specs.Prelude.{◌≡◌, ℕ, Bool, false, not, List}
+use Rattle.std.specs.Prelude.{◌≡◌, Bool, false, not}
 use Rattle.job_script.specs.Scripts.{Entry, AProgram, AJob, Script}
 use Rattle.job_script.specs.Words.{script_of}
 use Rattle.job_script.specs.declared.reading.ScriptFault.{ScriptFault}
