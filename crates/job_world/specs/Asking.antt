@@ -8,7 +8,8 @@ use Rattle.licence.specs.Licensed.{Licensed, FitsEntry}
 use Rattle.job_world.specs.declared.fault.AddFault.{AddFault}
 use Rattle.job_world.specs.declared.fault.AddFault.TheVariants as fault
 
--- what a lease is asked of: an entry of the licence of this number, and arguments of its kinds with at most 65,536 nodes
+-- what a lease is asked of: an entry of the licence of this number, and arguments of its kinds with at most 65,536
+-- nodes
 pub record NeedsOf (licences : List Licensed) (licence entry : ℕ) (args : List Value) : Type 0 where
   pub fits : IsSomeAnd (slice_get licences licence) (λ l. FitsEntry l entry args)
   pub few : size_all (parts args) ≤ 65536

@@ -17,15 +17,16 @@ pub record CanHold (arena : ℕ) (ps : Planned) : Type 0 where
   pub fit : AreFit ps
   pub within : AllByRecursion (λ p. p.lease ≤ arena) ps.plans
 
--- There are as many cells as the arena has. Leases and holes share none and have all of them, and their sizes add up to the arena. The desk's state is the
--- one behind its journal.
+-- There are as many cells as the arena has. Leases and holes share none and have all of them, and their sizes add up to
+-- the arena. The desk's state is the one behind its journal.
 pub record LieApart (arena : ℕ) (ps : Planned) (w : World) : Type 0 where
   pub size : length w.cells ≡ arena
   pub parts : AreParts (run 0 arena) w.desk.holes (leased w.desk.leases)
   pub sum : total w.desk.holes + total (leased w.desk.leases) ≡ arena
   pub replayed : replay arena (leases_of ps.plans) w.journal ≡ Some w.desk
 
--- The range and the frames of a job whose lease is this run are those of its lone machine, after as many steps as its own did since its lease.
+-- The range and the frames of a job whose lease is this run are those of its lone machine, after as many steps as its
+-- own did since its lease.
 pub record IsAlone (ps : Planned) (w : World) (job : ℕ) (r : Run) : Type 0 where
   pub start : Start
   pub begins : start_of ps job ≡ Some start
@@ -37,7 +38,8 @@ pub record IsAlone (ps : Planned) (w : World) (job : ℕ) (r : Run) : Type 0 whe
 abbrev pub IsOutside : World → (job index : ℕ) → Type 0
 IsOutside w job index = (r : Run) → slice_get w.desk.leases job ≡ Some (Some r) → r.first ≤ index → index < r.first + r.size → ⊥
 
--- A step of a job changes no cell outside of its own range, no other job's machine, no end that was filed, and nothing of the desk.
+-- A step of a job changes no cell outside of its own range, no other job's machine, no end that was filed, and nothing
+-- of the desk.
 pub record StepsApart (w new : World) (job : ℕ) : Type 0 where
   pub cells : (index : ℕ) → IsOutside w job index → slice_get new.cells index ≡ slice_get w.cells index
   pub frames : (other : ℕ) → (other ≡ job → ⊥) → slice_get new.workers other ≡ slice_get w.workers other
@@ -51,7 +53,8 @@ pub record HasGoneOn (new : World) (job : ℕ) (k : Worker) : Type 0 where
   pub is : slice_get new.workers job ≡ Some (Some worker)
   pub more : worker.count ≡ suc k.count
 
--- The end of the job's machine is filed, with the cells of its run, and its lease goes back by a move of the desk. All else is as it was.
+-- The end of the job's machine is filed, with the cells of its run, and its lease goes back by a move of the desk. All
+-- else is as it was.
 pub record HasGivenBack (old new : World) (job : ℕ) (r : Run) (k : Worker) : Type 0 where
   pub final : Final
   pub is : slice_get new.filed job ≡ Some (Some final)
@@ -74,7 +77,8 @@ pub record HasBegun (ps : Planned) (new : World) (job : ℕ) : Type 0 where
   pub begins : start_of ps job ≡ Some start
   pub is : slice_get new.workers job ≡ Some (Some (record { core = core_of (Running start.begins); count = 0 }))
 
--- The desk has moved. A job that was taken begins, and all cells outside of its run, all other machines and what was filed are as they were.
+-- The desk has moved. A job that was taken begins, and all cells outside of its run, all other machines and what was
+-- filed are as they were.
 pub record HasAsked (ps : Planned) (old new : World) (m : Move) : Type 0 where
   pub desk : new.desk ≡ m.state
   pub journal : new.journal ≡ old.journal ++ m.event ∷ []
@@ -86,7 +90,8 @@ pub record HasAsked (ps : Planned) (old new : World) (m : Move) : Type 0 where
 
 -- ---- ends, and two worlds
 
--- The end that was filed for a job is the one that the meaning of its own plan's code says, with the cells that its lone machine leaves.
+-- The end that was filed for a job is the one that the meaning of its own plan's code says, with the cells that its
+-- lone machine leaves.
 pub record EndsAlone (ps : Planned) (job : ℕ) (f : Final) : Type 0 where
   pub start : Start
   pub begins : start_of ps job ≡ Some start

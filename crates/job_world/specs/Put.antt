@@ -1,5 +1,6 @@
 -- Cited by contracts.
--- A machine in the middle of an arena: its cells are those of the whole list from its range's first index on, and what a step leaves is put back there.
+-- A machine in the middle of an arena: its cells are those of the whole list from its range's first index on, and what
+-- a step leaves is put back there.
 use Rattle.std.specs.Prelude.{ℕ, zero, suc, List, [], ◌∷◌, Option, None}
 use Rattle.cell_span.specs.declared.cell.Cell.{Cell}
 use Rattle.grail_code.specs.Code.{Code}

@@ -1,6 +1,7 @@
 -- Cited by contracts.
--- The world of an arena: one list of cells, a desk, a machine for each lease that is out, and the ends that were filed. Jobs are asked for, step and give
--- back in any order. A machine steps in the whole list, from the first cell of its lease on, and nothing tests where the lease ends.
+-- The world of an arena: one list of cells, a desk, a machine for each lease that is out, and the ends that were filed.
+-- Jobs are asked for, step and give back in any order. A machine steps in the whole list, from the first cell of its
+-- lease on, and nothing tests where the lease ends.
 use Rattle.std.specs.Prelude.{ℕ, suc, List, [], ◌∷◌, ◌++◌, length, take, drop, replicate, slice_get, slice_set, Option, Some, None}
 use Rattle.cell_span.specs.declared.cell.Cell.{Cell}
 use Rattle.cell_span.specs.Range.{blank}
@@ -49,13 +50,25 @@ pub record Worker : Type 0 where
   pub core : Core
   pub count : ℕ
 
--- The cells of the whole arena, the desk and its journal, and for each job its machine, while its lease is out, and its end, once it was filed.
+-- The cells of the whole arena, the desk and its journal, and for each job its machine, while its lease is out, and its
+-- end, once it was filed.
 pub record World : Type 0 where
   pub cells : List Cell
   pub desk : DeskState
   pub journal : List Event
   pub workers : List (Option Worker)
   pub filed : List (Option Final)
+
+-- the lease of a job, where it has a place, and where it is out
+abbrev pub lease_at : World → (job : ℕ) → Option (Option Run)
+lease_at w job = slice_get w.desk.leases job
+
+-- its machine, and its end
+abbrev pub worker_at : World → (job : ℕ) → Option (Option Worker)
+worker_at w job = slice_get w.workers job
+
+abbrev pub filed_at : World → (job : ℕ) → Option (Option Final)
+filed_at w job = slice_get w.filed job
 
 -- what happens: the next job is asked for, a job's machine steps, or a job gives its lease back
 pub data WorldEvent : Type 0 where
@@ -109,7 +122,8 @@ after_next ps w = gone_on ps w (either_move (next_move (leases_of ps.plans) w.de
 
 -- ---- stepping
 
--- The cells from `first` on are the machine's for this step, up to the end of the whole list. Nothing changes where the machine is over.
+-- The cells from `first` on are the machine's for this step, up to the end of the whole list. Nothing changes where the
+-- machine is over.
 abbrev pub stepped : World → (job first : ℕ) → Worker → Option Machine → World
 stepped w job first k None = w
 stepped w job first k (Some m) = record {

@@ -1,5 +1,6 @@
 -- Laws, for the laws of the world.
--- Behind a step, a lease that goes out and one that comes back, each lease has the cells and the frames of its lone machine.
+-- Behind a step, a lease that goes out and one that comes back, each lease has the cells and the frames of its lone
+-- machine.
 use Rattle.std.proofs.Common.{◌≡◌, ℕ, zero, suc, ◌+◌, ◌≤◌, List, [], ◌∷◌, length, take, drop, Option, Some, None, refl, sym, ap, ◌∙◌, subst, arith, inl, inr}
 use Rattle.std.specs.Prelude.{slice_get, slice_set, ◌⊎◌}
 use Rattle.std.proofs.lemmas.Bool.{cases_eq}

@@ -121,8 +121,8 @@ core_wide : (more : List Cell) (m : Machine) → core_of (wide_machine more m) �
 core_wide more (Running s) = refl
 core_wide more (Over f) = refl
 
--- Where the lone machine has a step in its range, the step at the whole list from the range on is that one: it has the same frames, and the whole list is the old one with the
--- range's new cells.
+-- Where the lone machine has a step in its range, the step at the whole list from the range on is that one: it has the
+-- same frames, and the whole list is the old one with the range's new cells.
 pub record StepsSame (p : Code) (first size : ℕ) (whole : List Cell) (k : Core) (m : Machine) : Type 0 where
   pub other : Machine
   pub is : one_step p (machine_of (drop first whole) k) ≡ Some other

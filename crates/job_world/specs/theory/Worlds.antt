@@ -32,8 +32,8 @@ use Rattle.job_world.specs.theory.Starting.{PlanAt, sized_plan, begins, start_is
 abbrev pub bare : World → Bare
 bare w = record { cells = w.cells; leases = w.desk.leases; workers = w.workers }
 
--- The cells are as many as the arena, and the desk is the one behind the journal. Each job has a place for its machine and its end, and each lease a machine, which stands
--- alone. What was filed is what the job's own plan comes to.
+-- The cells are as many as the arena, and the desk is the one behind the journal. Each job has a place for its machine
+-- and its end, and each lease a machine, which stands alone. What was filed is what the job's own plan comes to.
 pub record IsWorld (arena : ℕ) (ps : Planned) (w : World) : Type 0 where
   pub many : length w.cells ≡ arena
   pub replayed : replay arena (leases_of ps.plans) w.journal ≡ Some w.desk
