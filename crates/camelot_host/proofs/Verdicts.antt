@@ -1,6 +1,6 @@
 -- What is served or compiled isn't refused.
 use Rattle.std.specs.Prelude.{codes}
-use Rattle.std.proofs.Common.{◌≡◌, ℕ, Bool, true, false, List, [], ◌∷◌, ◌⊎◌, inl, inr, sym, ◌∙◌, subst}
+use Rattle.std.proofs.Common.{◌≡◌, ℕ, true, false, List, [], ◌∷◌, inl, inr, sym, ◌∙◌, subst}
 use Rattle.job_script.specs.Scripts.{Entry, AProgram, AJob, Script}
 use Rattle.job_script.specs.Text.{IsScriptText, IsLineFault, IsCountFault, IsRepeatFault}
 use Rattle.job_script.specs.declared.reading.ScriptFault.{ScriptFault}

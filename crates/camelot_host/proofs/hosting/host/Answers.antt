@@ -1,6 +1,6 @@
-use Rattle.std.proofs.Common.{map, subst}
+use Rattle.std.proofs.Common.{map}
 use Rattle.std.specs.Prelude.{string_bytes}
-use Rattle.camelot_host.specs.Replies.{command_named, Responds}
+use Rattle.camelot_host.specs.Replies.{command_named}
 use Rattle.camelot_host.proofs.Answering.{completes}
 use Rattle.camelot_host.proofs.hosting.host.Goals as goal
 
