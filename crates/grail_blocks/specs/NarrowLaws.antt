@@ -21,7 +21,7 @@ use Rattle.grail_blocks.specs.Blocks.{Op, Lit, Flag, Copy, Prim, Make, Call, Let
 use Rattle.grail_blocks.specs.Running.{Locals, Later, put, narrowed, in_front, values_of, operands, built, op_run, lets_run, put_all, cell_run, arm_run, arm_at, case_run, term_run, narrow, whole, block_run, jump_run, blocks_run}
 use Rattle.grail_blocks.specs.Events.{Event, Bind, Reads, taken, operands_of, uses_of, term_uses, term_events, kept_diamond, bound_by, params_at, jump_events, ways}
 use Rattle.grail_blocks.specs.States.{State, Ready, Unbound, nothing_bound, bind, use_of, after, AreReady, at_start, after_let, after_lets, at_term, LetsReady, UsesReady}
-use Rattle.grail_blocks.specs.StateLaws.{after_append, ready_first, ready_second, bind_ready, AllReady, all_used_ready, operands_ready, operands_were_ready, term_operands_ready, term_operands_were_ready}
+use Rattle.grail_blocks.specs.StateLaws.{after_append, ready_first, ready_second, bind_ready, all_first, all_second, AllReady, all_used_ready, operands_ready, operands_were_ready, term_operands_ready, term_operands_were_ready}
 
 -- the two agree on what is ready
 abbrev pub Agree : State → Locals → Locals → Type 0
@@ -48,14 +48,6 @@ AgreeOn xs env env' = AllByRecursion (λ x. env x ≡ env' x) xs
 agree_on : (s : State) (xs : List ℕ) (env env' : Locals) → AllReady s xs → Agree s env env' → AgreeOn xs env env'
 agree_on s [] env env' r a = tt
 agree_on s (x ∷ xs) env env' r a = (a x r.0, agree_on s xs env env' r.1 a)
-
-agree_first : (xs ys : List ℕ) (env env' : Locals) → AgreeOn (xs ++ ys) env env' → AgreeOn xs env env'
-agree_first [] ys env env' a = tt
-agree_first (x ∷ xs) ys env env' a = (a.0, agree_first xs ys env env' a.1)
-
-agree_second : (xs ys : List ℕ) (env env' : Locals) → AgreeOn (xs ++ ys) env env' → AgreeOn ys env env'
-agree_second [] ys env env' a = a
-agree_second (x ∷ xs) ys env env' a = agree_second xs ys env env' a.1
 
 values_agree : (xs : List ℕ) (env env' : Locals) → AgreeOn xs env env' → values_of env xs ≡ values_of env' xs
 values_agree [] env env' a = refl
@@ -84,8 +76,8 @@ op_same enter k w env env' (Flag b) a = refl
 op_same enter k w env env' (Copy x) a = ap known a.0
 op_same enter k w env env' (Prim op x y) a = ap (λ o. operands op o (env y)) a.0 ∙ ap (operands op (env' x)) a.1.0
 op_same enter k w env env' (Make con args p) a =
-    ap (λ o. given o (λ vs. built con vs p env)) (values_agree args env env' (agree_first args (taken p) env env' a))
-    ∙ given_same (values_of env' args) (λ vs. built con vs p env) (λ vs. built con vs p env') (λ vs. built_agree con vs p env env' (agree_second args (taken p) env env' a))
+    ap (λ o. given o (λ vs. built con vs p env)) (values_agree args env env' (all_first (λ x. env x ≡ env' x) args (taken p) a))
+    ∙ given_same (values_of env' args) (λ vs. built con vs p env) (λ vs. built con vs p env') (λ vs. built_agree con vs p env env' (all_second (λ x. env x ≡ env' x) args (taken p) a))
 op_same enter k w env env' (Call func args) a = ap (λ o. given o (λ vs. enter k w false func vs)) (values_agree args env env' a)
 
 op_agree : (reads : Reads) (h : ℕ → Bool) (s : State) (enter : Enter) (k w : ℕ) (env env' : Locals) (op : Op) → AreReady h s (uses_of reads op) → Agree s env env' → op_run enter k w env op ≡ op_run enter k w env' op

@@ -269,6 +269,15 @@ term_uses_none (Goto b) = refl
 term_uses_none (If x first second) = refl
 term_uses_none (Case x arms) = refl
 
+-- what holds of all of two lists holds of all of each
+pub all_first : {A : Type 0} (P : A → Type 0) (xs ys : List A) → AllByRecursion P (xs ++ ys) → AllByRecursion P xs
+all_first P [] ys h = tt
+all_first P (x ∷ xs) ys h = (h.0, all_first P xs ys h.1)
+
+pub all_second : {A : Type 0} (P : A → Type 0) (xs ys : List A) → AllByRecursion P (xs ++ ys) → AllByRecursion P ys
+all_second P [] ys h = h
+all_second P (x ∷ xs) ys h = all_second P xs ys h.1
+
 -- these locals are ready
 abbrev pub AllReady : State → List ℕ → Type 0
 AllReady s xs = AllByRecursion (λ x. s x ≡ Ready) xs
