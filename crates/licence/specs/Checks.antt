@@ -12,12 +12,11 @@ use Rattle.std.specs.Option.{option_map_or}
 use Rattle.camelot_values.specs.Kinds.{DataType}
 use Rattle.camelot_values.specs.Heap.{reached}
 use Rattle.camelot_values.specs.declared.kinds.Kind.{Kind}
-use Rattle.grail_blocks.specs.Events.{params_at}
 use Rattle.grail_code.specs.Code.{Op, Prim, Make, Call, Let, CaseArm, Term, Ret, Tail, Goto, If, Case, Block, Func, Code}
 use Rattle.grail_code.specs.WellFormed.{kind_of}
 use Rattle.annotations.specs.Vectors.{is_heap_con}
 use Rattle.licence.specs.Books.{Units, Carried, Book}
-use Rattle.licence.specs.Rules.{Amounts, Account, account_at, build_cost, after_op, in_arm, first_con_of, asked_by}
+use Rattle.licence.specs.Rules.{Amounts, Account, account_at, build_cost, after_op, in_arm, first_con_of, Asks, call_asks, jump_asks, build_asks}
 
 -- at this place, on a constructor or on what is left: what is there, and what is asked
 pub record Check (A : Type 0) : Type 0 where
@@ -43,19 +42,19 @@ abbrev pub value_checks : {A : Type 0} → List DataType → Site → Option Kin
 value_checks types s q have need =
     map (λ c. record { func = s.func; block = s.block; place = s.place; con = Some c; have = have c; need = need c }) (option_map_or (reached types) q [])
 
--- of locals in order
-abbrev pub local_checks : {A : Type 0} → List DataType → Func → Site → Carried A → List ℕ → List (Units A) → List (Check A)
-local_checks types f s carried (x ∷ xs) (asked ∷ others) = value_checks types s (kind_of f x) (carried x) asked ++ local_checks types f s carried xs others
-local_checks types f s carried xs others = []
+-- of locals in order, against what is asked of them
+abbrev pub local_checks : {A : Type 0} → List DataType → Func → Site → Carried A → Asks A → List (Check A)
+local_checks types f s carried [] = []
+local_checks types f s carried (a ∷ asks) = value_checks types s (kind_of f a.0) (carried a.0) a.1 ++ local_checks types f s carried asks
 
 -- the arguments of a function; one that isn't there asks nothing of them
 abbrev pub arguments_checks : {A : Type 0} → Code → Func → Book A → Site → Account A → (callee : ℕ) → List ℕ → List (Check A)
-arguments_checks p f book s account callee args = option_map_or (λ g. local_checks p.types f s account.carried args (asked_by book callee g)) (slice_get p.funcs callee) []
+arguments_checks p f book s account callee args = option_map_or (λ g. local_checks p.types f s account.carried (call_asks book callee g args)) (slice_get p.funcs callee) []
 
 -- a let
 abbrev pub op_checks : {A : Type 0} → Amounts A → Code → Func → Book A → Site → Account A → Op → List (Check A)
 op_checks amounts p f book s account (Make con args at) = cond (is_heap_con p.types con)
-    (local_checks p.types f s account.carried args (map (λ x. book.make s.func s.block s.place) args)
+    (local_checks p.types f s account.carried (build_asks book s.func s.block s.place args)
     ++ left_check s account.left (build_cost amounts book.unit at (book.make s.func s.block s.place con)) ∷ [])
     []
 op_checks amounts p f book s account (Call callee args) = arguments_checks p f book s account callee args ++ left_check s account.left (book.need callee) ∷ []
@@ -63,8 +62,7 @@ op_checks amounts p f book s account op = []
 
 -- a jump
 abbrev pub jump_checks : {A : Type 0} → Code → Func → Book A → Site → Account A → ℕ → List (Check A)
-jump_checks p f book s account to =
-    local_checks p.types f s account.carried (params_at f.blocks to) (map (book.block_var s.func to) (params_at f.blocks to)) ++ left_check s account.left (book.block_need s.func to) ∷ []
+jump_checks p f book s account to = local_checks p.types f s account.carried (jump_asks f book s.func to) ++ left_check s account.left (book.block_need s.func to) ∷ []
 
 -- the arms, of the constructors from this one on
 abbrev pub arms_checks : {A : Type 0} → Amounts A → Code → Func → Book A → Site → Account A → (on con : ℕ) → List CaseArm → List (Check A)

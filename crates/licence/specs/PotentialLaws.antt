@@ -1,49 +1,32 @@
 -- Laws, for the proofs of this crate and of those above it.
 -- Potential soundness (Hofmann and Jost 2003): runs of annotated code are paid for by what the entry needs and its arguments carry.
-use Rattle.std.proofs.Common.{◌≡◌, ℕ, suc, ◌+◌, ◌*◌, ◌≤◌, List, [], ◌∷◌, length, map, Some, refl, sym, ap, ◌∙◌, subst, arith}
+use Rattle.std.proofs.Common.{◌≡◌, ℕ, ◌+◌, ◌*◌, ◌≤◌, List, length, Some, arith}
 use Rattle.std.specs.Prelude.{◌/◌, max, slice_get}
-use Rattle.std.specs.List.{range_with_len}
 use Rattle.camelot_values.specs.Value.{Value}
-use Rattle.camelot_values.specs.Kinds.{DataType, AreTypes}
+use Rattle.camelot_values.specs.Kinds.{AreTypes}
 use Rattle.camelot_values.specs.Counts.{cells_among}
 use Rattle.camelot_values.specs.Typing.{ArgumentsFit}
 use Rattle.camelot_values.specs.Outcome.{Outcome, Done, Fuel, Deep, Stuck, peak_of}
 use Rattle.camelot_values.specs.Bounds.{IsPaidBy}
-use Rattle.camelot_values.specs.declared.kinds.Kind.{Kind}
 use Rattle.camelot_values.specs.Runs.{entering}
 use Rattle.grail_code.specs.Code.{Block, Func, Code}
 use Rattle.grail_code.specs.Meaning.{Locals, bodies, from_place, run_of}
 use Rattle.grail_code.specs.Places.{FitAt}
 use Rattle.grail_code.specs.Soundness.{HaveBlocks}
 use Rattle.grail_code.specs.WellFormed.{IsWellFormed}
-use Rattle.annotations.specs.Vectors.{potential, potentials}
+use Rattle.annotations.specs.Vectors.{potential}
 use Rattle.certificate.specs.Certificates.{Cert}
-use Rattle.licence.specs.Books.{Carried, Book, book_of}
+use Rattle.licence.specs.Books.{Book, book_of}
 use Rattle.licence.specs.Rules.{Pays}
 use Rattle.licence.specs.Worth.{worth_at}
-use Rattle.licence.specs.Bound.{arguments_carry, units_at, bound, lease}
+use Rattle.licence.specs.Bound.{units_at, bound, lease}
 use Rattle.licence.specs.theory.Sound as sound
-
-carry_is : (types : List DataType) (carried : Carried ℕ) (n : ℕ) (vs : List Value) → potentials types (map carried (range_with_len n (length vs))) vs ≡ arguments_carry types carried n vs
-carry_is types carried n [] = refl
-carry_is types carried n (v ∷ vs) =
-    let next : n + 1 ≡ suc n = omega arith in
-    ap (λ m. potential types (carried n) v + m) (carry_is types carried (n + 1) vs ∙ ap (λ m. arguments_carry types carried m vs) next)
-
-as_many : (types : List DataType) (qs : List Kind) (vs : List Value) → ArgumentsFit types qs vs → length vs ≡ length qs
-as_many types [] [] fit = refl
-as_many types [] (v ∷ vs) fit = absurd fit
-as_many types (q ∷ qs) [] fit = absurd fit
-as_many types (q ∷ qs) (v ∷ vs) fit = ap suc (as_many types qs vs fit.1)
 
 -- With any fuel and any limit of waiting calls, ended or stopped: the peak costs no more than there was, and at a value the net, what is
 -- given back and what the result carries cost no more together.
 pub run_paid : (p : Code) (book : Book ℕ) → IsWellFormed p → HaveBlocks p → AreTypes p.types → Pays p book → (limit entry fuel : ℕ) (args : List Value) (f : Func) → slice_get p.funcs entry ≡ Some f → ArgumentsFit p.types f.params args
     → IsPaidBy book.unit (units_at p book entry args) (λ v. book.back entry + potential p.types (book.result entry) v) (run_of p limit entry fuel args)
-run_paid p book well some types pays limit entry fuel args f is fit =
-    subst (λ n. IsPaidBy book.unit (book.need entry + n) (λ v. book.back entry + potential p.types (book.result entry) v) (run_of p limit entry fuel args))
-    (ap (λ n. potentials p.types (map (book.param entry) (range_with_len 0 n)) args) (sym (as_many p.types f.params args fit)) ∙ carry_is p.types (book.param entry) 0 args)
-    (sound.run_paid p book well some types pays limit entry fuel args f is fit)
+run_paid = sound.run_paid
 
 -- What follows a place is paid for by what the place is worth.
 pub place_paid : (p : Code) (book : Book ℕ) → IsWellFormed p → HaveBlocks p → AreTypes p.types → Pays p book → (limit func number place fuel waits : ℕ) (f : Func) (b : Block) (env : Locals)

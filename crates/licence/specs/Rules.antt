@@ -4,7 +4,7 @@
 -- cell; a case finds what the matched node carries, and a cell's price where it gives the cell back. There is no order of checks here,
 -- and no solver.
 use Rattle.std.specs.Prelude.{◌≡◌, ℕ, zero, suc, ◌+◌, ◌-◌, ◌≤◌, ◌==◌, if◌then◌else◌, List, [], ◌∷◌, length, map, take, slice_get, Option, Some, IfSome, cond}
-use Rattle.std.specs.List.{range_with_len}
+use Rattle.std.specs.List.{AllByRecursion}
 use Rattle.camelot_values.specs.Kinds.{DataType, constructors}
 use Rattle.camelot_values.specs.declared.kinds.Kind.{Kind}
 use Rattle.camelot_values.specs.declared.kinds.Kind.TheVariants as kind
@@ -76,18 +76,26 @@ after_lets amounts types book func block place account (l ∷ ls) =
 abbrev pub account_before : {A : Type 0} → Amounts A → List DataType → Book A → (func number : ℕ) → Block → ℕ → Account A
 account_before amounts types book func number b n = after_lets amounts types book func number 1 (account_at book func number) (take n b.lets)
 
--- In an arm: what the matched node carries is left, and a cell's price where its cell is given back; each field carries what the matched
--- value does.
-abbrev pub freed : {A : Type 0} → Amounts A → A → CaseCell → A → A
-freed amounts unit cell.Free left = amounts.plus left unit
-freed amounts unit cell.Inline left = left
-freed amounts unit (cell.Keep d) left = left
-
-abbrev pub in_arm : {A : Type 0} → Amounts A → List DataType → Book A → Account A → (on con : ℕ) → CaseArm → Account A
-in_arm amounts types book account on con a = record {
-  left = freed amounts book.unit a.cell (cond (is_heap_con types con) (amounts.plus account.left (account.carried on con)) account.left);
-  carried = all_carrying account.carried a.fields (account.carried on);
+-- where a matched node is taken apart: what it carries is left, and each field carries what the matched value does
+abbrev pub opened : {A : Type 0} → Amounts A → List DataType → Account A → (on con : ℕ) → (fields : List ℕ) → Account A
+opened amounts types account on con fields = record {
+  left = cond (is_heap_con types con) (amounts.plus account.left (account.carried on con)) account.left;
+  carried = all_carrying account.carried fields (account.carried on);
 }
+
+-- What a case finds in an arm, by what becomes of the matched cell: the node is taken apart, and a cell's price is left where the cell is
+-- given back.
+abbrev pub found : {A : Type 0} → Amounts A → List DataType → (unit : A) → Account A → (on con : ℕ) → (fields : List ℕ) → CaseCell → Account A
+found amounts types unit account on con fields cell.Free = record {
+  left = amounts.plus (opened amounts types account on con fields).left unit;
+  carried = (opened amounts types account on con fields).carried;
+}
+found amounts types unit account on con fields cell.Inline = opened amounts types account on con fields
+found amounts types unit account on con fields (cell.Keep d) = opened amounts types account on con fields
+
+-- where an arm begins
+abbrev pub in_arm : {A : Type 0} → Amounts A → List DataType → Book A → Account A → (on con : ℕ) → CaseArm → Account A
+in_arm amounts types book account on con a = found amounts types book.unit account on con a.fields a.cell
 
 -- the constructors of a type are numbered behind those of the types before it
 abbrev pub first_con : List DataType → ℕ → ℕ
@@ -98,35 +106,51 @@ abbrev pub first_con_of : List DataType → Option Kind → ℕ
 first_con_of types (Some (kind.Of t)) = first_con types t
 first_con_of types q = 0
 
--- ---- locals against what is asked of them
+-- ---- what is asked of locals
+
+-- a local, and what its value is to carry at least
+abbrev pub Asks : Type 0 → Type 0
+Asks A = List (ℕ × Units A)
+
+-- arguments against so many parameters, the first of which has this number
+abbrev pub arguments_asks : {A : Type 0} → (param : Carried A) → (number count : ℕ) → (args : List ℕ) → Asks A
+arguments_asks param number (suc count) (x ∷ xs) = (x, param number) ∷ arguments_asks param (suc number) count xs
+arguments_asks param number count xs = []
+
+-- what a call of this function asks of its arguments, in order
+abbrev pub call_asks : {A : Type 0} → Book A → (callee : ℕ) → Func → (args : List ℕ) → Asks A
+call_asks book callee g args = arguments_asks (book.param callee) 0 (length g.params) args
+
+-- what a jump to this block asks of the block's parameters
+abbrev pub jump_asks : {A : Type 0} → Func → Book A → (func to : ℕ) → Asks A
+jump_asks f book func to = map (λ x. (x, book.block_var func to x)) (params_at f.blocks to)
+
+-- what a build asks of its parts
+abbrev pub build_asks : {A : Type 0} → Book A → (func block place : ℕ) → (args : List ℕ) → Asks A
+build_asks book func block place args = map (λ x. (x, book.make func block place)) args
 
 -- on each constructor that the local's kind reaches
 abbrev pub Carries : List DataType → Func → Carried ℕ → ℕ → Units ℕ → Type 0
 Carries types f carried x asked = IfSome (kind_of f x) (λ q. AtLeast types q (carried x) asked)
 
-abbrev pub AllCarry : List DataType → Func → Carried ℕ → List ℕ → List (Units ℕ) → Type 0
-AllCarry types f carried (x ∷ xs) (asked ∷ others) = Carries types f carried x asked × AllCarry types f carried xs others
-AllCarry types f carried xs others = Unit {0}
-
--- what a function asks of its arguments, in order
-abbrev pub asked_by : {A : Type 0} → Book A → ℕ → Func → List (Units A)
-asked_by book func f = map (book.param func) (range_with_len 0 (length f.params))
+-- each of these locals
+abbrev pub AllCarry : List DataType → Func → Carried ℕ → Asks ℕ → Type 0
+AllCarry types f carried asks = AllByRecursion (λ a. Carries types f carried a.0 a.1) asks
 
 -- ---- the rules
 
 -- a let: its operands carry what is asked of them, and what it takes is there
 abbrev pub LetPays : Code → Func → Book ℕ → (func block place : ℕ) → Account ℕ → Op → Type 0
 LetPays p f book func block place account (Make con args at) = cond (is_heap_con p.types con)
-    (AllCarry p.types f account.carried args (map (λ x. book.make func block place) args) × (build_cost naturals book.unit at (book.make func block place con) ≤ account.left))
+    (AllCarry p.types f account.carried (build_asks book func block place args) × (build_cost naturals book.unit at (book.make func block place con) ≤ account.left))
     (Unit {0})
 LetPays p f book func block place account (Call callee args) =
-    IfSome (slice_get p.funcs callee) (λ g. AllCarry p.types f account.carried args (asked_by book callee g)) × (book.need callee ≤ account.left)
+    IfSome (slice_get p.funcs callee) (λ g. AllCarry p.types f account.carried (call_asks book callee g args)) × (book.need callee ≤ account.left)
 LetPays p f book func block place account op = Unit {0}
 
 -- a jump: the target's parameters carry what it says of them, and what it needs is there
 abbrev pub JumpPays : Code → Func → Book ℕ → (func : ℕ) → Account ℕ → ℕ → Type 0
-JumpPays p f book func account to =
-    AllCarry p.types f account.carried (params_at f.blocks to) (map (book.block_var func to) (params_at f.blocks to)) × (book.block_need func to ≤ account.left)
+JumpPays p f book func account to = AllCarry p.types f account.carried (jump_asks f book func to) × (book.block_need func to ≤ account.left)
 
 -- each arm, of the constructors from this one on
 abbrev pub ArmsPay : Code → Func → Book ℕ → (func : ℕ) → Account ℕ → (on con : ℕ) → List CaseArm → Type 0
@@ -137,7 +161,7 @@ ArmsPay p f book func account on con (a ∷ arms) = JumpPays p f book func (in_a
 abbrev pub TermPays : Code → Func → Book ℕ → (func : ℕ) → Account ℕ → Term → Type 0
 TermPays p f book func account (Ret x) = Carries p.types f account.carried x (book.result func) × (book.back func ≤ account.left)
 TermPays p f book func account (Tail callee args) =
-    IfSome (slice_get p.funcs callee) (λ g. AllCarry p.types f account.carried args (asked_by book callee g)) × (book.need callee ≤ account.left)
+    IfSome (slice_get p.funcs callee) (λ g. AllCarry p.types f account.carried (call_asks book callee g args)) × (book.need callee ≤ account.left)
     × AtLeast p.types f.result (book.result callee) (book.result func) × (book.back func ≤ account.left - book.need callee + book.back callee)
 TermPays p f book func account (Goto b) = JumpPays p f book func account b
 TermPays p f book func account (If x first second) = JumpPays p f book func account first × JumpPays p f book func account second

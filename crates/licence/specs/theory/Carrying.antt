@@ -9,7 +9,7 @@ use Rattle.camelot_values.specs.Value as value
 use Rattle.camelot_values.specs.Value.{Value, Values, parts}
 use Rattle.camelot_values.specs.Kinds.{DataType, AreTypes}
 use Rattle.camelot_values.specs.Heap.{is_heap}
-use Rattle.camelot_values.specs.Typing.{Fits}
+use Rattle.camelot_values.specs.Typing.{Fits, ArgumentsFit}
 use Rattle.camelot_values.specs.declared.kinds.Kind.{Kind}
 use Rattle.grail_blocks.specs.Events.{Use, Bind}
 use Rattle.grail_blocks.specs.States.{Ready, Spent, State, bind, use_of, after, AreReady}
@@ -18,10 +18,12 @@ use Rattle.grail_code.specs.WellFormed.{local_kinds, kind_of, is_heap_local}
 use Rattle.grail_code.specs.Meaning.{Locals, put, put_all, narrowed, values_of, in_front}
 use Rattle.grail_code.specs.Places.{LocalsFit, Holds}
 use Rattle.grail_code.specs.PlaceLaws.{fit_used}
-use Rattle.annotations.specs.Vectors.{potential, potential_all, potentials, AtLeast}
+use Rattle.annotations.specs.Vectors.{potential, potential_all, AtLeast}
 use Rattle.annotations.specs.PotentialLaws.{nothing_of_heap_free, potential_at_least}
 use Rattle.licence.specs.Books.{Units, Carried}
-use Rattle.licence.specs.Rules.{carrying, all_carrying, Carries, AllCarry}
+use Rattle.licence.specs.Rules.{carrying, all_carrying, Asks, arguments_asks, Carries, AllCarry}
+use Rattle.licence.specs.Bound.{arguments_carry}
+use Rattle.licence.specs.theory.Asking.{locals_of}
 use Rattle.licence.specs.theory.Totals.{sum_less, sum_less_at, value_units, status_units, local_units, total, bind_total, bind_param}
 
 -- ---- one use
@@ -85,10 +87,10 @@ use_total types f s env carried x well held ready = by_heap (is_heap_local types
 
 -- ---- several uses
 
--- what is asked of the values of locals, in order
-abbrev pub asked_units : List DataType → Locals → List ℕ → List (Units ℕ) → ℕ
-asked_units types env (x ∷ xs) (asked ∷ others) = value_units types asked (env x) + asked_units types env xs others
-asked_units types env xs others = 0
+-- what is asked of the values of locals
+abbrev pub asked_units : List DataType → Locals → Asks ℕ → ℕ
+asked_units types env [] = 0
+asked_units types env (a ∷ asks) = value_units types a.1 (env a.0) + asked_units types env asks
 
 -- where a local carries what is asked of it, its value carries as much
 asked_of_local : (types : List DataType) (f : Func) (env : Locals) (carried : Carried ℕ) (x : ℕ) (asked : Units ℕ) → Holds types f env x → Carries types f carried x asked
@@ -112,65 +114,80 @@ all_held types f s env [] fit r = tt
 all_held types f s env (x ∷ xs) fit r =
     (fit.holds x r.0, all_held types f (use_of (is_heap_local types f) s x) env xs (fit_used types f (is_heap_local types f) s (x ∷ []) env fit) r.1)
 
-nothing_carried : (types : List DataType) (f : Func) (carried : Carried ℕ) (xs : List ℕ) → AllCarry types f carried xs []
-nothing_carried types f carried [] = tt
-nothing_carried types f carried (x ∷ xs) = tt
-
-pub nothing_asked : (types : List DataType) (env : Locals) (xs : List ℕ) → asked_units types env xs [] ≡ 0
-nothing_asked types env [] = refl
-nothing_asked types env (x ∷ xs) = refl
-
-pub uses_total : (types : List DataType) (f : Func) (s : State) (env : Locals) (carried : Carried ℕ) (xs : List ℕ) (asked : List (Units ℕ)) → AreTypes types → AllHold types f env xs
-    → AreReady (is_heap_local types f) s (map Use xs) → AllCarry types f carried xs asked
-    → total types f (after (is_heap_local types f) s (map Use xs)) env carried + asked_units types env xs asked ≤ total types f s env carried
-uses_total types f s env carried [] asked well held r all = omega arith
-uses_total types f s env carried (x ∷ xs) [] well held r all =
-    let one = use_total types f s env carried x well held.0 r.0 in
-    let rest = uses_total types f (use_of (is_heap_local types f) s x) env carried xs [] well held.1 r.1 (nothing_carried types f carried xs) in
-    let none = nothing_asked types env xs in
-    omega (arith, one, rest, none)
-uses_total types f s env carried (x ∷ xs) (asked ∷ others) well held r all =
-    let one = use_total types f s env carried x well held.0 r.0 in
-    let enough = asked_of_local types f env carried x asked held.0 all.0 in
-    let rest = uses_total types f (use_of (is_heap_local types f) s x) env carried xs others well held.1 r.1 all.1 in
+-- uses of all locals that something is asked of
+asks_total : (types : List DataType) (f : Func) (s : State) (env : Locals) (carried : Carried ℕ) (asks : Asks ℕ) → AreTypes types → AllHold types f env (locals_of asks)
+    → AreReady (is_heap_local types f) s (map Use (locals_of asks)) → AllCarry types f carried asks
+    → total types f (after (is_heap_local types f) s (map Use (locals_of asks))) env carried + asked_units types env asks ≤ total types f s env carried
+asks_total types f s env carried [] well held r all = omega arith
+asks_total types f s env carried (a ∷ asks) well held r all =
+    let one = use_total types f s env carried a.0 well held.0 r.0 in
+    let enough = asked_of_local types f env carried a.0 a.1 held.0 all.0 in
+    let rest = asks_total types f (use_of (is_heap_local types f) s a.0) env carried asks well held.1 r.1 all.1 in
     omega (arith, one, enough, rest)
+
+-- uses of just the locals that something is asked of
+pub uses_total : (types : List DataType) (f : Func) (s : State) (env : Locals) (carried : Carried ℕ) (xs : List ℕ) (asks : Asks ℕ) → locals_of asks ≡ xs → AreTypes types → AllHold types f env xs
+    → AreReady (is_heap_local types f) s (map Use xs) → AllCarry types f carried asks
+    → total types f (after (is_heap_local types f) s (map Use xs)) env carried + asked_units types env asks ≤ total types f s env carried
+uses_total types f s env carried xs asks of_these well =
+    subst (λ ys. AllHold types f env ys → AreReady (is_heap_local types f) s (map Use ys) → AllCarry types f carried asks
+    → total types f (after (is_heap_local types f) s (map Use ys)) env carried + asked_units types env asks ≤ total types f s env carried) of_these
+    (asks_total types f s env carried asks well)
 
 -- uses leave no more
 pub no_more : (types : List DataType) (f : Func) (s : State) (env : Locals) (carried : Carried ℕ) (xs : List ℕ) → AreTypes types → LocalsFit types f s env → AreReady (is_heap_local types f) s (map Use xs)
     → total types f (after (is_heap_local types f) s (map Use xs)) env carried ≤ total types f s env carried
-no_more types f s env carried xs well fit r =
-    let u = uses_total types f s env carried xs [] well (all_held types f s env xs fit r) r (nothing_carried types f carried xs) in
-    let n = nothing_asked types env xs in
-    omega (arith, u, n)
+no_more types f s env carried xs well fit r = each s xs (all_held types f s env xs fit r) r
+  where
+    each : (u : State) (ys : List ℕ) → AllHold types f env ys → AreReady (is_heap_local types f) u (map Use ys) → total types f (after (is_heap_local types f) u (map Use ys)) env carried ≤ total types f u env carried
+    each u [] held ready = omega arith
+    each u (y ∷ ys) held ready =
+        let one = use_total types f u env carried y well held.0 ready.0 in
+        let rest = each (use_of (is_heap_local types f) u y) ys held.1 ready.1 in
+        omega (arith, one, rest)
 
--- the same of values in a list
-pub asked_values : (types : List DataType) (env : Locals) (xs : List ℕ) (asked : List (Units ℕ)) (vs : List Value) → values_of env xs ≡ Some vs → potentials types asked vs ≤ asked_units types env xs asked
-asked_values types env [] asked vs e = let none : [] ≡ vs = cc in subst (λ us. potentials types asked us ≤ 0) none (nothing asked)
+-- What arguments carry is asked of them.
+pub arguments_units : (types : List DataType) (env : Locals) (param : Carried ℕ) (number : ℕ) (kinds : List Kind) (xs : List ℕ) (vs : List Value) → ArgumentsFit types kinds vs → values_of env xs ≡ Some vs
+    → arguments_carry types param number vs ≤ asked_units types env (arguments_asks param number (length kinds) xs)
+arguments_units types env param number kinds xs [] fit e = omega arith
+arguments_units types env param number [] xs (v ∷ vs) fit e = absurd fit
+arguments_units types env param number (q ∷ qs) [] (v ∷ vs) fit e = let c : Some [] ≡ Some (v ∷ vs) = e in absurd cc
+arguments_units types env param number (q ∷ qs) (x ∷ xs) (v ∷ vs) fit e = by_value (λ there. arguments_units types env param (suc number) qs xs vs fit.1 there) (env x) refl (values_of env xs) refl e
   where
-    nothing : (asks : List (Units ℕ)) → potentials types asks [] ≤ 0
-    nothing [] = omega arith
-    nothing (a ∷ asks) = omega arith
-asked_values types env (x ∷ xs) asked vs e = by_value (asked_values types env xs) (env x) refl (values_of env xs) refl e
-  where
-    by_asked : ((asks : List (Units ℕ)) (us : List Value) → values_of env xs ≡ Some us → potentials types asks us ≤ asked_units types env xs asks) → (v : Value) → env x ≡ Some v → (us : List Value) → values_of env xs ≡ Some us → (asks : List (Units ℕ))
-        → potentials types asks (v ∷ us) ≤ asked_units types env (x ∷ xs) asks
-    by_asked rec v here us there [] = omega arith
-    by_asked rec v here us there (a ∷ asks) =
-        let rest = rec asks us there in
-        let one : value_units types a (env x) ≡ potential types a v = ap (value_units types a) here in
+    Less : Type 0
+    Less = potential types (param number) v + arguments_carry types param (suc number) vs ≤ value_units types (param number) (env x) + asked_units types env (arguments_asks param (suc number) (length qs) xs)
+
+    by_value : (values_of env xs ≡ Some vs → arguments_carry types param (suc number) vs ≤ asked_units types env (arguments_asks param (suc number) (length qs) xs))
+        → (o : Option Value) → env x ≡ o → (l : Option (List Value)) → values_of env xs ≡ l → in_front o l ≡ Some (v ∷ vs) → Less
+    by_value rec None here l there k = let c : None ≡ Some (v ∷ vs) = k in absurd cc
+    by_value rec (Some w) here None there k = let c : None ≡ Some (v ∷ vs) = k in absurd cc
+    by_value rec (Some w) here (Some us) there k =
+        let same : w ≡ v = cc in
+        let others : us ≡ vs = cc in
+        let rest = rec (there ∙ ap (λ l. Some l) others) in
+        let one : value_units types (param number) (env x) ≡ potential types (param number) v = ap (value_units types (param number)) here ∙ ap (potential types (param number)) same in
         omega (arith, rest, one)
 
-    by_value : ((asks : List (Units ℕ)) (us : List Value) → values_of env xs ≡ Some us → potentials types asks us ≤ asked_units types env xs asks) → (o : Option Value) → env x ≡ o → (l : Option (List Value)) → values_of env xs ≡ l → in_front o l ≡ Some vs
-        → potentials types asked vs ≤ asked_units types env (x ∷ xs) asked
-    by_value rec None here l there e = let c : None ≡ Some vs = e in absurd cc
-    by_value rec (Some v) here None there e = let c : None ≡ Some vs = e in absurd cc
-    by_value rec (Some v) here (Some us) there e = let same : v ∷ us ≡ vs = cc in subst (λ ws. potentials types asked ws ≤ asked_units types env (x ∷ xs) asked) same (by_asked rec v here us there asked)
+-- What parts carry is asked of them.
+pub parts_units : (types : List DataType) (env : Locals) (units : Units ℕ) (xs : List ℕ) (vs : List Value) → values_of env xs ≡ Some vs → potential_all types units (parts vs) ≤ asked_units types env (map (λ x. (x, units)) xs)
+parts_units types env units [] vs e = let none : [] ≡ vs = cc in subst (λ us. potential_all types units (parts us) ≤ 0) none (omega arith)
+parts_units types env units (x ∷ xs) vs e = by_value (parts_units types env units xs) (env x) refl (values_of env xs) refl e
+  where
+    by_value : ((us : List Value) → values_of env xs ≡ Some us → potential_all types units (parts us) ≤ asked_units types env (map (λ y. (y, units)) xs))
+        → (o : Option Value) → env x ≡ o → (l : Option (List Value)) → values_of env xs ≡ l → in_front o l ≡ Some vs → potential_all types units (parts vs) ≤ value_units types units (env x) + asked_units types env (map (λ y. (y, units)) xs)
+    by_value rec None here l there k = let c : None ≡ Some vs = k in absurd cc
+    by_value rec (Some v) here None there k = let c : None ≡ Some vs = k in absurd cc
+    by_value rec (Some v) here (Some us) there k =
+        let same : v ∷ us ≡ vs = cc in
+        let rest = rec us there in
+        let one : value_units types units (env x) ≡ potential types units v = ap (value_units types units) here in
+        subst (λ ws. potential_all types units (parts ws) ≤ value_units types units (env x) + asked_units types env (map (λ y. (y, units)) xs)) same (omega (arith, rest, one))
 
 -- ---- parameters of a block
 
 -- bound to the values that they have
 pub params_total : (types : List DataType) (f : Func) (h : ℕ → Bool) (s : State) (env : Locals) (carried : Carried ℕ) (xs : List ℕ)
-    → total types f (after h s (map Bind xs)) env carried ≤ total types f s env carried + asked_units types env xs (map carried xs)
+    → total types f (after h s (map Bind xs)) env carried ≤ total types f s env carried + asked_units types env (map (λ x. (x, carried x)) xs)
 params_total types f h s env carried [] = omega arith
 params_total types f h s env carried (x ∷ xs) =
     let one = bind_param types f s env carried x in
@@ -178,12 +195,11 @@ params_total types f h s env carried (x ∷ xs) =
     omega (arith, one, rest)
 
 -- narrowing to other locals leaves no more
-pub narrowed_asked : (types : List DataType) (env : Locals) (params xs : List ℕ) (asked : List (Units ℕ)) → asked_units types (narrowed params env) xs asked ≤ asked_units types env xs asked
-narrowed_asked types env params [] asked = omega arith
-narrowed_asked types env params (x ∷ xs) [] = omega arith
-narrowed_asked types env params (x ∷ xs) (a ∷ asks) = let rest = narrowed_asked types env params xs asks in let one = by_test (list_any (λ p. p == x) params) in omega (arith, rest, one)
+pub narrowed_asked : (types : List DataType) (env : Locals) (params : List ℕ) (asks : Asks ℕ) → asked_units types (narrowed params env) asks ≤ asked_units types env asks
+narrowed_asked types env params [] = omega arith
+narrowed_asked types env params (a ∷ asks) = let rest = narrowed_asked types env params asks in let one = by_test (list_any (λ p. p == a.0) params) in omega (arith, rest, one)
   where
-    by_test : (b : Bool) → value_units types a (if b then env x else None) ≤ value_units types a (env x)
+    by_test : (b : Bool) → value_units types a.1 (if b then env a.0 else None) ≤ value_units types a.1 (env a.0)
     by_test true = omega arith
     by_test false = omega arith
 

@@ -6,12 +6,11 @@ use Rattle.std.specs.List.{AllByRecursion}
 use Rattle.std.specs.Option.{option_map_or}
 use Rattle.camelot_values.specs.Kinds.{DataType}
 use Rattle.camelot_values.specs.declared.kinds.Kind.{Kind}
-use Rattle.grail_blocks.specs.Events.{params_at}
 use Rattle.grail_code.specs.Code.{Op, Lit, Flag, Copy, Prim, Make, Call, Let, CaseArm, Term, Ret, Tail, Goto, If, Case, Block, Func, Code}
 use Rattle.grail_code.specs.WellFormed.{kind_of}
 use Rattle.annotations.specs.Vectors.{is_heap_con}
 use Rattle.licence.specs.Books.{Units, Carried, Book}
-use Rattle.licence.specs.Rules.{naturals, Account, account_at, build_cost, after_op, after_lets, in_arm, first_con_of, asked_by, LetPays, TermPays}
+use Rattle.licence.specs.Rules.{naturals, Account, account_at, build_cost, after_op, after_lets, in_arm, first_con_of, Asks, call_asks, jump_asks, build_asks, LetPays, TermPays}
 use Rattle.licence.specs.Checks.{Check, Site, left_check, value_checks, local_checks, arguments_checks, op_checks, jump_checks, arms_checks, term_checks, lets_checks, blocks_checks, funcs_checks, checks_of, integers, in_integers, Holds, AllHold, FirstFails}
 use Rattle.licence.specs.Failing.{FailsIn, let_fails, end_fails, RuleFails}
 use Rattle.licence.specs.theory.Walks.{Same, op_same, after_same, term_same, start_same}
@@ -75,17 +74,16 @@ mapped_at s have need (c ∷ cs) = ((refl, refl, refl), mapped_at s have need cs
 value_at : (types : List DataType) (s : Site) (q : Option Kind) (have need : Units ℤ) → AllAt s (value_checks types s q have need)
 value_at types s q have need = mapped_at s have need _
 
-locals_at : (types : List DataType) (f : Func) (s : Site) (carried : Carried ℤ) (xs : List ℕ) (asked : List (Units ℤ)) → AllAt s (local_checks types f s carried xs asked)
-locals_at types f s carried [] asked = tt
-locals_at types f s carried (x ∷ xs) [] = tt
-locals_at types f s carried (x ∷ xs) (a ∷ asked) = both_at s (value_checks types s (kind_of f x) (carried x) a) (local_checks types f s carried xs asked) (value_at types s (kind_of f x) (carried x) a) (locals_at types f s carried xs asked)
+locals_at : (types : List DataType) (f : Func) (s : Site) (carried : Carried ℤ) (asks : Asks ℤ) → AllAt s (local_checks types f s carried asks)
+locals_at types f s carried [] = tt
+locals_at types f s carried (a ∷ asks) = both_at s (value_checks types s (kind_of f a.0) (carried a.0) a.1) (local_checks types f s carried asks) (value_at types s (kind_of f a.0) (carried a.0) a.1) (locals_at types f s carried asks)
 
 arguments_at : (p : Code) (f : Func) (book : Book ℤ) (s : Site) (a : Account ℤ) (callee : ℕ) (args : List ℕ) → AllAt s (arguments_checks p f book s a callee args)
 arguments_at p f book s a callee args = by_func (slice_get p.funcs callee)
   where
-    by_func : (o : Option Func) → AllAt s (option_map_or (λ g. local_checks p.types f s a.carried args (asked_by book callee g)) o [])
+    by_func : (o : Option Func) → AllAt s (option_map_or (λ g. local_checks p.types f s a.carried (call_asks book callee g args)) o [])
     by_func None = tt
-    by_func (Some g) = locals_at p.types f s a.carried args (asked_by book callee g)
+    by_func (Some g) = locals_at p.types f s a.carried (call_asks book callee g args)
 
 op_at : (p : Code) (f : Func) (book : Book ℤ) (s : Site) (a : Account ℤ) (op : Op) → AllAt s (op_checks integers p f book s a op)
 op_at p f book s a (Lit z) = tt
@@ -96,18 +94,18 @@ op_at p f book s a (Call callee args) = both_at s (arguments_checks p f book s a
 op_at p f book s a (Make con args at) = by_heap (is_heap_con p.types con)
   where
     operands : List (Check ℤ)
-    operands = local_checks p.types f s a.carried args (map (λ x. book.make s.func s.block s.place) args)
+    operands = local_checks p.types f s a.carried (build_asks book s.func s.block s.place args)
 
     cost : ℤ
     cost = build_cost integers book.unit at (book.make s.func s.block s.place con)
 
     by_heap : (h : Bool) → AllAt s (cond h (operands ++ left_check s a.left cost ∷ []) [])
-    by_heap true = both_at s operands (left_check s a.left cost ∷ []) (locals_at p.types f s a.carried args (map (λ x. book.make s.func s.block s.place) args)) (left_at s a.left cost)
+    by_heap true = both_at s operands (left_check s a.left cost ∷ []) (locals_at p.types f s a.carried (build_asks book s.func s.block s.place args)) (left_at s a.left cost)
     by_heap false = tt
 
 jump_at : (p : Code) (f : Func) (book : Book ℤ) (s : Site) (a : Account ℤ) (to : ℕ) → AllAt s (jump_checks p f book s a to)
-jump_at p f book s a to = both_at s (local_checks p.types f s a.carried (params_at f.blocks to) (map (book.block_var s.func to) (params_at f.blocks to))) (left_check s a.left (book.block_need s.func to) ∷ [])
-    (locals_at p.types f s a.carried (params_at f.blocks to) (map (book.block_var s.func to) (params_at f.blocks to))) (left_at s a.left (book.block_need s.func to))
+jump_at p f book s a to = both_at s (local_checks p.types f s a.carried (jump_asks f book s.func to)) (left_check s a.left (book.block_need s.func to) ∷ [])
+    (locals_at p.types f s a.carried (jump_asks f book s.func to)) (left_at s a.left (book.block_need s.func to))
 
 arms_at : (p : Code) (f : Func) (book : Book ℤ) (s : Site) (a : Account ℤ) (on con : ℕ) (arms : List CaseArm) → AllAt s (arms_checks integers p f book s a on con arms)
 arms_at p f book s a on con [] = tt

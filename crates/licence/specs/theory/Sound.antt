@@ -23,20 +23,22 @@ use Rattle.camelot_values.specs.Lists.{is_among}
 use Rattle.grail_blocks.specs.States.{Ready, State, nothing_bound, bind, after, AreReady, at_start, state_at}
 use Rattle.grail_blocks.specs.StateLaws.{after_append, ready_first, ready_second, state_next, state_last, ready_at}
 use Rattle.grail_code.specs.Code.{Let, CaseArm, Term, Ret, Tail, Goto, If, Case, Block, Func, Code}
-use Rattle.grail_code.specs.WellFormed.{Gives, LetFits, kind_of, is_heap_local, BlockFits, BlocksFit, FuncFits, IsWellFormed}
+use Rattle.grail_code.specs.WellFormed.{HaveKinds, Gives, LetFits, kind_of, is_heap_local, TermFits, BlockFits, BlocksFit, FuncFits, IsWellFormed}
 use Rattle.grail_code.specs.Meaning.{Locals, put, narrowed, arguments, values_of, op_run, narrow, body_run, bodies, from_block, from_place, run_of}
 use Rattle.grail_code.specs.Places.{Holds, LocalsFit, FitAt, FitsTarget, CallsSafe, JumpsTo, with_cell, cell_effect, TakesArm, Claim, IsKept}
 use Rattle.grail_code.specs.PlaceLaws.{fit_used, all_at, holds_from_block, holds_from_place}
 use Rattle.grail_code.specs.SoundLaws.{arguments_fit, body_runs, calls_safe}
 use Rattle.grail_code.specs.Soundness.{HaveBlocks}
-use Rattle.annotations.specs.Vectors.{potential, potential_all, potentials, node_units, is_heap_con}
+use Rattle.annotations.specs.Vectors.{potential, potential_all, node_units, is_heap_con}
 use Rattle.annotations.specs.PotentialLaws.{potential_at_least}
 use Rattle.licence.specs.Books.{Units, Carried, Book}
-use Rattle.licence.specs.Rules.{Amounts, naturals, Account, account_at, all_carrying, after_op, after_lets, account_before, in_arm, freed, first_con, first_con_of, asked_by, AllCarry, JumpPays, ArmsPay, TermPays, BlockPays, Pays}
+use Rattle.licence.specs.Rules.{Amounts, naturals, Account, account_at, all_carrying, after_op, after_lets, account_before, opened, found, in_arm, first_con, first_con_of, Asks, call_asks, AllCarry, JumpPays, ArmsPay, TermPays, BlockPays, Pays}
 use Rattle.licence.specs.Worth.{worth_at}
+use Rattle.licence.specs.Bound.{arguments_carry}
+use Rattle.licence.specs.theory.Asking.{each_locals, arguments_locals}
 use Rattle.licence.specs.theory.Paying.{paid_more, paid_beside, paid_in_turn, paid_at_once, paid_behind_free, paid_behind_entry}
 use Rattle.licence.specs.theory.Totals.{total, value_units, nothing_total, bind_plain}
-use Rattle.licence.specs.theory.Carrying.{AllHold, all_held, asked_units, use_total, uses_total, no_more, asked_values, params_total, narrowed_asked, fields_total}
+use Rattle.licence.specs.theory.Carrying.{AllHold, all_held, asked_units, use_total, uses_total, no_more, arguments_units, params_total, narrowed_asked, fields_total}
 use Rattle.licence.specs.theory.Steps.{CallsPaid, worth, op_paid}
 
 -- ---- blocks of a function that fits
@@ -120,10 +122,11 @@ jump_worth p f book func (suc n) target s env account well held is r pays later 
     let h : ℕ → Bool = is_heap_local p.types f in
     let here : params_at f.blocks (suc n) ≡ target.params = ap (λ o. option_map_or (λ block. block.params) o []) is in
     let ready : AreReady h s (map Use target.params) = subst (λ ps. AreReady h s (map Use ps)) here r in
-    let carry : AllCarry p.types f account.carried target.params (map (book.block_var func (suc n)) target.params) = subst (λ ps. AllCarry p.types f account.carried ps (map (book.block_var func (suc n)) ps)) here pays.0 in
-    let spent = uses_total p.types f s env account.carried target.params (map (book.block_var func (suc n)) target.params) well (subst (AllHold p.types f env) here held) ready carry in
+    let asks : Asks ℕ = map (λ x. (x, book.block_var func (suc n) x)) target.params in
+    let carry : AllCarry p.types f account.carried asks = subst (λ ps. AllCarry p.types f account.carried (map (λ x. (x, book.block_var func (suc n) x)) ps)) here pays.0 in
+    let spent = uses_total p.types f s env account.carried target.params asks (each_locals (book.block_var func (suc n)) target.params) well (subst (AllHold p.types f env) here held) ready carry in
     let bound = params_total p.types f h nothing_bound (narrowed target.params env) (book.block_var func (suc n)) target.params in
-    let less = narrowed_asked p.types env target.params target.params (map (book.block_var func (suc n)) target.params) in
+    let less = narrowed_asked p.types env target.params asks in
     let none = nothing_total p.types f (narrowed target.params env) (book.block_var func (suc n)) in
     omega (arith, spent, bound, less, none, pays.1)
 
@@ -208,7 +211,7 @@ result_paid p f book func number b env s account e x v is here =
     let h : ℕ → Bool = is_heap_local p.types f in
     let ready : AreReady h s (map Use (x ∷ [])) = subst (λ t. AreReady h s (map Use (term_uses t))) is e.term in
     let pays : TermPays p f book func account (Ret x) = subst (TermPays p f book func account) is e.pays in
-    let spent = uses_total p.types f s env account.carried (x ∷ []) (book.result func ∷ []) e.well (all_held p.types f s env (x ∷ []) e.fit ready) ready (pays.0, tt) in
+    let spent = uses_total p.types f s env account.carried (x ∷ []) ((x, book.result func) ∷ []) refl e.well (all_held p.types f s env (x ∷ []) e.fit ready) ready (pays.0, tt) in
     let units : value_units p.types (book.result func) (env x) ≡ potential p.types (book.result func) v = ap (value_units p.types (book.result func)) here in
     paid_at_once book.unit (worth p.types f s env account) (λ v. book.back func + potential p.types (book.result func) v) v 0 (omega (arith, spent, units, pays.1))
 
@@ -232,21 +235,24 @@ tail_paid p f book func number b env s account enter safe paid e callee args vs 
     pays_tail : TermPays p f book func account (Tail callee args)
     pays_tail = subst (TermPays p f book func account) is e.pays
 
-    arguments : AllCarry p.types f account.carried args (asked_by book callee g)
-    arguments = subst (λ o. IfSome o (λ g. AllCarry p.types f account.carried args (asked_by book callee g))) there pays_tail.0
+    arguments : AllCarry p.types f account.carried (call_asks book callee g args)
+    arguments = subst (λ o. IfSome o (λ g. AllCarry p.types f account.carried (call_asks book callee g args))) there pays_tail.0
+
+    kinds : HaveKinds f args g.params × (g.result ≡ f.result)
+    kinds = subst (λ o. IsSomeAnd o (λ g. HaveKinds f args g.params × (g.result ≡ f.result))) there (subst (TermFits p f number) is e.fits.term)
 
     by_rule : TermPays p f book func account (Tail callee args) → IsPaidBy book.unit (worth p.types f s env account) (λ v. book.back func + potential p.types (book.result func) v) (enter k w true callee vs)
     by_rule pays =
-        let spent = uses_total p.types f s env account.carried args (asked_by book callee g) e.well (all_held p.types f s env args e.fit ready) ready arguments in
-        let asked = asked_values p.types env args (asked_by book callee g) vs here in
+        let spent = uses_total p.types f s env account.carried args (call_asks book callee g args) (arguments_locals (book.param callee) f 0 g.params args kinds.0) e.well (all_held p.types f s env args e.fit ready) ready arguments in
+        let asked = arguments_units p.types env (book.param callee) 0 g.params args vs fit here in
         let rest : ℕ = account.left - book.need callee in
-        paid_more (Fits p.types f.result) book.unit (book.need callee + potentials p.types (asked_by book callee g) vs + rest) (worth p.types f s env account)
+        paid_more (Fits p.types f.result) book.unit (book.need callee + arguments_carry p.types (book.param callee) 0 vs + rest) (worth p.types f s env account)
         (λ v. book.back callee + potential p.types (book.result callee) v + rest) (λ v. book.back func + potential p.types (book.result func) v) (enter k w true callee vs)
-        (tail_sum account.left (book.need callee) (potentials p.types (asked_by book callee g) vs) (total p.types f (after h s (map Use args)) env account.carried) (total p.types f s env account.carried) (asked_units p.types env args (asked_by book callee g)) spent asked pays.1)
+        (tail_sum account.left (book.need callee) (arguments_carry p.types (book.param callee) 0 vs) (total p.types f (after h s (map Use args)) env account.carried) (total p.types f s env account.carried) (asked_units p.types env (call_asks book callee g args)) spent asked pays.1)
         (λ v good. tail_back account.left (book.need callee) (book.back callee) (book.back func) (potential p.types (book.result callee) v) (potential p.types (book.result func) v) pays.3
         (potential_at_least p.types f.result (book.result callee) (book.result func) pays.2 v good))
         (subst (λ q. IsSafe p.types q (enter k w true callee vs)) result (safe k w true callee vs g there fit))
-        (paid_beside book.unit (book.need callee + potentials p.types (asked_by book callee g) vs) rest (λ v. book.back callee + potential p.types (book.result callee) v) (enter k w true callee vs) (paid k w true callee vs g there fit))
+        (paid_beside book.unit (book.need callee + arguments_carry p.types (book.param callee) 0 vs) rest (λ v. book.back callee + potential p.types (book.result callee) v) (enter k w true callee vs) (paid k w true callee vs g there fit))
 
 -- a jump without bindings
 jump_paid : (p : Code) (f : Func) (book : Book ℕ) (func number : ℕ) (b : Block) (env : Locals) (s : State) (account : Account ℕ) → AtEnd p f book func number b env s account → (to : ℕ) (target : Block) → JumpsTo b.term to → number < to
@@ -347,10 +353,16 @@ con_of_arm types con i vs (Some q) g e = by_type (type_of types con) refl g.0
     by_type None is k = let c : None ≡ Some q = k in absurd cc
     by_type (Some t) is k = let same : kind.Of t ≡ q = cc in subst (λ r. con ≡ first_con_of types (Some r) + i) same (numbered 0 types con t i (is ∙ (let same : t ≡ 0 + t = omega arith in ap (λ n. Some n) same)) e)
 
+-- with a cell's price, where the cell is given back
+abbrev with_price : ℕ → CaseCell → ℕ → ℕ
+with_price unit cell.Free n = n + unit
+with_price unit cell.Inline n = n
+with_price unit (cell.Keep d) n = n
+
 -- An arm begins with what was there, what the matched node carried, and a cell's price where its cell is given back.
 arm_worth : (p : Code) (f : Func) (book : Book ℕ) (func number : ℕ) (b : Block) (env : Locals) (s : State) (account : Account ℕ) → AtEnd p f book func number b env s account → (con : ℕ) (vs : Values) (a : CaseArm) (bound : Locals) (target : Block)
     → TakesArm p env b.term con vs a bound → number < a.target → slice_get f.blocks a.target ≡ Some target → FitsTarget p f target (with_cell a.cell bound)
-    → worth p.types f (at_start (is_heap_local p.types f) target) (narrowed target.params (with_cell a.cell bound)) (account_at book func a.target) ≤ freed naturals book.unit a.cell (worth p.types f s env account)
+    → worth p.types f (at_start (is_heap_local p.types f) target) (narrowed target.params (with_cell a.cell bound)) (account_at book func a.target) ≤ with_price book.unit a.cell (worth p.types f s env account)
 arm_worth p f book func number b env s account e con vs a bound target t less there hand = sum
   where
     h : ℕ → Bool
@@ -416,22 +428,26 @@ arm_worth p f book func number b env s account e con vs a bound target t less th
     by_heap left one two three all parts true x y z = omega (arith, x, y, z)
     by_heap left one two three all parts false x y z = omega (arith, x, y, z)
 
-    found : cond (is_heap_con p.types con) (account.left + units con) account.left + total p.types f s3 (with_cell a.cell bound) (all_carrying account.carried a.fields units) ≤ worth p.types f s env account
-    found = by_heap account.left (total p.types f s1 env account.carried) (total p.types f s2 bound (all_carrying account.carried a.fields units)) (total p.types f s3 (with_cell a.cell bound) (all_carrying account.carried a.fields units))
+    node_open : Account ℕ
+    node_open = opened naturals p.types account t.on con a.fields
+
+    inside : node_open.left + total p.types f s3 (with_cell a.cell bound) node_open.carried ≤ worth p.types f s env account
+    inside = by_heap account.left (total p.types f s1 env account.carried) (total p.types f s2 bound (all_carrying account.carried a.fields units)) (total p.types f s3 (with_cell a.cell bound) (all_carrying account.carried a.fields units))
         (total p.types f s env account.carried) (potential_all p.types units vs) (is_heap_con p.types con) diamond fields
         (subst (λ n. total p.types f s1 env account.carried + n ≤ total p.types f s env account.carried) node matched)
 
-    by_cell : (c : CaseCell) (left rest all : ℕ) → left + rest ≤ all → freed naturals book.unit c left + rest ≤ freed naturals book.unit c all
-    by_cell cell.Inline left rest all x = x
-    by_cell cell.Free left rest all x = omega (arith, x)
-    by_cell (cell.Keep d) left rest all x = x
+    by_cell : (c : CaseCell) (u : State) (bindings : Locals) → node_open.left + total p.types f u bindings node_open.carried ≤ worth p.types f s env account
+        → worth p.types f u bindings (found naturals p.types book.unit account t.on con a.fields c) ≤ with_price book.unit c (worth p.types f s env account)
+    by_cell cell.Inline u bindings x = x
+    by_cell cell.Free u bindings x = omega (arith, x)
+    by_cell (cell.Keep d) u bindings x = x
 
-    sum : worth p.types f (at_start h target) (narrowed target.params (with_cell a.cell bound)) (account_at book func a.target) ≤ freed naturals book.unit a.cell (worth p.types f s env account)
+    sum : worth p.types f (at_start h target) (narrowed target.params (with_cell a.cell bound)) (account_at book func a.target) ≤ with_price book.unit a.cell (worth p.types f s env account)
     sum =
-        let inside = by_cell a.cell (cond (is_heap_con p.types con) (account.left + units con) account.left) (total p.types f s3 (with_cell a.cell bound) (all_carrying account.carried a.fields units)) (worth p.types f s env account) found in
-        omega (arith, jump, inside)
+        let less = by_cell a.cell s3 (with_cell a.cell bound) inside in
+        omega (arith, jump, less)
 
-effect_paid : (q : Kind) (types : List DataType) (u top middle : ℕ) (left : Value → ℕ) (c : CaseCell) (o : Outcome Value) → middle ≤ freed naturals u c top → IsSafe types q o → IsPaidBy u middle left o → IsPaidBy u top left (cell_effect c o)
+effect_paid : (q : Kind) (types : List DataType) (u top middle : ℕ) (left : Value → ℕ) (c : CaseCell) (o : Outcome Value) → middle ≤ with_price u c top → IsSafe types q o → IsPaidBy u middle left o → IsPaidBy u top left (cell_effect c o)
 effect_paid q types u top middle left cell.Inline o less safe h = paid_more (Fits types q) u middle top left left o less (λ v y. omega arith) safe h
 effect_paid q types u top middle left cell.Free o less safe h = paid_behind_free u top middle left o less h
 effect_paid q types u top middle left (cell.Keep d) o less safe h = paid_more (Fits types q) u middle top left left o less (λ v y. omega arith) safe h
@@ -496,25 +512,26 @@ both_kept p f book func enter well safe paid fits pays = record {
 
 -- ---- arguments, functions, programs
 
-arguments_asked : (types : List DataType) (book : Book ℕ) (func first : ℕ) (before args : List Value) → length before ≡ first
-    → asked_units types (arguments (before ++ args)) (range_with_len first (length args)) (map (book.param func) (range_with_len first (length args))) ≡ potentials types (map (book.param func) (range_with_len first (length args))) args
-arguments_asked types book func first before [] same = refl
-arguments_asked types book func first before (v ∷ vs) same =
+arguments_are : (types : List DataType) (param : Carried ℕ) (first : ℕ) (before args : List Value) → length before ≡ first
+    → asked_units types (arguments (before ++ args)) (map (λ x. (x, param x)) (range_with_len first (length args))) ≡ arguments_carry types param first args
+arguments_are types param first before [] same = refl
+arguments_are types param first before (v ∷ vs) same =
     let start : first - length before ≡ 0 = omega (arith, same) in
     let here : slice_get (before ++ v ∷ vs) first ≡ Some v = slice_get_behind before (v ∷ vs) first (omega (arith, same)) ∙ ap (slice_get (v ∷ vs)) start in
-    let rest = arguments_asked types book func (first + 1) (before ++ v ∷ []) vs (length-append before (v ∷ []) ∙ omega (arith, same)) in
+    let next : first + 1 ≡ suc first = omega arith in
+    let rest = arguments_are types param (first + 1) (before ++ v ∷ []) vs (length-append before (v ∷ []) ∙ omega (arith, same)) ∙ ap (λ n. arguments_carry types param n vs) next in
     let lists : (before ++ v ∷ []) ++ vs ≡ before ++ v ∷ vs = append_assoc before (v ∷ []) vs in
-    let one : value_units types (book.param func first) (slice_get (before ++ v ∷ vs) first) ≡ potential types (book.param func first) v = ap (value_units types (book.param func first)) here in
-    let others : asked_units types (arguments (before ++ v ∷ vs)) (range_with_len (first + 1) (length vs)) (map (book.param func) (range_with_len (first + 1) (length vs))) ≡ potentials types (map (book.param func) (range_with_len (first + 1) (length vs))) vs
-    = ap (λ l. asked_units types (arguments l) (range_with_len (first + 1) (length vs)) (map (book.param func) (range_with_len (first + 1) (length vs)))) (sym lists) ∙ rest in
+    let one : value_units types (param first) (slice_get (before ++ v ∷ vs) first) ≡ potential types (param first) v = ap (value_units types (param first)) here in
+    let others : asked_units types (arguments (before ++ v ∷ vs)) (map (λ x. (x, param x)) (range_with_len (first + 1) (length vs))) ≡ arguments_carry types param (suc first) vs
+    = ap (λ l. asked_units types (arguments l) (map (λ x. (x, param x)) (range_with_len (first + 1) (length vs)))) (sym lists) ∙ rest in
     omega (arith, one, others)
 
 -- a function on fitting arguments, from its first block on
 body_paid : (p : Code) (book : Book ℕ) (enter : Enter) → AreTypes p.types → CallsSafe p enter → CallsPaid p book enter → Pays p book → (func : ℕ) (f : Func) (k w : ℕ) (args : List Value) → slice_get p.funcs func ≡ Some f → FuncFits p f
     → 1 ≤ length f.blocks → ArgumentsFit p.types f.params args
-    → IsPaidBy book.unit (book.need func + potentials p.types (asked_by book func f) args) (λ v. book.back func + potential p.types (book.result func) v) (body_run p.types enter (Some f) k w args)
+    → IsPaidBy book.unit (book.need func + arguments_carry p.types (book.param func) 0 args) (λ v. book.back func + potential p.types (book.result func) v) (body_run p.types enter (Some f) k w args)
 body_paid p book enter well safe paid pays func f k w args is fits some fit =
-    subst (IsPaidBy book.unit (book.need func + potentials p.types (asked_by book func f) args) (λ v. book.back func + potential p.types (book.result func) v)) (sym (body_runs p enter f k w args fit)) (begin f.blocks refl)
+    subst (IsPaidBy book.unit (book.need func + arguments_carry p.types (book.param func) 0 args) (λ v. book.back func + potential p.types (book.result func) v)) (sym (body_runs p enter f k w args fit)) (begin f.blocks refl)
   where
     as_many : (qs : List Kind) (vs : List Value) → ArgumentsFit p.types qs vs → length vs ≡ length qs
     as_many [] [] fit = refl
@@ -522,7 +539,7 @@ body_paid p book enter well safe paid pays func f k w args is fits some fit =
     as_many (q ∷ qs) [] fit = absurd fit
     as_many (q ∷ qs) (v ∷ vs) fit = ap suc (as_many qs vs fit.1)
 
-    begin : (bs : List Block) → f.blocks ≡ bs → IsPaidBy book.unit (book.need func + potentials p.types (asked_by book func f) args) (λ v. book.back func + potential p.types (book.result func) v)
+    begin : (bs : List Block) → f.blocks ≡ bs → IsPaidBy book.unit (book.need func + arguments_carry p.types (book.param func) 0 args) (λ v. book.back func + potential p.types (book.result func) v)
         (from_block p.types enter (map narrow f.blocks) 0 k w (arguments args))
     begin [] e = absurd (omega (arith, ap length e, some))
     begin (b ∷ bs) e = from (both.1 b at)
@@ -543,20 +560,19 @@ body_paid p book enter well safe paid pays func f k w args is fits some fit =
         both = holds_from_block p f enter safe fits (λ number n env o. IsSafe p.types f.result o × Paid p f book func number n env o)
             (both_kept p f book func enter well safe paid fits (λ number c there. pays.blocks func number f c is there)) 0 b at k w (arguments args) starts
 
-        entry : worth p.types f (state_at (is_heap_local p.types f) b 0) (arguments args) (account_before naturals p.types book func 0 b 0) ≤ book.need func + potentials p.types (asked_by book func f) args
+        entry : worth p.types f (state_at (is_heap_local p.types f) b 0) (arguments args) (account_before naturals p.types book func 0 b 0) ≤ book.need func + arguments_carry p.types (book.param func) 0 args
         entry =
             let bound = params_total p.types f (is_heap_local p.types f) nothing_bound (arguments args) (book.param func) b.params in
             let none = nothing_total p.types f (arguments args) (book.param func) in
             let count : length f.params ≡ length args = sym (as_many f.params args fit) in
-            let asked : asked_units p.types (arguments args) b.params (map (book.param func) b.params) ≡ potentials p.types (asked_by book func f) args
-            = ap (λ ps. asked_units p.types (arguments args) ps (map (book.param func) ps)) (params ∙ ap (range_with_len 0) count)
-            ∙ arguments_asked p.types book func 0 [] args refl ∙ ap (λ n. potentials p.types (map (book.param func) (range_with_len 0 n)) args) (sym count) in
+            let asked : asked_units p.types (arguments args) (map (λ x. (x, book.param func x)) b.params) ≡ arguments_carry p.types (book.param func) 0 args
+            = ap (λ ps. asked_units p.types (arguments args) (map (λ x. (x, book.param func x)) ps)) (params ∙ ap (range_with_len 0) count) ∙ arguments_are p.types (book.param func) 0 [] args refl in
             omega (arith, bound, none, asked)
 
         from : IsPaidBy book.unit (worth p.types f (state_at (is_heap_local p.types f) b 0) (arguments args) (account_before naturals p.types book func 0 b 0)) (λ v. book.back func + potential p.types (book.result func) v)
             (from_block p.types enter (map narrow f.blocks) 0 k w (arguments args))
-            → IsPaidBy book.unit (book.need func + potentials p.types (asked_by book func f) args) (λ v. book.back func + potential p.types (book.result func) v) (from_block p.types enter (map narrow f.blocks) 0 k w (arguments args))
-        from h = paid_more (Fits p.types f.result) book.unit (worth p.types f (state_at (is_heap_local p.types f) b 0) (arguments args) (account_before naturals p.types book func 0 b 0)) (book.need func + potentials p.types (asked_by book func f) args)
+            → IsPaidBy book.unit (book.need func + arguments_carry p.types (book.param func) 0 args) (λ v. book.back func + potential p.types (book.result func) v) (from_block p.types enter (map narrow f.blocks) 0 k w (arguments args))
+        from h = paid_more (Fits p.types f.result) book.unit (worth p.types f (state_at (is_heap_local p.types f) b 0) (arguments args) (account_before naturals p.types book func 0 b 0)) (book.need func + arguments_carry p.types (book.param func) 0 args)
             (λ v. book.back func + potential p.types (book.result func) v) (λ v. book.back func + potential p.types (book.result func) v) (from_block p.types enter (map narrow f.blocks) 0 k w (arguments args)) entry (λ v y. omega arith) both.0 h
 
 -- calls with every clock
@@ -565,19 +581,19 @@ calls_paid p book well some types pays limit clock zero w t g args callee is fit
 calls_paid p book well some types pays limit zero (suc k) w t g args callee is fit = omega arith
 calls_paid p book well some types pays limit (suc clock) (suc k) w t g args callee is fit =
     by_depth (is_too_deep limit w t)
-    (subst (λ o. IsPaidBy book.unit (book.need g + potentials p.types (asked_by book g callee) args) (λ v. book.back g + potential p.types (book.result g) v) (body_run p.types (calls (bodies p) limit clock) o k (cond t w (suc w)) args)) (sym is)
+    (subst (λ o. IsPaidBy book.unit (book.need g + arguments_carry p.types (book.param g) 0 args) (λ v. book.back g + potential p.types (book.result g) v) (body_run p.types (calls (bodies p) limit clock) o k (cond t w (suc w)) args)) (sym is)
     (body_paid p book (calls (bodies p) limit clock) types (calls_safe p well some limit clock) (calls_paid p book well some types pays limit clock) pays g callee k (cond t w (suc w)) args is
     (all_at (FuncFits p) p.funcs g callee well.funcs is) (all_at (λ f. 1 ≤ length f.blocks) p.funcs g callee some is) fit))
   where
-    by_depth : (b : Bool) → IsPaidBy book.unit (book.need g + potentials p.types (asked_by book g callee) args) (λ v. book.back g + potential p.types (book.result g) v) (body_run p.types (calls (bodies p) limit clock) (slice_get p.funcs g) k (cond t w (suc w)) args)
-        → IsPaidBy book.unit (book.need g + potentials p.types (asked_by book g callee) args) (λ v. book.back g + potential p.types (book.result g) v)
+    by_depth : (b : Bool) → IsPaidBy book.unit (book.need g + arguments_carry p.types (book.param g) 0 args) (λ v. book.back g + potential p.types (book.result g) v) (body_run p.types (calls (bodies p) limit clock) (slice_get p.funcs g) k (cond t w (suc w)) args)
+        → IsPaidBy book.unit (book.need g + arguments_carry p.types (book.param g) 0 args) (λ v. book.back g + potential p.types (book.result g) v)
         (if b then Deep 0 else entered (body_run p.types (calls (bodies p) limit clock) (slice_get p.funcs g) k (cond t w (suc w)) args))
     by_depth true h = omega arith
-    by_depth false h = paid_behind_entry book.unit (book.need g + potentials p.types (asked_by book g callee) args) (λ v. book.back g + potential p.types (book.result g) v) (body_run p.types (calls (bodies p) limit clock) (slice_get p.funcs g) k (cond t w (suc w)) args) h
+    by_depth false h = paid_behind_entry book.unit (book.need g + arguments_carry p.types (book.param g) 0 args) (λ v. book.back g + potential p.types (book.result g) v) (body_run p.types (calls (bodies p) limit clock) (slice_get p.funcs g) k (cond t w (suc w)) args) h
 
 -- Every run of annotated code from a function on fitting arguments, with any fuel and any limit of waiting calls, ended or stopped.
 pub run_paid : (p : Code) (book : Book ℕ) → IsWellFormed p → HaveBlocks p → AreTypes p.types → Pays p book → (limit func fuel : ℕ) (args : List Value) (f : Func) → slice_get p.funcs func ≡ Some f → ArgumentsFit p.types f.params args
-    → IsPaidBy book.unit (book.need func + potentials p.types (asked_by book func f) args) (λ v. book.back func + potential p.types (book.result func) v) (run_of p limit func fuel args)
+    → IsPaidBy book.unit (book.need func + arguments_carry p.types (book.param func) 0 args) (λ v. book.back func + potential p.types (book.result func) v) (run_of p limit func fuel args)
 run_paid p book well some types pays limit func fuel args f is fit = calls_paid p book well some types pays limit fuel fuel 0 true func args f is fit
 
 -- What follows a place, where every ready local has a value of its kind, is paid for by what the place is worth.

@@ -24,22 +24,24 @@ use Rattle.grail_blocks.specs.States.{State, bind, after, AreReady}
 use Rattle.grail_blocks.specs.StateLaws.{after_append, ready_first, ready_second}
 use Rattle.grail_code.specs.Code.{Op, Lit, Flag, Copy, Prim, Make, Call, Func, Code}
 use Rattle.grail_code.specs.WellFormed.{HaveKinds, PlaceFits, Gives, is_heap_local}
-use Rattle.grail_code.specs.Meaning.{Locals, put, values_of, in_front, operands, built, op_run}
+use Rattle.grail_code.specs.Meaning.{Locals, put, values_of, operands, built, op_run}
 use Rattle.grail_code.specs.Places.{LocalsFit, CallsSafe}
 use Rattle.grail_code.specs.PlaceLaws.{fit_used, found_all}
-use Rattle.annotations.specs.Vectors.{potential, potential_all, potentials, node_units, is_heap_con}
-use Rattle.annotations.specs.PotentialLaws.{nothing_of_heap_free, potentials_same}
+use Rattle.annotations.specs.Vectors.{potential, potential_all, node_units, is_heap_con}
+use Rattle.annotations.specs.PotentialLaws.{nothing_of_heap_free}
 use Rattle.licence.specs.Books.{Units, Book}
-use Rattle.licence.specs.Rules.{naturals, Account, carrying, build_cost, after_op, asked_by, AllCarry, LetPays}
+use Rattle.licence.specs.Rules.{naturals, Account, carrying, build_cost, after_op, Asks, call_asks, build_asks, AllCarry, LetPays}
+use Rattle.licence.specs.Bound.{arguments_carry}
 pub use Rattle.licence.specs.Worth.{worth}
+use Rattle.licence.specs.theory.Asking.{each_locals, arguments_locals}
 use Rattle.licence.specs.theory.Paying.{paid_more, paid_beside, paid_at_once, paid_for_cell}
 use Rattle.licence.specs.theory.Totals.{total, value_units, bind_total, bind_plain}
-use Rattle.licence.specs.theory.Carrying.{asked_units, all_held, use_total, uses_total, no_more, asked_values}
+use Rattle.licence.specs.theory.Carrying.{asked_units, all_held, use_total, uses_total, no_more, arguments_units, parts_units}
 
 -- calls of the code's functions on fitting arguments are paid for by what they need and their arguments carry
 abbrev pub CallsPaid : Code → Book ℕ → Enter → Type 0
 CallsPaid p book enter = (k w : ℕ) (t : Bool) (g : ℕ) (args : List Value) (callee : Func) → slice_get p.funcs g ≡ Some callee → ArgumentsFit p.types callee.params args
-    → IsPaidBy book.unit (book.need g + potentials p.types (asked_by book g callee) args) (λ v. book.back g + potential p.types (book.result g) v) (enter k w t g args)
+    → IsPaidBy book.unit (book.need g + arguments_carry p.types (book.param g) 0 args) (λ v. book.back g + potential p.types (book.result g) v) (enter k w t g args)
 
 map_append : {A B : Type 0} (f : A → B) (xs ys : List A) → map f (xs ++ ys) ≡ map f xs ++ map f ys
 map_append f [] ys = refl
@@ -141,22 +143,6 @@ built_paid u top cost left con vs (place.Reuse x) env less = by_value (env x)
     by_value None = tt
     by_value (Some v) = by_diamond v
 
--- parts, each with the same units
-same_asked : (types : List DataType) (env : Locals) (units : Units ℕ) (xs : List ℕ) (vs : List Value) → values_of env xs ≡ Some vs → potential_all types units (parts vs) ≤ asked_units types env xs (map (λ x. units) xs)
-same_asked types env units xs vs e =
-    let whole = asked_values types env xs (map (λ x. units) xs) vs e in
-    let each = sym (potentials_same types units vs) ∙ ap (λ l. potentials types l vs) (as_many xs vs e) in
-    omega (arith, whole, each)
-  where
-    as_many : (ys : List ℕ) (us : List Value) → values_of env ys ≡ Some us → map (λ v. units) us ≡ map (λ x. units) ys
-    as_many [] us k = let none : [] ≡ us = cc in ap (map (λ v. units)) (sym none)
-    as_many (y ∷ ys) us k = by_value (as_many ys) (env y) (values_of env ys) refl k
-      where
-        by_value : ((ws : List Value) → values_of env ys ≡ Some ws → map (λ v. units) ws ≡ map (λ x. units) ys) → (o : Option Value) (l : Option (List Value)) → values_of env ys ≡ l → in_front o l ≡ Some us → map (λ v. units) us ≡ map (λ x. units) (y ∷ ys)
-        by_value rec None l i g = let c : None ≡ Some us = g in absurd cc
-        by_value rec (Some v) None i g = let c : None ≡ Some us = g in absurd cc
-        by_value rec (Some v) (Some ws) i g = let same : v ∷ ws ≡ us = cc in sym (ap (map (λ w. units)) same) ∙ ap (λ l. units ∷ l) (rec ws i)
-
 apart : false ≡ true → ⊥
 apart d = absurd cc
 
@@ -251,6 +237,9 @@ op_paid p f book enter well safe paid func block at s env account fit t (Make co
     cost : ℕ
     cost = build_cost naturals book.unit at_ (units con)
 
+    asks : Asks ℕ
+    asks = build_asks book func block at args
+
     used : State
     used = after h s (map Use (args ++ taken at_))
 
@@ -267,17 +256,17 @@ op_paid p f book enter well safe paid func block at s env account fit t (Make co
     taken_total : total p.types f behind env account.carried ≤ total p.types f (after h s (map Use args)) env account.carried
     taken_total = no_more p.types f (after h s (map Use args)) env account.carried (taken at_) well (fit_used p.types f h s args env fit) (ready_second h s (map Use args) (map Use (taken at_)) both)
 
-    of_heap : (vs : List Value) → values_of env args ≡ Some vs → is_heap_con p.types con ≡ true → AllCarry p.types f account.carried args (map (λ x. units) args) × (cost ≤ account.left)
+    of_heap : (vs : List Value) → values_of env args ≡ Some vs → is_heap_con p.types con ≡ true → AllCarry p.types f account.carried asks × (cost ≤ account.left)
         → (account.left - cost) + total p.types f (bind used t) (put env t (value.Con con (parts vs))) (carrying account.carried t units) + cost ≤ worth p.types f s env account + units con
     of_heap vs is heap pay =
         let bound = bind_total p.types f used env account.carried t (value.Con con (parts vs)) units in
         let node : node_units p.types units con ≡ units con = ap (λ b. cond b (units con) 0) heap in
-        let spent = uses_total p.types f s env account.carried args (map (λ x. units) args) well
+        let spent = uses_total p.types f s env account.carried args asks (each_locals (λ x. units) args) well
         (all_held p.types f s env args fit (ready_first h s (map Use args) (map Use (taken at_)) both)) (ready_first h s (map Use args) (map Use (taken at_)) both) pay.0 in
-        let parts_less = same_asked p.types env units args vs is in
+        let parts_less = parts_units p.types env units args vs is in
         let same : total p.types f used env account.carried ≡ total p.types f behind env account.carried = ap (λ u. total p.types f u env account.carried) same_uses in
         heap_sum account.left cost (total p.types f (bind used t) (put env t (value.Con con (parts vs))) (carrying account.carried t units)) (total p.types f used env account.carried) (total p.types f behind env account.carried)
-        (total p.types f (after h s (map Use args)) env account.carried) (total p.types f s env account.carried) (node_units p.types units con) (units con) (potential_all p.types units (parts vs)) (asked_units p.types env args (map (λ x. units) args))
+        (total p.types f (after h s (map Use args)) env account.carried) (total p.types f s env account.carried) (node_units p.types units con) (units con) (potential_all p.types units (parts vs)) (asked_units p.types env asks)
         bound same taken_total spent parts_less node pay.1
 
     plain_place : (vs : List Value) → Fits p.types q (value.Con con (parts vs)) → is_heap_con p.types con ≡ false → (c : Constructor) → constructor p.types con ≡ Some c → option_map kind.Of (type_of p.types con) ≡ Some q
@@ -293,7 +282,7 @@ op_paid p f book enter well safe paid func block at s env account fit t (Make co
         not_new (place.Reuse d) fine k = let c : place.Reuse d ≡ place.New = k in absurd cc
 
     by_heap : (vs : List Value) → values_of env args ≡ Some vs → Fits p.types q (value.Con con (parts vs)) → (c : Constructor) → constructor p.types con ≡ Some c → PlaceFits f c.inline at_ → option_map kind.Of (type_of p.types con) ≡ Some q
-        → (b : Bool) → is_heap_con p.types con ≡ b → cond b (AllCarry p.types f account.carried args (map (λ x. units) args) × (cost ≤ account.left)) (Unit {0})
+        → (b : Bool) → is_heap_con p.types con ≡ b → cond b (AllCarry p.types f account.carried asks × (cost ≤ account.left)) (Unit {0})
         → IsPaidBy book.unit (worth p.types f s env account)
         (λ v. worth p.types f (bind used t) (put env t v) (cond b (record { left = account.left - cost; carried = carrying account.carried t units }) account)) (built con vs at_ env)
     by_heap vs is fits c there fine e true heap pay = built_paid book.unit (worth p.types f s env account) (units con)
@@ -314,22 +303,22 @@ op_paid p f book enter well safe paid func block at s env account fit t (Call ca
     h = is_heap_local p.types f
 
     by_func : (o : Option Func) → slice_get p.funcs callee ≡ o → IsSomeAnd o (λ g. HaveKinds f args g.params × (q ≡ g.result))
-        → IfSome o (λ g. AllCarry p.types f account.carried args (asked_by book callee g)) × (book.need callee ≤ account.left)
+        → IfSome o (λ g. AllCarry p.types f account.carried (call_asks book callee g args)) × (book.need callee ≤ account.left)
         → IsPaidBy book.unit (worth p.types f s env account)
         (λ v. worth p.types f (bind (after h s (map Use args)) t) (put env t v) (after_op naturals p.types book func block at account t (Call callee args))) (op_run enter k w env (Call callee args))
     by_func None there m pay = absurd m
     by_func (Some g) there m pay =
         let vs = found_all p.types f h s env args g.params fit r m.0 in
-        let spent = uses_total p.types f s env account.carried args (asked_by book callee g) well (all_held p.types f s env args fit r) r pay.0 in
-        let asked = asked_values p.types env args (asked_by book callee g) vs.values vs.is in
+        let spent = uses_total p.types f s env account.carried args (call_asks book callee g args) (arguments_locals (book.param callee) f 0 g.params args m.0) well (all_held p.types f s env args fit r) r pay.0 in
+        let asked = arguments_units p.types env (book.param callee) 0 g.params args vs.values vs.fit vs.is in
         let run = paid k w false callee vs.values g there vs.fit in
         let safe_run = safe k w false callee vs.values g there vs.fit in
         let rest : ℕ = account.left - book.need callee + total p.types f (after h s (map Use args)) env account.carried in
         subst (λ o. IsPaidBy book.unit (worth p.types f s env account)
         (λ v. worth p.types f (bind (after h s (map Use args)) t) (put env t v) (after_op naturals p.types book func block at account t (Call callee args))) (given o (λ us. enter k w false callee us))) (sym vs.is)
-        (paid_more (Fits p.types g.result) book.unit (book.need callee + potentials p.types (asked_by book callee g) vs.values + rest) (worth p.types f s env account) _ _ (enter k w false callee vs.values)
-        (call_sum account.left (book.need callee) (potentials p.types (asked_by book callee g) vs.values) (total p.types f (after h s (map Use args)) env account.carried) (total p.types f s env account.carried) _ spent asked pay.1)
+        (paid_more (Fits p.types g.result) book.unit (book.need callee + arguments_carry p.types (book.param callee) 0 vs.values + rest) (worth p.types f s env account) _ _ (enter k w false callee vs.values)
+        (call_sum account.left (book.need callee) (arguments_carry p.types (book.param callee) 0 vs.values) (total p.types f (after h s (map Use args)) env account.carried) (total p.types f s env account.carried) _ spent asked pay.1)
         (λ v fits. back_sum account.left (book.need callee) (book.back callee) (potential p.types (book.result callee) v) (total p.types f (after h s (map Use args)) env account.carried) _
         (bind_total p.types f (after h s (map Use args)) env account.carried t v (book.result callee)))
         safe_run
-        (paid_beside book.unit (book.need callee + potentials p.types (asked_by book callee g) vs.values) rest _ (enter k w false callee vs.values) run))
+        (paid_beside book.unit (book.need callee + arguments_carry p.types (book.param callee) 0 vs.values) rest _ (enter k w false callee vs.values) run))

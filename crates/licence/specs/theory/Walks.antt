@@ -2,7 +2,6 @@
 -- The rules hold exactly where every check of the list does.
 use Rattle.std.proofs.Common.{◌≡◌, ℕ, zero, suc, ◌+◌, ◌-◌, ◌≤◌, Bool, true, false, List, [], ◌∷◌, ◌++◌, length, map, Option, Some, None, refl, sym, ap, ◌∙◌, subst, arith}
 use Rattle.std.specs.Prelude.{◌==◌, ◌||◌, ◌↔◌, if◌then◌else◌, slice_get, IfSome, cond, take, ℤ, pos, ◌+ℤ◌, ◌-ℤ◌, ◌≤ℤ◌}
-use Rattle.std.specs.List.{range_with_len}
 use Rattle.std.specs.Option.{option_map_or}
 use Rattle.std.proofs.lemmas.Bool.Decides.{nat_tests}
 use Rattle.std.proofs.lemmas.Int.{ints}
@@ -20,8 +19,9 @@ use Rattle.grail_code.specs.Code.{Op, Lit, Flag, Copy, Prim, Make, Call, Let, Ca
 use Rattle.grail_code.specs.WellFormed.{kind_of}
 use Rattle.annotations.specs.Vectors.{AtLeast, is_heap_con}
 use Rattle.licence.specs.Books.{Units, Carried, Book}
-use Rattle.licence.specs.Rules.{naturals, Account, account_at, carrying, all_carrying, build_cost, after_op, after_lets, account_before, freed, in_arm, first_con_of, asked_by, AllCarry, LetPays, JumpPays, ArmsPay, TermPays, BlockPays, Pays}
+use Rattle.licence.specs.Rules.{naturals, Account, account_at, carrying, all_carrying, build_cost, after_op, after_lets, account_before, opened, found, in_arm, first_con_of, Asks, call_asks, jump_asks, build_asks, Carries, AllCarry, LetPays, JumpPays, ArmsPay, TermPays, BlockPays, Pays}
 use Rattle.licence.specs.Checks.{Check, Site, left_check, value_checks, local_checks, arguments_checks, op_checks, jump_checks, arms_checks, term_checks, lets_checks, blocks_checks, funcs_checks, checks_of, integers, in_integers, AllHold}
+use Rattle.licence.specs.theory.Asking.{AreLike, each_like, arguments_like}
 
 -- ---- numbers
 
@@ -67,12 +67,6 @@ one s have need have' need' e d = (
 abbrev pub SameUnits : Units ℕ → Units ℤ → Type 0
 SameUnits units units' = (c : ℕ) → units' c ≡ pos (units c)
 
--- the same lists of units
-abbrev SameLists : List (Units ℕ) → List (Units ℤ) → Type 0
-SameLists [] [] = Unit {0}
-SameLists (u ∷ us) (v ∷ vs) = SameUnits u v × SameLists us vs
-SameLists us vs = ⊥
-
 each_constructor : (s : Site) (have need : Units ℤ) → ℕ → Check ℤ
 each_constructor s have need c = record { func = s.func; block = s.block; place = s.place; con = Some c; have = have c; need = need c }
 
@@ -113,18 +107,18 @@ value_same types s (Some q) have need have' need' e d = (
 abbrev pub SameCarried : Carried ℕ → Carried ℤ → Type 0
 SameCarried carried carried' = (x : ℕ) → SameUnits (carried x) (carried' x)
 
-locals_same : (types : List DataType) (f : Func) (s : Site) (carried : Carried ℕ) (carried' : Carried ℤ) (xs : List ℕ) (asked : List (Units ℕ)) (asked' : List (Units ℤ)) → SameCarried carried carried' → SameLists asked asked'
-    → AllCarry types f carried xs asked ↔ AllHold (local_checks types f s carried' xs asked')
-locals_same types f s carried carried' [] asked asked' e d = (λ h. tt, λ h. tt)
-locals_same types f s carried carried' (x ∷ xs) [] [] e d = (λ h. tt, λ h. tt)
-locals_same types f s carried carried' (x ∷ xs) [] (b ∷ bs) e d = absurd d
-locals_same types f s carried carried' (x ∷ xs) (a ∷ others) [] e d = absurd d
-locals_same types f s carried carried' (x ∷ xs) (a ∷ others) (b ∷ bs) e d =
-    both (value_checks types s (kind_of f x) (carried' x) b) (local_checks types f s carried' xs bs) (value_same types s (kind_of f x) (carried x) a (carried' x) b (e x) d.0) (locals_same types f s carried carried' xs others bs e d.1)
+local_same : (types : List DataType) (f : Func) (s : Site) (carried : Carried ℕ) (carried' : Carried ℤ) (x y : ℕ) (asked : Units ℕ) (asked' : Units ℤ) → SameCarried carried carried' → x ≡ y → SameUnits asked asked'
+    → Carries types f carried x asked ↔ AllHold (value_checks types s (kind_of f y) (carried' y) asked')
+local_same types f s carried carried' x y asked asked' e same d =
+    subst (λ z. Carries types f carried z asked ↔ AllHold (value_checks types s (kind_of f y) (carried' y) asked')) (sym same) (value_same types s (kind_of f y) (carried y) asked (carried' y) asked' (e y) d)
 
-same_lists : (xs : List ℕ) (units : Carried ℕ) (units' : Carried ℤ) → SameCarried units units' → SameLists (map units xs) (map units' xs)
-same_lists [] units units' e = tt
-same_lists (x ∷ xs) units units' e = (e x, same_lists xs units units' e)
+locals_same : (types : List DataType) (f : Func) (s : Site) (carried : Carried ℕ) (carried' : Carried ℤ) (asks : Asks ℕ) (asks' : Asks ℤ) → SameCarried carried carried' → AreLike SameUnits asks asks'
+    → AllCarry types f carried asks ↔ AllHold (local_checks types f s carried' asks')
+locals_same types f s carried carried' [] [] e d = (λ h. tt, λ h. tt)
+locals_same types f s carried carried' [] (b ∷ asks') e d = absurd d
+locals_same types f s carried carried' (a ∷ asks) [] e d = absurd d
+locals_same types f s carried carried' (a ∷ asks) (b ∷ asks') e d =
+    both (value_checks types s (kind_of f b.0) (carried' b.0) b.1) (local_checks types f s carried' asks') (local_same types f s carried carried' a.0 b.0 a.1 b.1 e d.0 d.1) (locals_same types f s carried carried' asks asks' e d.2)
 
 -- ---- accounts
 
@@ -164,7 +158,7 @@ after_same p f book func block at a b x (Make con args place) e pays = by_heap (
     cost : ℕ
     cost = build_cost naturals book.unit place (book.make func block at con)
 
-    by_heap : (h : Bool) → cond h (AllCarry p.types f a.carried args (map (λ x. book.make func block at) args) × (cost ≤ a.left)) (Unit {0})
+    by_heap : (h : Bool) → cond h (AllCarry p.types f a.carried (build_asks book func block at args) × (cost ≤ a.left)) (Unit {0})
         → Same (cond h (record { left = a.left - cost; carried = carrying a.carried x (book.make func block at) }) a)
         (cond h (record { left = b.left -ℤ build_cost integers (pos book.unit) place (pos (book.make func block at con)); carried = carrying b.carried x (λ c. pos (book.make func block at c)) }) b)
     by_heap true pay = record {
@@ -180,13 +174,13 @@ after_same p f book func block at a b x (Call callee args) e pays = record {
 -- ---- lets, jumps and ends
 
 arguments_same : (p : Code) (f : Func) (book : Book ℕ) (s : Site) (a : Account ℕ) (b : Account ℤ) (callee : ℕ) (args : List ℕ) → Same a b
-    → IfSome (slice_get p.funcs callee) (λ g. AllCarry p.types f a.carried args (asked_by book callee g)) ↔ AllHold (arguments_checks p f (in_integers book) s b callee args)
+    → IfSome (slice_get p.funcs callee) (λ g. AllCarry p.types f a.carried (call_asks book callee g args)) ↔ AllHold (arguments_checks p f (in_integers book) s b callee args)
 arguments_same p f book s a b callee args e = by_func (slice_get p.funcs callee)
   where
-    by_func : (o : Option Func) → IfSome o (λ g. AllCarry p.types f a.carried args (asked_by book callee g)) ↔ AllHold (option_map_or (λ g. local_checks p.types f s b.carried args (asked_by (in_integers book) callee g)) o [])
+    by_func : (o : Option Func) → IfSome o (λ g. AllCarry p.types f a.carried (call_asks book callee g args)) ↔ AllHold (option_map_or (λ g. local_checks p.types f s b.carried (call_asks (in_integers book) callee g args)) o [])
     by_func None = (λ h. tt, λ h. tt)
-    by_func (Some g) = locals_same p.types f s a.carried b.carried args (asked_by book callee g) (asked_by (in_integers book) callee g) e.carried
-        (same_lists (range_with_len 0 (length g.params)) (book.param callee) (λ x c. pos (book.param callee x c)) (λ x c. refl))
+    by_func (Some g) = locals_same p.types f s a.carried b.carried (call_asks book callee g args) (call_asks (in_integers book) callee g args) e.carried
+        (arguments_like SameUnits (book.param callee) ((in_integers book).param callee) (λ x c. refl) 0 (length g.params) args)
 
 pub op_same : (p : Code) (f : Func) (book : Book ℕ) (s : Site) (a : Account ℕ) (b : Account ℤ) (op : Op) → Same a b → LetPays p f book s.func s.block s.place a op ↔ AllHold (op_checks integers p f (in_integers book) s b op)
 op_same p f book s a b (Lit z) e = (λ h. tt, λ h. tt)
@@ -207,38 +201,40 @@ op_same p f book s a b (Make con args at) e = by_heap (is_heap_con p.types con)
     cost : ℕ
     cost = build_cost naturals book.unit at (units con)
 
-    asked : (xs : List ℕ) → SameLists (map (λ x. units) xs) (map (λ x. units') xs)
-    asked [] = tt
-    asked (x ∷ xs) = (λ c. refl, asked xs)
+    asks : Asks ℕ
+    asks = build_asks book s.func s.block s.place args
 
-    by_heap : (h : Bool) → cond h (AllCarry p.types f a.carried args (map (λ x. units) args) × (cost ≤ a.left)) (Unit {0})
-        ↔ AllHold (cond h (local_checks p.types f s b.carried args (map (λ x. units') args) ++ left_check s b.left (build_cost integers (pos book.unit) at (units' con)) ∷ []) [])
-    by_heap true = both (local_checks p.types f s b.carried args (map (λ x. units') args)) (left_check s b.left (build_cost integers (pos book.unit) at (units' con)) ∷ [])
-        (locals_same p.types f s a.carried b.carried args (map (λ x. units) args) (map (λ x. units') args) e.carried (asked args))
+    asks' : Asks ℤ
+    asks' = build_asks (in_integers book) s.func s.block s.place args
+
+    by_heap : (h : Bool) → cond h (AllCarry p.types f a.carried asks × (cost ≤ a.left)) (Unit {0})
+        ↔ AllHold (cond h (local_checks p.types f s b.carried asks' ++ left_check s b.left (build_cost integers (pos book.unit) at (units' con)) ∷ []) [])
+    by_heap true = both (local_checks p.types f s b.carried asks') (left_check s b.left (build_cost integers (pos book.unit) at (units' con)) ∷ [])
+        (locals_same p.types f s a.carried b.carried asks asks' e.carried (each_like SameUnits (λ x. units) (λ x. units') (λ x c. refl) args))
         (one s a.left cost b.left (build_cost integers (pos book.unit) at (units' con)) e.left (cost_same book.unit (units con) at))
     by_heap false = (λ h. tt, λ h. tt)
 
 jump_same : (p : Code) (f : Func) (book : Book ℕ) (s : Site) (a : Account ℕ) (b : Account ℤ) (to : ℕ) → Same a b → JumpPays p f book s.func a to ↔ AllHold (jump_checks p f (in_integers book) s b to)
 jump_same p f book s a b to e =
-    both (local_checks p.types f s b.carried (params_at f.blocks to) (map ((in_integers book).block_var s.func to) (params_at f.blocks to))) (left_check s b.left (pos (book.block_need s.func to)) ∷ [])
-    (locals_same p.types f s a.carried b.carried (params_at f.blocks to) (map (book.block_var s.func to) (params_at f.blocks to)) (map ((in_integers book).block_var s.func to) (params_at f.blocks to)) e.carried
-    (same_lists (params_at f.blocks to) (book.block_var s.func to) (λ x c. pos (book.block_var s.func to x c)) (λ x c. refl)))
+    both (local_checks p.types f s b.carried (jump_asks f (in_integers book) s.func to)) (left_check s b.left (pos (book.block_need s.func to)) ∷ [])
+    (locals_same p.types f s a.carried b.carried (jump_asks f book s.func to) (jump_asks f (in_integers book) s.func to) e.carried
+    (each_like SameUnits (book.block_var s.func to) ((in_integers book).block_var s.func to) (λ x c. refl) (params_at f.blocks to)))
     (one s a.left (book.block_need s.func to) b.left (pos (book.block_need s.func to)) e.left refl)
 
 arm_same : (p : Code) (book : Book ℕ) (a : Account ℕ) (b : Account ℤ) (on con : ℕ) (m : CaseArm) → Same a b → Same (in_arm naturals p.types book a on con m) (in_arm integers p.types (in_integers book) b on con m)
-arm_same p book a b on con m e = record {
-  left = by_cell m.cell (cond (is_heap_con p.types con) (a.left + a.carried on con) a.left) (cond (is_heap_con p.types con) (b.left +ℤ b.carried on con) b.left) (by_heap (is_heap_con p.types con));
-  carried = all_carrying_same m.fields a.carried b.carried (a.carried on) (b.carried on) e.carried (e.carried on);
-}
+arm_same p book a b on con m e = by_cell m.cell
   where
     by_heap : (h : Bool) → cond h (b.left +ℤ b.carried on con) b.left ≡ pos (cond h (a.left + a.carried on con) a.left)
     by_heap true = ap (λ m. m +ℤ b.carried on con) e.left ∙ ap (λ n. pos a.left +ℤ n) (e.carried on con) ∙ sym (plus_is a.left (a.carried on con))
     by_heap false = e.left
 
-    by_cell : (c : CaseCell) (left : ℕ) (left' : ℤ) → left' ≡ pos left → freed integers (pos book.unit) c left' ≡ pos (freed naturals book.unit c left)
-    by_cell cell.Inline left left' d = d
-    by_cell cell.Free left left' d = ap (λ m. m +ℤ pos book.unit) d ∙ sym (plus_is left book.unit)
-    by_cell (cell.Keep x) left left' d = d
+    node : Same (opened naturals p.types a on con m.fields) (opened integers p.types b on con m.fields)
+    node = record { left = by_heap (is_heap_con p.types con); carried = all_carrying_same m.fields a.carried b.carried (a.carried on) (b.carried on) e.carried (e.carried on) }
+
+    by_cell : (c : CaseCell) → Same (found naturals p.types book.unit a on con m.fields c) (found integers p.types (pos book.unit) b on con m.fields c)
+    by_cell cell.Inline = node
+    by_cell cell.Free = record { left = ap (λ m. m +ℤ pos book.unit) node.left ∙ sym (plus_is (opened naturals p.types a on con m.fields).left book.unit); carried = node.carried }
+    by_cell (cell.Keep d) = node
 
 arms_same : (p : Code) (f : Func) (book : Book ℕ) (s : Site) (a : Account ℕ) (b : Account ℤ) (on con : ℕ) (arms : List CaseArm) → Same a b
     → ArmsPay p f book s.func a on con arms ↔ AllHold (arms_checks integers p f (in_integers book) s b on con arms)
@@ -272,7 +268,7 @@ tail_same p f book s a b callee args e = (
     fourth : List (Check ℤ)
     fourth = left_check s ((b.left -ℤ pos (book.need callee)) +ℤ pos (book.back callee)) (pos (book.back s.func)) ∷ []
 
-    arguments : IfSome (slice_get p.funcs callee) (λ g. AllCarry p.types f a.carried args (asked_by book callee g)) ↔ AllHold first
+    arguments : IfSome (slice_get p.funcs callee) (λ g. AllCarry p.types f a.carried (call_asks book callee g args)) ↔ AllHold first
     arguments = arguments_same p f book s a b callee args e
 
     enough : (book.need callee ≤ a.left) ↔ AllHold second
