@@ -32,8 +32,8 @@ unsafe impl<T> Send for Base<T> {}
 
 unsafe impl<T> Sync for Base<T> {}
 
-/// The owner of neighbouring places of a block: those that hold `items`, from the place `first` on, and `spare` empty ones
-/// behind them. It takes no bytes; the block's pointer stands beside it.
+/// The owner of neighbouring places of a block: those that hold `items`, from the place `first` on, and `spare` empty
+/// ones behind them. It takes no bytes; the block's pointer stands beside it.
 ///
 /// Dropping it lets the places go: nobody reads or frees them from then on.
 #[derive(Drop)]
@@ -129,7 +129,8 @@ impl<T> Cells<T> {
         unsafe { base.ptr.add(index).write(item) }
     }
 
-    /// Puts a value over the one in a full place, which is forgotten, not dropped. The place's index in the block is given.
+    /// Puts a value over the one in a full place, which is forgotten, not dropped. The place's index in the block is
+    /// given.
     #[inline(always)]
     pub(crate) fn set(&mut self, base: Base<T>, index: usize, item: T)
         requires block { base.ptr ≡ self.old.at }
