@@ -1,5 +1,6 @@
 -- Runs of cells of one arena.
 pub mod Arenas
-pub mod Part
+pub mod Deeds
+pub mod Ownership
 pub mod Range
 pub mod RangeLaws

@@ -21,9 +21,11 @@ pub record IsRange (r : Range) : Type 0 where
 abbrev pub blank : Cell
 blank = record { tag = 0; words = replicate 4 0 }
 
--- a new arena of so many cells
-abbrev pub new_arena : ℕ → Range
-new_arena cells = record { first = 0; arena = record { cells = cells }; cells = replicate cells blank }
+-- the whole of a new arena of so many cells: where its allocation lies is up to the allocator
+pub record IsNew (r : Range) (cells : ℕ) : Type 0 where
+  pub first : r.first ≡ 0
+  pub size : r.arena.cells ≡ cells
+  pub blanks : r.cells ≡ replicate cells blank
 
 -- the cells before a place
 abbrev pub front : Range → ℕ → Range

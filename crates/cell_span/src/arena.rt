@@ -1,18 +1,12 @@
-ghost use Rattle.std.specs.Prelude.{◌≡◌, ◌↔◌, IsTrue};
-ghost use Rattle.cell_span.specs.Arenas.{arena_of};
+use super::cell::Cell;
+use super::cells::Base;
 
-/// Which arena a run is part of. It owns none of the cells.
+/// Which arena a run is part of: where its allocation begins, and how many cells it has. It owns none of the cells.
+///
+/// Contracts compare two of them, and no code does: pointers into two allocations can't be compared when it runs.
 #[derive(Clone, Copy)]
 pub struct Arena {
+    pub(crate) base: Base<Cell>,
     /// The number of its cells.
     pub cells: u32,
-}
-
-impl Arena {
-    /// Whether both are the same arena.
-    pub fn is_same(self, other: Arena) -> bool
-        ensures { IsTrue result ↔ (arena_of self ≡ arena_of other) }
-    {
-        self.cells == other.cells
-    }
 }
