@@ -19,9 +19,9 @@ use Rattle.grail_blocks.specs.declared.blocks.CaseCell.{CaseCell}
 use Rattle.grail_blocks.specs.declared.blocks.CaseCell.TheVariants as cell
 use Rattle.grail_blocks.specs.Blocks.{Op, Lit, Flag, Copy, Prim, Make, Call, Let, CaseArm, Term, Ret, Tail, Goto, If, Case, Block}
 use Rattle.grail_blocks.specs.Running.{Locals, Later, put, narrowed, in_front, values_of, operands, built, op_run, lets_run, put_all, cell_run, arm_run, arm_at, case_run, term_run, narrow, whole, block_run, jump_run, blocks_run}
-use Rattle.grail_blocks.specs.Events.{Event, Use, Bind, taken, operands_of, term_uses, kept_diamond, bound_by, params_at, jump_events, ways}
+use Rattle.grail_blocks.specs.Events.{Event, Bind, Reads, taken, operands_of, uses_of, term_uses, term_events, kept_diamond, bound_by, params_at, jump_events, ways}
 use Rattle.grail_blocks.specs.States.{State, Ready, Unbound, nothing_bound, bind, use_of, after, AreReady, at_start, after_let, after_lets, at_term, LetsReady, UsesReady}
-use Rattle.grail_blocks.specs.StateLaws.{after_append, ready_first, ready_second, used_ready, uses_ready, bind_ready}
+use Rattle.grail_blocks.specs.StateLaws.{after_append, ready_first, ready_second, bind_ready, all_first, all_second, AllReady, all_used_ready, operands_ready, operands_were_ready, term_operands_ready, term_operands_were_ready}
 
 -- the two agree on what is ready
 abbrev pub Agree : State → Locals → Locals → Type 0
@@ -30,9 +30,6 @@ Agree s env env' = (x : ℕ) → s x ≡ Ready → env x ≡ env' x
 map_append : {A B : Type 0} (f : A → B) (xs ys : List A) → map f (xs ++ ys) ≡ map f xs ++ map f ys
 map_append f [] ys = refl
 map_append f (x ∷ xs) ys = ap (λ l. f x ∷ l) (map_append f xs ys)
-
-agree_used : (h : ℕ → Bool) (s : State) (xs : List ℕ) (env env' : Locals) → Agree s env env' → Agree (after h s (map Use xs)) env env'
-agree_used h s xs env env' a = λ x e. a x (uses_ready h s xs x e)
 
 put_agree : (s : State) (t : ℕ) (v : Value) (env env' : Locals) → Agree s env env' → Agree (bind s t) (put env t v) (put env' t v)
 put_agree s t v env env' a x e = by_test (t == x) refl (bind_ready s t x e)
@@ -44,55 +41,62 @@ put_agree s t v env env' a x e = by_test (t == x) refl (bind_ready s t x e)
 
 -- ---- operands
 
-values_agree : (h : ℕ → Bool) (s : State) (xs : List ℕ) (env env' : Locals) → AreReady h s (map Use xs) → Agree s env env' → values_of env xs ≡ values_of env' xs
-values_agree h s [] env env' r a = refl
-values_agree h s (x ∷ xs) env env' r a =
-    ap (λ o. in_front o (values_of env xs)) (a x r.0) ∙ ap (in_front (env' x)) (values_agree h (use_of h s x) xs env env' r.1 (λ y e. a y (used_ready h s x y e)))
+-- the two agree on these locals
+abbrev AgreeOn : List ℕ → Locals → Locals → Type 0
+AgreeOn xs env env' = AllByRecursion (λ x. env x ≡ env' x) xs
 
-used_agree : (h : ℕ → Bool) (s : State) (xs : List ℕ) (env env' : Locals) → AreReady h s (map Use xs) → Agree s env env' → (x : ℕ) → is_among xs x ≡ true → env x ≡ env' x
-used_agree h s [] env env' r a x m = absurd cc
-used_agree h s (y ∷ xs) env env' r a x m = by_test (λ k. used_agree h (use_of h s y) xs env env' r.1 (λ z e. a z (used_ready h s y z e)) x k) (y == x) refl m
+agree_on : (s : State) (xs : List ℕ) (env env' : Locals) → AllReady s xs → Agree s env env' → AgreeOn xs env env'
+agree_on s [] env env' r a = tt
+agree_on s (x ∷ xs) env env' r a = (a x r.0, agree_on s xs env env' r.1 a)
+
+values_agree : (xs : List ℕ) (env env' : Locals) → AgreeOn xs env env' → values_of env xs ≡ values_of env' xs
+values_agree [] env env' a = refl
+values_agree (x ∷ xs) env env' a = ap (λ o. in_front o (values_of env xs)) a.0 ∙ ap (in_front (env' x)) (values_agree xs env env' a.1)
+
+among_agree : (xs : List ℕ) (env env' : Locals) → AgreeOn xs env env' → (x : ℕ) → is_among xs x ≡ true → env x ≡ env' x
+among_agree [] env env' a x m = absurd cc
+among_agree (y ∷ xs) env env' a x m = by_test (λ k. among_agree xs env env' a.1 x k) (y == x) refl m
   where
     by_test : (is_among xs x ≡ true → env x ≡ env' x) → (b : Bool) → (y == x) ≡ b → (b || is_among xs x) ≡ true → env x ≡ env' x
-    by_test f true e k = let same : y ≡ x = grind (arith, nat_tests, e) in subst (λ z. env z ≡ env' z) same (a y r.0)
+    by_test f true e k = let same : y ≡ x = grind (arith, nat_tests, e) in subst (λ z. env z ≡ env' z) same a.0
     by_test f false e k = f k
 
-built_agree : (h : ℕ → Bool) (s : State) (con : ℕ) (vs : List Value) (p : Place) (env env' : Locals) → AreReady h s (map Use (taken p)) → Agree s env env' → built con vs p env ≡ built con vs p env'
-built_agree h s con vs place.Inline env env' r a = refl
-built_agree h s con vs place.New env env' r a = refl
-built_agree h s con vs (place.Reuse d) env env' r a = ap (λ o. given o (λ v. on_diamond v (at_once (value.Con con (parts vs))))) (a d r.0)
+built_agree : (con : ℕ) (vs : List Value) (p : Place) (env env' : Locals) → AgreeOn (taken p) env env' → built con vs p env ≡ built con vs p env'
+built_agree con vs place.Inline env env' a = refl
+built_agree con vs place.New env env' a = refl
+built_agree con vs (place.Reuse d) env env' a = ap (λ o. given o (λ v. on_diamond v (at_once (value.Con con (parts vs))))) a.0
 
 given_same : {A B : Type 0} (o : Option A) (next next' : A → Outcome B) → ((x : A) → next x ≡ next' x) → given o next ≡ given o next'
 given_same None next next' h = refl
 given_same (Some x) next next' h = h x
 
-op_agree : (h : ℕ → Bool) (s : State) (enter : Enter) (k w : ℕ) (env env' : Locals) (op : Op) → AreReady h s (map Use (operands_of op)) → Agree s env env' → op_run enter k w env op ≡ op_run enter k w env' op
-op_agree h s enter k w env env' (Lit z) r a = refl
-op_agree h s enter k w env env' (Flag b) r a = refl
-op_agree h s enter k w env env' (Copy x) r a = ap known (a x r.0)
-op_agree h s enter k w env env' (Prim op x y) r a =
-    ap (λ o. operands op o (env y)) (a x r.0) ∙ ap (operands op (env' x)) (a y (used_ready h s x y r.1.0))
-op_agree h s enter k w env env' (Make con args p) r a =
-    let q = subst (AreReady h s) (map_append Use args (taken p)) r in
-    ap (λ o. given o (λ vs. built con vs p env)) (values_agree h s args env env' (ready_first h s (map Use args) (map Use (taken p)) q) a)
-    ∙ given_same (values_of env' args) (λ vs. built con vs p env) (λ vs. built con vs p env')
-    (λ vs. built_agree h (after h s (map Use args)) con vs p env env' (ready_second h s (map Use args) (map Use (taken p)) q) (agree_used h s args env env' a))
-op_agree h s enter k w env env' (Call func args) r a = ap (λ o. given o (λ vs. enter k w false func vs)) (values_agree h s args env env' r a)
+op_same : (enter : Enter) (k w : ℕ) (env env' : Locals) (op : Op) → AgreeOn (operands_of op) env env' → op_run enter k w env op ≡ op_run enter k w env' op
+op_same enter k w env env' (Lit z) a = refl
+op_same enter k w env env' (Flag b) a = refl
+op_same enter k w env env' (Copy x) a = ap known a.0
+op_same enter k w env env' (Prim op x y) a = ap (λ o. operands op o (env y)) a.0 ∙ ap (operands op (env' x)) a.1.0
+op_same enter k w env env' (Make con args p) a =
+    ap (λ o. given o (λ vs. built con vs p env)) (values_agree args env env' (all_first (λ x. env x ≡ env' x) args (taken p) a))
+    ∙ given_same (values_of env' args) (λ vs. built con vs p env) (λ vs. built con vs p env') (λ vs. built_agree con vs p env env' (all_second (λ x. env x ≡ env' x) args (taken p) a))
+op_same enter k w env env' (Call func args) a = ap (λ o. given o (λ vs. enter k w false func vs)) (values_agree args env env' a)
+
+op_agree : (reads : Reads) (h : ℕ → Bool) (s : State) (enter : Enter) (k w : ℕ) (env env' : Locals) (op : Op) → AreReady h s (uses_of reads op) → Agree s env env' → op_run enter k w env op ≡ op_run enter k w env' op
+op_agree reads h s enter k w env env' op r a = op_same enter k w env env' op (agree_on s (operands_of op) env env' (operands_ready reads h s op r) a)
 
 -- ---- lets
 
-let_agree : (h : ℕ → Bool) (s : State) (l : Let) (v : Value) (env env' : Locals) → Agree s env env' → Agree (after_let h s l) (put env l.target v) (put env' l.target v)
-let_agree h s l v env env' a =
-    subst (λ t. Agree t (put env l.target v) (put env' l.target v)) (sym (after_append h s (map Use (operands_of l.op)) (Bind l.target ∷ [])))
-    (put_agree (after h s (map Use (operands_of l.op))) l.target v env env' (agree_used h s (operands_of l.op) env env' a))
+let_agree : (reads : Reads) (h : ℕ → Bool) (s : State) (l : Let) (v : Value) (env env' : Locals) → Agree s env env' → Agree (after_let reads h s l) (put env l.target v) (put env' l.target v)
+let_agree reads h s l v env env' a =
+    subst (λ t. Agree t (put env l.target v) (put env' l.target v)) (sym (after_append h s (uses_of reads l.op) (Bind l.target ∷ [])))
+    (put_agree (after h s (uses_of reads l.op)) l.target v env env' (λ x e. a x (operands_were_ready reads h s l.op x e)))
 
-lets_agree : (h : ℕ → Bool) (s : State) (enter : Enter) (ls : List Let) (k w : ℕ) (env env' : Locals) (next next' : ℕ → Locals → Outcome Value) → LetsReady h s ls → Agree s env env'
-    → ((j : ℕ) (last last' : Locals) → Agree (after_lets h s ls) last last' → next j last ≡ next' j last') → lets_run enter ls k w env next ≡ lets_run enter ls k w env' next'
-lets_agree h s enter [] k w env env' next next' r a f = f k env env' a
-lets_agree h s enter (l ∷ ls) k w env env' next next' r a f =
-    ap (λ o. first_then k o (λ left v. lets_run enter ls left w (put env l.target v) next)) (op_agree h s enter k w env env' l.op (ready_first h s (map Use (operands_of l.op)) (Bind l.target ∷ []) r.0) a)
+lets_agree : (reads : Reads) (h : ℕ → Bool) (s : State) (enter : Enter) (ls : List Let) (k w : ℕ) (env env' : Locals) (next next' : ℕ → Locals → Outcome Value) → LetsReady reads h s ls → Agree s env env'
+    → ((j : ℕ) (last last' : Locals) → Agree (after_lets reads h s ls) last last' → next j last ≡ next' j last') → lets_run enter ls k w env next ≡ lets_run enter ls k w env' next'
+lets_agree reads h s enter [] k w env env' next next' r a f = f k env env' a
+lets_agree reads h s enter (l ∷ ls) k w env env' next next' r a f =
+    ap (λ o. first_then k o (λ left v. lets_run enter ls left w (put env l.target v) next)) (op_agree reads h s enter k w env env' l.op (ready_first h s (uses_of reads l.op) (Bind l.target ∷ []) r.0) a)
     ∙ then_same k (op_run enter k w env' l.op) (λ left v. lets_run enter ls left w (put env l.target v) next) (λ left v. lets_run enter ls left w (put env' l.target v) next')
-    (λ j v. lets_agree h (after_let h s l) enter ls j w (put env l.target v) (put env' l.target v) next next' r.1 (let_agree h s l v env env' a) f)
+    (λ j v. lets_agree reads h (after_let reads h s l) enter ls j w (put env l.target v) (put env' l.target v) next next' r.1 (let_agree reads h s l v env env' a) f)
 
 -- ---- the end of a block
 
@@ -102,7 +106,7 @@ LaterAgree blocks later later' = (b j w : ℕ) (env env' : Locals) → ((x : ℕ
 
 jump_agree : (h : ℕ → Bool) (blocks : List Block) (later later' : Later) → LaterAgree blocks later later' → (s : State) (b j w : ℕ) (env env' : Locals) → AreReady h s (jump_events blocks b) → Agree s env env'
     → later b j w env ≡ later' b j w env'
-jump_agree h blocks later later' f s b j w env env' r a = f b j w env env' (used_agree h s (params_at blocks b) env env' r a)
+jump_agree h blocks later later' f s b j w env env' r a = f b j w env env' (among_agree (params_at blocks b) env env' (agree_on s (params_at blocks b) env env' (all_used_ready h s (params_at blocks b) r) a))
 
 put_all_agree : (h : ℕ → Bool) (s : State) (xs : List ℕ) (vs : Values) (env env' : Locals) (next next' : Locals → Outcome Value) → Agree s env env'
     → ((last last' : Locals) → Agree (after h s (map Bind xs)) last last' → next last ≡ next' last') → given (put_all env xs vs) next ≡ given (put_all env' xs vs) next'
@@ -145,30 +149,34 @@ case_agree h types blocks later later' f s value.Dia arms k w env env' r a = ref
 chosen_same : (v : Value) (a b a' b' : Outcome Value) → a ≡ a' → b ≡ b' → chosen v a b ≡ chosen v a' b'
 chosen_same v a b a' b' e q = ap (λ x. chosen v x b) e ∙ ap (chosen v a') q
 
-term_agree : (h : ℕ → Bool) (types : List DataType) (enter : Enter) (blocks : List Block) (later later' : Later) → LaterAgree blocks later later' → (s : State) (t : Term) (k w : ℕ) (env env' : Locals)
-    → AreReady h s (map Use (term_uses t)) → AllByRecursion (AreReady h (after h s (map Use (term_uses t)))) (ways blocks t) → Agree s env env'
+term_agree : (reads : Reads) (h : ℕ → Bool) (types : List DataType) (enter : Enter) (blocks : List Block) (later later' : Later) → LaterAgree blocks later later' → (s : State) (t : Term) (k w : ℕ) (env env' : Locals)
+    → AreReady h s (term_events reads t) → AllByRecursion (AreReady h (after h s (term_events reads t))) (ways blocks t) → Agree s env env'
     → term_run types enter later t k w env ≡ term_run types enter later' t k w env'
-term_agree h types enter blocks later later' f s (Ret x) k w env env' r q a = ap known (a x r.0)
-term_agree h types enter blocks later later' f s (Tail func args) k w env env' r q a = ap (λ o. given o (λ vs. enter k w true func vs)) (values_agree h s args env env' r a)
-term_agree h types enter blocks later later' f s (Goto b) k w env env' r q a = jump_agree h blocks later later' f s b k w env env' q.0 a
-term_agree h types enter blocks later later' f s (If x first second) k w env env' r q a =
-    ap (λ o. given o (λ v. chosen v (later first k w env) (later second k w env))) (a x r.0)
-    ∙ given_same (env' x) (λ v. chosen v (later first k w env) (later second k w env)) (λ v. chosen v (later' first k w env') (later' second k w env'))
-    (λ v. chosen_same v (later first k w env) (later second k w env) (later' first k w env') (later' second k w env')
-    (jump_agree h blocks later later' f (use_of h s x) first k w env env' q.0 (agree_used h s (x ∷ []) env env' a))
-    (jump_agree h blocks later later' f (use_of h s x) second k w env env' q.1.0 (agree_used h s (x ∷ []) env env' a)))
-term_agree h types enter blocks later later' f s (Case x arms) k w env env' r q a =
-    ap (λ o. given o (λ v. case_run types later v arms k w env)) (a x r.0)
-    ∙ given_same (env' x) (λ v. case_run types later v arms k w env) (λ v. case_run types later' v arms k w env')
-    (λ v. case_agree h types blocks later later' f (use_of h s x) v arms k w env env' q (agree_used h s (x ∷ []) env env' a))
+term_agree reads h types enter blocks later later' f s t k w env env' r q a =
+    by_end t (agree_on s (term_uses t) env env' (term_operands_ready reads h s t r) a) q (λ x e. a x (term_operands_were_ready reads h s t x e))
+  where
+    by_end : (t : Term) → AgreeOn (term_uses t) env env' → AllByRecursion (AreReady h (after h s (term_events reads t))) (ways blocks t) → Agree (after h s (term_events reads t)) env env'
+        → term_run types enter later t k w env ≡ term_run types enter later' t k w env'
+    by_end (Ret x) o q b = ap known o.0
+    by_end (Tail func args) o q b = ap (λ o. given o (λ vs. enter k w true func vs)) (values_agree args env env' o)
+    by_end (Goto to) o q b = jump_agree h blocks later later' f s to k w env env' q.0 b
+    by_end (If x first second) o q b =
+        ap (λ o. given o (λ v. chosen v (later first k w env) (later second k w env))) o.0
+        ∙ given_same (env' x) (λ v. chosen v (later first k w env) (later second k w env)) (λ v. chosen v (later' first k w env') (later' second k w env'))
+        (λ v. chosen_same v (later first k w env) (later second k w env) (later' first k w env') (later' second k w env')
+        (jump_agree h blocks later later' f (use_of h s x) first k w env env' q.0 b) (jump_agree h blocks later later' f (use_of h s x) second k w env env' q.1.0 b))
+    by_end (Case x arms) o q b =
+        ap (λ o. given o (λ v. case_run types later v arms k w env)) o.0
+        ∙ given_same (env' x) (λ v. case_run types later v arms k w env) (λ v. case_run types later' v arms k w env')
+        (λ v. case_agree h types blocks later later' f (use_of h s x) v arms k w env env' q b)
 
 -- ---- blocks
 
-block_agree : (h : ℕ → Bool) (types : List DataType) (enter : Enter) (blocks : List Block) (later later' : Later) → LaterAgree blocks later later' → (b : Block) → UsesReady h blocks b → (k w : ℕ) (env env' : Locals)
+block_agree : (reads : Reads) (h : ℕ → Bool) (types : List DataType) (enter : Enter) (blocks : List Block) (later later' : Later) → LaterAgree blocks later later' → (b : Block) → UsesReady reads h blocks b → (k w : ℕ) (env env' : Locals)
     → Agree (at_start h b) env env' → block_run types enter later (narrow b) k w env ≡ block_run types enter later' (whole b) k w env'
-block_agree h types enter blocks later later' f b u k w env env' a =
-    lets_agree h (at_start h b) enter b.lets k w env env' (λ left last. term_run types enter later b.term left w last) (λ left last. term_run types enter later' b.term left w last) u.lets a
-    (λ j last last' c. term_agree h types enter blocks later later' f (at_term h b) b.term j w last last' u.term u.onward c)
+block_agree reads h types enter blocks later later' f b u k w env env' a =
+    lets_agree reads h (at_start h b) enter b.lets k w env env' (λ left last. term_run types enter later b.term left w last) (λ left last. term_run types enter later' b.term left w last) u.lets a
+    (λ j last last' c. term_agree reads h types enter blocks later later' f (at_term reads h b) b.term j w last last' u.term u.onward c)
 
 -- what is ready where some locals are bound is one of them, or was ready
 pub bound_among : (h : ℕ → Bool) (s : State) (xs : List ℕ) (x : ℕ) → after h s (map Bind xs) x ≡ Ready → (is_among xs x ≡ true) ⊎ (s x ≡ Ready)
@@ -198,10 +206,10 @@ narrowed_agree h b env env' f x e = either (bound_among h nothing_bound b.params
     either (inl k) = ap (λ t. if t then env x else None) k ∙ f x k
     either (inr k) = absurd cc
 
-later_agree : (h : ℕ → Bool) (types : List DataType) (enter : Enter) (blocks : List Block) → ((number : ℕ) (b : Block) → slice_get blocks number ≡ Some b → UsesReady h blocks b)
+later_agree : (reads : Reads) (h : ℕ → Bool) (types : List DataType) (enter : Enter) (blocks : List Block) → ((number : ℕ) (b : Block) → slice_get blocks number ≡ Some b → UsesReady reads h blocks b)
     → (first : ℕ) (bs : List Block) → ((i : ℕ) → slice_get bs i ≡ slice_get blocks (first + i)) → LaterAgree blocks (jump_run types enter first (map narrow bs)) (jump_run types enter first (map whole bs))
-later_agree h types enter blocks each first [] at = λ b j w env env' f. refl
-later_agree h types enter blocks each first (block ∷ bs) at = λ b j w env env' f. by_test (later_agree h types enter blocks each (suc first) bs behind) b j w env env' f (b == first) refl
+later_agree reads h types enter blocks each first [] at = λ b j w env env' f. refl
+later_agree reads h types enter blocks each first (block ∷ bs) at = λ b j w env env' f. by_test (later_agree reads h types enter blocks each (suc first) bs behind) b j w env env' f (b == first) refl
   where
     behind : (i : ℕ) → slice_get bs i ≡ slice_get blocks (suc first + i)
     behind i = let e : first + suc i ≡ suc first + i = omega arith in at (suc i) ∙ ap (slice_get blocks) e
@@ -216,16 +224,16 @@ later_agree h types enter blocks each first (block ∷ bs) at = λ b j w env env
     by_test l b j w env env' f true e =
         let same : b ≡ first = grind (arith, nat_tests, e) in
         let at_b : params_at blocks b ≡ block.params = ap (λ o. option_map_or (λ block. block.params) o []) (ap (slice_get blocks) same ∙ here) in
-        block_agree h types enter blocks (jump_run types enter (suc first) (map narrow bs)) (jump_run types enter (suc first) (map whole bs)) l block (each first block here) j w (narrowed block.params env) env'
+        block_agree reads h types enter blocks (jump_run types enter (suc first) (map narrow bs)) (jump_run types enter (suc first) (map whole bs)) l block (each first block here) j w (narrowed block.params env) env'
         (narrowed_agree h block env env' (λ x k. f x (ap (λ ps. is_among ps x) at_b ∙ k)))
     by_test l b j w env env' f false e = l b j w env env' f
 
 -- Narrowing jumps to the parameters of their targets changes nothing, where each block's uses are ready.
-pub narrowing_is_free : (h : ℕ → Bool) (types : List DataType) (enter : Enter) (blocks : List Block) → ((number : ℕ) (b : Block) → slice_get blocks number ≡ Some b → UsesReady h blocks b)
+pub narrowing_is_free : (reads : Reads) (h : ℕ → Bool) (types : List DataType) (enter : Enter) (blocks : List Block) → ((number : ℕ) (b : Block) → slice_get blocks number ≡ Some b → UsesReady reads h blocks b)
     → (k w : ℕ) (env : Locals) → blocks_run types enter (map narrow blocks) k w env ≡ blocks_run types enter (map whole blocks) k w env
-narrowing_is_free h types enter [] each k w env = refl
-narrowing_is_free h types enter (b ∷ bs) each k w env =
-    block_agree h types enter (b ∷ bs) (jump_run types enter 1 (map narrow bs)) (jump_run types enter 1 (map whole bs)) (later_agree h types enter (b ∷ bs) each 1 bs at) b (each 0 b refl) k w env env (λ x e. refl)
+narrowing_is_free reads h types enter [] each k w env = refl
+narrowing_is_free reads h types enter (b ∷ bs) each k w env =
+    block_agree reads h types enter (b ∷ bs) (jump_run types enter 1 (map narrow bs)) (jump_run types enter 1 (map whole bs)) (later_agree reads h types enter (b ∷ bs) each 1 bs at) b (each 0 b refl) k w env env (λ x e. refl)
   where
     at : (i : ℕ) → slice_get bs i ≡ slice_get (b ∷ bs) (1 + i)
     at i = let e : suc i ≡ 1 + i = omega arith in ap (slice_get (b ∷ bs)) e

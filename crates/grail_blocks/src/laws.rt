@@ -4,6 +4,7 @@ ghost use Rattle.camelot_values.specs.Kinds.{DataType};
 ghost use Rattle.camelot_values.specs.Outcome.{Stuck};
 ghost use Rattle.camelot_values.specs.Runs.{Enter};
 ghost use Rattle.grail_blocks.specs.Blocks.{Block};
+ghost use Rattle.grail_blocks.specs.Events.{Reads};
 ghost use Rattle.grail_blocks.specs.States.{UsesReady, UsesAffinely};
 ghost use Rattle.grail_blocks.specs.Running.{Locals, Body, narrow, whole, blocks_run, jumps_from, from_block, jump_to};
 
@@ -20,16 +21,18 @@ pub fn law_of_jumps()
         → blocks_run types enter bodies fuel waits env ≡ from_block types enter bodies 0 fuel waits env }
 {}
 
-/// The states of locals say in the order of the places what can be said without them: each use finds its local ready exactly where what
-/// is used was bound before, and what is of a heap kind is bound anew between two uses, on each way through the block.
+/// The states of locals say in the order of the places what can be said without them: each use and each look finds its local ready exactly
+/// where what is used or looked at was bound before, and what is owned is bound anew between a use and a further use or look, on each way
+/// through the block. It holds of all marks that say which arguments are only looked at.
 pub fn law_of_states()
-    ensures { (is_heap : ℕ → Bool) (blocks : List Block) (block : Block) → UsesReady is_heap blocks block ↔ UsesAffinely is_heap blocks block }
+    ensures { (reads : Reads) (is_owned : ℕ → Bool) (blocks : List Block) (block : Block)
+        → UsesReady reads is_owned blocks block ↔ UsesAffinely reads is_owned blocks block }
 {}
 
 /// Handing on less than is looked at changes nothing: where each block's uses are ready, blocks that take just their parameters at a jump
 /// mean what they would mean if each jump handed on every local that is bound.
 pub fn law_of_narrowing()
-    ensures { (is_heap : ℕ → Bool) (types : List DataType) (enter : Enter) (blocks : List Block)
-        → ((number : ℕ) (block : Block) → slice_get blocks number ≡ Some block → UsesReady is_heap blocks block) → (fuel waits : ℕ) (env : Locals)
+    ensures { (reads : Reads) (is_owned : ℕ → Bool) (types : List DataType) (enter : Enter) (blocks : List Block)
+        → ((number : ℕ) (block : Block) → slice_get blocks number ≡ Some block → UsesReady reads is_owned blocks block) → (fuel waits : ℕ) (env : Locals)
         → blocks_run types enter (map narrow blocks) fuel waits env ≡ blocks_run types enter (map whole blocks) fuel waits env }
 {}

@@ -14,9 +14,9 @@ use Rattle.grail_blocks.specs.declared.blocks.Place.TheVariants as place
 use Rattle.grail_blocks.specs.declared.blocks.CaseCell.{CaseCell}
 use Rattle.grail_blocks.specs.declared.blocks.CaseCell.TheVariants as cell
 use Rattle.grail_blocks.specs.States.{State, use_of, after as state_after, at_start as state_at_start, after_let as state_after_let, nothing_bound}
-use Rattle.grail_blocks.specs.StateLaws.{after_append}
+use Rattle.grail_blocks.specs.StateLaws.{after_append, uses_none}
 use Rattle.grail_code.specs.Code.{Op, Lit, Flag, Copy, Prim, Make, Call, Let, CaseArm, Term, Ret, Tail, Goto, If, Case, Block, Func, Code}
-use Rattle.grail_code.specs.WellFormed.{IsKnownKind, kind_of, is_heap_local, operator_kind, data_type, Ascend, AreDistinct, Use, Bind, operands_of, kept_diamond, bound_by, params_at}
+use Rattle.grail_code.specs.WellFormed.{IsKnownKind, kind_of, is_owned, operator_kind, data_type, Ascend, AreDistinct, Use, Bind, no_reads, reads_of, operands_of, uses_of, kept_diamond, bound_by, params_at}
 use Rattle.grail_check.specs.declared.fault.CodeKind.{CodeKind}
 use Rattle.grail_check.specs.declared.fault.CodeKind.TheVariants as fault
 use Rattle.grail_check.specs.declared.fault.CodeFault.{CodeFault}
@@ -56,24 +56,24 @@ front_operand types f marks s x q t =
     (front_must (has_kind (locals_of types f) x q) fault.Kind (kind_of f x ≡ Some q) (λ h. kind_of_is types f x q (has_the_kind (locals_of types f) x q h)) (λ h. the_kind_it_has (locals_of types f) x q (kind_at_is types f x q h)))))
 
 front_operands : (types : List DataType) (f : Func) (marks : List Mark) (s : State) (xs : List ℕ) (qs : List Kind) → Tracks types f marks s
-    → Front ⊤ (operands_fault (locals_of types f) marks xs qs) (operands_checks f (is_heap_local types f) s xs qs)
+    → Front ⊤ (operands_fault (locals_of types f) marks xs qs) (operands_checks f (is_owned types f) s xs qs)
 front_operands types f marks s [] qs t = λ o rest go. go tt
 front_operands types f marks s (x ∷ xs) [] t = λ o rest go. go tt
 front_operands types f marks s (x ∷ xs) (q ∷ qs) t =
-    front_weak (⊤ × ⊤) ⊤ (operands_fault (locals_of types f) marks (x ∷ xs) (q ∷ qs)) (operands_checks f (is_heap_local types f) s (x ∷ xs) (q ∷ qs)) (λ p. tt)
+    front_weak (⊤ × ⊤) ⊤ (operands_fault (locals_of types f) marks (x ∷ xs) (q ∷ qs)) (operands_checks f (is_owned types f) s (x ∷ xs) (q ∷ qs)) (λ p. tt)
     (front_then ⊤ ⊤ (operand_fault (locals_of types f) marks x q) (operands_fault (locals_of types f) (spend (locals_of types f) marks x) xs qs)
-    (operand_checks f s x q) (operands_checks f (is_heap_local types f) (use_of (is_heap_local types f) s x) xs qs)
+    (operand_checks f s x q) (operands_checks f (is_owned types f) (use_of (is_owned types f) s x) xs qs)
     (front_operand types f marks s x q t)
-    (λ p. front_operands types f (spend (locals_of types f) marks x) (use_of (is_heap_local types f) s x) xs qs (track_spend types f marks s x t)))
+    (λ p. front_operands types f (spend (locals_of types f) marks x) (use_of (is_owned types f) s x) xs qs (track_spend types f marks s x t)))
 
 front_arguments : (types : List DataType) (f : Func) (marks : List Mark) (s : State) (xs : List ℕ) (qs : List Kind) → Tracks types f marks s
-    → Front ⊤ (arguments_fault (locals_of types f) marks xs qs) (arguments_checks f (is_heap_local types f) s xs qs)
+    → Front ⊤ (arguments_fault (locals_of types f) marks xs qs) (arguments_checks f (is_owned types f) s xs qs)
 front_arguments types f marks s xs qs t =
-    front_weak ((length xs ≡ length qs) × ⊤) ⊤ (arguments_fault (locals_of types f) marks xs qs) (arguments_checks f (is_heap_local types f) s xs qs) (λ p. tt)
+    front_weak ((length xs ≡ length qs) × ⊤) ⊤ (arguments_fault (locals_of types f) marks xs qs) (arguments_checks f (is_owned types f) s xs qs) (λ p. tt)
     (front_then (length xs ≡ length qs) ⊤ (unless (length xs == length qs) fault.Arms) (option_or (operands_fault (locals_of types f) marks xs qs) None) (Must (length xs ≡ length qs) fault.Arms)
-    (operands_checks f (is_heap_local types f) s xs qs)
+    (operands_checks f (is_owned types f) s xs qs)
     (front_must (length xs == length qs) fault.Arms (length xs ≡ length qs) (same (length xs) (length qs)) (is_same (length xs) (length qs)))
-    (λ p. front_last ⊤ (operands_fault (locals_of types f) marks xs qs) (operands_checks f (is_heap_local types f) s xs qs) (front_operands types f marks s xs qs t)))
+    (λ p. front_last ⊤ (operands_fault (locals_of types f) marks xs qs) (operands_checks f (is_owned types f) s xs qs) (front_operands types f marks s xs qs t)))
 
 -- ---- lets
 
@@ -108,7 +108,7 @@ front_target : (types : List DataType) (f : Func) (x : ℕ) (q : Option Kind) (P
     → Agrees (option_or a (option_or (target_fault (locals_of types f) x q) None)) (c (target_check f x q))
 front_target types f x q P a c fa = fa (option_or (target_fault (locals_of types f) x q) None) (target_check f x q) (λ p. agrees_last (target_fault (locals_of types f) x q) (target_check f x q) (target_agrees types f x q))
 
-op_agrees : (p : Code) (f : Func) (marks : List Mark) (s : State) (x : ℕ) (op : Op) → Tracks p.types f marks s → Agrees (op_fault p (locals_of p.types f) marks x op) (op_checks p f (is_heap_local p.types f) s x op)
+op_agrees : (p : Code) (f : Func) (marks : List Mark) (s : State) (x : ℕ) (op : Op) → Tracks p.types f marks s → Agrees (op_fault p (locals_of p.types f) marks x op) (op_checks p f (is_owned p.types f) s x op)
 op_agrees p f marks s x (Lit z) t = front_target p.types f x (Some kind.Int) (IsInt32 z) (unless (is_int32 z) fault.Kind) (Must (IsInt32 z) fault.Kind) (front_must (is_int32 z) fault.Kind (IsInt32 z) (passing_int z) (int_passes z))
 op_agrees p f marks s x (Flag b) t = target_agrees p.types f x (Some kind.Flag)
 op_agrees p f marks s x (Copy y) t =
@@ -117,29 +117,29 @@ op_agrees p f marks s x (Copy y) t =
 op_agrees p f marks s x (Prim op left right) t =
     front_operand p.types f marks s left kind.Int t
     (option_or (operand_fault (locals_of p.types f) (spend (locals_of p.types f) marks left) right kind.Int) (option_or (target_fault (locals_of p.types f) x (Some (operator_kind op))) None))
-    (operand_checks f (use_of (is_heap_local p.types f) s left) right kind.Int (target_check f x (Some (operator_kind op))))
-    (λ q. front_target p.types f x (Some (operator_kind op)) ⊤ (operand_fault (locals_of p.types f) (spend (locals_of p.types f) marks left) right kind.Int) (operand_checks f (use_of (is_heap_local p.types f) s left) right kind.Int)
-    (front_operand p.types f (spend (locals_of p.types f) marks left) (use_of (is_heap_local p.types f) s left) right kind.Int (track_spend p.types f marks s left t)))
+    (operand_checks f (use_of (is_owned p.types f) s left) right kind.Int (target_check f x (Some (operator_kind op))))
+    (λ q. front_target p.types f x (Some (operator_kind op)) ⊤ (operand_fault (locals_of p.types f) (spend (locals_of p.types f) marks left) right kind.Int) (operand_checks f (use_of (is_owned p.types f) s left) right kind.Int)
+    (front_operand p.types f (spend (locals_of p.types f) marks left) (use_of (is_owned p.types f) s left) right kind.Int (track_spend p.types f marks s left t)))
 op_agrees p f marks s x (Make con args at) t = by_con (constructor p.types con)
   where
     owner : Option Kind
     owner = option_map kind.Of (type_of p.types con)
 
     by_con : (o : Option Constructor) → Agrees (make_fault (locals_of p.types f) marks x o (option_map kind.Of (type_of p.types con)) args at)
-        (of_entry o fault.NoSuchEntry (λ c. arguments_checks f (is_heap_local p.types f) s args c.fields
-        (taken_checks f (state_after (is_heap_local p.types f) s (map Use args)) at (Must (IsPlaceOf c.inline at) fault.Place (target_check f x (option_map kind.Of (type_of p.types con)))))))
+        (of_entry o fault.NoSuchEntry (λ c. arguments_checks f (is_owned p.types f) s args c.fields
+        (taken_checks f (state_after (is_owned p.types f) s (map Use args)) at (Must (IsPlaceOf c.inline at) fault.Place (target_check f x (option_map kind.Of (type_of p.types con)))))))
     by_con None = inl ((λ e. e), refl)
     by_con (Some c) =
         front_arguments p.types f marks s args c.fields t _ _
-        (λ q. front_taken p.types f (spend_all (locals_of p.types f) marks args) (state_after (is_heap_local p.types f) s (map Use args)) at (track_uses p.types f marks s args t) _ _
+        (λ q. front_taken p.types f (spend_all (locals_of p.types f) marks args) (state_after (is_owned p.types f) s (map Use args)) at (track_uses p.types f marks s args t) _ _
         (λ r. front_target p.types f x (option_map kind.Of (type_of p.types con)) (IsPlaceOf c.inline at) (unless (place_fits c.inline at) fault.Place) (Must (IsPlaceOf c.inline at) fault.Place)
         (front_must (place_fits c.inline at) fault.Place (IsPlaceOf c.inline at) (place_is c.inline at) (is_place c.inline at))))
 op_agrees p f marks s x (Call func args) t = by_func (slice_get p.funcs func)
   where
-    by_func : (o : Option Func) → Agrees (call_fault (locals_of p.types f) marks x o args) (of_entry o fault.NoSuchEntry (λ callee. arguments_checks f (is_heap_local p.types f) s args callee.params (target_check f x (Some callee.result))))
+    by_func : (o : Option Func) → Agrees (call_fault (locals_of p.types f) marks x o args) (of_entry o fault.NoSuchEntry (λ callee. arguments_checks f (is_owned p.types f) s args callee.params (target_check f x (Some callee.result))))
     by_func None = inl ((λ e. e), refl)
     by_func (Some callee) =
-        front_target p.types f x (Some callee.result) ⊤ (arguments_fault (locals_of p.types f) marks args callee.params) (arguments_checks f (is_heap_local p.types f) s args callee.params)
+        front_target p.types f x (Some callee.result) ⊤ (arguments_fault (locals_of p.types f) marks args callee.params) (arguments_checks f (is_owned p.types f) s args callee.params)
         (front_arguments p.types f marks s args callee.params t)
 
 let_there : (types : List DataType) (f : Func) (l : Let) → (is_local (locals_of types f) l.target && list_all (is_local (locals_of types f)) (operands_of l.op)) ≡ true → AreThere f (l.target ∷ operands_of l.op)
@@ -148,16 +148,19 @@ let_there types f l h = let (a, b) = both (is_local (locals_of types f) l.target
 there_let : (types : List DataType) (f : Func) (l : Let) → AreThere f (l.target ∷ operands_of l.op) → (is_local (locals_of types f) l.target && list_all (is_local (locals_of types f)) (operands_of l.op)) ≡ true
 there_let types f l h = join (is_local (locals_of types f) l.target) (list_all (is_local (locals_of types f)) (operands_of l.op)) (is_a_local types f l.target h.0) (are_locals types f (operands_of l.op) h.1)
 
-let_agrees : (p : Code) (f : Func) (marks : List Mark) (s : State) (l : Let) → Tracks p.types f marks s → Agrees (let_fault p (locals_of p.types f) marks l) (let_checks p f (is_heap_local p.types f) s l)
+let_agrees : (p : Code) (f : Func) (marks : List Mark) (s : State) (l : Let) → Tracks p.types f marks s → Agrees (let_fault p (locals_of p.types f) marks l) (let_checks p f (is_owned p.types f) s l)
 let_agrees p f marks s l t =
     front_must (is_local (locals_of p.types f) l.target && list_all (is_local (locals_of p.types f)) (operands_of l.op)) fault.NoSuchEntry (AreThere f (l.target ∷ operands_of l.op)) (let_there p.types f l) (there_let p.types f l)
-    (option_or (op_fault p (locals_of p.types f) marks l.target l.op) None) (op_checks p f (is_heap_local p.types f) s l.target l.op)
-    (λ q. agrees_last (op_fault p (locals_of p.types f) marks l.target l.op) (op_checks p f (is_heap_local p.types f) s l.target l.op) (op_agrees p f marks s l.target l.op t))
+    (option_or (op_fault p (locals_of p.types f) marks l.target l.op) None) (op_checks p f (is_owned p.types f) s l.target l.op)
+    (λ q. agrees_last (op_fault p (locals_of p.types f) marks l.target l.op) (op_checks p f (is_owned p.types f) s l.target l.op) (op_agrees p f marks s l.target l.op t))
 
-track_let : (types : List DataType) (f : Func) (marks : List Mark) (s : State) (l : Let) → Tracks types f marks s → IsThere f l.target → Tracks types f (after_let (locals_of types f) marks l) (state_after_let (is_heap_local types f) s l)
+track_let : (types : List DataType) (f : Func) (marks : List Mark) (s : State) (l : Let) → Tracks types f marks s → IsThere f l.target
+    → Tracks types f (after_let (locals_of types f) marks l) (state_after_let no_reads (is_owned types f) s l)
 track_let types f marks s l t there =
-    subst (Tracks types f (after_let (locals_of types f) marks l)) (sym (after_append (is_heap_local types f) s (map Use (operands_of l.op)) (Bind l.target ∷ [])))
-    (track_bind types f (spend_all (locals_of types f) marks (operands_of l.op)) (state_after (is_heap_local types f) s (map Use (operands_of l.op))) l.target (track_uses types f marks s (operands_of l.op) t) there)
+    let used = spend_all (locals_of types f) marks (operands_of l.op) in
+    subst (Tracks types f (after_let (locals_of types f) marks l)) (sym (after_append (is_owned types f) s (uses_of no_reads l.op) (Bind l.target ∷ [])))
+    (track_bind types f used (state_after (is_owned types f) s (uses_of no_reads l.op)) l.target
+    (subst (λ es. Tracks types f used (state_after (is_owned types f) s es)) (sym (uses_none l.op)) (track_uses types f marks s (operands_of l.op) t)) there)
 
 -- ---- the end of a block
 
@@ -251,14 +254,14 @@ bound_are_kinds types f (a ∷ arms) (c ∷ cs) h =
     (join (have_kinds locals a.fields c.fields) (kept_fits locals a.cell) (kinds_had locals a.fields c.fields (the_kinds_had types f a.fields c.fields h.0.0)).1 (is_kept types f a.cell h.0.1))
     (bound_are_kinds types f arms cs h.1)
 
-arms_jump_agrees : (types : List DataType) (f : Func) (marks : List Mark) (s : State) (arms : List CaseArm) → Tracks types f marks s → Agrees (arms_jump_fault f marks arms) (arms_jump_checks f (is_heap_local types f) s arms)
+arms_jump_agrees : (types : List DataType) (f : Func) (marks : List Mark) (s : State) (arms : List CaseArm) → Tracks types f marks s → Agrees (arms_jump_fault f marks arms) (arms_jump_checks f (is_owned types f) s arms)
 arms_jump_agrees types f marks s [] t = tt
 arms_jump_agrees types f marks s (a ∷ arms) t =
-    front_jump types f (is_heap_local types f) marks s (bound_by a) (params_at f.blocks a.target) t (arms_jump_fault f marks arms) (arms_jump_checks f (is_heap_local types f) s arms)
+    front_jump types f (is_owned types f) marks s (bound_by a) (params_at f.blocks a.target) t (arms_jump_fault f marks arms) (arms_jump_checks f (is_owned types f) s arms)
     (λ p. arms_jump_agrees types f marks s arms t)
 
 arms_agree : (types : List DataType) (f : Func) (marks : List Mark) (s : State) (x : ℕ) (t : Option DataType) (arms : List CaseArm) → Tracks types f marks s
-    → Agrees (arms_fault f (locals_of types f) marks x t arms) (of_entry t fault.Kind (arms_checks f (is_heap_local types f) s x arms))
+    → Agrees (arms_fault f (locals_of types f) marks x t arms) (of_entry t fault.Kind (arms_checks f (is_owned types f) s x arms))
 arms_agree types f marks s x None arms tr = inl ((λ e. e), refl)
 arms_agree types f marks s x (Some t) arms tr =
     front_must (arms_count arms t.cons) fault.Arms (ArmsCount arms t.cons) (count_is_right arms t.cons) (is_right_count arms t.cons) _ _
@@ -266,8 +269,8 @@ arms_agree types f marks s x (Some t) arms tr =
     (λ u. front_must (cells_fit arms t.cons) fault.Place (AreCellsOf arms t.cons) (cells_are arms t.cons) (are_cells arms t.cons) _ _
     (λ c. front_must (arms_have_kinds (locals_of types f) arms t.cons) fault.Kind (ArmsBindKinds f arms t.cons) (kinds_are_bound types f arms t.cons n.1) (bound_are_kinds types f arms t.cons) _ _
     (λ k. front_must (list_all (λ a. are_distinct (bound_by a)) arms) fault.Header (AllByRecursion (λ a. AreDistinct (bound_by a)) arms) distinct are_all_distinct _ _
-    (λ d. agrees_last (arms_jump_fault f (spend (locals_of types f) marks x) arms) (arms_jump_checks f (is_heap_local types f) (use_of (is_heap_local types f) s x) arms)
-    (arms_jump_agrees types f (spend (locals_of types f) marks x) (use_of (is_heap_local types f) s x) arms (track_spend types f marks s x tr)))))))
+    (λ d. agrees_last (arms_jump_fault f (spend (locals_of types f) marks x) arms) (arms_jump_checks f (is_owned types f) (use_of (is_owned types f) s x) arms)
+    (arms_jump_agrees types f (spend (locals_of types f) marks x) (use_of (is_owned types f) s x) arms (track_spend types f marks s x tr)))))))
   where
     distinct : list_all (λ a. are_distinct (bound_by a)) arms ≡ true → AllByRecursion (λ a. AreDistinct (bound_by a)) arms
     distinct h = all_then (λ a. are_distinct (bound_by a) ≡ true) (λ a. AreDistinct (bound_by a)) arms (λ a. distinct_is (bound_by a)) (all_true (λ a. are_distinct (bound_by a)) arms h)
@@ -276,10 +279,10 @@ arms_agree types f marks s x (Some t) arms tr =
     are_all_distinct h = true_all (λ a. are_distinct (bound_by a)) arms (all_then (λ a. AreDistinct (bound_by a)) (λ a. are_distinct (bound_by a) ≡ true) arms (λ a. is_distinct (bound_by a)) h)
 
 plain_jump : (types : List DataType) (f : Func) (marks : List Mark) (s : State) (b : ℕ) → Tracks types f marks s → Front ⊤ (jump_fault f marks [] b) (jump_checks s (params_at f.blocks b))
-plain_jump types f marks s b t = front_jump types f (is_heap_local types f) marks s [] (params_at f.blocks b) t
+plain_jump types f marks s b t = front_jump types f (is_owned types f) marks s [] (params_at f.blocks b) t
 
 term_agrees : (p : Code) (f : Func) (number : ℕ) (marks : List Mark) (s : State) (e : Term) → Tracks p.types f marks s
-    → Agrees (term_fault p f (locals_of p.types f) number marks e) (term_checks p f (is_heap_local p.types f) number s e)
+    → Agrees (term_fault p f (locals_of p.types f) number marks e) (term_checks p f (is_owned p.types f) number s e)
 term_agrees p f number marks s (Ret x) t =
     front_must (is_local (locals_of p.types f) x) fault.NoSuchEntry (IsThere f x) (local_is p.types f x) (is_a_local p.types f x) _ _
     (λ q. agrees_last (operand_fault (locals_of p.types f) marks x f.result) (operand_checks f s x f.result NoMore) (front_alone ⊤ (operand_fault (locals_of p.types f) marks x f.result) (operand_checks f s x f.result) (front_operand p.types f marks s x f.result t)))
@@ -288,7 +291,7 @@ term_agrees p f number marks s (Tail func args) t =
     (λ q. agrees_last (callee_fault f (locals_of p.types f) marks (slice_get p.funcs func) args) _ (by_func (slice_get p.funcs func)))
   where
     by_func : (o : Option Func) → Agrees (callee_fault f (locals_of p.types f) marks o args)
-        (of_entry o fault.NoSuchEntry (λ callee. arguments_checks f (is_heap_local p.types f) s args callee.params (Must (callee.result ≡ f.result) fault.Kind NoMore)))
+        (of_entry o fault.NoSuchEntry (λ callee. arguments_checks f (is_owned p.types f) s args callee.params (Must (callee.result ≡ f.result) fault.Kind NoMore)))
     by_func None = inl ((λ e. e), refl)
     by_func (Some callee) =
         front_arguments p.types f marks s args callee.params t _ _
@@ -301,7 +304,7 @@ term_agrees p f number marks s (Goto b) t =
     (λ r. agrees_last (jump_fault f marks [] b) (jump_checks s (params_at f.blocks b) NoMore) (front_alone ⊤ (jump_fault f marks [] b) (jump_checks s (params_at f.blocks b)) (plain_jump p.types f marks s b t))))
 term_agrees p f number marks s (If x first second) t =
     let spent = spend (locals_of p.types f) marks x in
-    let used = use_of (is_heap_local p.types f) s x in
+    let used = use_of (is_owned p.types f) s x in
     let tracked = track_spend p.types f marks s x t in
     front_must (is_local (locals_of p.types f) x && is_block f first && is_block f second) fault.NoSuchEntry (IsThere f x × IsBlock f first × IsBlock f second) to from _ _
     (λ q. front_must (nat_lt number first && nat_lt number second) fault.Backward ((number < first) × (number < second)) forward is_forward _ _
@@ -325,7 +328,7 @@ term_agrees p f number marks s (Case x arms) t =
     front_must (is_local (locals_of p.types f) x && list_all (arm_is_there f (locals_of p.types f)) arms) fault.NoSuchEntry (IsThere f x × AllByRecursion (ArmIsThere f) arms) to from _ _
     (λ q. front_must (list_all (λ a. nat_lt number a.target) arms) fault.Backward (AllByRecursion (λ a. number < a.target) arms) forward is_forward _ _
     (λ r. agrees_last (arms_fault f (locals_of p.types f) marks x (data_type p.types (kind_at (locals_of p.types f) x)) arms) _
-    (subst (λ o. Agrees (arms_fault f (locals_of p.types f) marks x (data_type p.types o) arms) (of_entry (data_type p.types (kind_of f x)) fault.Kind (arms_checks f (is_heap_local p.types f) s x arms))) (sym (kind_is p.types f x))
+    (subst (λ o. Agrees (arms_fault f (locals_of p.types f) marks x (data_type p.types o) arms) (of_entry (data_type p.types (kind_of f x)) fault.Kind (arms_checks f (is_owned p.types f) s x arms))) (sym (kind_is p.types f x))
     (arms_agree p.types f marks s x (data_type p.types (kind_of f x)) arms t))))
   where
     to : (is_local (locals_of p.types f) x && list_all (arm_is_there f (locals_of p.types f)) arms) ≡ true → IsThere f x × AllByRecursion (ArmIsThere f) arms
@@ -423,16 +426,16 @@ walk_nothing (Some e) = refl
 
 lets_agree : (p : Code) (f : Func) (func number place : ℕ) (marks : List Mark) (s : State) (ls : List Let) (next : State → Walk) (r : Option CodeFault) → Tracks p.types f marks s
     → ((last : State) → Tracks p.types f (after_lets (locals_of p.types f) marks ls) last → WalkAgrees r (next last))
-    → WalkAgrees (option_or (lets_fault p (locals_of p.types f) func number place marks ls) r) (lets_walk p f (is_heap_local p.types f) func number place s ls next)
+    → WalkAgrees (option_or (lets_fault p (locals_of p.types f) func number place marks ls) r) (lets_walk p f (is_owned p.types f) func number place s ls next)
 lets_agree p f func number place marks s [] next r t go = go s t
 lets_agree p f func number place marks s (l ∷ ls) next r t go =
-    subst (λ o. WalkAgrees o (lets_walk p f (is_heap_local p.types f) func number place s (l ∷ ls) next))
+    subst (λ o. WalkAgrees o (lets_walk p f (is_owned p.types f) func number place s (l ∷ ls) next))
     (sym (walk_grouped (at_place func number place (let_fault p (locals_of p.types f) marks l)) (lets_fault p (locals_of p.types f) func number (suc place) (after_let (locals_of p.types f) marks l) ls) r))
-    (at_agrees func number place (let_fault p (locals_of p.types f) marks l) (let_checks p f (is_heap_local p.types f) s l) _ _ (let_agrees p f marks s l t)
-    (λ pass. lets_agree p f func number (suc place) (after_let (locals_of p.types f) marks l) (state_after_let (is_heap_local p.types f) s l) ls next r (track_let p.types f marks s l t pass.0.0) go))
+    (at_agrees func number place (let_fault p (locals_of p.types f) marks l) (let_checks p f (is_owned p.types f) s l) _ _ (let_agrees p f marks s l t)
+    (λ pass. lets_agree p f func number (suc place) (after_let (locals_of p.types f) marks l) (state_after_let (reads_of p) (is_owned p.types f) s l) ls next r (track_let p.types f marks s l t pass.0.0) go))
 
 block_agrees : (p : Code) (f : Func) (func number : ℕ) (b : Block) (r : Option CodeFault) (rest : Walk) → WalkAgrees r rest
-    → WalkAgrees (option_or (block_fault p f (locals_of p.types f) func number b) r) (block_walk p f (is_heap_local p.types f) func number b rest)
+    → WalkAgrees (option_or (block_fault p f (locals_of p.types f) func number b) r) (block_walk p f (is_owned p.types f) func number b rest)
 block_agrees p f func number b r rest a =
     let locals = locals_of p.types f in
     let header = at_place func number 0 (block_header_fault f locals number b.params) in
@@ -440,19 +443,19 @@ block_agrees p f func number b r rest a =
     let end = at_place func number (suc (length b.lets)) (term_fault p f locals number (after_lets locals (at_start locals b) b.lets) b.term) in
     let grouped : option_or (option_or header (option_or lets (option_or end None))) r ≡ option_or header (option_or lets (option_or end r)) =
     walk_grouped header (option_or lets (option_or end None)) r ∙ ap (option_or header) (walk_grouped lets (option_or end None) r ∙ ap (λ o. option_or lets (option_or o r)) (walk_nothing end)) in
-    subst (λ o. WalkAgrees o (block_walk p f (is_heap_local p.types f) func number b rest)) (sym grouped)
+    subst (λ o. WalkAgrees o (block_walk p f (is_owned p.types f) func number b rest)) (sym grouped)
     (at_agrees func number 0 (block_header_fault f locals number b.params) (header_checks f number b.params) (option_or lets (option_or end r)) _ (header_agrees p.types f number b.params)
-    (λ pass. lets_agree p f func number 1 (at_start locals b) (state_at_start (is_heap_local p.types f) b) b.lets _ (option_or end r)
-    (track_binds p.types f (is_heap_local p.types f) (unbound locals) nothing_bound b.params (track_nothing p.types f) pass.0)
-    (λ last t. at_agrees func number (suc (length b.lets)) (term_fault p f locals number (after_lets locals (at_start locals b) b.lets) b.term) (term_checks p f (is_heap_local p.types f) number last b.term) r rest
+    (λ pass. lets_agree p f func number 1 (at_start locals b) (state_at_start (is_owned p.types f) b) b.lets _ (option_or end r)
+    (track_binds p.types f (is_owned p.types f) (unbound locals) nothing_bound b.params (track_nothing p.types f) pass.0)
+    (λ last t. at_agrees func number (suc (length b.lets)) (term_fault p f locals number (after_lets locals (at_start locals b) b.lets) b.term) (term_checks p f (is_owned p.types f) number last b.term) r rest
     (term_agrees p f number (after_lets locals (at_start locals b) b.lets) last b.term t) (λ q. a))))
 
 blocks_agree : (p : Code) (f : Func) (func number : ℕ) (bs : List Block) (r : Option CodeFault) (rest : Walk) → WalkAgrees r rest
-    → WalkAgrees (option_or (blocks_fault p f (locals_of p.types f) func number bs) r) (blocks_walk p f (is_heap_local p.types f) func number bs rest)
+    → WalkAgrees (option_or (blocks_fault p f (locals_of p.types f) func number bs) r) (blocks_walk p f (is_owned p.types f) func number bs rest)
 blocks_agree p f func number [] r rest a = a
 blocks_agree p f func number (b ∷ bs) r rest a =
-    subst (λ o. WalkAgrees o (blocks_walk p f (is_heap_local p.types f) func number (b ∷ bs) rest)) (sym (walk_grouped (block_fault p f (locals_of p.types f) func number b) (blocks_fault p f (locals_of p.types f) func (suc number) bs) r))
-    (block_agrees p f func number b (option_or (blocks_fault p f (locals_of p.types f) func (suc number) bs) r) (blocks_walk p f (is_heap_local p.types f) func (suc number) bs rest) (blocks_agree p f func (suc number) bs r rest a))
+    subst (λ o. WalkAgrees o (blocks_walk p f (is_owned p.types f) func number (b ∷ bs) rest)) (sym (walk_grouped (block_fault p f (locals_of p.types f) func number b) (blocks_fault p f (locals_of p.types f) func (suc number) bs) r))
+    (block_agrees p f func number b (option_or (blocks_fault p f (locals_of p.types f) func (suc number) bs) r) (blocks_walk p f (is_owned p.types f) func (suc number) bs rest) (blocks_agree p f func (suc number) bs r rest a))
 
 funcs_agree : (p : Code) (func : ℕ) (earlier : List (List ℕ)) (fs : List Func) → WalkAgrees (functions_fault p func earlier fs) (funcs_walk p func earlier fs)
 funcs_agree p func earlier [] = tt

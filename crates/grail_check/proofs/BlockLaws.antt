@@ -7,9 +7,9 @@ use Rattle.camelot_values.specs.Kinds.{DataType}
 use Rattle.camelot_values.specs.declared.kinds.Kind.{Kind}
 use Rattle.camelot_values.specs.declared.kinds.Kind.TheVariants as kind
 use Rattle.grail_code.specs.Code.{Let, CaseArm, Term, Ret, Tail, Goto, If, Case, Block, Func, Code}
-use Rattle.grail_code.specs.WellFormed.{kind_of, HaveKinds, is_heap_local, Ascend, LetFits, Gives, bound_by, ArmsFit, data_type, TermFits, Event, Bind, operands_of, let_events, term_uses, params_at, jump_events, ways, block_events, BlockFits, BlocksFit}
+use Rattle.grail_code.specs.WellFormed.{kind_of, HaveKinds, is_owned, reads_of, Ascend, LetFits, Gives, bound_by, ArmsFit, data_type, TermFits, Event, Bind, no_reads, operands_of, let_events, term_uses, term_events, params_at, jump_events, ways, block_events, BlockFits, BlocksFit}
 use Rattle.grail_blocks.specs.States.{IsAffine}
-use Rattle.grail_blocks.specs.StateLaws.{uses_affinely, affinely_used}
+use Rattle.grail_blocks.specs.StateLaws.{term_uses_none, uses_affinely, affinely_used}
 use Rattle.grail_check.specs.declared.fault.CodeKind.TheVariants as fault
 use Rattle.grail_check.specs.declared.locals.Local.{Local}
 use Rattle.grail_check.specs.declared.locals.Mark.{Mark}
@@ -17,7 +17,7 @@ use Rattle.grail_check.specs.Faulting.{unless, at_place, locals_of, is_local, is
 use Rattle.grail_check.proofs.Checks.{or_first, or_second, or_none, none_fails, all_pass, unless_true, true_unless, nothing_there, nowhere, both, join, all_both}
 use Rattle.grail_check.proofs.Distinct.{ascends_is, is_ascending_all, first_numbers, are_first_numbers}
 use Rattle.grail_check.proofs.Playing.{after, Plays, plays_front, plays_back, plays_both, after_both, length_after, used_well, plays_well, IsWithin, AreWithin}
-use Rattle.grail_check.proofs.LetLaws.{heap_is, count_is, kind_at_is, kind_there, kinds_there, the_kinds_had, some_and, uses, after_a_let, let_passes, pass_let, operands_there}
+use Rattle.grail_check.proofs.LetLaws.{heap_is, count_is, kind_at_is, kind_there, kinds_there, the_kinds_had, some_and, uses, let_uses, after_a_let, let_passes, pass_let, operands_there}
 use Rattle.grail_check.proofs.ExitLaws.{AreBelow, there_below, below_there, binds_play, after_binds, arm_way, data_there, exit_passes, pass_exit}
 use Rattle.std.proofs.lemmas.List.{length-replicate}
 
@@ -51,45 +51,45 @@ pass_header types f number params w a e =
 -- ---- lets
 
 lets_pass : (p : Code) (f : Func) (func number place : ℕ) (marks : List Mark) (ls : List Let) → lets_fault p (locals_of p.types f) func number place marks ls ≡ None
-    → AllByRecursion (LetFits p f) ls × Plays (locals_of p.types f) marks (flat_map let_events ls)
+    → AllByRecursion (LetFits p f) ls × Plays (locals_of p.types f) marks (flat_map (let_events no_reads) ls)
 lets_pass p f func number place marks [] h = (tt, tt)
 lets_pass p f func number place marks (l ∷ ls) h =
     let locals = locals_of p.types f in
     let a = let_passes p f marks l (nothing_there func number place (let_fault p locals marks l) (or_first _ _ h)) in
     let b = lets_pass p f func number (suc place) (after_let locals marks l) ls (or_second (at_place func number place (let_fault p locals marks l)) _ h) in
-    ((a.0, b.0), plays_both locals marks (let_events l) (flat_map let_events ls) a.1 (subst (λ m. Plays locals m (flat_map let_events ls)) (sym (after_a_let locals marks l)) b.1))
+    ((a.0, b.0), plays_both locals marks (let_events no_reads l) (flat_map (let_events no_reads) ls) a.1 (subst (λ m. Plays locals m (flat_map (let_events no_reads) ls)) (sym (after_a_let locals marks l)) b.1))
 
-pass_lets : (p : Code) (f : Func) (func number place : ℕ) (marks : List Mark) (ls : List Let) → AllByRecursion (LetFits p f) ls → Plays (locals_of p.types f) marks (flat_map let_events ls)
+pass_lets : (p : Code) (f : Func) (func number place : ℕ) (marks : List Mark) (ls : List Let) → AllByRecursion (LetFits p f) ls → Plays (locals_of p.types f) marks (flat_map (let_events no_reads) ls)
     → lets_fault p (locals_of p.types f) func number place marks ls ≡ None
 pass_lets p f func number place marks [] fits h = refl
 pass_lets p f func number place marks (l ∷ ls) fits h =
     let locals = locals_of p.types f in
     or_none (at_place func number place (let_fault p locals marks l)) _
-    (nowhere func number place (let_fault p locals marks l) (pass_let p f marks l fits.0 (plays_front locals marks (let_events l) (flat_map let_events ls) h)))
+    (nowhere func number place (let_fault p locals marks l) (pass_let p f marks l fits.0 (plays_front locals marks (let_events no_reads l) (flat_map (let_events no_reads) ls) h)))
     (pass_lets p f func number (suc place) (after_let locals marks l) ls fits.1
-    (subst (λ m. Plays locals m (flat_map let_events ls)) (after_a_let locals marks l) (plays_back locals marks (let_events l) (flat_map let_events ls) h)))
+    (subst (λ m. Plays locals m (flat_map (let_events no_reads) ls)) (after_a_let locals marks l) (plays_back locals marks (let_events no_reads l) (flat_map (let_events no_reads) ls) h)))
 
-pub after_all_lets : (locals : List Local) (marks : List Mark) (ls : List Let) → after locals marks (flat_map let_events ls) ≡ after_lets locals marks ls
+pub after_all_lets : (locals : List Local) (marks : List Mark) (ls : List Let) → after locals marks (flat_map (let_events no_reads) ls) ≡ after_lets locals marks ls
 after_all_lets locals marks [] = refl
-after_all_lets locals marks (l ∷ ls) = after_both locals marks (let_events l) (flat_map let_events ls)
-    ∙ ap (λ m. after locals m (flat_map let_events ls)) (after_a_let locals marks l) ∙ after_all_lets locals (after_let locals marks l) ls
+after_all_lets locals marks (l ∷ ls) = after_both locals marks (let_events no_reads l) (flat_map (let_events no_reads) ls)
+    ∙ ap (λ m. after locals m (flat_map (let_events no_reads) ls)) (after_a_let locals marks l) ∙ after_all_lets locals (after_let locals marks l) ls
 
 -- ---- the events of a block
 
 abbrev front_events : Block → List Event
-front_events b = map Bind b.params ++ flat_map let_events b.lets
+front_events b = map Bind b.params ++ flat_map (let_events no_reads) b.lets
 
 after_front : (locals : List Local) (b : Block) → after locals (unbound locals) (front_events b) ≡ after_lets locals (at_start locals b) b.lets
-after_front locals b = after_both locals (unbound locals) (map Bind b.params) (flat_map let_events b.lets)
-    ∙ ap (λ m. after locals m (flat_map let_events b.lets)) (after_binds locals (unbound locals) b.params) ∙ after_all_lets locals (at_start locals b) b.lets
+after_front locals b = after_both locals (unbound locals) (map Bind b.params) (flat_map (let_events no_reads) b.lets)
+    ∙ ap (λ m. after locals m (flat_map (let_events no_reads) b.lets)) (after_binds locals (unbound locals) b.params) ∙ after_all_lets locals (at_start locals b) b.lets
 
-front_plays : (locals : List Local) (b : Block) → Plays locals (at_start locals b) (flat_map let_events b.lets) → Plays locals (unbound locals) (front_events b)
-front_plays locals b h = plays_both locals (unbound locals) (map Bind b.params) (flat_map let_events b.lets) (binds_play locals (unbound locals) b.params)
-    (subst (λ m. Plays locals m (flat_map let_events b.lets)) (sym (after_binds locals (unbound locals) b.params)) h)
+front_plays : (locals : List Local) (b : Block) → Plays locals (at_start locals b) (flat_map (let_events no_reads) b.lets) → Plays locals (unbound locals) (front_events b)
+front_plays locals b h = plays_both locals (unbound locals) (map Bind b.params) (flat_map (let_events no_reads) b.lets) (binds_play locals (unbound locals) b.params)
+    (subst (λ m. Plays locals m (flat_map (let_events no_reads) b.lets)) (sym (after_binds locals (unbound locals) b.params)) h)
 
-plays_lets : (locals : List Local) (b : Block) → Plays locals (unbound locals) (front_events b) → Plays locals (at_start locals b) (flat_map let_events b.lets)
-plays_lets locals b h = subst (λ m. Plays locals m (flat_map let_events b.lets)) (after_binds locals (unbound locals) b.params)
-    (plays_back locals (unbound locals) (map Bind b.params) (flat_map let_events b.lets) h)
+plays_lets : (locals : List Local) (b : Block) → Plays locals (unbound locals) (front_events b) → Plays locals (at_start locals b) (flat_map (let_events no_reads) b.lets)
+plays_lets locals b h = subst (λ m. Plays locals m (flat_map (let_events no_reads) b.lets)) (after_binds locals (unbound locals) b.params)
+    (plays_back locals (unbound locals) (map Bind b.params) (flat_map (let_events no_reads) b.lets) h)
 
 -- the state at the end of a block
 abbrev pub at_end : List Local → Block → List Mark
@@ -101,10 +101,10 @@ end_events locals b es h k = plays_both locals (unbound locals) (front_events b)
 events_end : (locals : List Local) (b : Block) (es : List Event) → Plays locals (unbound locals) (front_events b ++ es) → Plays locals (at_end locals b) es
 events_end locals b es h = subst (λ m. Plays locals m es) (after_front locals b) (plays_back locals (unbound locals) (front_events b) es h)
 
-after_block : (locals : List Local) (b : Block) → after locals (unbound locals) (block_events b) ≡ after locals (at_end locals b) (uses (term_uses b.term))
-after_block locals b = after_both locals (unbound locals) (front_events b) (uses (term_uses b.term)) ∙ ap (λ m. after locals m (uses (term_uses b.term))) (after_front locals b)
+after_block : (locals : List Local) (b : Block) → after locals (unbound locals) (block_events no_reads b) ≡ after locals (at_end locals b) (term_events no_reads b.term)
+after_block locals b = after_both locals (unbound locals) (front_events b) (term_events no_reads b.term) ∙ ap (λ m. after locals m (term_events no_reads b.term)) (after_front locals b)
 
-heap_path : (types : List DataType) (f : Func) → is_heap_at (locals_of types f) ≡ is_heap_local types f
+heap_path : (types : List DataType) (f : Func) → is_heap_at (locals_of types f) ≡ is_owned types f
 heap_path types f = λ i x. heap_is types f x i
 
 pub end_length : (locals : List Local) (b : Block) → length (at_end locals b) ≡ length locals
@@ -112,14 +112,14 @@ end_length locals b = ap length (sym (after_front locals b)) ∙ length_after lo
 
 -- ---- a block
 
-all_ways : (types : List DataType) (f : Func) (b : Block) (ws : List (List Event)) → Plays (locals_of types f) (unbound (locals_of types f)) (block_events b)
-    → AllByRecursion (λ w. Plays (locals_of types f) (after (locals_of types f) (at_end (locals_of types f) b) (uses (term_uses b.term))) w) ws
-    → AllByRecursion (λ w. IsAffine (is_heap_local types f) (block_events b ++ w)) ws
+all_ways : (types : List DataType) (f : Func) (b : Block) (ws : List (List Event)) → Plays (locals_of types f) (unbound (locals_of types f)) (block_events no_reads b)
+    → AllByRecursion (λ w. Plays (locals_of types f) (after (locals_of types f) (at_end (locals_of types f) b) (term_events no_reads b.term)) w) ws
+    → AllByRecursion (λ w. IsAffine (is_owned types f) (block_events no_reads b ++ w)) ws
 all_ways types f b [] h k = tt
 all_ways types f b (w ∷ ws) h k =
     let locals = locals_of types f in (
-      subst (λ t. IsAffine t (block_events b ++ w)) (heap_path types f)
-          (used_well locals (block_events b ++ w) (plays_both locals (unbound locals) (block_events b) w h (subst (λ m. Plays locals m w) (sym (after_block locals b)) k.0))),
+      subst (λ t. IsAffine t (block_events no_reads b ++ w)) (heap_path types f)
+          (used_well locals (block_events no_reads b ++ w) (plays_both locals (unbound locals) (block_events no_reads b) w h (subst (λ m. Plays locals m w) (sym (after_block locals b)) k.0))),
       all_ways types f b ws h k.1,
     )
 
@@ -133,15 +133,15 @@ block_passes p f func number b asc h =
     let lets = lets_pass p f func number 1 (at_start locals b) b.lets a.1.0 in
     let term = exit_passes p f number end b.term asc (end_length locals b) (nothing_there func number (suc (length b.lets)) (term_fault p f locals number end b.term) a.1.1.0) in
     let front = front_plays locals b lets.1 in
-    let inside = end_events locals b (uses (term_uses b.term)) front term.1 in
+    let inside = end_events locals b (term_events no_reads b.term) front term.1 in
     record {
       params = subst (λ n. AreBelow n b.params) (count_is p.types f) header.0;
       ascending = header.1;
       entry = header.2;
       lets = lets.0;
       term = term.0;
-      uses = affinely_used (is_heap_local p.types f) f.blocks b (record {
-        inside = subst (λ t. IsAffine t (block_events b)) (heap_path p.types f) (used_well locals (block_events b) inside);
+      uses = affinely_used (reads_of p) (is_owned p.types f) f.blocks b (record {
+        inside = subst (λ t. IsAffine t (block_events no_reads b)) (heap_path p.types f) (used_well locals (block_events no_reads b) inside);
         onward = all_ways p.types f b (ways f.blocks b.term) inside term.2;
       });
     }
@@ -156,14 +156,14 @@ binds_within : (n : ℕ) (xs : List ℕ) → AreWithin n (map Bind xs)
 binds_within n [] = tt
 binds_within n (x ∷ xs) = (tt, binds_within n xs)
 
-lets_within : (p : Code) (f : Func) (ls : List Let) → AllByRecursion (LetFits p f) ls → AreWithin (length (locals_of p.types f)) (flat_map let_events ls)
+lets_within : (p : Code) (f : Func) (ls : List Let) → AllByRecursion (LetFits p f) ls → AreWithin (length (locals_of p.types f)) (flat_map (let_events no_reads) ls)
 lets_within p f [] h = tt
 lets_within p f (l ∷ ls) h =
     let locals = locals_of p.types f in
     let n = length locals in
     let (k, e, g) = some_and (kind_of f l.target) (Gives p f l.op) h.0 in
-    all_both (IsWithin n) (let_events l) (flat_map let_events ls)
-    (all_both (IsWithin n) (uses (operands_of l.op)) (Bind l.target ∷ []) (uses_within n (operands_of l.op) (there_below locals (operands_of l.op) (operands_there p f l.op k g))) (tt, tt))
+    all_both (IsWithin n) (let_events no_reads l) (flat_map (let_events no_reads) ls)
+    (subst (AreWithin n) (sym (let_uses l)) (all_both (IsWithin n) (uses (operands_of l.op)) (Bind l.target ∷ []) (uses_within n (operands_of l.op) (there_below locals (operands_of l.op) (operands_there p f l.op k g))) (tt, tt)))
     (lets_within p f ls h.1)
 
 one_below : (p : Code) (f : Func) (x : ℕ) (k : Kind) → kind_of f x ≡ Some k → AreBelow (length (locals_of p.types f)) (x ∷ [])
@@ -192,25 +192,25 @@ ways_within f n (Goto b) h = (uses_within n (params_at f.blocks b) (h b), tt)
 ways_within f n (If x first second) h = (uses_within n (params_at f.blocks first) (h first), (uses_within n (params_at f.blocks second) (h second), tt))
 ways_within f n (Case x arms) h = arm_ways_within f n arms h
 
-ways_all : (types : List DataType) (f : Func) (b : Block) (ws : List (List Event)) → AreWithin (length (locals_of types f)) (block_events b) → AllByRecursion (AreWithin (length (locals_of types f))) ws
-    → AllByRecursion (λ w. IsAffine (is_heap_local types f) (block_events b ++ w)) ws
-    → AllByRecursion (λ w. Plays (locals_of types f) (after (locals_of types f) (at_end (locals_of types f) b) (uses (term_uses b.term))) w) ws
+ways_all : (types : List DataType) (f : Func) (b : Block) (ws : List (List Event)) → AreWithin (length (locals_of types f)) (block_events no_reads b) → AllByRecursion (AreWithin (length (locals_of types f))) ws
+    → AllByRecursion (λ w. IsAffine (is_owned types f) (block_events no_reads b ++ w)) ws
+    → AllByRecursion (λ w. Plays (locals_of types f) (after (locals_of types f) (at_end (locals_of types f) b) (term_events no_reads b.term)) w) ws
 ways_all types f b [] i k h = tt
 ways_all types f b (w ∷ ws) i k h =
     let locals = locals_of types f in
-    let plays = plays_well locals (block_events b ++ w) (all_both (IsWithin (length locals)) (block_events b) w i k.0) (subst (λ t. IsAffine t (block_events b ++ w)) (sym (heap_path types f)) h.0) in
-    (subst (λ m. Plays locals m w) (after_block locals b) (plays_back locals (unbound locals) (block_events b) w plays), ways_all types f b ws i k.1 h.1)
+    let plays = plays_well locals (block_events no_reads b ++ w) (all_both (IsWithin (length locals)) (block_events no_reads b) w i k.0) (subst (λ t. IsAffine t (block_events no_reads b ++ w)) (sym (heap_path types f)) h.0) in
+    (subst (λ m. Plays locals m w) (after_block locals b) (plays_back locals (unbound locals) (block_events no_reads b) w plays), ways_all types f b ws i k.1 h.1)
 
 pub pass_block : (p : Code) (f : Func) (func number : ℕ) (b : Block) → ((n : ℕ) → AreBelow (length (locals_of p.types f)) (params_at f.blocks n)) → BlockFits p f number b → block_fault p f (locals_of p.types f) func number b ≡ None
 pass_block p f func number b params fits =
     let locals = locals_of p.types f in
     let n = length locals in
     let end = at_end locals b in
-    let last = uses (term_uses b.term) in
-    let affine = uses_affinely (is_heap_local p.types f) f.blocks b fits.uses in
-    let i : AreWithin n (block_events b) = all_both (IsWithin n) (front_events b) last
-    (all_both (IsWithin n) (map Bind b.params) (flat_map let_events b.lets) (binds_within n b.params) (lets_within p f b.lets fits.lets)) (uses_within n (term_uses b.term) (exit_below p f number b.term fits.term)) in
-    let plays = plays_well locals (block_events b) i (subst (λ t. IsAffine t (block_events b)) (sym (heap_path p.types f)) affine.inside) in
+    let last = term_events no_reads b.term in
+    let affine = uses_affinely (reads_of p) (is_owned p.types f) f.blocks b fits.uses in
+    let i : AreWithin n (block_events no_reads b) = all_both (IsWithin n) (front_events b) last
+    (all_both (IsWithin n) (map Bind b.params) (flat_map (let_events no_reads) b.lets) (binds_within n b.params) (lets_within p f b.lets fits.lets)) (subst (AreWithin n) (sym (term_uses_none b.term)) (uses_within n (term_uses b.term) (exit_below p f number b.term fits.term))) in
+    let plays = plays_well locals (block_events no_reads b) i (subst (λ t. IsAffine t (block_events no_reads b)) (sym (heap_path p.types f)) affine.inside) in
     let front = plays_front locals (unbound locals) (front_events b) last plays in
     all_pass (at_place func number 0 (block_header_fault f locals number b.params) ∷ lets_fault p locals func number 1 (at_start locals b) b.lets
     ∷ at_place func number (suc (length b.lets)) (term_fault p f locals number end b.term) ∷ []) (

@@ -9,7 +9,7 @@ use Rattle.camelot_values.specs.declared.kinds.Kind.TheVariants as kind
 use Rattle.grail_blocks.specs.declared.blocks.CaseCell.{CaseCell}
 use Rattle.grail_blocks.specs.declared.blocks.CaseCell.TheVariants as cell
 use Rattle.grail_code.specs.Code.{CaseArm, Term, Ret, Tail, Goto, If, Case, Func, Code}
-use Rattle.grail_code.specs.WellFormed.{kind_of, HaveKinds, Ascend, CellFits, kept_diamond, bound_by, ArmsFit, data_type, TermFits, Event, Use, Bind, term_uses, params_at, jump_events, ways}
+use Rattle.grail_code.specs.WellFormed.{kind_of, HaveKinds, Ascend, CellFits, kept_diamond, bound_by, ArmsFit, data_type, TermFits, Event, Use, Bind, no_reads, term_events, params_at, jump_events, ways}
 use Rattle.grail_check.specs.declared.fault.CodeKind.TheVariants as fault
 use Rattle.grail_check.specs.declared.locals.Local.{Local}
 use Rattle.grail_check.specs.declared.locals.Mark.{Mark}
@@ -336,8 +336,8 @@ jump_plain : (f : Func) (locals : List Local) (marks : List Mark) (b : ℕ) → 
 jump_plain f locals marks b h = pass_jump f locals marks [] b h
 
 abbrev pub ExitPlays : Code → Func → ℕ → List Mark → Term → Type 0
-ExitPlays p f number marks e = TermFits p f number e × Plays (locals_of p.types f) marks (uses (term_uses e))
-    × WaysPlay (locals_of p.types f) (after (locals_of p.types f) marks (uses (term_uses e))) (ways f.blocks e)
+ExitPlays p f number marks e = TermFits p f number e × Plays (locals_of p.types f) marks (term_events no_reads e)
+    × WaysPlay (locals_of p.types f) (after (locals_of p.types f) marks (term_events no_reads e)) (ways f.blocks e)
 
 pub exit_passes : (p : Code) (f : Func) (number : ℕ) (marks : List Mark) (e : Term) → ((b : ℕ) → Ascend (params_at f.blocks b)) → length marks ≡ length (locals_of p.types f)
     → term_fault p f (locals_of p.types f) number marks e ≡ None → ExitPlays p f number marks e

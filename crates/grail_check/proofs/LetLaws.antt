@@ -14,7 +14,8 @@ use Rattle.camelot_values.specs.declared.kinds.Kind.TheVariants as kind
 use Rattle.grail_blocks.specs.declared.blocks.Place.{Place}
 use Rattle.grail_blocks.specs.declared.blocks.Place.TheVariants as place
 use Rattle.grail_code.specs.Code.{Op, Lit, Flag, Copy, Prim, Make, Call, Let, Func, Code}
-use Rattle.grail_code.specs.WellFormed.{local_kinds, kind_of, HaveKinds, is_heap_local, operator_kind, PlaceFits, Gives, LetFits, Event, Use, Bind, taken, operands_of, let_events}
+use Rattle.grail_code.specs.WellFormed.{local_kinds, kind_of, HaveKinds, is_owned, operator_kind, PlaceFits, Gives, LetFits, Event, Use, Bind, no_reads, taken, operands_of, let_events}
+use Rattle.grail_blocks.specs.StateLaws.{uses_none}
 use Rattle.grail_check.specs.declared.fault.CodeKind.TheVariants as fault
 use Rattle.grail_check.specs.declared.locals.Local.{Local}
 use Rattle.grail_check.specs.declared.locals.Mark.{Mark}
@@ -32,7 +33,7 @@ kind_is types f x = ap (option_map (λ l. l.kind)) (slice_get-map (local_of type
     there None = refl
     there (Some k) = refl
 
-pub heap_is : (types : List DataType) (f : Func) (x : ℕ) → is_heap_at (locals_of types f) x ≡ is_heap_local types f x
+pub heap_is : (types : List DataType) (f : Func) (x : ℕ) → is_heap_at (locals_of types f) x ≡ is_owned types f x
 heap_is types f x = ap (λ o. option_map_or (λ l. l.heap) o false) (slice_get-map (local_of types) (local_kinds f) x) ∙ there (slice_get (local_kinds f) x)
   where
     there : (o : Option Kind) → option_map_or (λ l. l.heap) (option_map (local_of types) o) false ≡ option_map_or (is_heap types) o false
@@ -357,17 +358,24 @@ operands_there p f (Call func args) k g =
     let (callee, e, h) = some_and (slice_get p.funcs func) (CallFits f args k) g in
     kinds_there (locals_of p.types f) args callee.params (the_kinds_had p.types f args callee.params h.0)
 
-pub after_a_let : (locals : List Local) (marks : List Mark) (l : Let) → after locals marks (let_events l) ≡ after_let locals marks l
-after_a_let locals marks l = after_both locals marks (uses (operands_of l.op)) (Bind l.target ∷ []) ∙ ap (λ m. bind m l.target) (after_uses locals marks (operands_of l.op))
+-- nothing is read, so that a let uses its operands
+pub let_uses : (l : Let) → let_events no_reads l ≡ uses (operands_of l.op) ++ Bind l.target ∷ []
+let_uses l = ap (λ es. es ++ Bind l.target ∷ []) (uses_none l.op)
 
-pub let_passes : (p : Code) (f : Func) (marks : List Mark) (l : Let) → let_fault p (locals_of p.types f) marks l ≡ None → LetFits p f l × Plays (locals_of p.types f) marks (let_events l)
+pub after_a_let : (locals : List Local) (marks : List Mark) (l : Let) → after locals marks (let_events no_reads l) ≡ after_let locals marks l
+after_a_let locals marks l =
+    ap (after locals marks) (let_uses l) ∙ after_both locals marks (uses (operands_of l.op)) (Bind l.target ∷ []) ∙ ap (λ m. bind m l.target) (after_uses locals marks (operands_of l.op))
+
+pub let_passes : (p : Code) (f : Func) (marks : List Mark) (l : Let) → let_fault p (locals_of p.types f) marks l ≡ None → LetFits p f l × Plays (locals_of p.types f) marks (let_events no_reads l)
 let_passes p f marks l h =
     let locals = locals_of p.types f in
     let a = or_second (unless (is_local locals l.target && list_all (is_local locals) (operands_of l.op)) fault.NoSuchEntry) _ h in
-    let ((k, e, g), plays) = operation_passes p f marks l.target l.op (or_first (op_fault p locals marks l.target l.op) None a) in
-    (and_some (kind_of f l.target) (Gives p f l.op) k (kind_of_is p.types f l.target k e) g, plays_both locals marks (uses (operands_of l.op)) (Bind l.target ∷ []) plays (tt, tt))
+    let ((k, e, g), plays) = operation_passes p f marks l.target l.op (or_first (op_fault p locals marks l.target l.op) None a) in (
+      and_some (kind_of f l.target) (Gives p f l.op) k (kind_of_is p.types f l.target k e) g,
+      subst (Plays locals marks) (sym (let_uses l)) (plays_both locals marks (uses (operands_of l.op)) (Bind l.target ∷ []) plays (tt, tt)),
+    )
 
-pub pass_let : (p : Code) (f : Func) (marks : List Mark) (l : Let) → LetFits p f l → Plays (locals_of p.types f) marks (let_events l) → let_fault p (locals_of p.types f) marks l ≡ None
+pub pass_let : (p : Code) (f : Func) (marks : List Mark) (l : Let) → LetFits p f l → Plays (locals_of p.types f) marks (let_events no_reads l) → let_fault p (locals_of p.types f) marks l ≡ None
 pass_let p f marks l fits plays =
     let locals = locals_of p.types f in
     let (k, e, g) = some_and (kind_of f l.target) (Gives p f l.op) fits in
@@ -375,5 +383,5 @@ pass_let p f marks l fits plays =
     all_pass (unless (is_local locals l.target && list_all (is_local locals) (operands_of l.op)) fault.NoSuchEntry ∷ op_fault p locals marks l.target l.op ∷ []) (
       true_unless (is_local locals l.target && list_all (is_local locals) (operands_of l.op)) fault.NoSuchEntry
           (join (is_local locals l.target) (list_all (is_local locals) (operands_of l.op)) (is_below l.target (length locals) (kind_there locals l.target k q)) (operands_there p f l.op k g)),
-      (pass_operation p f marks l.target l.op (k, q, g) (plays_front locals marks (uses (operands_of l.op)) (Bind l.target ∷ []) plays), tt),
+      (pass_operation p f marks l.target l.op (k, q, g) (plays_front locals marks (uses (operands_of l.op)) (Bind l.target ∷ []) (subst (Plays locals marks) (let_uses l) plays)), tt),
     )

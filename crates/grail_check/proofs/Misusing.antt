@@ -10,8 +10,9 @@ use Rattle.camelot_values.specs.declared.kinds.Kind.{Kind}
 use Rattle.camelot_values.specs.declared.kinds.Kind.TheVariants as kind
 use Rattle.grail_blocks.specs.declared.blocks.Place.{Place}
 use Rattle.grail_blocks.specs.declared.blocks.Place.TheVariants as place
+use Rattle.grail_blocks.specs.StateLaws.{uses_none, term_uses_none}
 use Rattle.grail_code.specs.Code.{Op, Lit, Flag, Copy, Prim, Make, Call, Let, CaseArm, Term, Ret, Tail, Goto, If, Case, Block, Func, Code}
-use Rattle.grail_code.specs.WellFormed.{Event, Use, Bind, Binds, is_heap_local, operator_kind, taken, operands_of, let_events, term_uses, params_at, jump_events, ways, bound_by, data_type}
+use Rattle.grail_code.specs.WellFormed.{Event, Use, Look, Bind, Binds, is_owned, no_reads, operator_kind, taken, operands_of, let_events, term_uses, params_at, jump_events, ways, bound_by, data_type}
 use Rattle.grail_check.specs.declared.fault.CodeKind.{CodeKind}
 use Rattle.grail_check.specs.declared.fault.CodeKind.TheVariants as fault
 use Rattle.grail_check.specs.declared.fault.CodeFault.{CodeFault}
@@ -22,8 +23,8 @@ use Rattle.grail_check.specs.Faulting.{unless, at_place, locals_of, is_local, ki
 use Rattle.grail_check.specs.Misuse.{events_of, Comes, ToLet, ToEnd, Onward, UsesUnbound, UsesAgain, Happens}
 use Rattle.grail_check.proofs.Checks.{or_first, or_second, unless_true, nothing_there, both, all_both, all_then, all_true, below, is_same}
 use Rattle.grail_check.proofs.MarkLaws.{spend_both}
-use Rattle.grail_check.proofs.Playing.{step, after, after_both, IsReady, set_same, length_step, not_bound, behind_use, behind_bind}
-use Rattle.grail_check.proofs.LetLaws.{uses, after_uses, heap_is}
+use Rattle.grail_check.proofs.Playing.{step, after, after_both, IsReady, set_same, length_step, not_bound, behind_use, behind_look, behind_bind}
+use Rattle.grail_check.proofs.LetLaws.{uses, after_uses, let_uses, heap_is}
 use Rattle.std.proofs.lemmas.Option.{same_Some}
 use Rattle.grail_check.proofs.BlockLaws.{header_passes, after_all_lets, end_length}
 use Rattle.grail_check.proofs.ExitLaws.{AreBelow, bound_below, way, arm_way, after_binds, use_passes}
@@ -174,6 +175,7 @@ let_hit p locals marks l k u h =
 -- what is bound in these events is there
 abbrev IsBindWithin : ℕ → Event → Type 0
 IsBindWithin n (Use x) = ⊤
+IsBindWithin n (Look x) = ⊤
 IsBindWithin n (Bind x) = x < n
 
 abbrev BindWithin : ℕ → List Event → Type 0
@@ -194,6 +196,9 @@ uses_split (x ∷ xs) ys = ap (λ l. Use x ∷ l) (uses_split xs ys)
 uses_bind_nothing : (n : ℕ) (xs : List ℕ) → BindWithin n (uses xs)
 uses_bind_nothing n [] = tt
 uses_bind_nothing n (x ∷ xs) = (tt, uses_bind_nothing n xs)
+
+let_binds : (n : ℕ) (l : Let) → l.target < n → BindWithin n (let_events no_reads l)
+let_binds n l h = subst (BindWithin n) (sym (let_uses l)) (all_both (IsBindWithin n) (uses (operands_of l.op)) (Bind l.target ∷ []) (uses_bind_nothing n (operands_of l.op)) (h, tt))
 
 hit_strikes : (locals : List Local) (marks : List Mark) (xs : List ℕ) (k : CodeKind) → Hit locals marks xs k → Strikes locals marks (uses xs) k
 hit_strikes locals marks xs k h = record {
@@ -399,7 +404,7 @@ record LetHit (locals : List Local) (marks : List Mark) (ls : List Let) (func bl
   rest : List Let
   is : ls ≡ earlier ++ l ∷ rest
   hit : Hit locals (after_lets locals marks earlier) (operands_of l.op) e.kind
-  inside : BindWithin (length locals) (flat_map let_events earlier)
+  inside : BindWithin (length locals) (flat_map (let_events no_reads) earlier)
   place_is : e.place ≡ place + length earlier
   block_is : e.block ≡ block
   func_is : e.func ≡ func
@@ -415,14 +420,14 @@ lets_hit p locals func number place marks (l ∷ ls) e u h =
           let c = lets_hit p locals func number (suc place) (after_let locals marks l) ls e u b in
           let t = both (is_local locals l.target) (list_all (is_local locals) (operands_of l.op)) (unless_true (is_local locals l.target && list_all (is_local locals) (operands_of l.op)) fault.NoSuchEntry
           (or_first (unless (is_local locals l.target && list_all (is_local locals) (operands_of l.op)) fault.NoSuchEntry) _ (nothing_there func number place (let_fault p locals marks l) a))) in
-          let w : BindWithin (length locals) (let_events l) = all_both (IsBindWithin (length locals)) (uses (operands_of l.op)) (Bind l.target ∷ []) (uses_bind_nothing (length locals) (operands_of l.op)) (below l.target (length locals) t.0, tt) in
+          let w : BindWithin (length locals) (let_events no_reads l) = let_binds (length locals) l (below l.target (length locals) t.0) in
           record {
             earlier = l ∷ c.earlier;
             l = c.l;
             rest = c.rest;
             is = ap (λ x. l ∷ x) c.is;
             hit = c.hit;
-            inside = all_both (IsBindWithin (length locals)) (let_events l) (flat_map let_events c.earlier) w c.inside;
+            inside = all_both (IsBindWithin (length locals)) (let_events no_reads l) (flat_map (let_events no_reads) c.earlier) w c.inside;
             place_is = c.place_is ∙ omega arith;
             block_is = c.block_is;
             func_is = c.func_is;
@@ -433,52 +438,52 @@ lets_hit p locals func number place marks (l ∷ ls) e u h =
 record Struck (f : Func) (locals : List Local) (b : Block) (func block : ℕ) (e : CodeFault) : Type 0 where
   before : List Event
   here : List Event
-  comes : Comes f b before here e.place
+  comes : Comes no_reads f b before here e.place
   inside : BindWithin (length locals) before
   strikes : Strikes locals (after locals (unbound locals) before) here e.kind
   block_is : e.block ≡ block
   func_is : e.func ≡ func
 
-after_events : (locals : List Local) (b : Block) (ls : List Let) → after locals (unbound locals) (events_of b ls) ≡ after_lets locals (at_start locals b) ls
-after_events locals b ls = after_both locals (unbound locals) (map Bind b.params) (flat_map let_events ls)
-    ∙ ap (λ m. after locals m (flat_map let_events ls)) (after_binds locals (unbound locals) b.params) ∙ after_all_lets locals (at_start locals b) ls
+after_events : (locals : List Local) (b : Block) (ls : List Let) → after locals (unbound locals) (events_of no_reads b ls) ≡ after_lets locals (at_start locals b) ls
+after_events locals b ls = after_both locals (unbound locals) (map Bind b.params) (flat_map (let_events no_reads) ls)
+    ∙ ap (λ m. after locals m (flat_map (let_events no_reads) ls)) (after_binds locals (unbound locals) b.params) ∙ after_all_lets locals (at_start locals b) ls
 
-all_lets_inside : (p : Code) (locals : List Local) (func number place : ℕ) (marks : List Mark) (ls : List Let) → lets_fault p locals func number place marks ls ≡ None → BindWithin (length locals) (flat_map let_events ls)
+all_lets_inside : (p : Code) (locals : List Local) (func number place : ℕ) (marks : List Mark) (ls : List Let) → lets_fault p locals func number place marks ls ≡ None → BindWithin (length locals) (flat_map (let_events no_reads) ls)
 all_lets_inside p locals func number place marks [] h = tt
 all_lets_inside p locals func number place marks (l ∷ ls) h =
     let a = nothing_there func number place (let_fault p locals marks l) (or_first _ _ h) in
     let t = both (is_local locals l.target) (list_all (is_local locals) (operands_of l.op)) (unless_true (is_local locals l.target && list_all (is_local locals) (operands_of l.op)) fault.NoSuchEntry
     (or_first (unless (is_local locals l.target && list_all (is_local locals) (operands_of l.op)) fault.NoSuchEntry) _ a)) in
-    all_both (IsBindWithin (length locals)) (let_events l) (flat_map let_events ls)
-    (all_both (IsBindWithin (length locals)) (uses (operands_of l.op)) (Bind l.target ∷ []) (uses_bind_nothing (length locals) (operands_of l.op)) (below l.target (length locals) t.0, tt))
+    all_both (IsBindWithin (length locals)) (let_events no_reads l) (flat_map (let_events no_reads) ls)
+    (let_binds (length locals) l (below l.target (length locals) t.0))
     (all_lets_inside p locals func number (suc place) (after_let locals marks l) ls (or_second (at_place func number place (let_fault p locals marks l)) _ h))
 
 at_the_let : (f : Func) (locals : List Local) (b : Block) (func number : ℕ) (e : CodeFault) → AreBelow (length locals) b.params → LetHit locals (at_start locals b) b.lets func number 1 e → Struck f locals b func number e
 at_the_let f locals b func number e w h = record {
-  before = events_of b h.earlier;
+  before = events_of no_reads b h.earlier;
   here = uses (operands_of h.l.op);
-  comes = subst (λ n. Comes f b (events_of b h.earlier) (uses (operands_of h.l.op)) n) (let q : suc (length h.earlier) ≡ e.place = omega (arith, h.place_is) in q) (ToLet h.earlier h.rest h.l h.is refl refl);
-  inside = all_both (IsBindWithin (length locals)) (map Bind b.params) (flat_map let_events h.earlier) (binds_within_are (length locals) b.params w) h.inside;
+  comes = subst (λ n. Comes no_reads f b (events_of no_reads b h.earlier) (uses (operands_of h.l.op)) n) (let q : suc (length h.earlier) ≡ e.place = omega (arith, h.place_is) in q) (ToLet h.earlier h.rest h.l h.is refl (sym (uses_none h.l.op)));
+  inside = all_both (IsBindWithin (length locals)) (map Bind b.params) (flat_map (let_events no_reads) h.earlier) (binds_within_are (length locals) b.params w) h.inside;
   strikes = subst (λ m. Strikes locals m (uses (operands_of h.l.op)) e.kind) (sym (after_events locals b h.earlier)) (hit_strikes locals (after_lets locals (at_start locals b) h.earlier) (operands_of h.l.op) e.kind h.hit);
   block_is = h.block_is;
   func_is = h.func_is;
 }
 
-at_the_end : (f : Func) (locals : List Local) (b : Block) (func number : ℕ) (e : CodeFault) → BindWithin (length locals) (events_of b b.lets) → e.place ≡ suc (length b.lets) → e.block ≡ number → e.func ≡ func
+at_the_end : (f : Func) (locals : List Local) (b : Block) (func number : ℕ) (e : CodeFault) → BindWithin (length locals) (events_of no_reads b b.lets) → e.place ≡ suc (length b.lets) → e.block ≡ number → e.func ≡ func
     → EndHit f locals (after_lets locals (at_start locals b) b.lets) b.term e.kind → Struck f locals b func number e
 at_the_end f locals b func number e w place block in_func (inl h) = record {
-  before = events_of b b.lets;
+  before = events_of no_reads b b.lets;
   here = uses (term_uses b.term);
-  comes = subst (λ n. Comes f b (events_of b b.lets) (uses (term_uses b.term)) n) (sym place) (ToEnd refl refl);
+  comes = subst (λ n. Comes no_reads f b (events_of no_reads b b.lets) (uses (term_uses b.term)) n) (sym place) (ToEnd refl (sym (term_uses_none b.term)));
   inside = w;
   strikes = subst (λ m. Strikes locals m (uses (term_uses b.term)) e.kind) (sym (after_events locals b b.lets)) (hit_strikes locals (after_lets locals (at_start locals b) b.lets) (term_uses b.term) e.kind h);
   block_is = block;
   func_is = in_func;
 }
 at_the_end f locals b func number e w place block in_func (inr h) = record {
-  before = events_of b b.lets;
+  before = events_of no_reads b b.lets;
   here = uses (term_uses b.term) ++ h.way_on;
-  comes = subst (λ n. Comes f b (events_of b b.lets) (uses (term_uses b.term) ++ h.way_on) n) (sym place) (Onward h.index h.way_on h.is refl refl);
+  comes = subst (λ n. Comes no_reads f b (events_of no_reads b b.lets) (uses (term_uses b.term) ++ h.way_on) n) (sym place) (Onward h.index h.way_on h.is refl (ap (λ es. es ++ h.way_on) (sym (term_uses_none b.term))));
   inside = w;
   strikes = subst (λ m. Strikes locals m (uses (term_uses b.term) ++ h.way_on) e.kind) (sym (after_events locals b b.lets))
       (strikes_back locals (after_lets locals (at_start locals b) b.lets) (uses (term_uses b.term)) h.way_on e.kind (uses_bind_nothing (length locals) (term_uses b.term)) h.strikes);
@@ -506,7 +511,7 @@ block_hit p f func number b e u h =
             | inr (d, g) ↦ (
                 let t = at_found func number (suc (length b.lets)) term e (alone_fault (at_place func number (suc (length b.lets)) term) e g) in
                 at_the_end f locals b func number e
-                (all_both (IsBindWithin (length locals)) (map Bind b.params) (flat_map let_events b.lets) (binds_within_are (length locals) b.params w) (all_lets_inside p locals func number 1 (at_start locals b) b.lets d))
+                (all_both (IsBindWithin (length locals)) (map Bind b.params) (flat_map (let_events no_reads) b.lets) (binds_within_are (length locals) b.params w) (all_lets_inside p locals func number 1 (at_start locals b) b.lets d))
                 t.place_is t.block_is t.func_is (exit_hit p f locals number end b.term e.kind (end_length locals b) u t.found))
           ])
     ]
@@ -622,6 +627,7 @@ set_stays (n ∷ marks) (suc x) (suc y) m u h = set_stays marks x y m u h
 
 step_keeps : (locals : List Local) (marks : List Mark) (e : Event) (y : ℕ) → is_set (slice_get marks y) ≡ true → is_set (slice_get (step locals marks e) y) ≡ true
 step_keeps locals marks (Bind x) y h = set_stays marks x y mark.Ready refl h
+step_keeps locals marks (Look x) y h = h
 step_keeps locals marks (Use x) y h =
     let P : Bool → Type 0 = λ b. is_set (slice_get (if b then slice_set marks x mark.Spent else marks) y) ≡ true in
     elim (is_heap_at locals x) as P [ true ↦ set_stays marks x y mark.Spent refl h | false ↦ h ]
@@ -634,6 +640,7 @@ after_keeps locals marks (e ∷ es) y h = after_keeps locals (step locals marks 
 bound_is_set : (locals : List Local) (marks : List Mark) (es : List Event) (x : ℕ) → BindWithin (length marks) es → Binds x es → is_set (slice_get (after locals marks es) x) ≡ true
 bound_is_set locals marks [] x w h = absurd (not_bound x h)
 bound_is_set locals marks (Use y ∷ es) x w h = bound_is_set locals (spend locals marks y) es x (subst (λ n. BindWithin n es) (sym (length_step locals marks (Use y))) w.1) (behind_use x y es h)
+bound_is_set locals marks (Look y ∷ es) x w h = bound_is_set locals marks es x w.1 (behind_look x y es h)
 bound_is_set locals marks (Bind y ∷ es) x w h =
     elim (behind_bind x y es h) as (λ z. is_set (slice_get (after locals (bind marks y) es) x) ≡ true) [
       | inl e ↦ after_keeps locals (bind marks y) es x (subst (λ z. is_set (slice_get (bind marks y) z) ≡ true) e (ap is_set (set_same marks y mark.Ready w.0)))
@@ -649,6 +656,8 @@ unbound_unset (Some mark.Unbound) h k = cc
 uses_unbound : (locals : List Local) (before here : List Event) → BindWithin (length locals) before → Strikes locals (after locals (unbound locals) before) here fault.Unbound → UsesUnbound before here
 uses_unbound locals before here w s = record {
   local = s.local;
+  want = Use s.local;
+  wants = inl refl;
   front = s.front;
   rest = s.rest;
   is = s.is;
@@ -704,6 +713,9 @@ spent_since locals marks (Use y ∷ es) x h =
       ]
       | inr s ↦ inr (since_later locals (Use y) es x s)
     ]
+spent_since locals marks (Look y ∷ es) x h =
+    elim (spent_since locals marks es x h) as (λ z. (IsSpent marks x × (Binds x (Look y ∷ es) → ⊥)) ⊎ Since locals (Look y ∷ es) x)
+    [ inl (s, n) ↦ inl (s, (λ b. n (behind_look x y es b))) | inr s ↦ inr (since_later locals (Look y) es x s) ]
 spent_since locals marks (Bind y ∷ es) x h =
     elim (spent_since locals (bind marks y) es x h) as (λ z. (IsSpent marks x × (Binds x (Bind y ∷ es) → ⊥)) ⊎ Since locals (Bind y ∷ es) x) [
       | inl (s, n) ↦ (let t = spent_by_bind marks y x s in
@@ -725,12 +737,12 @@ spent_mark (Some mark.Unbound) h = cc
 was_used : (locals : List Local) (es : List Event) (x : ℕ) → IsSpent (after locals (unbound locals) es) x → Since locals es x
 was_used locals es x h = elim (spent_since locals (unbound locals) es x h) as (λ z. Since locals es x) [ inl (s, n) ↦ absurd (never_spent (length locals) x s) | inr s ↦ s ]
 
-uses_again : (types : List DataType) (f : Func) (before here : List Event) → Strikes (locals_of types f) (after (locals_of types f) (unbound (locals_of types f)) before) here fault.Spent → UsesAgain (is_heap_local types f) before here
+uses_again : (types : List DataType) (f : Func) (before here : List Event) → Strikes (locals_of types f) (after (locals_of types f) (unbound (locals_of types f)) before) here fault.Spent → UsesAgain (is_owned types f) before here
 uses_again types f before here s =
     let locals = locals_of types f in
     let d = was_used locals (before ++ s.front) s.local
     (spent_mark (slice_get (after locals (unbound locals) (before ++ s.front)) s.local) (subst (λ m. mark_fault (slice_get m s.local) ≡ Some fault.Spent) (sym (after_both locals (unbound locals) before s.front)) s.marked)) in
-    record { local = s.local; heap = sym (heap_is types f s.local) ∙ d.heap; front = s.front; rest = s.rest; is = s.is; first = d.first; between = d.between; used = d.is; kept = d.kept }
+    record { local = s.local; want = Use s.local; wants = inl refl; owned = sym (heap_is types f s.local) ∙ d.heap; front = s.front; rest = s.rest; is = s.is; first = d.first; between = d.between; used = d.is; kept = d.kept }
 
 -- ---- what the faults of use say
 
@@ -749,7 +761,7 @@ unbound_misuse p e k h =
       bad = uses_unbound (locals_of p.types g.f) s.before s.here s.inside (subst (λ q. Strikes (locals_of p.types g.f) (after (locals_of p.types g.f) (unbound (locals_of p.types g.f)) s.before) s.here q) k s.strikes);
     }
 
-pub spent_misuse : (p : Code) (e : CodeFault) → e.kind ≡ fault.Spent → first_fault p ≡ Some e → Happens p e.func e.block e.place (λ f before here. UsesAgain (is_heap_local p.types f) before here)
+pub spent_misuse : (p : Code) (e : CodeFault) → e.kind ≡ fault.Spent → first_fault p ≡ Some e → Happens p e.func e.block e.place (λ f before here. UsesAgain (is_owned p.types f) before here)
 spent_misuse p e k h =
     let g = program_hit p e (ap is_use k) h in
     let s = g.struck in

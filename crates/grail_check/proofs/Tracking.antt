@@ -11,7 +11,7 @@ use Rattle.camelot_values.specs.Kinds.{DataType}
 use Rattle.camelot_values.specs.Lists.{is_among}
 use Rattle.grail_blocks.specs.States.{Status, Unbound, Ready, Spent, State, nothing_bound, bind as state_bind, use_of, after as state_after}
 use Rattle.grail_code.specs.Code.{Func}
-use Rattle.grail_code.specs.WellFormed.{is_heap_local, local_kinds, kind_of, Use, Bind}
+use Rattle.grail_code.specs.WellFormed.{is_owned, local_kinds, kind_of, Use, Bind}
 use Rattle.grail_check.specs.declared.fault.CodeKind.{CodeKind}
 use Rattle.grail_check.specs.declared.fault.CodeKind.TheVariants as fault
 use Rattle.grail_check.specs.declared.locals.Mark.{Mark}
@@ -50,7 +50,7 @@ track_bind types f marks s x t less = record { size = length-set marks x mark.Re
         ap status_of (set_other marks x y mark.Ready (λ same. let c : (x == y) ≡ true = grind (arith, nat_tests, same) in let k : false ≡ true = sym e ∙ c in absurd cc)) ∙ t.same y
 
 -- a local of a heap kind is there
-heap_there : (types : List DataType) (f : Func) (x : ℕ) → is_heap_local types f x ≡ true → x < length (local_kinds f)
+heap_there : (types : List DataType) (f : Func) (x : ℕ) → is_owned types f x ≡ true → x < length (local_kinds f)
 heap_there types f x h = there (local_kinds f) x (some (kind_of f x) refl h)
   where
     there : {A : Type 0} (xs : List A) (x : ℕ) → (slice_get xs x ≡ None → ⊥) → x < length xs
@@ -58,14 +58,14 @@ heap_there types f x h = there (local_kinds f) x (some (kind_of f x) refl h)
     there (y ∷ xs) zero n = omega arith
     there (y ∷ xs) (suc x) n = let k = there xs x n in omega (arith, k)
 
-    some : (o : Option Kind) → kind_of f x ≡ o → is_heap_local types f x ≡ true → kind_of f x ≡ None → ⊥
+    some : (o : Option Kind) → kind_of f x ≡ o → is_owned types f x ≡ true → kind_of f x ≡ None → ⊥
     some None e h n = let k : false ≡ true = sym (ap (λ q. option_map_or (is_heap types) q false) n) ∙ h in absurd cc
     some (Some q) e h n = let k : Some q ≡ None = sym e ∙ n in absurd cc
 
-pub track_spend : (types : List DataType) (f : Func) (marks : List Mark) (s : State) (x : ℕ) → Tracks types f marks s → Tracks types f (spend (locals_of types f) marks x) (use_of (is_heap_local types f) s x)
-track_spend types f marks s x t = by_heap (is_heap_local types f x) refl
+pub track_spend : (types : List DataType) (f : Func) (marks : List Mark) (s : State) (x : ℕ) → Tracks types f marks s → Tracks types f (spend (locals_of types f) marks x) (use_of (is_owned types f) s x)
+track_spend types f marks s x t = by_heap (is_owned types f x) refl
   where
-    spent : (y : ℕ) → is_heap_local types f x ≡ true → (b : Bool) → (x == y) ≡ b → status_of (slice_get (slice_set marks x mark.Spent) y) ≡ (if b && true then Spent else s y)
+    spent : (y : ℕ) → is_owned types f x ≡ true → (b : Bool) → (x == y) ≡ b → status_of (slice_get (slice_set marks x mark.Spent) y) ≡ (if b && true then Spent else s y)
     spent y h true e = let same : x ≡ y = grind (arith, nat_tests, e) in
         subst (λ z. status_of (slice_get (slice_set marks x mark.Spent) z) ≡ Spent) same (ap status_of (set_same marks x mark.Spent (omega (arith, heap_there types f x h, t.size))))
     spent y h false e =
@@ -75,7 +75,7 @@ track_spend types f marks s x t = by_heap (is_heap_local types f x) refl
     kept y true = refl
     kept y false = refl
 
-    by_heap : (h : Bool) → is_heap_local types f x ≡ h → Tracks types f (spend (locals_of types f) marks x) (use_of (is_heap_local types f) s x)
+    by_heap : (h : Bool) → is_owned types f x ≡ h → Tracks types f (spend (locals_of types f) marks x) (use_of (is_owned types f) s x)
     by_heap true h = record {
       size = ap (λ b. length (if b then slice_set marks x mark.Spent else marks)) (heap_is types f x ∙ h) ∙ length-set marks x mark.Spent ∙ t.size;
       same = λ y. ap (λ b. status_of (slice_get (if b then slice_set marks x mark.Spent else marks) y)) (heap_is types f x ∙ h) ∙ spent y h (x == y) refl ∙ ap (λ b. if (x == y) && b then Spent else s y) (sym h);
@@ -86,9 +86,9 @@ track_spend types f marks s x t = by_heap (is_heap_local types f x) refl
     }
 
 pub track_uses : (types : List DataType) (f : Func) (marks : List Mark) (s : State) (xs : List ℕ) → Tracks types f marks s
-    → Tracks types f (spend_all (locals_of types f) marks xs) (state_after (is_heap_local types f) s (map Use xs))
+    → Tracks types f (spend_all (locals_of types f) marks xs) (state_after (is_owned types f) s (map Use xs))
 track_uses types f marks s [] t = t
-track_uses types f marks s (x ∷ xs) t = track_uses types f (spend (locals_of types f) marks x) (use_of (is_heap_local types f) s x) xs (track_spend types f marks s x t)
+track_uses types f marks s (x ∷ xs) t = track_uses types f (spend (locals_of types f) marks x) (use_of (is_owned types f) s x) xs (track_spend types f marks s x t)
 
 pub track_binds : (types : List DataType) (f : Func) (h : ℕ → Bool) (marks : List Mark) (s : State) (xs : List ℕ) → Tracks types f marks s → AllByRecursion (λ x. x < length (local_kinds f)) xs
     → Tracks types f (bind_all marks xs) (state_after h s (map Bind xs))

@@ -2,7 +2,7 @@
 use Rattle.std.proofs.Common.{◌≡◌, Option, Some, None, refl, ap, subst, inl, inr, ◌⊎◌}
 use Rattle.std.specs.Prelude.{◌↔◌}
 use Rattle.grail_code.specs.Code.{Code}
-use Rattle.grail_code.specs.WellFormed.{IsWellFormed, is_heap_local}
+use Rattle.grail_code.specs.WellFormed.{IsWellFormed, is_owned}
 use Rattle.grail_check.specs.declared.fault.CodeFault.{CodeFault}
 use Rattle.grail_check.specs.declared.fault.CodeKind.TheVariants.{Unbound, Spent}
 use Rattle.grail_check.specs.Faulting.{first_fault}
@@ -45,5 +45,5 @@ never_both p fault w h = faultless (walk p) fault (passes p (well_formed_is_faul
 pub unbound : (p : Code) (fault : CodeFault) → fault.kind ≡ Unbound → FirstFault (walk p) fault → Happens p fault.func fault.block fault.place (λ f before here. UsesUnbound before here)
 unbound p fault k h = unbound_misuse p fault k (found p fault h)
 
-pub spent : (p : Code) (fault : CodeFault) → fault.kind ≡ Spent → FirstFault (walk p) fault → Happens p fault.func fault.block fault.place (λ f before here. UsesAgain (is_heap_local p.types f) before here)
+pub spent : (p : Code) (fault : CodeFault) → fault.kind ≡ Spent → FirstFault (walk p) fault → Happens p fault.func fault.block fault.place (λ f before here. UsesAgain (is_owned p.types f) before here)
 spent p fault k h = spent_misuse p fault k (found p fault h)

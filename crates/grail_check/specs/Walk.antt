@@ -21,7 +21,7 @@ use Rattle.grail_blocks.specs.declared.blocks.CaseCell.{CaseCell}
 use Rattle.grail_blocks.specs.declared.blocks.CaseCell.TheVariants as cell
 use Rattle.grail_blocks.specs.States.{State, Unbound, Spent, use_of, after, at_start, after_let}
 use Rattle.grail_code.specs.Code.{Op, Lit, Flag, Copy, Prim, Make, Call, Let, CaseArm, Term, Ret, Tail, Goto, If, Case, Block, Func, Code}
-use Rattle.grail_code.specs.WellFormed.{IsKnownKind, local_kinds, kind_of, HaveKinds, is_heap_local, operator_kind, data_type, Ascend, AreDistinct, Use, Bind, operands_of, kept_diamond, bound_by, params_at}
+use Rattle.grail_code.specs.WellFormed.{IsKnownKind, local_kinds, kind_of, HaveKinds, is_owned, reads_of, operator_kind, data_type, Ascend, AreDistinct, Use, Bind, operands_of, kept_diamond, bound_by, params_at}
 use Rattle.grail_check.specs.declared.fault.CodeKind.{CodeKind}
 use Rattle.grail_check.specs.declared.fault.CodeKind.TheVariants as fault
 use Rattle.grail_check.specs.declared.fault.CodeFault.{CodeFault}
@@ -62,14 +62,14 @@ use_checks s x rest = Must (s x ≡ Unbound → ⊥) fault.Unbound (Must (s x �
 abbrev pub operand_checks : Func → State → ℕ → Kind → Checks → Checks
 operand_checks f s x q rest = use_checks s x (Must (kind_of f x ≡ Some q) fault.Kind rest)
 
--- one after the other: an operand of a heap kind is then spent
+-- one after the other: an operand that is owned is then spent
 abbrev pub operands_checks : Func → (ℕ → Bool) → State → List ℕ → List Kind → Checks → Checks
-operands_checks f is_heap s (x ∷ xs) (q ∷ qs) rest = operand_checks f s x q (operands_checks f is_heap (use_of is_heap s x) xs qs rest)
-operands_checks f is_heap s xs qs rest = rest
+operands_checks f owned s (x ∷ xs) (q ∷ qs) rest = operand_checks f s x q (operands_checks f owned (use_of owned s x) xs qs rest)
+operands_checks f owned s xs qs rest = rest
 
 -- as many operands as are needed, and then each of them
 abbrev pub arguments_checks : Func → (ℕ → Bool) → State → List ℕ → List Kind → Checks → Checks
-arguments_checks f is_heap s xs qs rest = Must (length xs ≡ length qs) fault.Arms (operands_checks f is_heap s xs qs rest)
+arguments_checks f owned s xs qs rest = Must (length xs ≡ length qs) fault.Arms (operands_checks f owned s xs qs rest)
 
 -- ---- lets
 
@@ -90,17 +90,17 @@ abbrev pub target_check : Func → ℕ → Option Kind → Checks
 target_check f x o = Must ((q : Kind) × (kind_of f x ≡ Some q) × (o ≡ Some q)) fault.Kind NoMore
 
 abbrev pub op_checks : Code → Func → (ℕ → Bool) → State → ℕ → Op → Checks
-op_checks p f is_heap s x (Lit z) = Must (IsInt32 z) fault.Kind (target_check f x (Some kind.Int))
-op_checks p f is_heap s x (Flag b) = target_check f x (Some kind.Flag)
-op_checks p f is_heap s x (Copy y) = use_checks s y (target_check f x (kind_of f y))
-op_checks p f is_heap s x (Prim op left right) = operand_checks f s left kind.Int (operand_checks f (use_of is_heap s left) right kind.Int (target_check f x (Some (operator_kind op))))
-op_checks p f is_heap s x (Make con args at) = of_entry (constructor p.types con) fault.NoSuchEntry
-    (λ c. arguments_checks f is_heap s args c.fields (taken_checks f (after is_heap s (map Use args)) at (Must (IsPlaceOf c.inline at) fault.Place (target_check f x (option_map kind.Of (type_of p.types con))))))
-op_checks p f is_heap s x (Call func args) = of_entry (slice_get p.funcs func) fault.NoSuchEntry
-    (λ callee. arguments_checks f is_heap s args callee.params (target_check f x (Some callee.result)))
+op_checks p f owned s x (Lit z) = Must (IsInt32 z) fault.Kind (target_check f x (Some kind.Int))
+op_checks p f owned s x (Flag b) = target_check f x (Some kind.Flag)
+op_checks p f owned s x (Copy y) = use_checks s y (target_check f x (kind_of f y))
+op_checks p f owned s x (Prim op left right) = operand_checks f s left kind.Int (operand_checks f (use_of owned s left) right kind.Int (target_check f x (Some (operator_kind op))))
+op_checks p f owned s x (Make con args at) = of_entry (constructor p.types con) fault.NoSuchEntry
+    (λ c. arguments_checks f owned s args c.fields (taken_checks f (after owned s (map Use args)) at (Must (IsPlaceOf c.inline at) fault.Place (target_check f x (option_map kind.Of (type_of p.types con))))))
+op_checks p f owned s x (Call func args) = of_entry (slice_get p.funcs func) fault.NoSuchEntry
+    (λ callee. arguments_checks f owned s args callee.params (target_check f x (Some callee.result)))
 
 abbrev pub let_checks : Code → Func → (ℕ → Bool) → State → Let → Checks
-let_checks p f is_heap s l = Must (AreThere f (l.target ∷ operands_of l.op)) fault.NoSuchEntry (op_checks p f is_heap s l.target l.op)
+let_checks p f owned s l = Must (AreThere f (l.target ∷ operands_of l.op)) fault.NoSuchEntry (op_checks p f owned s l.target l.op)
 
 -- ---- the end of a block
 
@@ -146,33 +146,33 @@ ArmsBindKinds f arms cs = Unit {0}
 
 -- the jump of each arm, behind what the arm binds
 abbrev pub arms_jump_checks : Func → (ℕ → Bool) → State → List CaseArm → Checks
-arms_jump_checks f is_heap s [] = NoMore
-arms_jump_checks f is_heap s (a ∷ arms) = jump_checks (after is_heap s (map Bind (bound_by a))) (params_at f.blocks a.target) (arms_jump_checks f is_heap s arms)
+arms_jump_checks f owned s [] = NoMore
+arms_jump_checks f owned s (a ∷ arms) = jump_checks (after owned s (map Bind (bound_by a))) (params_at f.blocks a.target) (arms_jump_checks f owned s arms)
 
 -- the arms of a case on a local of this type
 abbrev pub arms_checks : Func → (ℕ → Bool) → State → ℕ → List CaseArm → DataType → Checks
-arms_checks f is_heap s x arms t =
+arms_checks f owned s x arms t =
     Must (ArmsCount arms t.cons) fault.Arms
     (use_checks s x
     (Must (AreCellsOf arms t.cons) fault.Place
     (Must (ArmsBindKinds f arms t.cons) fault.Kind
     (Must (AllByRecursion (λ a. AreDistinct (bound_by a)) arms) fault.Header
-    (arms_jump_checks f is_heap (use_of is_heap s x) arms)))))
+    (arms_jump_checks f owned (use_of owned s x) arms)))))
 
 abbrev pub term_checks : Code → Func → (ℕ → Bool) → ℕ → State → Term → Checks
-term_checks p f is_heap number s (Ret x) = Must (IsThere f x) fault.NoSuchEntry (operand_checks f s x f.result NoMore)
-term_checks p f is_heap number s (Tail func args) = Must (AreThere f args) fault.NoSuchEntry (of_entry (slice_get p.funcs func) fault.NoSuchEntry
-    (λ callee. arguments_checks f is_heap s args callee.params (Must (callee.result ≡ f.result) fault.Kind NoMore)))
-term_checks p f is_heap number s (Goto b) = Must (IsBlock f b) fault.NoSuchEntry (Must (number < b) fault.Backward (jump_checks s (params_at f.blocks b) NoMore))
-term_checks p f is_heap number s (If x first second) =
+term_checks p f owned number s (Ret x) = Must (IsThere f x) fault.NoSuchEntry (operand_checks f s x f.result NoMore)
+term_checks p f owned number s (Tail func args) = Must (AreThere f args) fault.NoSuchEntry (of_entry (slice_get p.funcs func) fault.NoSuchEntry
+    (λ callee. arguments_checks f owned s args callee.params (Must (callee.result ≡ f.result) fault.Kind NoMore)))
+term_checks p f owned number s (Goto b) = Must (IsBlock f b) fault.NoSuchEntry (Must (number < b) fault.Backward (jump_checks s (params_at f.blocks b) NoMore))
+term_checks p f owned number s (If x first second) =
     Must (IsThere f x × IsBlock f first × IsBlock f second) fault.NoSuchEntry
     (Must ((number < first) × (number < second)) fault.Backward
     (operand_checks f s x kind.Flag
-    (jump_checks (use_of is_heap s x) (params_at f.blocks first) (jump_checks (use_of is_heap s x) (params_at f.blocks second) NoMore))))
-term_checks p f is_heap number s (Case x arms) =
+    (jump_checks (use_of owned s x) (params_at f.blocks first) (jump_checks (use_of owned s x) (params_at f.blocks second) NoMore))))
+term_checks p f owned number s (Case x arms) =
     Must (IsThere f x × AllByRecursion (ArmIsThere f) arms) fault.NoSuchEntry
     (Must (AllByRecursion (λ a. number < a.target) arms) fault.Backward
-    (of_entry (data_type p.types (kind_of f x)) fault.Kind (arms_checks f is_heap s x arms)))
+    (of_entry (data_type p.types (kind_of f x)) fault.Kind (arms_checks f owned s x arms)))
 
 -- ---- headers, types
 
@@ -221,25 +221,25 @@ FirstFault (At func block place checks rest) e = (Fails checks e.kind × (e ≡ 
 
 -- the lets from this place on, and then what comes in the state behind them
 abbrev pub lets_walk : Code → Func → (ℕ → Bool) → (func number place : ℕ) → State → List Let → (State → Walk) → Walk
-lets_walk p f is_heap func number place s [] next = next s
-lets_walk p f is_heap func number place s (l ∷ ls) next = At func number place (let_checks p f is_heap s l) (lets_walk p f is_heap func number (suc place) (after_let is_heap s l) ls next)
+lets_walk p f owned func number place s [] next = next s
+lets_walk p f owned func number place s (l ∷ ls) next = At func number place (let_checks p f owned s l) (lets_walk p f owned func number (suc place) (after_let (reads_of p) owned s l) ls next)
 
 abbrev pub block_walk : Code → Func → (ℕ → Bool) → (func number : ℕ) → Block → Walk → Walk
-block_walk p f is_heap func number b rest =
+block_walk p f owned func number b rest =
     At func number 0 (header_checks f number b.params)
-    (lets_walk p f is_heap func number 1 (at_start is_heap b) b.lets (λ s. At func number (suc (length b.lets)) (term_checks p f is_heap number s b.term) rest))
+    (lets_walk p f owned func number 1 (at_start owned b) b.lets (λ s. At func number (suc (length b.lets)) (term_checks p f owned number s b.term) rest))
 
 -- the blocks from this number on
 abbrev pub blocks_walk : Code → Func → (ℕ → Bool) → (func number : ℕ) → List Block → Walk → Walk
-blocks_walk p f is_heap func number [] rest = rest
-blocks_walk p f is_heap func number (b ∷ bs) rest = block_walk p f is_heap func number b (blocks_walk p f is_heap func (suc number) bs rest)
+blocks_walk p f owned func number [] rest = rest
+blocks_walk p f owned func number (b ∷ bs) rest = block_walk p f owned func number b (blocks_walk p f owned func (suc number) bs rest)
 
 -- the functions from this number on, after those of these names
 abbrev pub funcs_walk : Code → ℕ → List (List ℕ) → List Func → Walk
 funcs_walk p func earlier [] = Finished
 funcs_walk p func earlier (f ∷ fs) =
     At func 0 0 (func_checks p.types earlier f)
-    (blocks_walk p f (is_heap_local p.types f) func 0 f.blocks (funcs_walk p (suc func) (earlier ++ f.name ∷ []) fs))
+    (blocks_walk p f (is_owned p.types f) func 0 f.blocks (funcs_walk p (suc func) (earlier ++ f.name ∷ []) fs))
 
 -- the types, which have the number of functions in place of a function, and then the functions
 unfoldable pub walk : Code → Walk

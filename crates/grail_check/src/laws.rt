@@ -1,7 +1,7 @@
 //! Laws of the walk of checks, as the contracts of functions that do nothing.
 ghost use Rattle.std.specs.Prelude.{◌≡◌, ◌↔◌, ◌⊎◌, ℕ, Some};
 ghost use Rattle.grail_code.specs.Code.{Code};
-ghost use Rattle.grail_code.specs.WellFormed.{IsWellFormed, is_heap_local};
+ghost use Rattle.grail_code.specs.WellFormed.{IsWellFormed, is_owned};
 ghost use Rattle.grail_check.specs.declared.fault.CodeFault.{CodeFault};
 ghost use Rattle.grail_check.specs.Walk.{AllPass, FirstFault, walk};
 ghost use Rattle.grail_check.specs.Misuse.{Happens, UsesUnbound, UsesAgain};
@@ -18,12 +18,12 @@ pub fn law_of_walk()
     ensures one { (p : Code) (first second : CodeFault) → FirstFault (walk p) first → FirstFault (walk p) second → first ≡ second }
 {}
 
-/// The law of the two faults of use. Where the first fault is Unbound, the code there uses, on some way through the block,
-/// a local that isn't bound before; where it is Spent, a local of a heap kind that was used before and not bound since.
+/// The law of the two faults of use. Where the first fault is Unbound, the code there uses or looks at, on some way through the block,
+/// a local that isn't bound before; where it is Spent, a local that is owned, and that was used before and not bound since.
 #[tactic(auto, using(crate::proofs::WalkLaws::unbound, crate::proofs::WalkLaws::spent))]
 pub fn law_of_misuse()
     ensures unbound { (p : Code) (fault : CodeFault) → fault.kind ≡ CodeKind.Unbound → FirstFault (walk p) fault →
         Happens p fault.func fault.block fault.place (λ f before here. UsesUnbound before here) }
     ensures spent { (p : Code) (fault : CodeFault) → fault.kind ≡ CodeKind.Spent → FirstFault (walk p) fault →
-        Happens p fault.func fault.block fault.place (λ f before here. UsesAgain (is_heap_local p.types f) before here) }
+        Happens p fault.func fault.block fault.place (λ f before here. UsesAgain (is_owned p.types f) before here) }
 {}

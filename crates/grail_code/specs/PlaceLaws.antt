@@ -24,11 +24,11 @@ use Rattle.grail_blocks.specs.declared.blocks.Place.TheVariants as place
 use Rattle.grail_blocks.specs.declared.blocks.CaseCell.{CaseCell}
 use Rattle.grail_blocks.specs.declared.blocks.CaseCell.TheVariants as cell
 use Rattle.grail_blocks.specs.States.{State, Ready, Unbound, nothing_bound, bind, use_of, after as state_after, AreReady, after_let, state_at, at_term}
-use Rattle.grail_blocks.specs.StateLaws.{after_append, ready_first, ready_second, used_ready, uses_ready, bind_ready, state_next, state_last, ready_at}
+use Rattle.grail_blocks.specs.StateLaws.{after_append, ready_first, ready_second, uses_ready, bind_ready, all_first, all_second, AllReady, all_used_ready, operands_ready, operands_were_ready, term_operands_ready, state_next, state_last, ready_at}
 use Rattle.grail_blocks.specs.NarrowLaws.{bound_among}
 use Rattle.grail_blocks.specs.RunningLaws.{later_is_block}
 use Rattle.grail_code.specs.Code.{Op, Lit, Flag, Copy, Prim, Make, Call, Let, CaseArm, Term, Ret, Tail, Goto, If, Case, Block, Func, Code}
-use Rattle.grail_code.specs.WellFormed.{kind_of, is_heap_local, HaveKinds, PlaceFits, Gives, LetFits, kept_diamond, bound_by, CellFits, JumpFits, ArmFits, ArmsFit, data_type, TermFits, Use, Bind, taken, operands_of, term_uses, params_at, jump_events, ways, BlockFits, BlocksFit, FuncFits}
+use Rattle.grail_code.specs.WellFormed.{kind_of, is_owned, reads_of, HaveKinds, PlaceFits, Gives, LetFits, kept_diamond, bound_by, CellFits, JumpFits, ArmFits, ArmsFit, data_type, TermFits, Use, Bind, Reads, taken, operands_of, uses_of, term_events, params_at, jump_events, ways, BlockFits, BlocksFit, FuncFits}
 use Rattle.grail_code.specs.Meaning.{Locals, Later, put, narrowed, in_front, values_of, operands, built, op_run, lets_run, put_all, cell_run, arm_run, arm_at, case_run, term_run, narrow, block_run, jumps_from, from_block, from_place}
 use Rattle.grail_code.specs.Places.{Holds, LocalsFit, FitAt, FitsTarget, CallsSafe, JumpsTo, with_cell, cell_effect, Claim, IsKept}
 
@@ -38,8 +38,12 @@ map_append f (x ∷ xs) ys = ap (λ l. f x ∷ l) (map_append f xs ys)
 
 -- ---- locals
 
+-- where what is ready was ready before
+fit_earlier : (types : List DataType) (f : Func) (s t : State) (env : Locals) → ((x : ℕ) → t x ≡ Ready → s x ≡ Ready) → LocalsFit types f s env → LocalsFit types f t env
+fit_earlier types f s t env was fit = record { holds = λ x r. fit.holds x (was x r) }
+
 pub fit_used : (types : List DataType) (f : Func) (h : ℕ → Bool) (s : State) (xs : List ℕ) (env : Locals) → LocalsFit types f s env → LocalsFit types f (state_after h s (map Use xs)) env
-fit_used types f h s xs env fit = record { holds = λ x r. fit.holds x (uses_ready h s xs x r) }
+fit_used types f h s xs env fit = fit_earlier types f s (state_after h s (map Use xs)) env (uses_ready h s xs) fit
 
 holds_put : (types : List DataType) (f : Func) (env : Locals) (t x : ℕ) (v : Value) (q : Kind) → kind_of f t ≡ Some q → Fits types q v → (t ≡ x) ⊎ Holds types f env x → Holds types f (put env t v) x
 holds_put types f env t x v q k fit where_ = by_test (t == x) refl where_
@@ -61,11 +65,12 @@ fit_bound types f s env t v q fit k fits = record { holds = λ x r. holds_put ty
     either x (inr r) = inr (fit.holds x r)
 
 -- A let keeps it, where what it binds has the local's kind.
-pub let_keeps : (types : List DataType) (f : Func) (h : ℕ → Bool) (s : State) (env : Locals) (l : Let) (v : Value) (q : Kind) → LocalsFit types f s env → kind_of f l.target ≡ Some q → Fits types q v
-    → LocalsFit types f (after_let h s l) (put env l.target v)
-let_keeps types f h s env l v q fit k fits =
-    subst (λ t. LocalsFit types f t (put env l.target v)) (sym (after_append h s (map Use (operands_of l.op)) (Bind l.target ∷ [])))
-    (fit_bound types f (state_after h s (map Use (operands_of l.op))) env l.target v q (fit_used types f h s (operands_of l.op) env fit) k fits)
+pub let_keeps : (types : List DataType) (f : Func) (reads : Reads) (h : ℕ → Bool) (s : State) (env : Locals) (l : Let) (v : Value) (q : Kind) → LocalsFit types f s env → kind_of f l.target ≡ Some q → Fits types q v
+    → LocalsFit types f (after_let reads h s l) (put env l.target v)
+let_keeps types f reads h s env l v q fit k fits =
+    let behind = state_after h s (uses_of reads l.op) in
+    subst (λ t. LocalsFit types f t (put env l.target v)) (sym (after_append h s (uses_of reads l.op) (Bind l.target ∷ [])))
+    (fit_bound types f behind env l.target v q (fit_earlier types f s behind env (operands_were_ready reads h s l.op) fit) k fits)
 
 -- a local of this kind has a value of it
 pub record Found (types : List DataType) (env : Locals) (x : ℕ) (q : Kind) : Type 0 where
@@ -86,13 +91,13 @@ pub record FoundAll (types : List DataType) (env : Locals) (xs : List ℕ) (qs :
   pub is : values_of env xs ≡ Some values
   pub fit : ArgumentsFit types qs values
 
-pub found_all : (types : List DataType) (f : Func) (h : ℕ → Bool) (s : State) (env : Locals) (xs : List ℕ) (qs : List Kind) → LocalsFit types f s env → AreReady h s (map Use xs) → HaveKinds f xs qs → FoundAll types env xs qs
-found_all types f h s env [] [] fit r k = record { values = []; is = refl; fit = tt }
-found_all types f h s env [] (q ∷ qs) fit r k = absurd cc
-found_all types f h s env (x ∷ xs) [] fit r k = absurd cc
-found_all types f h s env (x ∷ xs) (q ∷ qs) fit r k =
+pub found_all : (types : List DataType) (f : Func) (s : State) (env : Locals) (xs : List ℕ) (qs : List Kind) → LocalsFit types f s env → AllReady s xs → HaveKinds f xs qs → FoundAll types env xs qs
+found_all types f s env [] [] fit r k = record { values = []; is = refl; fit = tt }
+found_all types f s env [] (q ∷ qs) fit r k = absurd cc
+found_all types f s env (x ∷ xs) [] fit r k = absurd cc
+found_all types f s env (x ∷ xs) (q ∷ qs) fit r k =
     let one = found types f env x q (fit.holds x r.0) cc in
-    let others = found_all types f h (use_of h s x) env xs qs (fit_used types f h s (x ∷ []) env fit) r.1 cc in
+    let others = found_all types f s env xs qs fit r.1 cc in
     record { values = one.value ∷ others.values; is = ap (λ o. in_front o (values_of env xs)) one.is ∙ ap (in_front (Some one.value)) others.is; fit = (one.fits, others.fit) }
 
 -- ---- lets
@@ -108,50 +113,53 @@ on_diamond_safe types q (value.Con c vs) o h g = absurd (by_type (type_of types 
     by_type None e = absurd cc
     by_type (Some t) e = absurd cc
 
-built_safe : (types : List DataType) (f : Func) (h : ℕ → Bool) (s : State) (env : Locals) (con : ℕ) (vs : List Value) (at : Place) (inline : Bool) (q : Kind) → LocalsFit types f s env
-    → AreReady h s (map Use (taken at)) → PlaceFits f inline at → Fits types q (value.Con con (parts vs)) → IsSafe types q (built con vs at env)
-built_safe types f h s env con vs place.Inline inline q fit r k fits = fits
-built_safe types f h s env con vs place.New inline q fit r k fits = fits
-built_safe types f h s env con vs (place.Reuse d) inline q fit r k fits =
+built_safe : (types : List DataType) (f : Func) (s : State) (env : Locals) (con : ℕ) (vs : List Value) (at : Place) (inline : Bool) (q : Kind) → LocalsFit types f s env
+    → AllReady s (taken at) → PlaceFits f inline at → Fits types q (value.Con con (parts vs)) → IsSafe types q (built con vs at env)
+built_safe types f s env con vs place.Inline inline q fit r k fits = fits
+built_safe types f s env con vs place.New inline q fit r k fits = fits
+built_safe types f s env con vs (place.Reuse d) inline q fit r k fits =
     let dia = found types f env d kind.Dia (fit.holds d r.0) k.1 in
     subst (λ o. IsSafe types q (given o (λ v. on_diamond v (Done (value.Con con (parts vs)) 0 0 0)))) (sym dia.is) (on_diamond_safe types q dia.value (Done (value.Con con (parts vs)) 0 0 0) dia.fits fits)
 
--- What a let binds is of the kind that well-formed code gives it, and its step isn't stuck.
-pub op_safe : (p : Code) (f : Func) (enter : Enter) → CallsSafe p enter → (h : ℕ → Bool) (s : State) (env : Locals) → LocalsFit p.types f s env → (op : Op) (q : Kind) (k w : ℕ) → AreReady h s (map Use (operands_of op))
+op_done : (p : Code) (f : Func) (enter : Enter) → CallsSafe p enter → (s : State) (env : Locals) → LocalsFit p.types f s env → (op : Op) (q : Kind) (k w : ℕ) → AllReady s (operands_of op)
     → Gives p f op q → IsSafe p.types q (op_run enter k w env op)
-op_safe p f enter calls h s env fit (Lit z) q k w r g = g
-op_safe p f enter calls h s env fit (Flag z) q k w r g = g
-op_safe p f enter calls h s env fit (Copy x) q k w r g =
+op_done p f enter calls s env fit (Lit z) q k w r g = g
+op_done p f enter calls s env fit (Flag z) q k w r g = g
+op_done p f enter calls s env fit (Copy x) q k w r g =
     let v = found p.types f env x q (fit.holds x r.0) g in subst (λ o. IsSafe p.types q (known o)) (sym v.is) v.fits
-op_safe p f enter calls h s env fit (Prim op x y) q k w r g =
+op_done p f enter calls s env fit (Prim op x y) q k w r g =
     let u = found p.types f env x kind.Int (fit.holds x r.0) cc in
-    let v = found p.types f env y kind.Int (fit.holds y (used_ready h s x y r.1.0)) cc in
+    let v = found p.types f env y kind.Int (fit.holds y r.1.0) cc in
     subst (λ t. IsSafe p.types t (operands op (env x) (env y))) (sym g.1)
     (subst (λ o. IsSafe p.types (operator_kind op) (operands op o (env y))) (sym u.is) (subst (λ o. IsSafe p.types (operator_kind op) (operands op (Some u.value) o)) (sym v.is) (operate_sound p.types op u.value v.value u.fits v.fits)))
-op_safe p f enter calls h s env fit (Make con args at) q k w r g = by_con (constructor p.types con) refl g
+op_done p f enter calls s env fit (Make con args at) q k w r g = by_con (constructor p.types con) refl g
   where
     by_con : (o : Option Constructor) → constructor p.types con ≡ o → IsSomeAnd o (λ c. HaveKinds f args c.fields × PlaceFits f c.inline at × (option_map kind.Of (type_of p.types con) ≡ Some q)) → IsSafe p.types q (op_run enter k w env (Make con args at))
     by_con None e m = absurd m
     by_con (Some c) e m =
-        let both = subst (AreReady h s) (map_append Use args (taken at)) r in
-        let vs = found_all p.types f h s env args c.fields fit (ready_first h s (map Use args) (map Use (taken at)) both) m.0 in
+        let vs = found_all p.types f s env args c.fields fit (all_first (λ x. s x ≡ Ready) args (taken at) r) m.0 in
         let fits : Fits p.types q (value.Con con (parts vs.values)) = (m.2, subst (λ o. IsSomeAnd o (λ d. FitAll p.types d.fields (parts vs.values))) (sym e) vs.fit) in
         subst (λ o. IsSafe p.types q (given o (λ us. built con us at env))) (sym vs.is)
-        (built_safe p.types f h (state_after h s (map Use args)) env con vs.values at c.inline q (fit_used p.types f h s args env fit) (ready_second h s (map Use args) (map Use (taken at)) both) m.1 fits)
-op_safe p f enter calls h s env fit (Call func args) q k w r g = by_func (slice_get p.funcs func) refl g
+        (built_safe p.types f s env con vs.values at c.inline q fit (all_second (λ x. s x ≡ Ready) args (taken at) r) m.1 fits)
+op_done p f enter calls s env fit (Call func args) q k w r g = by_func (slice_get p.funcs func) refl g
   where
     by_func : (o : Option Func) → slice_get p.funcs func ≡ o → IsSomeAnd o (λ callee. HaveKinds f args callee.params × (q ≡ callee.result)) → IsSafe p.types q (op_run enter k w env (Call func args))
     by_func None e m = absurd m
     by_func (Some callee) e m =
-        let vs = found_all p.types f h s env args callee.params fit r m.0 in
+        let vs = found_all p.types f s env args callee.params fit r m.0 in
         subst (λ o. IsSafe p.types q (given o (λ us. enter k w false func us))) (sym vs.is) (subst (λ t. IsSafe p.types t (enter k w false func vs.values)) (sym m.1) (calls k w false func vs.values callee e vs.fit))
+
+-- What a let binds is of the kind that well-formed code gives it, and its step isn't stuck, whichever arguments of calls are only looked at.
+pub op_safe : (p : Code) (f : Func) (enter : Enter) → CallsSafe p enter → (reads : Reads) (h : ℕ → Bool) (s : State) (env : Locals) → LocalsFit p.types f s env → (op : Op) (q : Kind) (k w : ℕ)
+    → AreReady h s (uses_of reads op) → Gives p f op q → IsSafe p.types q (op_run enter k w env op)
+op_safe p f enter calls reads h s env fit op q k w r g = op_done p f enter calls s env fit op q k w (operands_ready reads h s op r) g
 
 -- ---- jumps
 
 -- what was ready when a jump used its target's parameters is ready at the target
-params_hold : (types : List DataType) (f : Func) (h : ℕ → Bool) (s : State) (env : Locals) (xs : List ℕ) → LocalsFit types f s env → AreReady h s (map Use xs) → (x : ℕ) → is_among xs x ≡ true → Holds types f env x
-params_hold types f h s env [] fit r x m = absurd cc
-params_hold types f h s env (y ∷ xs) fit r x m = by_test (λ k. params_hold types f h (use_of h s y) env xs (fit_used types f h s (y ∷ []) env fit) r.1 x k) (y == x) refl m
+params_hold : (types : List DataType) (f : Func) (s : State) (env : Locals) (xs : List ℕ) → LocalsFit types f s env → AllReady s xs → (x : ℕ) → is_among xs x ≡ true → Holds types f env x
+params_hold types f s env [] fit r x m = absurd cc
+params_hold types f s env (y ∷ xs) fit r x m = by_test (λ k. params_hold types f s env xs fit r.1 x k) (y == x) refl m
   where
     by_test : (is_among xs x ≡ true → Holds types f env x) → (b : Bool) → (y == x) ≡ b → (b || is_among xs x) ≡ true → Holds types f env x
     by_test go true e k = let same : y ≡ x = grind (arith, nat_tests, e) in subst (Holds types f env) same (fit.holds y r.0)
@@ -160,14 +168,14 @@ params_hold types f h s env (y ∷ xs) fit r x m = by_test (λ k. params_hold ty
 -- A jump hands on what its target needs.
 pub jump_keeps : (p : Code) (f : Func) (h : ℕ → Bool) (s : State) (env : Locals) (to : ℕ) (target : Block) → LocalsFit p.types f s env → slice_get f.blocks to ≡ Some target → AreReady h s (jump_events f.blocks to)
     → FitsTarget p f target env
-jump_keeps p f h s env to target fit is r = record { holds = λ x e. hold x (bound_among (is_heap_local p.types f) nothing_bound target.params x e) }
+jump_keeps p f h s env to target fit is r = record { holds = λ x e. hold x (bound_among (is_owned p.types f) nothing_bound target.params x e) }
   where
     here : params_at f.blocks to ≡ target.params
     here = ap (λ o. option_map_or (λ block. block.params) o []) is
 
     hold : (x : ℕ) → (is_among target.params x ≡ true) ⊎ (Unbound ≡ Ready) → Holds p.types f (narrowed target.params env) x
     hold x (inl m) = subst (λ t. IsSomeAnd (if t then env x else None) (λ v. IsSomeAnd (kind_of f x) (λ q. Fits p.types q v))) (sym m)
-        (params_hold p.types f h s env (params_at f.blocks to) fit r x (ap (λ xs. is_among xs x) here ∙ m))
+        (params_hold p.types f s env (params_at f.blocks to) fit (all_used_ready h s (params_at f.blocks to) r) x (ap (λ xs. is_among xs x) here ∙ m))
     hold x (inr e) = absurd cc
 
 -- fields of these kinds are bound to parts of these kinds
@@ -219,10 +227,10 @@ record Ending (p : Code) (f : Func) (number : ℕ) (b : Block) (env : Locals) : 
   at : FitAt p f b (length b.lets) env
 
 jump_claim : (p : Code) (f : Func) (enter : Enter) (claim : Claim) → IsKept p f enter claim → (number : ℕ) (b : Block) (env : Locals) → Ending p f number b env → (later : Later) → LaterHolds p f claim number later
-    → (to k w : ℕ) (s : State) → LocalsFit p.types f s env → JumpsTo b.term to → JumpFits f number to → AreReady (is_heap_local p.types f) s (jump_events f.blocks to) → claim number (length b.lets) env (later to k w env)
+    → (to k w : ℕ) (s : State) → LocalsFit p.types f s env → JumpsTo b.term to → JumpFits f number to → AreReady (is_owned p.types f) s (jump_events f.blocks to) → claim number (length b.lets) env (later to k w env)
 jump_claim p f enter claim kept number b env e later holds to k w s fit jumps forward r =
     let t = block_there f to forward.1 in
-    let hand = jump_keeps p f (is_heap_local p.types f) s env to t.0 fit t.1 r in
+    let hand = jump_keeps p f (is_owned p.types f) s env to t.0 fit t.1 r in
     kept.by_jump number b to t.0 env (later to k w env) e.block jumps e.at forward.0 t.1 hand (holds to k w t.0 env forward.0 t.1 hand)
 
 -- an arm that a value's constructor takes
@@ -242,9 +250,9 @@ arm_there f h number s con (c ∷ cons) (a ∷ arms) (suc i) fit well e = let r 
 
 arm_claim : (p : Code) (f : Func) (enter : Enter) (claim : Claim) → IsKept p f enter claim → (number : ℕ) (b : Block) (env : Locals) → Ending p f number b env → (later : Later) → LaterHolds p f claim number later
     → (x : ℕ) (arms : List CaseArm) (i con : ℕ) (c : Constructor) (vs : Values) (k w : ℕ) (s : State) → LocalsFit p.types f s env → b.term ≡ Case x arms → env x ≡ Some (value.Con con vs) → place_of p.types con ≡ Some i
-    → FitAll p.types c.fields vs → (a : ArmAt f (is_heap_local p.types f) number s c arms i) → claim number (length b.lets) env (arm_run later (Some a.arm) vs k w env)
+    → FitAll p.types c.fields vs → (a : ArmAt f (is_owned p.types f) number s c arms i) → claim number (length b.lets) env (arm_run later (Some a.arm) vs k w env)
 arm_claim p f enter claim kept number b env e later holds x arms i con c vs k w s fit is value_is place_is parts_fit a =
-    let h : ℕ → Bool = is_heap_local p.types f in
+    let h : ℕ → Bool = is_owned p.types f in
     let m = a.arm in
     let r = bound_all p.types f h s env m.fields c.fields vs fit a.fits.fields parts_fit in
     let t = block_there f m.target a.fits.jump.1 in
@@ -260,7 +268,7 @@ arm_claim p f enter claim kept number b env e later holds x arms i con c vs k w 
 
 case_claim : (p : Code) (f : Func) (enter : Enter) (claim : Claim) → IsKept p f enter claim → (number : ℕ) (b : Block) (env : Locals) → Ending p f number b env → (later : Later) → LaterHolds p f claim number later
     → (x t : ℕ) (def : DataType) (arms : List CaseArm) (v : Value) (k w : ℕ) (s : State) → LocalsFit p.types f s env → b.term ≡ Case x arms → env x ≡ Some v → slice_get p.types t ≡ Some def → ArmsFit f number def.cons arms
-    → AllByRecursion (AreReady (is_heap_local p.types f) s) (map (λ a. map Bind (bound_by a) ++ jump_events f.blocks a.target) arms) → Fits p.types (kind.Of t) v
+    → AllByRecursion (AreReady (is_owned p.types f) s) (map (λ a. map Bind (bound_by a) ++ jump_events f.blocks a.target) arms) → Fits p.types (kind.Of t) v
     → claim number (length b.lets) env (case_run p.types later v arms k w env)
 case_claim p f enter claim kept number b env e later holds x t def arms (value.Int z) k w s fit is value_is type_is arms_fit ready fits = let c : kind.Of t ≡ kind.Int = fits.0 in absurd cc
 case_claim p f enter claim kept number b env e later holds x t def arms (value.Flag z) k w s fit is value_is type_is arms_fit ready fits = absurd cc
@@ -274,7 +282,7 @@ case_claim p f enter claim kept number b env e later holds x t def arms (value.C
         let l = located 0 p.types c u con con_is q in
         let at : slice_get p.types t ≡ Some l.def = ap (slice_get p.types) (sym same ∙ l.number ∙ omega arith) ∙ l.is in
         let def_is : l.def ≡ def = cc in
-        let a = arm_there f (is_heap_local p.types f) number s con def.cons arms l.place arms_fit ready (ap (λ d. slice_get d.cons l.place) (sym def_is) ∙ l.con_is) in
+        let a = arm_there f (is_owned p.types f) number s con def.cons arms l.place arms_fit ready (ap (λ d. slice_get d.cons l.place) (sym def_is) ∙ l.con_is) in
         subst (λ o. claim number (length b.lets) env (arm_run later o vs k w env)) (sym (ap (arm_at arms) l.place_is ∙ a.is))
         (arm_claim p f enter claim kept number b env e later holds x arms l.place c con vs k w s fit is value_is l.place_is g a)
 
@@ -295,8 +303,8 @@ chosen_claim types P (value.Con c vs) a b h s t = absurd (by_type (type_of types
     by_type (Some t) e = absurd cc
 
 term_claim : (p : Code) (f : Func) (enter : Enter) (claim : Claim) → IsKept p f enter claim → (number : ℕ) (b : Block) (env : Locals) → Ending p f number b env → (later : Later) → LaterHolds p f claim number later
-    → (t : Term) (k w : ℕ) (s : State) → b.term ≡ t → LocalsFit p.types f s env → TermFits p f number t → AreReady (is_heap_local p.types f) s (map Use (term_uses t))
-    → AllByRecursion (AreReady (is_heap_local p.types f) (state_after (is_heap_local p.types f) s (map Use (term_uses t)))) (ways f.blocks t)
+    → (t : Term) (k w : ℕ) (s : State) → b.term ≡ t → LocalsFit p.types f s env → TermFits p f number t → AreReady (is_owned p.types f) s (term_events (reads_of p) t)
+    → AllByRecursion (AreReady (is_owned p.types f) (state_after (is_owned p.types f) s (term_events (reads_of p) t))) (ways f.blocks t)
     → claim number (length b.lets) env (term_run p.types enter later t k w env)
 term_claim p f enter claim kept number b env e later holds (Ret x) k w s is fit fits r onward =
     let v = found p.types f env x f.result (fit.holds x r.0) fits in
@@ -306,12 +314,12 @@ term_claim p f enter claim kept number b env e later holds (Tail func args) k w 
     by_func : (o : Option Func) → slice_get p.funcs func ≡ o → IsSomeAnd o (λ callee. HaveKinds f args callee.params × (callee.result ≡ f.result)) → claim number (length b.lets) env (term_run p.types enter later (Tail func args) k w env)
     by_func None q m = absurd m
     by_func (Some callee) q m =
-        let vs = found_all p.types f (is_heap_local p.types f) s env args callee.params fit r m.0 in
+        let vs = found_all p.types f s env args callee.params fit (term_operands_ready (reads_of p) (is_owned p.types f) s (Tail func args) r) m.0 in
         subst (λ o. claim number (length b.lets) env (given o (λ us. enter k w true func us))) (sym vs.is) (kept.by_tail number b func args vs.values callee env k w e.block is e.at vs.is q vs.fit m.1)
 term_claim p f enter claim kept number b env e later holds (Goto to) k w s is fit fits r onward =
     jump_claim p f enter claim kept number b env e later holds to k w s fit (subst (λ t. JumpsTo t to) (sym is) refl) fits onward.0
 term_claim p f enter claim kept number b env e later holds (If x first second) k w s is fit fits r onward =
-    let h : ℕ → Bool = is_heap_local p.types f in
+    let h : ℕ → Bool = is_owned p.types f in
     let v = found p.types f env x kind.Flag (fit.holds x r.0) fits.0 in
     let used = fit_used p.types f h s (x ∷ []) env fit in
     subst (λ o. claim number (length b.lets) env (given o (λ u. chosen u (later first k w env) (later second k w env)))) (sym v.is)
@@ -325,7 +333,7 @@ term_claim p f enter claim kept number b env e later holds (Case x arms) k w s i
     by_def t q (Some d) i m =
         let v = found p.types f env x (kind.Of t) (fit.holds x r.0) q in
         subst (λ o. claim number (length b.lets) env (given o (λ u. case_run p.types later u arms k w env))) (sym v.is)
-        (case_claim p f enter claim kept number b env e later holds x t d arms v.value k w (use_of (is_heap_local p.types f) s x) (fit_used p.types f (is_heap_local p.types f) s (x ∷ []) env fit) is v.is i m onward v.fits)
+        (case_claim p f enter claim kept number b env e later holds x t d arms v.value k w (use_of (is_owned p.types f) s x) (fit_used p.types f (is_owned p.types f) s (x ∷ []) env fit) is v.is i m onward v.fits)
 
     by_kind : (o : Option Kind) → kind_of f x ≡ o → IsSomeAnd (data_type p.types o) (λ d. ArmsFit f number d.cons arms) → claim number (length b.lets) env (term_run p.types enter later (Case x arms) k w env)
     by_kind None q m = absurd m
@@ -344,8 +352,8 @@ pub fit_behind : (p : Code) (f : Func) (b : Block) (n : ℕ) (l : Let) (v : Valu
     → FitAt p f b (n + 1) (put env l.target v)
 fit_behind p f b n l v q env here t fit good = let e : suc n ≡ n + 1 = omega arith in
     subst (λ m. FitAt p f b m (put env l.target v)) e
-    (subst (λ s. LocalsFit p.types f s (put env l.target v)) (sym (state_next (is_heap_local p.types f) b n l here))
-    (let_keeps p.types f (is_heap_local p.types f) (state_at (is_heap_local p.types f) b n) env l v q fit t good))
+    (subst (λ s. LocalsFit p.types f s (put env l.target v)) (sym (state_next (reads_of p) (is_owned p.types f) b n l here))
+    (let_keeps p.types f (reads_of p) (is_owned p.types f) (state_at (reads_of p) (is_owned p.types f) b n) env l v q fit t good))
 
 step_safe_in : (p : Code) (f : Func) (enter : Enter) (number n : ℕ) (b : Block) (l : Let) (q : Kind) (env : Locals) (k w : ℕ) → CallsSafe p enter → BlockFits p f number b → slice_get b.lets n ≡ Some l
     → kind_of f l.target ≡ Some q → FitAt p f b n env → IsSafe p.types q (op_run enter k w env l.op)
@@ -354,8 +362,8 @@ step_safe_in p f enter number n b l q env k w calls fits here t fit = by_kind (k
     by_kind : (o : Option Kind) → o ≡ Some q → IsSomeAnd o (Gives p f l.op) → IsSafe p.types q (op_run enter k w env l.op)
     by_kind None e g = absurd g
     by_kind (Some r) e g = let same : r ≡ q = cc in
-        op_safe p f enter calls (is_heap_local p.types f) (state_at (is_heap_local p.types f) b n) env fit l.op q k w
-        (ready_first (is_heap_local p.types f) (state_at (is_heap_local p.types f) b n) (map Use (operands_of l.op)) (Bind l.target ∷ []) (ready_at (is_heap_local p.types f) f.blocks b n l fits.uses here))
+        op_safe p f enter calls (reads_of p) (is_owned p.types f) (state_at (reads_of p) (is_owned p.types f) b n) env fit l.op q k w
+        (ready_first (is_owned p.types f) (state_at (reads_of p) (is_owned p.types f) b n) (uses_of (reads_of p) l.op) (Bind l.target ∷ []) (ready_at (reads_of p) (is_owned p.types f) f.blocks b n l fits.uses here))
         (subst (Gives p f l.op) same g)
 
 -- the lets from this number on, and then the end
@@ -363,11 +371,11 @@ lets_claim : (p : Code) (f : Func) (enter : Enter) → CallsSafe p enter → (cl
     → (later : Later) → LaterHolds p f claim number later → (ls : List Let) (n : ℕ) → ((i : ℕ) → slice_get ls i ≡ slice_get b.lets (n + i)) → n + length ls ≡ length b.lets → (k w : ℕ) (env : Locals) → FitAt p f b n env
     → claim number n env (lets_run enter ls k w env (λ left last. term_run p.types enter later b.term left w last))
 lets_claim p f enter calls claim kept number b is fits later holds [] n at size k w env fit =
-    let h : ℕ → Bool = is_heap_local p.types f in
+    let h : ℕ → Bool = is_owned p.types f in
     let all : n ≡ length b.lets = omega (arith, size) in
     let end : FitAt p f b (length b.lets) env = subst (λ m. FitAt p f b m env) all fit in
     subst (λ m. claim number m env (term_run p.types enter later b.term k w env)) (sym all)
-    (term_claim p f enter claim kept number b env (record { block = is; fits = fits; at = end }) later holds b.term k w (at_term h b) refl (subst (λ s. LocalsFit p.types f s env) (state_last h b) end) fits.term fits.uses.term fits.uses.onward)
+    (term_claim p f enter claim kept number b env (record { block = is; fits = fits; at = end }) later holds b.term k w (at_term (reads_of p) h b) refl (subst (λ s. LocalsFit p.types f s env) (state_last (reads_of p) h b) end) fits.term fits.uses.term fits.uses.onward)
 lets_claim p f enter calls claim kept number b is fits later holds (l ∷ ls) n at size k w env fit =
     by_target (λ j v q t good. lets_claim p f enter calls claim kept number b is fits later holds ls (n + 1) behind (omega (arith, size)) j w (put env l.target v) (fit_behind p f b n l v q env here t fit good)) (kind_of f l.target) refl (all_at (LetFits p f) b.lets n l fits.lets here)
   where

@@ -13,7 +13,7 @@ use Rattle.grail_blocks.specs.declared.blocks.CaseCell.{CaseCell}
 use Rattle.grail_blocks.specs.declared.blocks.CaseCell.TheVariants as cell
 use Rattle.grail_blocks.specs.States.{State, Ready, at_start, state_at}
 use Rattle.grail_code.specs.Code.{Let, CaseArm, Term, Ret, Tail, Goto, If, Case, Block, Func, Code}
-use Rattle.grail_code.specs.WellFormed.{kind_of, is_heap_local}
+use Rattle.grail_code.specs.WellFormed.{kind_of, is_owned, reads_of}
 use Rattle.grail_code.specs.Meaning.{Locals, put, narrowed, values_of, op_run, put_all}
 
 -- the local has a value of its kind
@@ -26,11 +26,11 @@ pub record LocalsFit (types : List DataType) (f : Func) (s : State) (env : Local
 
 -- before the let of this number in block b, or at the number of lets before its end
 abbrev pub FitAt : Code → Func → Block → ℕ → Locals → Type 0
-FitAt p f b n env = LocalsFit p.types f (state_at (is_heap_local p.types f) b n) env
+FitAt p f b n env = LocalsFit p.types f (state_at (reads_of p) (is_owned p.types f) b n) env
 
 -- at the beginning of a block that was jumped to, with its parameters alone
 abbrev pub FitsTarget : Code → Func → Block → Locals → Type 0
-FitsTarget p f target env = LocalsFit p.types f (at_start (is_heap_local p.types f) target) (narrowed target.params env)
+FitsTarget p f target env = LocalsFit p.types f (at_start (is_owned p.types f) target) (narrowed target.params env)
 
 -- calls of the code's functions on fitting arguments are safe
 abbrev pub CallsSafe : Code → Enter → Type 0

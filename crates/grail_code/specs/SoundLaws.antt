@@ -19,7 +19,7 @@ use Rattle.grail_blocks.specs.States.{Ready, Unbound, nothing_bound}
 use Rattle.grail_blocks.specs.NarrowLaws.{bound_among}
 use Rattle.grail_blocks.specs.RunningLaws.{runs_from_first}
 use Rattle.grail_code.specs.Code.{Block, Func, Code}
-use Rattle.grail_code.specs.WellFormed.{is_heap_local, BlocksFit, FuncFits, IsWellFormed}
+use Rattle.grail_code.specs.WellFormed.{is_owned, BlocksFit, FuncFits, IsWellFormed}
 use Rattle.grail_code.specs.Meaning.{Locals, arguments, narrow, blocks_run, body_run, bodies, from_block, run_of}
 use Rattle.grail_code.specs.Places.{Holds, FitAt, CallsSafe, cell_effect, Claim, IsKept}
 use Rattle.grail_code.specs.PlaceLaws.{holds_from_block, all_at}
@@ -73,7 +73,7 @@ as_many types (q ∷ qs) (v ∷ vs) fit = ap suc (as_many types qs vs fit.1)
 
 -- A function's first block begins with its arguments.
 pub arguments_fit : (p : Code) (f : Func) (b : Block) (args : List Value) → b.params ≡ range_with_len 0 (length f.params) → ArgumentsFit p.types f.params args → FitAt p f b 0 (arguments args)
-arguments_fit p f b args entry fit = record { holds = λ x e. hold x (bound_among (is_heap_local p.types f) nothing_bound b.params x e) }
+arguments_fit p f b args entry fit = record { holds = λ x e. hold x (bound_among (is_owned p.types f) nothing_bound b.params x e) }
   where
     hold : (x : ℕ) → (is_among b.params x ≡ true) ⊎ (Unbound ≡ Ready) → Holds p.types f (arguments args) x
     hold x (inl m) = let less : x < 0 + length f.params = range_below x 0 (length f.params) (subst (λ ps. is_among ps x ≡ true) entry m) in arguments_hold p.types f.params f.locals args x fit (omega (arith, less))

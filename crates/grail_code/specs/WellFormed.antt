@@ -17,7 +17,7 @@ use Rattle.grail_blocks.specs.declared.blocks.Place.{Place}
 use Rattle.grail_blocks.specs.declared.blocks.Place.TheVariants as place
 use Rattle.grail_blocks.specs.declared.blocks.CaseCell.{CaseCell}
 use Rattle.grail_blocks.specs.declared.blocks.CaseCell.TheVariants as cell
-pub use Rattle.grail_blocks.specs.Events.{Event, Use, Bind, Binds, taken, operands_of, let_events, term_uses, kept_diamond, bound_by, params_at, jump_events, ways, block_events}
+pub use Rattle.grail_blocks.specs.Events.{Event, Use, Look, Bind, Binds, Reads, no_reads, taken, operands_of, uses_of, let_events, term_uses, term_events, kept_diamond, bound_by, params_at, jump_events, ways, block_events}
 pub use Rattle.grail_blocks.specs.States.{UsesReady}
 use Rattle.grail_code.specs.Code.{Op, Lit, Flag, Copy, Prim, Make, Call, Let, CaseArm, Term, Ret, Tail, Goto, If, Case, Block, Func, Code}
 
@@ -39,9 +39,13 @@ kind_of f x = slice_get (local_kinds f) x
 abbrev pub HaveKinds : Func → List ℕ → List Kind → Type 0
 HaveKinds f xs kinds = map (kind_of f) xs ≡ map Some kinds
 
--- the local is of a heap kind
-abbrev pub is_heap_local : List DataType → Func → ℕ → Bool
-is_heap_local types f x = option_map_or (is_heap types) (kind_of f x) false
+-- the local is owned: it is of a heap kind
+abbrev pub is_owned : List DataType → Func → ℕ → Bool
+is_owned types f x = option_map_or (is_heap types) (kind_of f x) false
+
+-- which parameters of the code's functions are only looked at: none is
+abbrev pub reads_of : Code → Reads
+reads_of p = no_reads
 
 -- ---- lets
 
@@ -108,8 +112,8 @@ pub record BlockFits (p : Code) (f : Func) (number : ℕ) (b : Block) : Type 0 w
   pub entry : number ≡ 0 → b.params ≡ range_with_len 0 (length f.params)
   pub lets : AllByRecursion (LetFits p f) b.lets
   pub term : TermFits p f number b.term
-  -- each use finds its local ready, on each way through the block
-  pub uses : UsesReady (is_heap_local p.types f) f.blocks b
+  -- each use and each look finds its local ready, on each way through the block
+  pub uses : UsesReady (reads_of p) (is_owned p.types f) f.blocks b
 
 -- the blocks from this number on
 abbrev pub BlocksFit : Code → Func → ℕ → List Block → Type 0
