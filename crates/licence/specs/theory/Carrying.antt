@@ -14,7 +14,7 @@ use Rattle.camelot_values.specs.declared.kinds.Kind.{Kind}
 use Rattle.grail_blocks.specs.Events.{Use, Bind}
 use Rattle.grail_blocks.specs.States.{Ready, Spent, State, bind, use_of, after, AreReady}
 use Rattle.grail_code.specs.Code.{Func}
-use Rattle.grail_code.specs.WellFormed.{local_kinds, kind_of, is_heap_local}
+use Rattle.grail_code.specs.WellFormed.{local_kinds, kind_of, is_owned}
 use Rattle.grail_code.specs.Meaning.{Locals, put, put_all, narrowed, values_of, in_front}
 use Rattle.grail_code.specs.Places.{LocalsFit, Holds}
 use Rattle.grail_code.specs.PlaceLaws.{fit_used}
@@ -42,7 +42,7 @@ local_there types f env x h = by_value (env x) h
     by_value (Some v) g = below_of (local_kinds f) x (λ q. Fits types q v) g
 
 -- what a local of a kind that needs no cell holds carries nothing
-plain_local : (types : List DataType) (f : Func) (env : Locals) (x : ℕ) (units : Units ℕ) → AreTypes types → Holds types f env x → is_heap_local types f x ≡ false → value_units types units (env x) ≡ 0
+plain_local : (types : List DataType) (f : Func) (env : Locals) (x : ℕ) (units : Units ℕ) → AreTypes types → Holds types f env x → is_owned types f x ≡ false → value_units types units (env x) ≡ 0
 plain_local types f env x units well h plain = by_value (env x) h
   where
     by_kind : (v : Value) (o : Option Kind) → option_map_or (is_heap types) o false ≡ false → IsSomeAnd o (λ q. Fits types q v) → potential types units v ≡ 0
@@ -55,8 +55,8 @@ plain_local types f env x units well h plain = by_value (env x) h
 
 -- a use takes out what the local's value carries
 pub use_total : (types : List DataType) (f : Func) (s : State) (env : Locals) (carried : Carried ℕ) (x : ℕ) → AreTypes types → Holds types f env x → s x ≡ Ready
-    → total types f (use_of (is_heap_local types f) s x) env carried + value_units types (carried x) (env x) ≤ total types f s env carried
-use_total types f s env carried x well held ready = by_heap (is_heap_local types f x) refl
+    → total types f (use_of (is_owned types f) s x) env carried + value_units types (carried x) (env x) ≤ total types f s env carried
+use_total types f s env carried x well held ready = by_heap (is_owned types f x) refl
   where
     there : x < length (local_kinds f)
     there = local_there types f env x held
@@ -68,21 +68,21 @@ use_total types f s env carried x well held ready = by_heap (is_heap_local types
     kept y true = omega arith
     kept y false = omega arith
 
-    by_heap : (b : Bool) → is_heap_local types f x ≡ b → total types f (use_of (is_heap_local types f) s x) env carried + value_units types (carried x) (env x) ≤ total types f s env carried
+    by_heap : (b : Bool) → is_owned types f x ≡ b → total types f (use_of (is_owned types f) s x) env carried + value_units types (carried x) (env x) ≤ total types f s env carried
     by_heap true e =
-        sum_less_at (local_units types (use_of (is_heap_local types f) s x) env carried) (local_units types s env carried) x (value_units types (carried x) (env x)) (length (local_kinds f)) there
-        (λ y apart. kept y ((x == y) && is_heap_local types f x)) spent
+        sum_less_at (local_units types (use_of (is_owned types f) s x) env carried) (local_units types s env carried) x (value_units types (carried x) (env x)) (length (local_kinds f)) there
+        (λ y apart. kept y ((x == y) && is_owned types f x)) spent
       where
-        gone : ((x == x) && is_heap_local types f x) ≡ true
-        gone = let t : (x == x) ≡ true = grind (arith, nat_tests) in ap (λ b. b && is_heap_local types f x) t ∙ e
+        gone : ((x == x) && is_owned types f x) ≡ true
+        gone = let t : (x == x) ≡ true = grind (arith, nat_tests) in ap (λ b. b && is_owned types f x) t ∙ e
 
-        spent : local_units types (use_of (is_heap_local types f) s x) env carried x + value_units types (carried x) (env x) ≤ local_units types s env carried x
+        spent : local_units types (use_of (is_owned types f) s x) env carried x + value_units types (carried x) (env x) ≤ local_units types s env carried x
         spent =
-            let none : local_units types (use_of (is_heap_local types f) s x) env carried x ≡ 0 = ap (λ b. status_units (if b then Spent else s x) (value_units types (carried x) (env x))) gone in
+            let none : local_units types (use_of (is_owned types f) s x) env carried x ≡ 0 = ap (λ b. status_units (if b then Spent else s x) (value_units types (carried x) (env x))) gone in
             omega (arith, none, here)
     by_heap false e =
         let none = plain_local types f env x (carried x) well held e in
-        let rest = sum_less (local_units types (use_of (is_heap_local types f) s x) env carried) (local_units types s env carried) (length (local_kinds f)) (λ y l. kept y ((x == y) && is_heap_local types f x)) in
+        let rest = sum_less (local_units types (use_of (is_owned types f) s x) env carried) (local_units types s env carried) (length (local_kinds f)) (λ y l. kept y ((x == y) && is_owned types f x)) in
         omega (arith, none, rest)
 
 -- ---- several uses
@@ -109,41 +109,41 @@ asked_of_local types f env carried x asked h c = by_value (env x) h
 abbrev pub AllHold : List DataType → Func → Locals → List ℕ → Type 0
 AllHold types f env xs = AllByRecursion (Holds types f env) xs
 
-pub all_held : (types : List DataType) (f : Func) (s : State) (env : Locals) (xs : List ℕ) → LocalsFit types f s env → AreReady (is_heap_local types f) s (map Use xs) → AllHold types f env xs
+pub all_held : (types : List DataType) (f : Func) (s : State) (env : Locals) (xs : List ℕ) → LocalsFit types f s env → AreReady (is_owned types f) s (map Use xs) → AllHold types f env xs
 all_held types f s env [] fit r = tt
 all_held types f s env (x ∷ xs) fit r =
-    (fit.holds x r.0, all_held types f (use_of (is_heap_local types f) s x) env xs (fit_used types f (is_heap_local types f) s (x ∷ []) env fit) r.1)
+    (fit.holds x r.0, all_held types f (use_of (is_owned types f) s x) env xs (fit_used types f (is_owned types f) s (x ∷ []) env fit) r.1)
 
 -- uses of all locals that something is asked of
 asks_total : (types : List DataType) (f : Func) (s : State) (env : Locals) (carried : Carried ℕ) (asks : Asks ℕ) → AreTypes types → AllHold types f env (locals_of asks)
-    → AreReady (is_heap_local types f) s (map Use (locals_of asks)) → AllCarry types f carried asks
-    → total types f (after (is_heap_local types f) s (map Use (locals_of asks))) env carried + asked_units types env asks ≤ total types f s env carried
+    → AreReady (is_owned types f) s (map Use (locals_of asks)) → AllCarry types f carried asks
+    → total types f (after (is_owned types f) s (map Use (locals_of asks))) env carried + asked_units types env asks ≤ total types f s env carried
 asks_total types f s env carried [] well held r all = omega arith
 asks_total types f s env carried (a ∷ asks) well held r all =
     let one = use_total types f s env carried a.0 well held.0 r.0 in
     let enough = asked_of_local types f env carried a.0 a.1 held.0 all.0 in
-    let rest = asks_total types f (use_of (is_heap_local types f) s a.0) env carried asks well held.1 r.1 all.1 in
+    let rest = asks_total types f (use_of (is_owned types f) s a.0) env carried asks well held.1 r.1 all.1 in
     omega (arith, one, enough, rest)
 
 -- uses of just the locals that something is asked of
 pub uses_total : (types : List DataType) (f : Func) (s : State) (env : Locals) (carried : Carried ℕ) (xs : List ℕ) (asks : Asks ℕ) → locals_of asks ≡ xs → AreTypes types → AllHold types f env xs
-    → AreReady (is_heap_local types f) s (map Use xs) → AllCarry types f carried asks
-    → total types f (after (is_heap_local types f) s (map Use xs)) env carried + asked_units types env asks ≤ total types f s env carried
+    → AreReady (is_owned types f) s (map Use xs) → AllCarry types f carried asks
+    → total types f (after (is_owned types f) s (map Use xs)) env carried + asked_units types env asks ≤ total types f s env carried
 uses_total types f s env carried xs asks of_these well =
-    subst (λ ys. AllHold types f env ys → AreReady (is_heap_local types f) s (map Use ys) → AllCarry types f carried asks
-    → total types f (after (is_heap_local types f) s (map Use ys)) env carried + asked_units types env asks ≤ total types f s env carried) of_these
+    subst (λ ys. AllHold types f env ys → AreReady (is_owned types f) s (map Use ys) → AllCarry types f carried asks
+    → total types f (after (is_owned types f) s (map Use ys)) env carried + asked_units types env asks ≤ total types f s env carried) of_these
     (asks_total types f s env carried asks well)
 
 -- uses leave no more
-pub no_more : (types : List DataType) (f : Func) (s : State) (env : Locals) (carried : Carried ℕ) (xs : List ℕ) → AreTypes types → LocalsFit types f s env → AreReady (is_heap_local types f) s (map Use xs)
-    → total types f (after (is_heap_local types f) s (map Use xs)) env carried ≤ total types f s env carried
+pub no_more : (types : List DataType) (f : Func) (s : State) (env : Locals) (carried : Carried ℕ) (xs : List ℕ) → AreTypes types → LocalsFit types f s env → AreReady (is_owned types f) s (map Use xs)
+    → total types f (after (is_owned types f) s (map Use xs)) env carried ≤ total types f s env carried
 no_more types f s env carried xs well fit r = each s xs (all_held types f s env xs fit r) r
   where
-    each : (u : State) (ys : List ℕ) → AllHold types f env ys → AreReady (is_heap_local types f) u (map Use ys) → total types f (after (is_heap_local types f) u (map Use ys)) env carried ≤ total types f u env carried
+    each : (u : State) (ys : List ℕ) → AllHold types f env ys → AreReady (is_owned types f) u (map Use ys) → total types f (after (is_owned types f) u (map Use ys)) env carried ≤ total types f u env carried
     each u [] held ready = omega arith
     each u (y ∷ ys) held ready =
         let one = use_total types f u env carried y well held.0 ready.0 in
-        let rest = each (use_of (is_heap_local types f) u y) ys held.1 ready.1 in
+        let rest = each (use_of (is_owned types f) u y) ys held.1 ready.1 in
         omega (arith, one, rest)
 
 -- What arguments carry is asked of them.

@@ -18,12 +18,12 @@ use Rattle.camelot_values.specs.declared.kinds.Kind.{Kind}
 use Rattle.camelot_values.specs.declared.kinds.Kind.TheVariants as kind
 use Rattle.grail_blocks.specs.declared.blocks.CaseCell.{CaseCell}
 use Rattle.grail_blocks.specs.declared.blocks.CaseCell.TheVariants as cell
-use Rattle.grail_blocks.specs.Events.{Use, Bind, operands_of, term_uses, bound_by, kept_diamond, params_at, jump_events, ways}
+use Rattle.grail_blocks.specs.Events.{Use, Bind, uses_of, term_events, bound_by, kept_diamond, params_at, jump_events, ways}
 use Rattle.camelot_values.specs.Lists.{is_among}
 use Rattle.grail_blocks.specs.States.{Ready, State, nothing_bound, bind, after, AreReady, at_start, state_at}
 use Rattle.grail_blocks.specs.StateLaws.{after_append, ready_first, ready_second, state_next, state_last, ready_at}
 use Rattle.grail_code.specs.Code.{Let, CaseArm, Term, Ret, Tail, Goto, If, Case, Block, Func, Code}
-use Rattle.grail_code.specs.WellFormed.{HaveKinds, Gives, LetFits, kind_of, is_heap_local, TermFits, BlockFits, BlocksFit, FuncFits, IsWellFormed}
+use Rattle.grail_code.specs.WellFormed.{HaveKinds, Gives, LetFits, kind_of, is_owned, reads_of, TermFits, BlockFits, BlocksFit, FuncFits, IsWellFormed}
 use Rattle.grail_code.specs.Meaning.{Locals, put, narrowed, arguments, values_of, op_run, narrow, body_run, bodies, from_block, from_place, run_of}
 use Rattle.grail_code.specs.Places.{Holds, LocalsFit, FitAt, FitsTarget, CallsSafe, JumpsTo, with_cell, cell_effect, TakesArm, Claim, IsKept}
 use Rattle.grail_code.specs.PlaceLaws.{fit_used, all_at, holds_from_block, holds_from_place}
@@ -115,11 +115,11 @@ numbered first (d ∷ ds) c t i h e = by_test (numbered (suc first) ds (c - leng
 
 -- What the target's parameters carry there is no more than what was carried where the jump begins.
 jump_worth : (p : Code) (f : Func) (book : Book ℕ) (func to : ℕ) (target : Block) (s : State) (env : Locals) (account : Account ℕ) → AreTypes p.types → AllHold p.types f env (params_at f.blocks to) → slice_get f.blocks to ≡ Some target
-    → AreReady (is_heap_local p.types f) s (jump_events f.blocks to) → JumpPays p f book func account to → 0 < to
-    → worth p.types f (at_start (is_heap_local p.types f) target) (narrowed target.params env) (account_at book func to) ≤ worth p.types f s env account
+    → AreReady (is_owned p.types f) s (jump_events f.blocks to) → JumpPays p f book func account to → 0 < to
+    → worth p.types f (at_start (is_owned p.types f) target) (narrowed target.params env) (account_at book func to) ≤ worth p.types f s env account
 jump_worth p f book func zero target s env account well held is r pays later = absurd (omega (arith, later))
 jump_worth p f book func (suc n) target s env account well held is r pays later =
-    let h : ℕ → Bool = is_heap_local p.types f in
+    let h : ℕ → Bool = is_owned p.types f in
     let here : params_at f.blocks (suc n) ≡ target.params = ap (λ o. option_map_or (λ block. block.params) o []) is in
     let ready : AreReady h s (map Use target.params) = subst (λ ps. AreReady h s (map Use ps)) here r in
     let asks : Asks ℕ = map (λ x. (x, book.block_var func (suc n) x)) target.params in
@@ -135,7 +135,7 @@ jump_worth p f book func (suc n) target s env account well held is r pays later 
 -- so many units are left at a place of a block, and so much is carried; at the end the result carries what is said, and so much is given back
 abbrev Paid : Code → Func → Book ℕ → ℕ → Claim
 Paid p f book func = λ number n env o. (b : Block) → slice_get f.blocks number ≡ Some b
-    → IsPaidBy book.unit (worth p.types f (state_at (is_heap_local p.types f) b n) env (account_before naturals p.types book func number b n))
+    → IsPaidBy book.unit (worth p.types f (state_at (reads_of p) (is_owned p.types f) b n) env (account_before naturals p.types book func number b n))
     (λ v. book.back func + potential p.types (book.result func) v) o
 
 one_block : (f : Func) (number : ℕ) (b c : Block) → slice_get f.blocks number ≡ Some b → slice_get f.blocks number ≡ Some c → b ≡ c
@@ -147,21 +147,21 @@ one_block f number b c is there = some_is b c (sym is ∙ there)
 -- a let
 let_paid : (p : Code) (f : Func) (book : Book ℕ) (func : ℕ) (enter : Enter) → AreTypes p.types → CallsSafe p enter → CallsPaid p book enter → (number n : ℕ) (b : Block) (l : Let) (q : Kind) (env : Locals) (k w : ℕ) (next : ℕ → Value → Outcome Value)
     → BlockFits p f number b → BlockPays p f book func number b → slice_get b.lets n ≡ Some l → kind_of f l.target ≡ Some q → FitAt p f b n env → IsSafe p.types q (op_run enter k w env l.op)
-    → ((j : ℕ) (v : Value) → Fits p.types q v → IsPaidBy book.unit (worth p.types f (state_at (is_heap_local p.types f) b (n + 1)) (put env l.target v) (account_before naturals p.types book func number b (n + 1)))
+    → ((j : ℕ) (v : Value) → Fits p.types q v → IsPaidBy book.unit (worth p.types f (state_at (reads_of p) (is_owned p.types f) b (n + 1)) (put env l.target v) (account_before naturals p.types book func number b (n + 1)))
     (λ v. book.back func + potential p.types (book.result func) v) (next j v))
-    → IsPaidBy book.unit (worth p.types f (state_at (is_heap_local p.types f) b n) env (account_before naturals p.types book func number b n)) (λ v. book.back func + potential p.types (book.result func) v)
+    → IsPaidBy book.unit (worth p.types f (state_at (reads_of p) (is_owned p.types f) b n) env (account_before naturals p.types book func number b n)) (λ v. book.back func + potential p.types (book.result func) v)
     (first_then k (op_run enter k w env l.op) next)
 let_paid p f book func enter well safe paid number n b l q env k w next fits pays here kind fit sound go =
-    paid_in_turn (Fits p.types q) book.unit (worth p.types f s env account) (λ v. worth p.types f (bind (after h s (map Use (operands_of l.op))) l.target) (put env l.target v) behind)
+    paid_in_turn (Fits p.types q) book.unit (worth p.types f s env account) (λ v. worth p.types f (bind (after h s (uses_of (reads_of p) l.op)) l.target) (put env l.target v) behind)
     (λ v. book.back func + potential p.types (book.result func) v) k (op_run enter k w env l.op) next sound
     (op_paid p f book enter well safe paid func number (suc n) s env account fit l.target l.op q k w ready gives (pays.lets n l here) sound)
     (λ j v good. subst (λ m. IsPaidBy book.unit m (λ v. book.back func + potential p.types (book.result func) v) (next j v)) (sym (after_one v)) (go j v good))
   where
     h : ℕ → Bool
-    h = is_heap_local p.types f
+    h = is_owned p.types f
 
     s : State
-    s = state_at h b n
+    s = state_at (reads_of p) h b n
 
     account : Account ℕ
     account = account_before naturals p.types book func number b n
@@ -169,11 +169,11 @@ let_paid p f book func enter well safe paid number n b l q env k w next fits pay
     behind : Account ℕ
     behind = after_op naturals p.types book func number (suc n) account l.target l.op
 
-    events : AreReady h s (map Use (operands_of l.op) ++ Bind l.target ∷ [])
-    events = ready_at h f.blocks b n l fits.uses here
+    events : AreReady h s (uses_of (reads_of p) l.op ++ Bind l.target ∷ [])
+    events = ready_at (reads_of p) h f.blocks b n l fits.uses here
 
-    ready : AreReady h s (map Use (operands_of l.op))
-    ready = ready_first h s (map Use (operands_of l.op)) (Bind l.target ∷ []) events
+    ready : AreReady h s (uses_of (reads_of p) l.op)
+    ready = ready_first h s (uses_of (reads_of p) l.op) (Bind l.target ∷ []) events
 
     gives : Gives p f l.op q
     gives = by_kind (kind_of f l.target) kind (all_at (LetFits p f) b.lets n l fits.lets here)
@@ -182,16 +182,16 @@ let_paid p f book func enter well safe paid number n b l q env k w next fits pay
         by_kind None e g = absurd g
         by_kind (Some r) e g = let same : r ≡ q = cc in subst (Gives p f l.op) same g
 
-    state_is : state_at h b (n + 1) ≡ bind (after h s (map Use (operands_of l.op))) l.target
-    state_is = let e : n + 1 ≡ suc n = omega arith in ap (state_at h b) e ∙ state_next h b n l here ∙ after_append h s (map Use (operands_of l.op)) (Bind l.target ∷ [])
+    state_is : state_at (reads_of p) h b (n + 1) ≡ bind (after h s (uses_of (reads_of p) l.op)) l.target
+    state_is = let e : n + 1 ≡ suc n = omega arith in ap (state_at (reads_of p) h b) e ∙ state_next (reads_of p) h b n l here ∙ after_append h s (uses_of (reads_of p) l.op) (Bind l.target ∷ [])
 
     account_is : account_before naturals p.types book func number b (n + 1) ≡ behind
     account_is = let e : n + 1 ≡ suc n = omega arith in ap (account_before naturals p.types book func number b) e ∙ next_account naturals p.types book func number 1 (account_at book func number) b.lets n l here
         ∙ (let one : 1 + n ≡ suc n = omega arith in ap (λ i. after_op naturals p.types book func number i account l.target l.op) one)
 
-    after_one : (v : Value) → worth p.types f (bind (after h s (map Use (operands_of l.op))) l.target) (put env l.target v) behind
-        ≡ worth p.types f (state_at h b (n + 1)) (put env l.target v) (account_before naturals p.types book func number b (n + 1))
-    after_one v = ap (λ u. worth p.types f u (put env l.target v) behind) (sym state_is) ∙ ap (λ a. worth p.types f (state_at h b (n + 1)) (put env l.target v) a) (sym account_is)
+    after_one : (v : Value) → worth p.types f (bind (after h s (uses_of (reads_of p) l.op)) l.target) (put env l.target v) behind
+        ≡ worth p.types f (state_at (reads_of p) h b (n + 1)) (put env l.target v) (account_before naturals p.types book func number b (n + 1))
+    after_one v = ap (λ u. worth p.types f u (put env l.target v) behind) (sym state_is) ∙ ap (λ a. worth p.types f (state_at (reads_of p) h b (n + 1)) (put env l.target v) a) (sym account_is)
 
 -- ---- the end of a block
 
@@ -202,14 +202,14 @@ record AtEnd (p : Code) (f : Func) (book : Book ℕ) (func number : ℕ) (b : Bl
   fits : BlockFits p f number b
   pays : TermPays p f book func account b.term
   fit : LocalsFit p.types f s env
-  term : AreReady (is_heap_local p.types f) s (map Use (term_uses b.term))
-  onward : AllByRecursion (AreReady (is_heap_local p.types f) (after (is_heap_local p.types f) s (map Use (term_uses b.term)))) (ways f.blocks b.term)
+  term : AreReady (is_owned p.types f) s (term_events (reads_of p) b.term)
+  onward : AllByRecursion (AreReady (is_owned p.types f) (after (is_owned p.types f) s (term_events (reads_of p) b.term))) (ways f.blocks b.term)
 
 result_paid : (p : Code) (f : Func) (book : Book ℕ) (func number : ℕ) (b : Block) (env : Locals) (s : State) (account : Account ℕ) → AtEnd p f book func number b env s account → (x : ℕ) (v : Value) → b.term ≡ Ret x → env x ≡ Some v
     → IsPaidBy book.unit (worth p.types f s env account) (λ v. book.back func + potential p.types (book.result func) v) (Done v 0 0 0)
 result_paid p f book func number b env s account e x v is here =
-    let h : ℕ → Bool = is_heap_local p.types f in
-    let ready : AreReady h s (map Use (x ∷ [])) = subst (λ t. AreReady h s (map Use (term_uses t))) is e.term in
+    let h : ℕ → Bool = is_owned p.types f in
+    let ready : AreReady h s (map Use (x ∷ [])) = subst (λ t. AreReady h s (term_events (reads_of p) t)) is e.term in
     let pays : TermPays p f book func account (Ret x) = subst (TermPays p f book func account) is e.pays in
     let spent = uses_total p.types f s env account.carried (x ∷ []) ((x, book.result func) ∷ []) refl e.well (all_held p.types f s env (x ∷ []) e.fit ready) ready (pays.0, tt) in
     let units : value_units p.types (book.result func) (env x) ≡ potential p.types (book.result func) v = ap (value_units p.types (book.result func)) here in
@@ -227,10 +227,10 @@ tail_paid : (p : Code) (f : Func) (book : Book ℕ) (func number : ℕ) (b : Blo
 tail_paid p f book func number b env s account enter safe paid e callee args vs g k w is here there fit result = by_rule pays_tail
   where
     h : ℕ → Bool
-    h = is_heap_local p.types f
+    h = is_owned p.types f
 
     ready : AreReady h s (map Use args)
-    ready = subst (λ t. AreReady h s (map Use (term_uses t))) is e.term
+    ready = subst (λ t. AreReady h s (term_events (reads_of p) t)) is e.term
 
     pays_tail : TermPays p f book func account (Tail callee args)
     pays_tail = subst (TermPays p f book func account) is e.pays
@@ -256,11 +256,11 @@ tail_paid p f book func number b env s account enter safe paid e callee args vs 
 
 -- a jump without bindings
 jump_paid : (p : Code) (f : Func) (book : Book ℕ) (func number : ℕ) (b : Block) (env : Locals) (s : State) (account : Account ℕ) → AtEnd p f book func number b env s account → (to : ℕ) (target : Block) → JumpsTo b.term to → number < to
-    → slice_get f.blocks to ≡ Some target → worth p.types f (at_start (is_heap_local p.types f) target) (narrowed target.params env) (account_at book func to) ≤ worth p.types f s env account
+    → slice_get f.blocks to ≡ Some target → worth p.types f (at_start (is_owned p.types f) target) (narrowed target.params env) (account_at book func to) ≤ worth p.types f s env account
 jump_paid p f book func number b env s account e to target jumps less there = by_term b.term refl jumps e.pays e.term e.onward
   where
     h : ℕ → Bool
-    h = is_heap_local p.types f
+    h = is_owned p.types f
 
     later : 0 < to
     later = omega (arith, less)
@@ -276,7 +276,7 @@ jump_paid p f book func number b env s account e to target jumps less there = by
         let used = no_more p.types f s env account.carried (x ∷ []) e.well e.fit ready in
         omega (arith, jump, used)
 
-    by_term : (t : Term) → b.term ≡ t → JumpsTo t to → TermPays p f book func account t → AreReady h s (map Use (term_uses t)) → AllByRecursion (AreReady h (after h s (map Use (term_uses t)))) (ways f.blocks t)
+    by_term : (t : Term) → b.term ≡ t → JumpsTo t to → TermPays p f book func account t → AreReady h s (term_events (reads_of p) t) → AllByRecursion (AreReady h (after h s (term_events (reads_of p) t))) (ways f.blocks t)
         → worth p.types f (at_start h target) (narrowed target.params env) (account_at book func to) ≤ worth p.types f s env account
     by_term (Ret x) is j pays ready onward = absurd j
     by_term (Tail g args) is j pays ready onward = absurd j
@@ -306,7 +306,7 @@ held_at_target : (p : Code) (f : Func) (to : ℕ) (target : Block) (env : Locals
 held_at_target p f to target env is fits = subst (AllHold p.types f env) (sym here) (all target.params (λ x m. m))
   where
     h : ℕ → Bool
-    h = is_heap_local p.types f
+    h = is_owned p.types f
 
     here : params_at f.blocks to ≡ target.params
     here = ap (λ o. option_map_or (λ block. block.params) o []) is
@@ -362,11 +362,11 @@ with_price unit (cell.Keep d) n = n
 -- An arm begins with what was there, what the matched node carried, and a cell's price where its cell is given back.
 arm_worth : (p : Code) (f : Func) (book : Book ℕ) (func number : ℕ) (b : Block) (env : Locals) (s : State) (account : Account ℕ) → AtEnd p f book func number b env s account → (con : ℕ) (vs : Values) (a : CaseArm) (bound : Locals) (target : Block)
     → TakesArm p env b.term con vs a bound → number < a.target → slice_get f.blocks a.target ≡ Some target → FitsTarget p f target (with_cell a.cell bound)
-    → worth p.types f (at_start (is_heap_local p.types f) target) (narrowed target.params (with_cell a.cell bound)) (account_at book func a.target) ≤ with_price book.unit a.cell (worth p.types f s env account)
+    → worth p.types f (at_start (is_owned p.types f) target) (narrowed target.params (with_cell a.cell bound)) (account_at book func a.target) ≤ with_price book.unit a.cell (worth p.types f s env account)
 arm_worth p f book func number b env s account e con vs a bound target t less there hand = sum
   where
     h : ℕ → Bool
-    h = is_heap_local p.types f
+    h = is_owned p.types f
 
     s1 : State
     s1 = after h s (Use t.on ∷ [])
@@ -391,10 +391,10 @@ arm_worth p f book func number b env s account e con vs a bound target t less th
     inner = in_arm naturals p.types book account t.on con a
 
     ready : AreReady h s (map Use (t.on ∷ []))
-    ready = subst (λ u. AreReady h s (map Use (term_uses u))) t.is e.term
+    ready = subst (λ u. AreReady h s (term_events (reads_of p) u)) t.is e.term
 
     onward : AllByRecursion (AreReady h s1) (map (λ a. map Bind (bound_by a) ++ jump_events f.blocks a.target) t.arms)
-    onward = subst (λ u. AllByRecursion (AreReady h (after h s (map Use (term_uses u)))) (ways f.blocks u)) t.is e.onward
+    onward = subst (λ u. AllByRecursion (AreReady h (after h s (term_events (reads_of p) u))) (ways f.blocks u)) t.is e.onward
 
     holds : Holds p.types f env t.on
     holds = e.fit.holds t.on ready.0
@@ -459,45 +459,45 @@ both_kept : (p : Code) (f : Func) (book : Book ℕ) (func : ℕ) (enter : Enter)
 both_kept p f book func enter well safe paid fits pays = record {
   by_let = λ number n b l q env k w next at here kind fit sound go. (
     yields_then (Fits p.types q) (Fits p.types f.result) k (op_run enter k w env l.op) next sound (λ j v good. (go j v good).0),
-    λ c there. subst (λ d. IsPaidBy book.unit (worth p.types f (state_at (is_heap_local p.types f) d n) env (account_before naturals p.types book func number d n)) (λ v. book.back func + potential p.types (book.result func) v) (first_then k (op_run enter k w env l.op) next))
+    λ c there. subst (λ d. IsPaidBy book.unit (worth p.types f (state_at (reads_of p) (is_owned p.types f) d n) env (account_before naturals p.types book func number d n)) (λ v. book.back func + potential p.types (book.result func) v) (first_then k (op_run enter k w env l.op) next))
         (one_block f number b c at there)
         (let_paid p f book func enter well safe paid number n b l q env k w next (fits_at p f number b fits at) (pays number b at) here kind fit sound (λ j v good. (go j v good).1 b at)),
   );
   by_result = λ number b x v env at is fit here good. (
     good,
-    λ c there. subst (λ d. IsPaidBy book.unit (worth p.types f (state_at (is_heap_local p.types f) d (length b.lets)) env (account_before naturals p.types book func number d (length b.lets))) (λ v. book.back func + potential p.types (book.result func) v) (Done v 0 0 0))
+    λ c there. subst (λ d. IsPaidBy book.unit (worth p.types f (state_at (reads_of p) (is_owned p.types f) d (length b.lets)) env (account_before naturals p.types book func number d (length b.lets))) (λ v. book.back func + potential p.types (book.result func) v) (Done v 0 0 0))
         (one_block f number b c at there)
-        (result_paid p f book func number b env (state_at (is_heap_local p.types f) b (length b.lets)) (account_before naturals p.types book func number b (length b.lets)) (at_end number b env at fit) x v is here),
+        (result_paid p f book func number b env (state_at (reads_of p) (is_owned p.types f) b (length b.lets)) (account_before naturals p.types book func number b (length b.lets)) (at_end number b env at fit) x v is here),
   );
   by_tail = λ number b g args vs callee env k w at is fit values there_g args_fit result. (
     subst (λ q. IsSafe p.types q (enter k w true g vs)) result (safe k w true g vs callee there_g args_fit),
-    λ c there. subst (λ d. IsPaidBy book.unit (worth p.types f (state_at (is_heap_local p.types f) d (length b.lets)) env (account_before naturals p.types book func number d (length b.lets))) (λ v. book.back func + potential p.types (book.result func) v) (enter k w true g vs))
+    λ c there. subst (λ d. IsPaidBy book.unit (worth p.types f (state_at (reads_of p) (is_owned p.types f) d (length b.lets)) env (account_before naturals p.types book func number d (length b.lets))) (λ v. book.back func + potential p.types (book.result func) v) (enter k w true g vs))
         (one_block f number b c at there)
-        (tail_paid p f book func number b env (state_at (is_heap_local p.types f) b (length b.lets)) (account_before naturals p.types book func number b (length b.lets)) enter safe paid (at_end number b env at fit) g args vs callee k w is values there_g args_fit result),
+        (tail_paid p f book func number b env (state_at (reads_of p) (is_owned p.types f) b (length b.lets)) (account_before naturals p.types book func number b (length b.lets)) enter safe paid (at_end number b env at fit) g args vs callee k w is values there_g args_fit result),
   );
   by_jump = λ number b to target env o at jumps fit less there_b hand claim. (
     claim.0,
-    λ c there. subst (λ d. IsPaidBy book.unit (worth p.types f (state_at (is_heap_local p.types f) d (length b.lets)) env (account_before naturals p.types book func number d (length b.lets))) (λ v. book.back func + potential p.types (book.result func) v) o)
+    λ c there. subst (λ d. IsPaidBy book.unit (worth p.types f (state_at (reads_of p) (is_owned p.types f) d (length b.lets)) env (account_before naturals p.types book func number d (length b.lets))) (λ v. book.back func + potential p.types (book.result func) v) o)
         (one_block f number b c at there)
-        (paid_more (Fits p.types f.result) book.unit (worth p.types f (at_start (is_heap_local p.types f) target) (narrowed target.params env) (account_at book func to))
-        (worth p.types f (state_at (is_heap_local p.types f) b (length b.lets)) env (account_before naturals p.types book func number b (length b.lets)))
+        (paid_more (Fits p.types f.result) book.unit (worth p.types f (at_start (is_owned p.types f) target) (narrowed target.params env) (account_at book func to))
+        (worth p.types f (state_at (reads_of p) (is_owned p.types f) b (length b.lets)) env (account_before naturals p.types book func number b (length b.lets)))
         (λ v. book.back func + potential p.types (book.result func) v) (λ v. book.back func + potential p.types (book.result func) v) o
-        (jump_paid p f book func number b env (state_at (is_heap_local p.types f) b (length b.lets)) (account_before naturals p.types book func number b (length b.lets)) (at_end number b env at fit) to target jumps less there_b)
+        (jump_paid p f book func number b env (state_at (reads_of p) (is_owned p.types f) b (length b.lets)) (account_before naturals p.types book func number b (length b.lets)) (at_end number b env at fit) to target jumps less there_b)
         (λ v y. omega arith) claim.0 (claim.1 target there_b)),
   );
   by_arm = λ number b con vs a bound target env o at fit takes less there_b hand claim. (
     effect_safe p.types f.result a.cell o claim.0,
-    λ c there. subst (λ d. IsPaidBy book.unit (worth p.types f (state_at (is_heap_local p.types f) d (length b.lets)) env (account_before naturals p.types book func number d (length b.lets))) (λ v. book.back func + potential p.types (book.result func) v) (cell_effect a.cell o))
+    λ c there. subst (λ d. IsPaidBy book.unit (worth p.types f (state_at (reads_of p) (is_owned p.types f) d (length b.lets)) env (account_before naturals p.types book func number d (length b.lets))) (λ v. book.back func + potential p.types (book.result func) v) (cell_effect a.cell o))
         (one_block f number b c at there)
-        (effect_paid f.result p.types book.unit (worth p.types f (state_at (is_heap_local p.types f) b (length b.lets)) env (account_before naturals p.types book func number b (length b.lets)))
-        (worth p.types f (at_start (is_heap_local p.types f) target) (narrowed target.params (with_cell a.cell bound)) (account_at book func a.target)) (λ v. book.back func + potential p.types (book.result func) v) a.cell o
-        (arm_worth p f book func number b env (state_at (is_heap_local p.types f) b (length b.lets)) (account_before naturals p.types book func number b (length b.lets)) (at_end number b env at fit) con vs a bound target takes less there_b hand)
+        (effect_paid f.result p.types book.unit (worth p.types f (state_at (reads_of p) (is_owned p.types f) b (length b.lets)) env (account_before naturals p.types book func number b (length b.lets)))
+        (worth p.types f (at_start (is_owned p.types f) target) (narrowed target.params (with_cell a.cell bound)) (account_at book func a.target)) (λ v. book.back func + potential p.types (book.result func) v) a.cell o
+        (arm_worth p f book func number b env (state_at (reads_of p) (is_owned p.types f) b (length b.lets)) (account_before naturals p.types book func number b (length b.lets)) (at_end number b env at fit) con vs a bound target takes less there_b hand)
         claim.0 (claim.1 target there_b)),
   );
 }
   where
     at_end : (number : ℕ) (b : Block) (env : Locals) → slice_get f.blocks number ≡ Some b → FitAt p f b (length b.lets) env
-        → AtEnd p f book func number b env (state_at (is_heap_local p.types f) b (length b.lets)) (account_before naturals p.types book func number b (length b.lets))
+        → AtEnd p f book func number b env (state_at (reads_of p) (is_owned p.types f) b (length b.lets)) (account_before naturals p.types book func number b (length b.lets))
     at_end number b env at fit =
         let block = fits_at p f number b fits at in
         record {
@@ -506,8 +506,8 @@ both_kept p f book func enter well safe paid fits pays = record {
           fits = block;
           pays = (pays number b at).term;
           fit = fit;
-          term = subst (λ s. AreReady (is_heap_local p.types f) s (map Use (term_uses b.term))) (sym (state_last (is_heap_local p.types f) b)) block.uses.term;
-          onward = subst (λ s. AllByRecursion (AreReady (is_heap_local p.types f) (after (is_heap_local p.types f) s (map Use (term_uses b.term)))) (ways f.blocks b.term)) (sym (state_last (is_heap_local p.types f) b)) block.uses.onward;
+          term = subst (λ s. AreReady (is_owned p.types f) s (term_events (reads_of p) b.term)) (sym (state_last (reads_of p) (is_owned p.types f) b)) block.uses.term;
+          onward = subst (λ s. AllByRecursion (AreReady (is_owned p.types f) (after (is_owned p.types f) s (term_events (reads_of p) b.term))) (ways f.blocks b.term)) (sym (state_last (reads_of p) (is_owned p.types f) b)) block.uses.onward;
         }
 
 -- ---- arguments, functions, programs
@@ -560,19 +560,19 @@ body_paid p book enter well safe paid pays func f k w args is fits some fit =
         both = holds_from_block p f enter safe fits (λ number n env o. IsSafe p.types f.result o × Paid p f book func number n env o)
             (both_kept p f book func enter well safe paid fits (λ number c there. pays.blocks func number f c is there)) 0 b at k w (arguments args) starts
 
-        entry : worth p.types f (state_at (is_heap_local p.types f) b 0) (arguments args) (account_before naturals p.types book func 0 b 0) ≤ book.need func + arguments_carry p.types (book.param func) 0 args
+        entry : worth p.types f (state_at (reads_of p) (is_owned p.types f) b 0) (arguments args) (account_before naturals p.types book func 0 b 0) ≤ book.need func + arguments_carry p.types (book.param func) 0 args
         entry =
-            let bound = params_total p.types f (is_heap_local p.types f) nothing_bound (arguments args) (book.param func) b.params in
+            let bound = params_total p.types f (is_owned p.types f) nothing_bound (arguments args) (book.param func) b.params in
             let none = nothing_total p.types f (arguments args) (book.param func) in
             let count : length f.params ≡ length args = sym (as_many f.params args fit) in
             let asked : asked_units p.types (arguments args) (map (λ x. (x, book.param func x)) b.params) ≡ arguments_carry p.types (book.param func) 0 args
             = ap (λ ps. asked_units p.types (arguments args) (map (λ x. (x, book.param func x)) ps)) (params ∙ ap (range_with_len 0) count) ∙ arguments_are p.types (book.param func) 0 [] args refl in
             omega (arith, bound, none, asked)
 
-        from : IsPaidBy book.unit (worth p.types f (state_at (is_heap_local p.types f) b 0) (arguments args) (account_before naturals p.types book func 0 b 0)) (λ v. book.back func + potential p.types (book.result func) v)
+        from : IsPaidBy book.unit (worth p.types f (state_at (reads_of p) (is_owned p.types f) b 0) (arguments args) (account_before naturals p.types book func 0 b 0)) (λ v. book.back func + potential p.types (book.result func) v)
             (from_block p.types enter (map narrow f.blocks) 0 k w (arguments args))
             → IsPaidBy book.unit (book.need func + arguments_carry p.types (book.param func) 0 args) (λ v. book.back func + potential p.types (book.result func) v) (from_block p.types enter (map narrow f.blocks) 0 k w (arguments args))
-        from h = paid_more (Fits p.types f.result) book.unit (worth p.types f (state_at (is_heap_local p.types f) b 0) (arguments args) (account_before naturals p.types book func 0 b 0)) (book.need func + arguments_carry p.types (book.param func) 0 args)
+        from h = paid_more (Fits p.types f.result) book.unit (worth p.types f (state_at (reads_of p) (is_owned p.types f) b 0) (arguments args) (account_before naturals p.types book func 0 b 0)) (book.need func + arguments_carry p.types (book.param func) 0 args)
             (λ v. book.back func + potential p.types (book.result func) v) (λ v. book.back func + potential p.types (book.result func) v) (from_block p.types enter (map narrow f.blocks) 0 k w (arguments args)) entry (λ v y. omega arith) both.0 h
 
 -- calls with every clock

@@ -19,11 +19,11 @@ use Rattle.camelot_values.specs.declared.kinds.Kind.{Kind}
 use Rattle.camelot_values.specs.declared.kinds.Kind.TheVariants as kind
 use Rattle.grail_blocks.specs.declared.blocks.Place.{Place}
 use Rattle.grail_blocks.specs.declared.blocks.Place.TheVariants as place
-use Rattle.grail_blocks.specs.Events.{Use, taken, operands_of}
+use Rattle.grail_blocks.specs.Events.{Use, taken, uses_of}
 use Rattle.grail_blocks.specs.States.{State, bind, after, AreReady}
-use Rattle.grail_blocks.specs.StateLaws.{after_append, ready_first, ready_second}
+use Rattle.grail_blocks.specs.StateLaws.{after_append, ready_first, ready_second, all_used_ready}
 use Rattle.grail_code.specs.Code.{Op, Lit, Flag, Copy, Prim, Make, Call, Func, Code}
-use Rattle.grail_code.specs.WellFormed.{HaveKinds, PlaceFits, Gives, is_heap_local}
+use Rattle.grail_code.specs.WellFormed.{HaveKinds, PlaceFits, Gives, is_owned, reads_of}
 use Rattle.grail_code.specs.Meaning.{Locals, put, values_of, operands, built, op_run}
 use Rattle.grail_code.specs.Places.{LocalsFit, CallsSafe}
 use Rattle.grail_code.specs.PlaceLaws.{fit_used, found_all}
@@ -175,11 +175,11 @@ free_build u top left con vs (place.Reuse x) env old less = by_value (env x)
 
 -- a value that carries nothing, bound behind some uses
 plain_bound : (types : List DataType) (f : Func) (s : State) (env : Locals) (account : Account ℕ) (uses : List ℕ) (t : ℕ) (v : Value) (q : Kind) → AreTypes types → LocalsFit types f s env
-    → AreReady (is_heap_local types f) s (map Use uses) → is_heap types q ≡ false → Fits types q v
-    → worth types f (bind (after (is_heap_local types f) s (map Use uses)) t) (put env t v) account ≤ worth types f s env account
+    → AreReady (is_owned types f) s (map Use uses) → is_heap types q ≡ false → Fits types q v
+    → worth types f (bind (after (is_owned types f) s (map Use uses)) t) (put env t v) account ≤ worth types f s env account
 plain_bound types f s env account uses t v q well fit r plain fits =
     let none = nothing_of_heap_free types well (account.carried t) q plain v fits in
-    let bound = bind_plain types f (after (is_heap_local types f) s (map Use uses)) env account.carried t v none in
+    let bound = bind_plain types f (after (is_owned types f) s (map Use uses)) env account.carried t v none in
     let used = no_more types f s env account.carried uses well fit r in
     omega (arith, bound, used)
 
@@ -187,10 +187,10 @@ plain_bound types f s env account uses t v q well fit r plain fits =
 
 -- The let at this place is paid for by what is left and what ready locals carry, and leaves the account that follows.
 pub op_paid : (p : Code) (f : Func) (book : Book ℕ) (enter : Enter) → AreTypes p.types → CallsSafe p enter → CallsPaid p book enter → (func block at : ℕ) (s : State) (env : Locals) (account : Account ℕ) → LocalsFit p.types f s env
-    → (t : ℕ) (op : Op) (q : Kind) (k w : ℕ) → AreReady (is_heap_local p.types f) s (map Use (operands_of op)) → Gives p f op q → LetPays p f book func block at account op
+    → (t : ℕ) (op : Op) (q : Kind) (k w : ℕ) → AreReady (is_owned p.types f) s (uses_of (reads_of p) op) → Gives p f op q → LetPays p f book func block at account op
     → IsSafe p.types q (op_run enter k w env op)
     → IsPaidBy book.unit (worth p.types f s env account)
-    (λ v. worth p.types f (bind (after (is_heap_local p.types f) s (map Use (operands_of op))) t) (put env t v) (after_op naturals p.types book func block at account t op)) (op_run enter k w env op)
+    (λ v. worth p.types f (bind (after (is_owned p.types f) s (uses_of (reads_of p) op)) t) (put env t v) (after_op naturals p.types book func block at account t op)) (op_run enter k w env op)
 op_paid p f book enter well safe paid func block at s env account fit t (Lit z) q k w r g pays sound =
     paid_at_once book.unit (worth p.types f s env account) (λ v. worth p.types f (bind s t) (put env t v) account) (value.Int z) 0
     (plain_bound p.types f s env account [] t (value.Int z) q well fit tt (subst (λ c. is_heap p.types c ≡ false) (sym g.0) refl) sound)
@@ -200,7 +200,7 @@ op_paid p f book enter well safe paid func block at s env account fit t (Flag z)
 op_paid p f book enter well safe paid func block at s env account fit t (Copy x) q k w r g pays sound = by_value (env x) refl
   where
     h : ℕ → Bool
-    h = is_heap_local p.types f
+    h = is_owned p.types f
 
     by_value : (o : Option Value) → env x ≡ o
         → IsPaidBy book.unit (worth p.types f s env account) (λ v. account.left + total p.types f (bind (after h s (Use x ∷ [])) t) (put env t v) (carrying account.carried t (account.carried x))) (known o)
@@ -213,7 +213,7 @@ op_paid p f book enter well safe paid func block at s env account fit t (Copy x)
 op_paid p f book enter well safe paid func block at s env account fit t (Prim op x y) q k w r g pays sound = by_values (env x) (env y) sound
   where
     h : ℕ → Bool
-    h = is_heap_local p.types f
+    h = is_owned p.types f
 
     left : Value → ℕ
     left v = worth p.types f (bind (after h s (Use x ∷ Use y ∷ [])) t) (put env t v) account
@@ -229,7 +229,7 @@ op_paid p f book enter well safe paid func block at s env account fit t (Prim op
 op_paid p f book enter well safe paid func block at s env account fit t (Make con args at_) q k w r g pays sound = by_con (constructor p.types con) refl g
   where
     h : ℕ → Bool
-    h = is_heap_local p.types f
+    h = is_owned p.types f
 
     units : Units ℕ
     units = book.make func block at
@@ -293,14 +293,14 @@ op_paid p f book enter well safe paid func block at s env account fit t (Make co
         → IsPaidBy book.unit (worth p.types f s env account) (λ v. worth p.types f (bind used t) (put env t v) (after_op naturals p.types book func block at account t (Make con args at_))) (op_run enter k w env (Make con args at_))
     by_con None there m = absurd m
     by_con (Some c) there m =
-        let vs = found_all p.types f h s env args c.fields fit (ready_first h s (map Use args) (map Use (taken at_)) both) m.0 in
+        let vs = found_all p.types f s env args c.fields fit (all_used_ready h s args (ready_first h s (map Use args) (map Use (taken at_)) both)) m.0 in
         let fits : Fits p.types q (value.Con con (parts vs.values)) = (m.2, subst (λ o. IsSomeAnd o (λ d. FitAll p.types d.fields (parts vs.values))) (sym there) vs.fit) in
         subst (λ o. IsPaidBy book.unit (worth p.types f s env account) (λ v. worth p.types f (bind used t) (put env t v) (after_op naturals p.types book func block at account t (Make con args at_))) (given o (λ us. built con us at_ env))) (sym vs.is)
         (by_heap vs.values vs.is fits c there m.1 m.2 (is_heap_con p.types con) refl pays)
 op_paid p f book enter well safe paid func block at s env account fit t (Call callee args) q k w r g pays sound = by_func (slice_get p.funcs callee) refl g pays
   where
     h : ℕ → Bool
-    h = is_heap_local p.types f
+    h = is_owned p.types f
 
     by_func : (o : Option Func) → slice_get p.funcs callee ≡ o → IsSomeAnd o (λ g. HaveKinds f args g.params × (q ≡ g.result))
         → IfSome o (λ g. AllCarry p.types f account.carried (call_asks book callee g args)) × (book.need callee ≤ account.left)
@@ -308,7 +308,7 @@ op_paid p f book enter well safe paid func block at s env account fit t (Call ca
         (λ v. worth p.types f (bind (after h s (map Use args)) t) (put env t v) (after_op naturals p.types book func block at account t (Call callee args))) (op_run enter k w env (Call callee args))
     by_func None there m pay = absurd m
     by_func (Some g) there m pay =
-        let vs = found_all p.types f h s env args g.params fit r m.0 in
+        let vs = found_all p.types f s env args g.params fit (all_used_ready h s args r) m.0 in
         let spent = uses_total p.types f s env account.carried args (call_asks book callee g args) (arguments_locals (book.param callee) f 0 g.params args m.0) well (all_held p.types f s env args fit r) r pay.0 in
         let asked = arguments_units p.types env (book.param callee) 0 g.params args vs.values vs.fit vs.is in
         let run = paid k w false callee vs.values g there vs.fit in
