@@ -1,0 +1,4 @@
+pub mod Covered
+pub mod Jobs
+pub mod Taken
+pub mod Trees

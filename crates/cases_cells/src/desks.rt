@@ -1,0 +1,35 @@
+//! Answers lines about desks, so that tables of them are data: `stdin` has the lines, and `stdout` what is to be answered. A line that begins with `--` is a
+//! note. Any other line is a command, and its answer stands behind it.
+//!
+//! - `desk N S1 S2 ..`: a new desk of an arena of N cells, for jobs of these sizes.
+//! - `next`: asks for the next job; once every job was asked for and no lease is out, takes the first one that waits.
+//! - `mark J T`: writes the tag T into the first cell of job J's lease. `give J`: it goes back with a payload that has its cells. `withdraw J`: it goes back
+//!   without one.
+//! - `counts`: how many cells are free and in the largest hole, how many leases are out, and how many were withdrawn. `journal`: the events.
+//! - `replay N S1 S2 ..: E1, E2, ..`: what the journal of these events comes to, as `took J F S`, `full J N L` and `gave J F S`.
+//! - `finish`: ends the desk; its cells' tags, and the jobs with a payload.
+mod answers;
+mod copied;
+mod replays;
+
+use answers::answer;
+use copied::Copied;
+use lease_desk::{Desk, Lease};
+use std::io;
+
+/// Answers the lines of a table.
+pub(crate) fn answer_lines(rt: &HostRuntime, lines: &[String]) -> io::Result<()> {
+    let alloc = rt.alloc();
+    let mut desk: Option<Desk<Copied>> = None;
+    let mut leases: Vec<Lease> = Vec::new(alloc);
+    for line in lines {
+        let line = line.as_str();
+        if line.starts_with("--") {
+            continue;
+        }
+        print!(rt; "{line}:")?;
+        desk = answer(rt, desk, &mut leases, line)?;
+        println!(rt)?;
+    }
+    Ok(())
+}

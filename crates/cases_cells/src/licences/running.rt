@@ -1,0 +1,88 @@
+//! Answers about licensed runs.
+ghost use Rattle.std.specs.Prelude.{◌≡◌, ◌≤◌, length, IfOk};
+ghost use Rattle.cell_machine.specs.Views.{HasRoom, IsStackFor};
+ghost use Rattle.grail_code.specs.Code.{code_of};
+ghost use Rattle.licence.specs.Bound.{bound, lease};
+ghost use Rattle.cases_cells.specs.Covered.{IsReady};
+
+use crate::licences::jobs::Job;
+use camelot_values::Types;
+use cell_machine::{Ending, Ran, Room, Stack, run};
+use cell_span::Span;
+use std::alloc::{AllocError, Global};
+use std::io;
+use value_text::print;
+
+// The bound of a run.
+fn bound_of(job: &Job) -> u64
+    requires { IsReady job.now }
+    ensures { result ≡ bound job.now.licence.code job.now.licence.cert job.now.entry job.now.args.items }
+{
+    job.licence.bound(job.entry, &job.args)
+}
+
+// The lease of a run.
+fn lease_of(job: &Job) -> u64
+    requires { IsReady job.now }
+    ensures { result ≡ lease job.now.licence.code job.now.licence.cert job.now.entry job.now.args.items }
+{
+    job.licence.lease(job.entry, &job.args)
+}
+
+// Makes the run in these cells.
+fn run_in(job: &Job, span: Span, stack: Stack, room: Room) -> Ran
+    requires job { IsReady job.now }
+    requires cells { length span.cells ≡ lease job.now.licence.code job.now.licence.cert job.now.entry job.now.args.items }
+    requires stack { IsStackFor job.now.licence.code stack }
+    requires room { HasRoom (length span.cells) room }
+{
+    run(
+        &job.licence,
+        job.entry,
+        &job.args,
+        job.fuel,
+        span,
+        stack,
+        room,
+    )
+}
+
+fn print_ending(rt: &HostRuntime, types: &Types, ending: &Ending) -> io::Result<()> {
+    match ending {
+        Ending::Done { value, calls, peak } => {
+            let text = print(rt.alloc(), value, types)?;
+            print!(rt; " done {} calls {calls} peak {peak}", text.escape_ascii())
+        }
+        Ending::Fuel { peak } => print!(rt; " fuel peak {peak}"),
+        Ending::Deep { peak } => print!(rt; " deep peak {peak}"),
+    }
+}
+
+// Makes the run in cells of its own, and prints how it ends.
+fn answer_ending(rt: &HostRuntime, job: &Job, cells: u32) -> io::Result<()>
+    requires job { IsReady job.now }
+    requires cells { cells ≡ lease job.now.licence.code job.now.licence.cert job.now.entry job.now.args.items }
+    requires few { cells ≤ 2147483648 }
+{
+    let alloc = rt.alloc();
+    let span = Span::new(alloc, cells)?;
+    let stack = Stack::new(alloc, &job.licence)?;
+    let room = Room::new(alloc, cells)?;
+    let ran = run_in(job, span, stack, room);
+    print_ending(rt, &job.licence.code().types, &ran.ending)
+}
+
+/// Prints the bound and the lease of the run, and then, where it is asked for, how it ends.
+pub(crate) fn answer_job(rt: &HostRuntime, job: &Job, with_run: bool) -> io::Result<()>
+    requires { IsReady job.now }
+{
+    let cells = lease_of(job);
+    print!(rt; " bound {} lease {cells}", bound_of(job))?;
+    if !with_run {
+        return Ok(());
+    }
+    if cells > 2_147_483_648 {
+        return print!(rt; " too many cells");
+    }
+    answer_ending(rt, job, cells as u32)
+}

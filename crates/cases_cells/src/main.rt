@@ -1,0 +1,42 @@
+//! Answers tables of cases about cells, so that they are data: `stdin` has the tables, and `stdout` what is to be answered.
+//!
+//! A line `table NAME` begins a table, and names what its lines are about:
+//!
+//! - `desks`: desks, their leases and journals.
+//! - `licences`: runs of code with certificates, in the cells of their leases.
+//! - `machines`: runs of code in cells.
+//! - `scripts`: texts of scripts.
+#![tactic(auto)]
+
+mod desks;
+mod licences;
+mod machines;
+mod scripts;
+
+use case_lines::{Table, Tables};
+use std::io;
+use std::io::{BufRead, BufReader};
+
+/// Answers a table.
+fn answer_table(rt: &HostRuntime, table: &Table) -> io::Result<()> {
+    println!(rt; "table {}", table.name)?;
+    match table.name.as_str() {
+        "desks" => desks::answer_lines(rt, &table.lines),
+        "licences" => licences::answer_lines(rt, &table.lines),
+        "machines" => machines::answer_lines(rt, &table.lines),
+        "scripts" => scripts::answer_lines(rt, &table.lines),
+        _ => println!(rt; "no such table"),
+    }
+}
+
+fn main(rt: HostRuntime) -> io::Result<()> {
+    let alloc = rt.alloc();
+    let mut tables = Tables::new(alloc);
+    for line in BufReader::new(alloc, rt.reader())?.lines(alloc) {
+        tables.add(alloc, line?)?;
+    }
+    for table in &tables.all {
+        answer_table(&rt, table)?;
+    }
+    Ok(())
+}

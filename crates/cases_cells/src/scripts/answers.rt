@@ -1,0 +1,64 @@
+//! What is said of a text.
+
+use case_lines::Judge;
+use job_script::{Entry, ScriptFault, read_script};
+use std::alloc::Global;
+use std::io;
+
+/// The bytes, or how many there are where they are many.
+fn shown(alloc: Global, bytes: &[u8]) -> io::Result<String> {
+    if bytes.len() > 60 {
+        return Ok(format!(in alloc; "{} bytes", bytes.len())?);
+    }
+    Ok(format!(in alloc; "'{}'", bytes.escape_ascii())?)
+}
+
+/// An entry, as its parts.
+fn shown_entry(alloc: Global, entry: Option<&Entry>) -> io::Result<String> {
+    match entry {
+        None => Ok(format!(in alloc; "no entry")?),
+        Some(
+            Entry::Program {
+                name,
+                camelot,
+                text,
+            },
+        ) => Ok(format!(in alloc; "program {name} camelot {camelot} {}", shown(alloc, text)?)?),
+        Some(
+            Entry::Job {
+                name,
+                program,
+                entry,
+                fuel,
+                args,
+            },
+        ) => Ok(format!(in alloc;
+            "job {name} {program} {entry} {fuel} {}",
+            shown(alloc, args)?
+        )?),
+    }
+}
+
+/// What the reader says of a text.
+pub(crate) struct Scripts;
+
+impl Judge for Scripts {
+    fn judge(&self, alloc: Global, bytes: &[u8]) -> io::Result<String> {
+        if bytes.len() >= 4_294_967_296 {
+            return Ok(format!(in alloc; "too long")?);
+        }
+        match read_script(alloc, bytes) {
+            Ok(script) => Ok(format!(in alloc;
+                "arena {} workers {} entries {} last {}",
+                script.arena,
+                script.workers,
+                script.items.len(),
+                shown_entry(alloc, script.items.last())?
+            )?),
+            Err(ScriptFault::Line { line }) => Ok(format!(in alloc; "line {line}")?),
+            Err(ScriptFault::Count { line }) => Ok(format!(in alloc; "count {line}")?),
+            Err(ScriptFault::Repeat { line }) => Ok(format!(in alloc; "repeat {line}")?),
+            Err(ScriptFault::Memory) => Ok(format!(in alloc; "memory")?),
+        }
+    }
+}

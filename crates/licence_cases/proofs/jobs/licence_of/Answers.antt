@@ -1,5 +1,0 @@
-use Rattle.licence_cases.proofs.Readable.{verified_readable}
-use Rattle.licence_cases.proofs.jobs.licence_of.Goals as goal
-
-pub returns-in-Ok : goal.returns-in-Ok
-returns-in-Ok c = verified_readable c.args.code.now c.args.cert.now c.in-Ok.licence c.in-Ok.ensures.found

@@ -1,2 +1,0 @@
--- Runs that a licence covers.
-pub mod Jobs

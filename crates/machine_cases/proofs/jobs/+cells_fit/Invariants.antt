@@ -1,5 +1,0 @@
-use Rattle.std.proofs.Common.{length}
-use Rattle.machine_cases.proofs.jobs.+cells_fit.Given as goal
-
-abbrev pub decreases-cells_fit : goal.decreases-cells_fit
-decreases-cells_fit l = length l.args.now

@@ -1,5 +1,0 @@
-use Rattle.std.proofs.Common.{length}
-use Rattle.machine_cases.proofs.taken.+in_blocks.Given as goal
-
-abbrev pub decreases-in_blocks : goal.decreases-in_blocks
-decreases-in_blocks l = length l.blocks.now

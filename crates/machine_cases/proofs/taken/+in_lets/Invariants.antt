@@ -1,5 +1,0 @@
-use Rattle.std.proofs.Common.{length}
-use Rattle.machine_cases.proofs.taken.+in_lets.Given as goal
-
-abbrev pub decreases-in_lets : goal.decreases-in_lets
-decreases-in_lets l = length l.lets.now
