@@ -13,7 +13,7 @@ use Rattle.grail_blocks.specs.declared.blocks.Place.TheVariants as place
 use Rattle.grail_blocks.specs.Blocks.{Op, Lit, Flag, Copy, Prim, Make, Call, Let, CaseArm, Term, Ret, Tail, Goto, If, Case}
 use Rattle.grail_blocks.specs.Events.{taken, operands_of, term_uses, bound_by, params_at}
 use Rattle.grail_code.specs.Code.{Func, Code}
-use Rattle.grail_code.specs.WellFormed.{local_kinds, kind_of, HaveKinds, PlaceFits, Gives, LetFits, JumpFits, ArmsFit, data_type, TermFits, BlockFits, BlocksFit, FuncFits, is_heap_local}
+use Rattle.grail_code.specs.WellFormed.{local_kinds, kind_of, HaveKinds, PlaceFits, Gives, LetFits, JumpFits, ArmsFit, data_type, TermFits, BlockFits, BlocksFit, FuncFits, is_owned}
 use Rattle.normal_form.specs.Normal.{NormalBlock, NormalFunction, NormalProgram}
 use Rattle.normal_form.specs.Live.{Marks, LaterMarks, unless_bound, lets_live, onward_live, term_live, block_live, live_from, times, BlocksOnce}
 use Rattle.normal_form.specs.Coded.{coded_blocks, coded}
@@ -242,7 +242,7 @@ params_ascend f (suc n) = passing_ascend (live_from 0 f.blocks (suc n)) 0 (local
 -- ---- blocks
 
 block_fits : (p : NormalProgram) (f : NormalFunction) (n : ℕ) (body : NormalBlock) (bs : List NormalBlock) → UsesFairly p.types f → BodyFits (code_of_normal p) (coded live_params f) 0 f.blocks
-    → AllByRecursion (LetFits (code_of_normal p) (coded live_params f)) body.lets → TermFits (code_of_normal p) (coded live_params f) n body.term → BlocksOnce (is_heap_local p.types (coded live_params f)) n (body ∷ bs) → IsRest f n (body ∷ bs)
+    → AllByRecursion (LetFits (code_of_normal p) (coded live_params f)) body.lets → TermFits (code_of_normal p) (coded live_params f) n body.term → BlocksOnce (is_owned p.types (coded live_params f)) n (body ∷ bs) → IsRest f n (body ∷ bs)
     → BlockFits (code_of_normal p) (coded live_params f) n (record { params = live_params f n; lets = body.lets; term = body.term })
 block_fits p f n body bs fair fit lets term once rest = record {
   params = params_below f n;
@@ -250,13 +250,13 @@ block_fits p f n body bs fair fit lets term once rest = record {
   entry = λ is. ap (live_params f) is;
   lets = lets;
   term = term;
-  uses = block_ready (is_heap_local p.types (coded live_params f)) (coded_blocks (live_params f) 0 f.blocks) (live_from (suc n) bs) (coded live_params f) n (live_params f n) body once.0
+  uses = block_ready (is_owned p.types (coded live_params f)) (coded_blocks (live_params f) 0 f.blocks) (live_from (suc n) bs) (coded live_params f) n (live_params f n) body once.0
       (params_live f n bs (rest_next f n body bs rest)) (term_ahead (code_of_normal p) (coded live_params f) n body.term term)
       (λ x e. holds_live (code_of_normal p) f p.types n x fair fit (rest_here f n body bs rest x ∙ e));
 }
 
 blocks_fit : (p : NormalProgram) (f : NormalFunction) (n : ℕ) (bs : List NormalBlock) → UsesFairly p.types f → BodyFits (code_of_normal p) (coded live_params f) 0 f.blocks → BodyFits (code_of_normal p) (coded live_params f) n bs
-    → BlocksOnce (is_heap_local p.types (coded live_params f)) n bs → IsRest f n bs → BlocksFit (code_of_normal p) (coded live_params f) n (coded_blocks (live_params f) n bs)
+    → BlocksOnce (is_owned p.types (coded live_params f)) n bs → IsRest f n bs → BlocksFit (code_of_normal p) (coded live_params f) n (coded_blocks (live_params f) n bs)
 blocks_fit p f n [] fair whole fit once rest = tt
 blocks_fit p f n (body ∷ bs) fair whole fit once rest =
     (block_fits p f n body bs fair whole fit.0 fit.1 once rest, blocks_fit p f (suc n) bs fair whole fit.2 once.1 (rest_next f n body bs rest))

@@ -14,7 +14,7 @@ use Rattle.typing_rules.specs.Typed.{Typing}
 use Rattle.grail_code.specs.declared.code.Code.{Code as DeclaredCode}
 use Rattle.grail_code.specs.Code.{Func, Code, code_of}
 use Rattle.grail_code.specs.Meaning as code
-use Rattle.grail_code.specs.WellFormed.{is_heap_local, BlocksFit, FuncFits, IsWellFormed}
+use Rattle.grail_code.specs.WellFormed.{is_owned, reads_of, BlocksFit, FuncFits, IsWellFormed}
 use Rattle.normal_form.specs.Normal.{NormalBlock, NormalFunction, NormalProgram, normal_form}
 use Rattle.normal_form.specs.Running as normal
 use Rattle.normal_form.specs.Running.{everything}
@@ -45,15 +45,15 @@ wholes_are takes number [] = refl
 wholes_are takes number (b ∷ bs) = ap (λ l. everything b ∷ l) (wholes_are takes (suc number) bs)
 
 -- each block of well-formed code has its uses ready
-block_uses : (p : Code) (f : Func) (first : ℕ) (bs : List Block) (i : ℕ) (b : Block) → BlocksFit p f first bs → slice_get bs i ≡ Some b → UsesReady (is_heap_local p.types f) f.blocks b
+block_uses : (p : Code) (f : Func) (first : ℕ) (bs : List Block) (i : ℕ) (b : Block) → BlocksFit p f first bs → slice_get bs i ≡ Some b → UsesReady (reads_of p) (is_owned p.types f) f.blocks b
 block_uses p f first [] i b fit e = let k : None ≡ Some b = e in absurd cc
-block_uses p f first (x ∷ bs) zero b fit e = let same : x ≡ b = cc in subst (UsesReady (is_heap_local p.types f) f.blocks) same fit.0.uses
+block_uses p f first (x ∷ bs) zero b fit e = let same : x ≡ b = cc in subst (UsesReady (reads_of p) (is_owned p.types f) f.blocks) same fit.0.uses
 block_uses p f first (x ∷ bs) (suc i) b fit e = block_uses p f (suc first) bs i b fit.1 e
 
 blocks_mean : (p : NormalProgram) (f : NormalFunction) (enter : Enter) (k w : ℕ) (args : List Value) → FuncFits (code_of_normal p) (coded live_params f)
     → blocks_run p.types enter (map narrow (coded_blocks (live_params f) 0 f.blocks)) k w (arguments args) ≡ blocks_run p.types enter (map everything f.blocks) k w (arguments args)
 blocks_mean p f enter k w args fit =
-    narrowing_is_free (is_heap_local p.types (coded live_params f)) p.types enter (coded_blocks (live_params f) 0 f.blocks)
+    narrowing_is_free (reads_of (code_of_normal p)) (is_owned p.types (coded live_params f)) p.types enter (coded_blocks (live_params f) 0 f.blocks)
     (λ number b e. block_uses (code_of_normal p) (coded live_params f) 0 (coded_blocks (live_params f) 0 f.blocks) number b fit.blocks e) k w (arguments args)
     ∙ ap (λ bodies. blocks_run p.types enter bodies k w (arguments args)) (wholes_are (live_params f) 0 f.blocks)
 

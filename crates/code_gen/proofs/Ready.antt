@@ -5,9 +5,9 @@ use Rattle.std.specs.List.{AllByRecursion, list_any}
 use Rattle.std.proofs.lemmas.Bool.Decides.{nat_tests}
 use Rattle.camelot_values.specs.Lists.{is_among}
 use Rattle.grail_blocks.specs.Blocks.{Let, CaseArm, Term, Ret, Tail, Goto, If, Case, Block}
-use Rattle.grail_blocks.specs.Events.{Event, Use, Bind, operands_of, let_events, term_uses, bound_by, params_at, jump_events, ways}
+use Rattle.grail_blocks.specs.Events.{Event, Use, Bind, no_reads, operands_of, uses_of, let_events, term_uses, term_events, bound_by, params_at, jump_events, ways}
 use Rattle.grail_blocks.specs.States.{State, Ready, Spent, nothing_bound, bind, use_of, after, AreReady, after_let, after_lets, LetsReady, UsesReady}
-use Rattle.grail_blocks.specs.StateLaws.{after_append, ready_binds, ready_both}
+use Rattle.grail_blocks.specs.StateLaws.{after_append, ready_binds, ready_both, uses_none, term_uses_none}
 use Rattle.grail_code.specs.Code.{Func}
 use Rattle.grail_code.specs.WellFormed.{JumpFits}
 use Rattle.normal_form.specs.Normal.{NormalBlock}
@@ -79,23 +79,25 @@ bound_holds s t live holds y e = by_test (t == y) refl
     by_test true k = refl
     by_test false k = holds y (ap (λ b. not b && live y) k ∙ e)
 
-let_went : (h : ℕ → Bool) (s : State) (l : Let) (live : Marks) → Once h (operands_of l.op) (unless_bound l.target live) → Holds s (λ y. is_among (operands_of l.op) y || unless_bound l.target live y) → Went h s (let_events l) live
+let_went : (h : ℕ → Bool) (s : State) (l : Let) (live : Marks) → Once h (operands_of l.op) (unless_bound l.target live) → Holds s (λ y. is_among (operands_of l.op) y || unless_bound l.target live y)
+    → Went h s (let_events no_reads l) live
 let_went h s l live once holds =
-    let r = uses_went h s (operands_of l.op) (unless_bound l.target live) once holds in
+    let behind = unless_bound l.target live in
+    let r = subst (λ es. Went h s es behind) (sym (uses_none l.op)) (uses_went h s (operands_of l.op) behind once holds) in
     record {
-      ready = ready_both h s (map Use (operands_of l.op)) (Bind l.target ∷ []) r.ready tt;
-      holds = subst (λ u. Holds u live) (sym (after_append h s (map Use (operands_of l.op)) (Bind l.target ∷ []))) (bound_holds (after h s (map Use (operands_of l.op))) l.target live r.holds);
+      ready = ready_both h s (uses_of no_reads l.op) (Bind l.target ∷ []) r.ready tt;
+      holds = subst (λ u. Holds u live) (sym (after_append h s (uses_of no_reads l.op) (Bind l.target ∷ []))) (bound_holds (after h s (uses_of no_reads l.op)) l.target live r.holds);
     }
 
 record LetsWent (h : ℕ → Bool) (s : State) (ls : List Let) (live : Marks) : Type 0 where
-  ready : LetsReady h s ls
-  holds : Holds (after_lets h s ls) live
+  ready : LetsReady no_reads h s ls
+  holds : Holds (after_lets no_reads h s ls) live
 
 lets_went : (h : ℕ → Bool) (s : State) (ls : List Let) (live : Marks) → LetsOnce h ls live → Holds s (lets_live ls live) → LetsWent h s ls live
 lets_went h s [] live once holds = record { ready = tt; holds = holds }
 lets_went h s (l ∷ ls) live once holds =
     let first = let_went h s l (lets_live ls live) once.0 holds in
-    let rest = lets_went h (after_let h s l) ls live once.1 first.holds in
+    let rest = lets_went h (after_let no_reads h s l) ls live once.1 first.holds in
     record { ready = (first.ready, rest.ready); holds = rest.holds }
 
 -- ---- jumps
@@ -167,13 +169,14 @@ start_holds h params live has = binds_hold h nothing_bound params live (λ y e. 
 
 -- A block's uses find their locals ready, where its parameters hold what is live there.
 pub block_ready : (h : ℕ → Bool) (blocks : List Block) (later : LaterMarks) (f : Func) (n : ℕ) (params : List ℕ) (b : NormalBlock) → BlockOnce h later b → ((b : ℕ) → JumpFits f n b → ParamsLive blocks later b) → Ahead f n b.term
-    → ((x : ℕ) → block_live later b x ≡ true → is_among params x ≡ true) → UsesReady h blocks (record { params = params; lets = b.lets; term = b.term })
+    → ((x : ℕ) → block_live later b x ≡ true → is_among params x ≡ true) → UsesReady no_reads h blocks (record { params = params; lets = b.lets; term = b.term })
 block_ready h blocks later f n params b once live ahead has =
     let s = after h nothing_bound (map Bind params) in
     let lets = lets_went h s b.lets (term_live later b.term) once.lets (start_holds h params (block_live later b) has) in
-    let term = uses_went h (after_lets h s b.lets) (term_uses b.term) (onward_live later b.term) once.term lets.holds in
+    let end = after_lets no_reads h s b.lets in
+    let term = subst (λ es. Went h end es (onward_live later b.term)) (sym (term_uses_none b.term)) (uses_went h end (term_uses b.term) (onward_live later b.term) once.term lets.holds) in
     record {
       lets = lets.ready;
       term = term.ready;
-      onward = onward_ready h (after h (after_lets h s b.lets) (map Use (term_uses b.term))) blocks later f n b.term live ahead term.holds;
+      onward = onward_ready h (after h end (term_events no_reads b.term)) blocks later f n b.term live ahead term.holds;
     }

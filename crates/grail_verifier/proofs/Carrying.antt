@@ -1,7 +1,7 @@
 -- Lines of a certificate against the locals that carry them.
-use Rattle.std.proofs.Common.{◌≡◌, ℕ, ◌<◌, ◌≤◌, Bool, true, false, List, [], ◌∷◌, ◌++◌, map, Option, Some, None, refl, sym, ap, ◌∙◌, subst, arith}
+use Rattle.std.proofs.Common.{◌≡◌, ℕ, zero, suc, ◌+◌, ◌<◌, ◌≤◌, Bool, true, false, List, [], ◌∷◌, ◌++◌, map, Option, Some, None, refl, sym, ap, ◌∙◌, subst, arith}
 use Rattle.std.specs.Prelude.{◌==◌, ◌||◌, if◌then◌else◌, ℤ}
-use Rattle.std.specs.List.{AllByRecursion}
+use Rattle.std.specs.List.{AllByRecursion, range_with_len}
 use Rattle.std.specs.Option.{option_or}
 use Rattle.std.proofs.lemmas.Bool.Decides.{nat_tests}
 use Rattle.camelot_values.specs.Kinds.{DataType}
@@ -12,6 +12,7 @@ use Rattle.grail_code.specs.WellFormed.{kind_of}
 use Rattle.annotations.specs.Vectors.{Vector, at}
 use Rattle.certificate.specs.Certificates.{VarCert}
 use Rattle.licence.specs.Books.{Units, Carried, vector_of}
+use Rattle.licence.specs.Rules.{Asks, arguments_asks}
 use Rattle.licence.specs.Checks.{Site, value_checks, local_checks, AllHold}
 use Rattle.grail_verifier.specs.Finding.{Found}
 use Rattle.grail_verifier.specs.Walk.{held_short, local_short, asked_short, all_short}
@@ -51,13 +52,31 @@ asks_nothing types s (Some q) (Some have) have' need' h d = let k : IsHeld have 
 -- ---- all against the same
 
 pub all_found : (types : List DataType) (f : Func) (s : Site) (have : ℕ → Option Vector) (carried : Carried ℤ) (xs : List ℕ) (need : Vector) (need' : Units ℤ) → AreHeld f have carried → AreUnits need need'
-    → Found (local_checks types f s carried xs (map (λ x. need') xs)) (all_short types f s have xs need)
+    → Found (local_checks types f s carried (map (λ x. (x, need')) xs)) (all_short types f s have xs need)
 all_found types f s have carried [] need need' h d = nothing
 all_found types f s have carried (x ∷ xs) need need' h d =
-    both (value_checks types s (kind_of f x) (carried x) need') (local_checks types f s carried xs (map (λ x. need') xs)) (local_short types f s have (Some x) need) (all_short types f s have xs need)
+    both (value_checks types s (kind_of f x) (carried x) need') (local_checks types f s carried (map (λ x. (x, need')) xs)) (local_short types f s have (Some x) need) (all_short types f s have xs need)
     (local_found types f s have carried x need need' h d) (λ e. all_found types f s have carried xs need need' h d)
 
 -- ---- each against its line
+
+-- locals, each asked for what is said of the number at its place
+abbrev pub along : (ℕ → Units ℤ) → List ℕ → List ℕ → Asks ℤ
+along units (n ∷ ns) (x ∷ xs) = (x, units n) ∷ along units ns xs
+along units ns xs = []
+
+-- locals are their own numbers
+pub along_own : (units : ℕ → Units ℤ) (xs : List ℕ) → along units xs xs ≡ map (λ x. (x, units x)) xs
+along_own units [] = refl
+along_own units (x ∷ xs) = ap (λ asks. (x, units x) ∷ asks) (along_own units xs)
+
+-- arguments go by the numbers of parameters
+pub along_params : (units : ℕ → Units ℤ) (number count : ℕ) (args : List ℕ) → along units (range_with_len number count) args ≡ arguments_asks units number count args
+along_params units number zero args = refl
+along_params units number (suc count) [] = refl
+along_params units number (suc count) (x ∷ xs) =
+    let next : number + 1 ≡ suc number = omega arith in
+    ap (λ asks. (x, units number) ∷ asks) (along_params units (number + 1) count xs ∙ ap (λ n. arguments_asks units n count xs) next)
 
 -- locals by their numbers among what is asked
 abbrev pub Aligned : (ℕ → Option ℕ) → List ℕ → List ℕ → Type 0
@@ -128,28 +147,28 @@ asked_others units v vs (n ∷ ns) l h = (by_test (v.var == n) refl h.0, asked_o
 
 module _ (types : List DataType) (f : Func) (s : Site) (have : ℕ → Option Vector) (carried : Carried ℤ) (local : ℕ → Option ℕ) (units : ℕ → Units ℤ) (held : AreHeld f have carried) where
   pub asked_found : (ns xs : List ℕ) (vars : List VarCert) → Aligned local ns xs → Ascend ns → LinesAscend vars → AreOf ns vars → AreAsked units vars ns
-      → Found (local_checks types f s carried xs (map units ns)) (asked_short types f s have local vars)
+      → Found (local_checks types f s carried (along units ns xs)) (asked_short types f s have local vars)
   asked_found [] [] [] al a la among asked = nothing
   asked_found [] [] (v ∷ vs) al a la among asked = let k : false ≡ true = among.0 in absurd cc
   asked_found [] (x ∷ xs) vars al a la among asked = absurd al
   asked_found (n ∷ ns) [] vars al a la among asked = absurd al
   asked_found (n ∷ ns) (x ∷ xs) [] al a la among asked =
-      past (value_checks types s (kind_of f x) (carried x) (units n)) (local_checks types f s carried xs (map units ns)) None
+      past (value_checks types s (kind_of f x) (carried x) (units n)) (local_checks types f s carried (along units ns xs)) None
       (asks_nothing types s (kind_of f x) (have x) (carried x) (units n) (held x) asked.0) (asked_found ns xs [] al.1 (ns_others n ns a) tt tt asked.1)
   asked_found (n ∷ ns) (x ∷ xs) (v ∷ vs) al a la among asked =
       by_test (λ h k l. asked_found ns xs vs al.1 (ns_others n ns a) h k l) (λ k. asked_found ns xs (v ∷ vs) al.1 (ns_others n ns a) la k asked.1) (v.var == n) refl
     where
-      by_test : (LinesAscend vs → AreOf ns vs → AreAsked units vs ns → Found (local_checks types f s carried xs (map units ns)) (asked_short types f s have local vs))
-          → (AreOf ns (v ∷ vs) → Found (local_checks types f s carried xs (map units ns)) (asked_short types f s have local (v ∷ vs)))
+      by_test : (LinesAscend vs → AreOf ns vs → AreAsked units vs ns → Found (local_checks types f s carried (along units ns xs)) (asked_short types f s have local vs))
+          → (AreOf ns (v ∷ vs) → Found (local_checks types f s carried (along units ns xs)) (asked_short types f s have local (v ∷ vs)))
           → (b : Bool) → (v.var == n) ≡ b
-          → Found (value_checks types s (kind_of f x) (carried x) (units n) ++ local_checks types f s carried xs (map units ns)) (asked_short types f s have local (v ∷ vs))
+          → Found (value_checks types s (kind_of f x) (carried x) (units n) ++ local_checks types f s carried (along units ns xs)) (asked_short types f s have local (v ∷ vs))
       by_test here there true e =
           let same : v.var ≡ n = grind (arith, nat_tests, e) in
           let mine : AreUnits v.vector (units n) = subst (λ b. AreUnits (if b then v.vector else vector_of vs n) (units n)) e asked.0 in
           let lines : AllByRecursion (λ w. n < w.var) vs = lines_above n v vs (omega (arith, same)) la in
           let found : local v.var ≡ Some x = ap local same ∙ al.0 in
-          subst (λ o. Found (value_checks types s (kind_of f x) (carried x) (units n) ++ local_checks types f s carried xs (map units ns)) (option_or (local_short types f s have o v.vector) (asked_short types f s have local vs))) (sym found)
-          (both (value_checks types s (kind_of f x) (carried x) (units n)) (local_checks types f s carried xs (map units ns)) (local_short types f s have (Some x) v.vector) (asked_short types f s have local vs)
+          subst (λ o. Found (value_checks types s (kind_of f x) (carried x) (units n) ++ local_checks types f s carried (along units ns xs)) (option_or (local_short types f s have o v.vector) (asked_short types f s have local vs))) (sym found)
+          (both (value_checks types s (kind_of f x) (carried x) (units n)) (local_checks types f s carried (along units ns xs)) (local_short types f s have (Some x) v.vector) (asked_short types f s have local vs)
           (local_found types f s have carried x v.vector (units n) held mine)
           (λ k. here (others v vs la) (among_others n ns vs lines among.1) (asked_others units v vs ns (λ m l. subst (λ i. i < m) (sym same) (above n m ns a l)) asked.1)))
       by_test here there false e =
@@ -157,7 +176,7 @@ module _ (types : List DataType) (f : Func) (s : Site) (have : ℕ → Option Ve
           let less : n < v.var = above n v.var ns a mine in
           let lines : AllByRecursion (λ w. n < w.var) (v ∷ vs) = (less, lines_above n v vs (omega (arith, less)) la) in
           let zero : AreUnits [] (units n) = subst (λ w. AreUnits w (units n)) (none_below (v ∷ vs) n la lines) asked.0 in
-          past (value_checks types s (kind_of f x) (carried x) (units n)) (local_checks types f s carried xs (map units ns)) (asked_short types f s have local (v ∷ vs))
+          past (value_checks types s (kind_of f x) (carried x) (units n)) (local_checks types f s carried (along units ns xs)) (asked_short types f s have local (v ∷ vs))
           (asks_nothing types s (kind_of f x) (have x) (carried x) (units n) (held x) zero) (there (among_others n ns (v ∷ vs) lines among))
         where
           by_case : (b : Bool) → (n == v.var) ≡ b → (b || is_among ns v.var) ≡ true → is_among ns v.var ≡ true

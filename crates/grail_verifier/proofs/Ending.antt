@@ -13,12 +13,12 @@ use Rattle.grail_code.specs.WellFormed.{kind_of, params_at, HaveKinds, JumpFits,
 use Rattle.annotations.specs.Vectors.{Vector, at, is_heap_con}
 use Rattle.certificate.specs.Certificates.{BlockCert, FuncCert, Cert}
 use Rattle.licence.specs.Books.{Units, Carried, block_said, vector_of, block_of}
-use Rattle.licence.specs.Rules.{Account, carrying, all_carrying, freed, in_arm, first_con_of}
+use Rattle.licence.specs.Rules.{Account, carrying, all_carrying, found, in_arm, first_con_of, jump_asks}
 use Rattle.licence.specs.Checks.{Check, Site, left_check, value_checks, local_checks, arguments_checks, jump_checks, arms_checks, term_checks, integers}
 use Rattle.grail_verifier.specs.Finding.{Found}
 use Rattle.grail_verifier.specs.Walk.{capped, left_short, value_short, local_short, asked_short, call_short, bound, line_short, jump_short, given, left_in_arm, next_con, arms_short, case_short, tail_short, term_short}
 use Rattle.grail_verifier.proofs.Composing.{nothing, both, one, is_enough, second_none, AreUnits, value_found}
-use Rattle.grail_verifier.proofs.Carrying.{IsHeld, IsHeldIn, AreHeld, local_found, AreAsked, asked_found}
+use Rattle.grail_verifier.proofs.Carrying.{IsHeld, IsHeldIn, AreHeld, local_found, along_own, AreAsked, asked_found}
 use Rattle.grail_verifier.proofs.Lines.{line_is}
 use Rattle.grail_verifier.proofs.Numbers.{few_before}
 use Rattle.grail_verifier.proofs.Facts.{all_at, some_and, Ready, Known, ready_at, said_is, self_aligned, IsTarget, target_at}
@@ -58,13 +58,16 @@ module _ (p : Code) (c : Cert) (known : Known p c) where
     target_found : (s : Site) → s.func ≡ func → (left : ℕ) (have : ℕ → Option Vector) (a : Account ℤ) (to : ℕ) → a.left ≡ pos left → AreHeld f have a.carried → 1 ≤ to → IsTarget p f own to
         → Found (jump_checks p f (book c) s a to) (jump_short p.types f own s left have to)
     target_found s at_func left have a to e held some t =
-        subst (λ n. Found (local_checks p.types f s a.carried (params_at f.blocks to) (map ((book c).block_var n to) (params_at f.blocks to)) ++ left_check s a.left ((book c).block_need n to) ∷ []) (jump_short p.types f own s left have to)) (sym at_func)
-        (subst (λ o. Found (local_checks p.types f s a.carried (params_at f.blocks to) (map ((book c).block_var func to) (params_at f.blocks to)) ++ left_check s a.left ((book c).block_need func to) ∷ []) (line_short p.types f s left have o)) (sym (line_is own.blocks to some ∙ t.stands))
-        (subst (λ xs. Found (local_checks p.types f s a.carried xs (map ((book c).block_var func to) xs) ++ left_check s a.left ((book c).block_need func to) ∷ []) (line_short p.types f s left have (Some t.line))) (sym params)
-        (both (local_checks p.types f s a.carried t.block.params (map ((book c).block_var func to) t.block.params)) (left_check s a.left ((book c).block_need func to) ∷ []) (asked_short p.types f s have Some t.line.vars) (left_short s left t.line.need)
-        (asked_found p.types f s have a.carried Some ((book c).block_var func to) held t.block.params t.block.params t.line.vars (self_aligned t.block.params) t.fits.ascending t.ascend t.of (asked t.block.params))
-        (λ k. one s left t.line.need a.left ((book c).block_need func to) e (ap pos (block_says to t.line (λ b. b.need) 0 t.found))))))
+        subst (λ n. Found (local_checks p.types f s a.carried (jump_asks f (book c) n to) ++ left_check s a.left ((book c).block_need n to) ∷ []) (jump_short p.types f own s left have to)) (sym at_func)
+        (subst (λ o. Found (local_checks p.types f s a.carried (jump_asks f (book c) func to) ++ left_check s a.left ((book c).block_need func to) ∷ []) (line_short p.types f s left have o)) (sym (line_is own.blocks to some ∙ t.stands))
+        (both (local_checks p.types f s a.carried (jump_asks f (book c) func to)) (left_check s a.left ((book c).block_need func to) ∷ []) (asked_short p.types f s have Some t.line.vars) (left_short s left t.line.need)
+        (subst (λ asks. Found (local_checks p.types f s a.carried asks) (asked_short p.types f s have Some t.line.vars)) (along_own units t.block.params ∙ ap (map (λ x. (x, units x))) (sym params))
+        (asked_found p.types f s have a.carried Some units held t.block.params t.block.params t.line.vars (self_aligned t.block.params) t.fits.ascending t.ascend t.of (asked t.block.params)))
+        (λ k. one s left t.line.need a.left ((book c).block_need func to) e (ap pos (block_says to t.line (λ b. b.need) 0 t.found)))))
       where
+        units : Carried ℤ
+        units = (book c).block_var func to
+
         params : params_at f.blocks to ≡ t.block.params
         params = ap (λ o. option_map_or (λ block. block.params) o []) t.there
 
@@ -79,9 +82,12 @@ module _ (p : Code) (c : Cert) (known : Known p c) where
     -- ---- arms
 
     arm_left : (left : ℕ) (a : Account ℤ) (matched : Vector) (on con : ℕ) (m : CaseArm) → a.left ≡ pos left → IsHeld matched (a.carried on) → left ≤ 1152921504606846976
-        → freed integers (book c).unit m.cell (cond (is_heap_con p.types con) (a.left +ℤ a.carried on con) a.left) ≡ pos (left_in_arm p.types c.unit left matched con m.cell)
-    arm_left left a matched on con m e held few = by_cell m.cell (cond (is_heap_con p.types con) (a.left +ℤ a.carried on con) a.left) (cond (is_heap_con p.types con) (capped (left + at matched con)) left) (by_heap (is_heap_con p.types con)) (most (is_heap_con p.types con))
+        → (in_arm integers p.types (book c) a on con m).left ≡ pos (left_in_arm p.types c.unit left matched con m.cell)
+    arm_left left a matched on con m e held few = by_cell m.cell
       where
+        node : ℕ
+        node = cond (is_heap_con p.types con) (capped (left + at matched con)) left
+
         cap : capped (left + at matched con) ≡ left + at matched con
         cap = small (left + at matched con) (omega (arith, few, held.few con))
 
@@ -93,10 +99,20 @@ module _ (p : Code) (c : Cert) (known : Known p c) where
         most true = omega (arith, cap, few, held.few con)
         most false = omega (arith, few)
 
-        by_cell : (d : CaseCell) (l' : ℤ) (l : ℕ) → l' ≡ pos l → l ≤ 2305843009213693952 → freed integers (pos c.unit) d l' ≡ pos (given c.unit d l)
-        by_cell cell.Inline l' l k n = k
-        by_cell cell.Free l' l k n = let u : c.unit ≤ 2147483648 = known.right.within.unit in ap (λ m. m +ℤ pos c.unit) k ∙ sym (plus_is l c.unit) ∙ ap pos (sym (small (l + c.unit) (omega (arith, n, u))))
-        by_cell (cell.Keep x) l' l k n = k
+        by_cell : (d : CaseCell) → (found integers p.types (pos c.unit) a on con m.fields d).left ≡ pos (given c.unit d node)
+        by_cell cell.Inline = by_heap (is_heap_con p.types con)
+        by_cell cell.Free = let n = most (is_heap_con p.types con) in let u : c.unit ≤ 2147483648 = known.right.within.unit in
+            ap (λ k. k +ℤ pos c.unit) (by_heap (is_heap_con p.types con)) ∙ sym (plus_is node c.unit) ∙ ap pos (sym (small (node + c.unit) (omega (arith, n, u))))
+        by_cell (cell.Keep x) = by_heap (is_heap_con p.types con)
+
+    arm_held : (slots : List Vector) (a : Account ℤ) (matched : Vector) (on con : ℕ) (m : CaseArm) → AreHeld f (slice_get slots) a.carried → IsHeld matched (a.carried on)
+        → AreHeld f (bound slots m.fields matched) (in_arm integers p.types (book c) a on con m).carried
+    arm_held slots a matched on con m all held = by_cell m.cell
+      where
+        by_cell : (d : CaseCell) → AreHeld f (bound slots m.fields matched) (found integers p.types (pos c.unit) a on con m.fields d).carried
+        by_cell cell.Inline = bound_held f slots a.carried m.fields matched (a.carried on) all held
+        by_cell cell.Free = bound_held f slots a.carried m.fields matched (a.carried on) all held
+        by_cell (cell.Keep x) = bound_held f slots a.carried m.fields matched (a.carried on) all held
 
     arms_found : (s : Site) → s.func ≡ func → (left : ℕ) (slots : List Vector) (a : Account ℤ) (matched : Vector) (number on con : ℕ) (cs : List Constructor) (arms : List CaseArm) → Tied f left slots a → IsHeld matched (a.carried on)
         → left ≤ 1152921504606846976 → con + length cs ≤ 4294967295 → ArmsFit f number cs arms
@@ -107,7 +123,7 @@ module _ (p : Code) (c : Cert) (known : Known p c) where
         both (jump_checks p f (book c) s (in_arm integers p.types (book c) a on con m) m.target) (arms_checks integers p f (book c) s a on (suc con) arms)
         (jump_short p.types f own s (left_in_arm p.types c.unit left matched con m.cell) (bound slots m.fields matched) m.target) (arms_short p.types c.unit f own s left slots matched (next_con con) arms)
         (jump_found s at_func (left_in_arm p.types c.unit left matched con m.cell) (bound slots m.fields matched) (in_arm integers p.types (book c) a on con m) number m.target
-        (arm_left left a matched on con m tied.left held few) (bound_held f slots a.carried m.fields matched (a.carried on) tied.held held) fits.0.jump)
+        (arm_left left a matched on con m tied.left held few) (arm_held slots a matched on con m tied.held held) fits.0.jump)
         (λ e. let z : suc con ≡ next_con con = omega (arith, less) in
         subst (λ n. Found (arms_checks integers p f (book c) s a on (suc con) arms) (arms_short p.types c.unit f own s left slots matched n arms)) z
         (arms_found s at_func left slots a matched number on (suc con) cs arms tied held few (omega (arith, less)) fits.1))

@@ -1,5 +1,5 @@
 -- Lets and ends of blocks: what the walk finds is the first check of the list that fails.
-use Rattle.std.proofs.Common.{◌≡◌, ℕ, ◌+◌, ◌-◌, ◌<◌, ◌≤◌, Bool, true, false, List, [], ◌∷◌, ◌++◌, length, map, Option, Some, None, refl, sym, ap, ◌∙◌, subst, arith}
+use Rattle.std.proofs.Common.{◌≡◌, ℕ, ◌+◌, ◌-◌, ◌<◌, ◌≤◌, Bool, true, false, List, [], ◌∷◌, ◌++◌, length, Option, Some, None, refl, sym, ap, ◌∙◌, subst, arith}
 use Rattle.std.specs.Prelude.{◌==◌, if◌then◌else◌, cond, slice_get, slice_set, ℤ, pos, ◌+ℤ◌, ◌-ℤ◌}
 use Rattle.std.specs.List.{range_with_len}
 use Rattle.std.specs.Option.{option_or, option_map_or}
@@ -14,12 +14,12 @@ use Rattle.grail_code.specs.Limits as limits
 use Rattle.annotations.specs.Vectors.{Vector, at, is_heap_con}
 use Rattle.certificate.specs.Certificates.{FuncCert, Cert}
 use Rattle.licence.specs.Books.{Units, Carried, Book, vector_of, book_of}
-use Rattle.licence.specs.Rules.{Account, carrying, build_cost, after_op, asked_by}
+use Rattle.licence.specs.Rules.{Account, carrying, build_cost, after_op, call_asks, build_asks}
 use Rattle.licence.specs.Checks.{Site, left_check, local_checks, arguments_checks, op_checks, integers, in_integers}
 use Rattle.grail_verifier.specs.Finding.{Found}
 use Rattle.grail_verifier.specs.Walk.{capped, left_short, asked_short, all_short, cost, call_short, op_short, left_behind_call, left_behind, put, slots_behind_call, slots_behind_op, slots_behind}
 use Rattle.grail_verifier.proofs.Composing.{nothing, both, one, is_enough, second_none, AreUnits}
-use Rattle.grail_verifier.proofs.Carrying.{IsHeld, IsHeldIn, AreHeld, all_found, AreAsked, asked_found}
+use Rattle.grail_verifier.proofs.Carrying.{IsHeld, IsHeldIn, AreHeld, all_found, along_params, AreAsked, asked_found}
 use Rattle.grail_verifier.proofs.Lines.{set_here, set_other, set_length, at_few}
 use Rattle.grail_verifier.proofs.Facts.{some_and, Ready, Known, ready_at, said_is, few_locals, own_params, range_ascends, args_aligned}
 
@@ -65,9 +65,10 @@ module _ (p : Code) (c : Cert) (known : Known p c) where
   pub arguments_found : (f : Func) (s : Site) (left : ℕ) (slots : List Vector) (a : Account ℤ) (callee : ℕ) (args : List ℕ) (g : Func) (line : FuncCert) → Tied f left slots a → Ready p c callee g line → HaveKinds f args g.params
       → Found (arguments_checks p f (book c) s a callee args) (asked_short p.types f s (slice_get slots) (slice_get args) line.params)
   arguments_found f s left slots a callee args g line tied ready kinds =
-      subst (λ o. Found (option_map_or (λ g. local_checks p.types f s a.carried args (asked_by (book c) callee g)) o []) (asked_short p.types f s (slice_get slots) (slice_get args) line.params)) (sym ready.code)
+      subst (λ o. Found (option_map_or (λ g. local_checks p.types f s a.carried (call_asks (book c) callee g args)) o []) (asked_short p.types f s (slice_get slots) (slice_get args) line.params)) (sym ready.code)
+      (subst (λ asks. Found (local_checks p.types f s a.carried asks) (asked_short p.types f s (slice_get slots) (slice_get args) line.params)) (along_params ((book c).param callee) 0 (length g.params) args)
       (asked_found p.types f s (slice_get slots) a.carried (slice_get args) ((book c).param callee) tied.held (range_with_len 0 (length g.params)) args line.params
-      (args_aligned f args g.params kinds) (range_ascends 0 (length g.params)) ready.formed.params.ascending (own_params p g line ((ready.right 0).own refl)) (asked (range_with_len 0 (length g.params))))
+      (args_aligned f args g.params kinds) (range_ascends 0 (length g.params)) ready.formed.params.ascending (own_params p g line ((ready.right 0).own refl)) (asked (range_with_len 0 (length g.params)))))
     where
       asked : (ns : List ℕ) → AreAsked ((book c).param callee) line.params ns
       asked [] = tt
@@ -117,11 +118,11 @@ module _ (p : Code) (c : Cert) (known : Known p c) where
       by_op (Prim o x y) q g = nothing
       by_op (Make con args into) q g = by_heap (is_heap_con p.types con)
         where
-          by_heap : (h : Bool) → Found (cond h (local_checks p.types f s a.carried args (map (λ x. (book c).make s.func s.block s.place) args) ++ left_check s a.left (build_cost integers (book c).unit into ((book c).make s.func s.block s.place con)) ∷ []) [])
+          by_heap : (h : Bool) → Found (cond h (local_checks p.types f s a.carried (build_asks (book c) s.func s.block s.place args) ++ left_check s a.left (build_cost integers (book c).unit into ((book c).make s.func s.block s.place con)) ∷ []) [])
               (cond h (option_or (all_short p.types f s (slice_get slots) args made) (left_short s left (cost c.unit into (at made con)))) None)
           by_heap false = nothing
           by_heap true =
-              both (local_checks p.types f s a.carried args (map (λ x. (book c).make s.func s.block s.place) args)) (left_check s a.left (build_cost integers (book c).unit into ((book c).make s.func s.block s.place con)) ∷ [])
+              both (local_checks p.types f s a.carried (build_asks (book c) s.func s.block s.place args)) (left_check s a.left (build_cost integers (book c).unit into ((book c).make s.func s.block s.place con)) ∷ [])
               (all_short p.types f s (slice_get slots) args made) (left_short s left (cost c.unit into (at made con)))
               (all_found p.types f s (slice_get slots) a.carried args made ((book c).make s.func s.block s.place) tied.held held.same)
               (λ e. one s left (cost c.unit into (at made con)) a.left (build_cost integers (book c).unit into ((book c).make s.func s.block s.place con)) tied.left (cost_is into (at made con) ((book c).make s.func s.block s.place con) (held.same con) (held.few con)))

@@ -1,9 +1,8 @@
 -- Laws, for the proofs of this crate and of those above it.
 -- Checks go with their amounts: where what two books say is related, and sums and differences keep the relation, the checks of one are
 -- related to those of the other, one by one.
-use Rattle.std.proofs.Common.{◌≡◌, ℕ, zero, suc, Bool, true, false, List, [], ◌∷◌, ◌++◌, length, map, Option, Some, None, refl, ◌∙◌}
+use Rattle.std.proofs.Common.{◌≡◌, ℕ, zero, suc, Bool, true, false, List, [], ◌∷◌, ◌++◌, length, map, Option, Some, None, refl, ◌∙◌, subst}
 use Rattle.std.specs.Prelude.{◌==◌, if◌then◌else◌, slice_get, cond}
-use Rattle.std.specs.List.{range_with_len}
 use Rattle.std.specs.Option.{option_map_or}
 use Rattle.camelot_values.specs.Kinds.{DataType}
 use Rattle.camelot_values.specs.Heap.{reached}
@@ -17,8 +16,9 @@ use Rattle.grail_code.specs.Code.{Op, Lit, Flag, Copy, Prim, Make, Call, Let, Ca
 use Rattle.grail_code.specs.WellFormed.{kind_of}
 use Rattle.annotations.specs.Vectors.{is_heap_con}
 use Rattle.licence.specs.Books.{Units, Carried, Book}
-use Rattle.licence.specs.Rules.{Amounts, Account, account_at, carrying, all_carrying, build_cost, after_op, freed, in_arm, first_con_of, asked_by}
+use Rattle.licence.specs.Rules.{Amounts, Account, account_at, carrying, all_carrying, build_cost, after_op, opened, found, in_arm, first_con_of, Asks, call_asks, jump_asks, build_asks}
 use Rattle.licence.specs.Checks.{Check, Site, left_check, value_checks, local_checks, arguments_checks, op_checks, jump_checks, arms_checks, term_checks, lets_checks, blocks_checks, funcs_checks, checks_of}
+use Rattle.licence.specs.theory.Asking.{AreLike, each_like, arguments_like}
 
 -- sums and differences of related amounts are related
 pub record Keeps {A B : Type 0} (R : A → B → Type 0) (amounts : Amounts A) (others : Amounts B) : Type 0 where
@@ -62,11 +62,6 @@ module _ {A B : Type 0} (R : A → B → Type 0) where
   abbrev RelatedCarried : Carried A → Carried B → Type 0
   RelatedCarried carried others = (x : ℕ) → RelatedUnits (carried x) (others x)
 
-  abbrev RelatedLists : List (Units A) → List (Units B) → Type 0
-  RelatedLists [] [] = Unit {0}
-  RelatedLists (u ∷ us) (v ∷ vs) = RelatedUnits u v × RelatedLists us vs
-  RelatedLists us vs = ⊥
-
   -- ---- lists of checks
 
   pub both : (cs es : List (Check A)) (ds gs : List (Check B)) → AllRelated R cs ds → AllRelated R es gs → AllRelated R (cs ++ es) (ds ++ gs)
@@ -89,19 +84,19 @@ module _ {A B : Type 0} (R : A → B → Type 0) where
       (λ c. record { func = s.func; block = s.block; place = s.place; con = Some c; have = have' c; need = need' c })
       (λ c. record { func = refl; block = refl; place = refl; con = refl; have = h c; need = k c })
 
-  locals_related : (types : List DataType) (f : Func) (s : Site) (carried : Carried A) (carried' : Carried B) (xs : List ℕ) (asked : List (Units A)) (asked' : List (Units B))
-      → RelatedCarried carried carried' → RelatedLists asked asked' → AllRelated R (local_checks types f s carried xs asked) (local_checks types f s carried' xs asked')
-  locals_related types f s carried carried' [] asked asked' h k = tt
-  locals_related types f s carried carried' (x ∷ xs) [] [] h k = tt
-  locals_related types f s carried carried' (x ∷ xs) [] (v ∷ vs) h k = absurd k
-  locals_related types f s carried carried' (x ∷ xs) (u ∷ us) [] h k = absurd k
-  locals_related types f s carried carried' (x ∷ xs) (u ∷ us) (v ∷ vs) h k =
-      both (value_checks types s (kind_of f x) (carried x) u) (local_checks types f s carried xs us) (value_checks types s (kind_of f x) (carried' x) v) (local_checks types f s carried' xs vs)
-      (value_related types s (kind_of f x) (carried x) u (carried' x) v (h x) k.0) (locals_related types f s carried carried' xs us vs h k.1)
+  local_related : (types : List DataType) (f : Func) (s : Site) (carried : Carried A) (carried' : Carried B) (x y : ℕ) (asked : Units A) (asked' : Units B) → RelatedCarried carried carried' → x ≡ y → RelatedUnits asked asked'
+      → AllRelated R (value_checks types s (kind_of f x) (carried x) asked) (value_checks types s (kind_of f y) (carried' y) asked')
+  local_related types f s carried carried' x y asked asked' h same k =
+      subst (λ z. AllRelated R (value_checks types s (kind_of f x) (carried x) asked) (value_checks types s (kind_of f z) (carried' z) asked')) same (value_related types s (kind_of f x) (carried x) asked (carried' x) asked' (h x) k)
 
-  lists_related : (xs : List ℕ) (units : Carried A) (units' : Carried B) → RelatedCarried units units' → RelatedLists (map units xs) (map units' xs)
-  lists_related [] units units' h = tt
-  lists_related (x ∷ xs) units units' h = (h x, lists_related xs units units' h)
+  locals_related : (types : List DataType) (f : Func) (s : Site) (carried : Carried A) (carried' : Carried B) (asks : Asks A) (asks' : Asks B)
+      → RelatedCarried carried carried' → AreLike RelatedUnits asks asks' → AllRelated R (local_checks types f s carried asks) (local_checks types f s carried' asks')
+  locals_related types f s carried carried' [] [] h k = tt
+  locals_related types f s carried carried' [] (b ∷ asks') h k = absurd k
+  locals_related types f s carried carried' (a ∷ asks) [] h k = absurd k
+  locals_related types f s carried carried' (a ∷ asks) (b ∷ asks') h k =
+      both (value_checks types s (kind_of f a.0) (carried a.0) a.1) (local_checks types f s carried asks) (value_checks types s (kind_of f b.0) (carried' b.0) b.1) (local_checks types f s carried' asks')
+      (local_related types f s carried carried' a.0 b.0 a.1 b.1 h k.0 k.1) (locals_related types f s carried carried' asks asks' h k.2)
 
   -- ---- accounts
 
@@ -127,18 +122,18 @@ module _ {A B : Type 0} (R : A → B → Type 0) where
       → AllRelated R (arguments_checks p f book s a callee args) (arguments_checks p f other s b callee args)
   arguments_related p f book other h s a b e callee args = by_func (slice_get p.funcs callee)
     where
-      by_func : (o : Option Func) → AllRelated R (option_map_or (λ g. local_checks p.types f s a.carried args (asked_by book callee g)) o []) (option_map_or (λ g. local_checks p.types f s b.carried args (asked_by other callee g)) o [])
+      by_func : (o : Option Func) → AllRelated R (option_map_or (λ g. local_checks p.types f s a.carried (call_asks book callee g args)) o []) (option_map_or (λ g. local_checks p.types f s b.carried (call_asks other callee g args)) o [])
       by_func None = tt
-      by_func (Some g) = locals_related p.types f s a.carried b.carried args (asked_by book callee g) (asked_by other callee g) e.carried
-          (lists_related (range_with_len 0 (length g.params)) (book.param callee) (other.param callee) (h.param callee))
+      by_func (Some g) = locals_related p.types f s a.carried b.carried (call_asks book callee g args) (call_asks other callee g args) e.carried
+          (arguments_like RelatedUnits (book.param callee) (other.param callee) (h.param callee) 0 (length g.params) args)
 
   jump_related : (p : Code) (f : Func) (book : Book A) (other : Book B) → Related R book other → (s : Site) (a : Account A) (b : Account B) → RelatedAccount R a b → (to : ℕ)
       → AllRelated R (jump_checks p f book s a to) (jump_checks p f other s b to)
   jump_related p f book other h s a b e to =
-      both (local_checks p.types f s a.carried (params_at f.blocks to) (map (book.block_var s.func to) (params_at f.blocks to))) (left_check s a.left (book.block_need s.func to) ∷ [])
-      (local_checks p.types f s b.carried (params_at f.blocks to) (map (other.block_var s.func to) (params_at f.blocks to))) (left_check s b.left (other.block_need s.func to) ∷ [])
-      (locals_related p.types f s a.carried b.carried (params_at f.blocks to) (map (book.block_var s.func to) (params_at f.blocks to)) (map (other.block_var s.func to) (params_at f.blocks to)) e.carried
-      (lists_related (params_at f.blocks to) (book.block_var s.func to) (other.block_var s.func to) (h.block_var s.func to)))
+      both (local_checks p.types f s a.carried (jump_asks f book s.func to)) (left_check s a.left (book.block_need s.func to) ∷ [])
+      (local_checks p.types f s b.carried (jump_asks f other s.func to)) (left_check s b.left (other.block_need s.func to) ∷ [])
+      (locals_related p.types f s a.carried b.carried (jump_asks f book s.func to) (jump_asks f other s.func to) e.carried
+      (each_like RelatedUnits (book.block_var s.func to) (other.block_var s.func to) (h.block_var s.func to) (params_at f.blocks to)))
       (one s a.left (book.block_need s.func to) b.left (other.block_need s.func to) e.left (h.block_need s.func to))
 
 module _ {A B : Type 0} (R : A → B → Type 0) (amounts : Amounts A) (others : Amounts B) (keeps : Keeps R amounts others) (p : Code) (book : Book A) (other : Book B) (h : Related R book other) where
@@ -174,20 +169,23 @@ module _ {A B : Type 0} (R : A → B → Type 0) (amounts : Amounts A) (others :
       }
       by_heap false = e
 
-  freed_related : (x : A) (y : B) (c : CaseCell) → R x y → R (freed amounts book.unit c x) (freed others other.unit c y)
-  freed_related x y cell.Free e = keeps.plus x book.unit y other.unit e h.unit
-  freed_related x y cell.Inline e = e
-  freed_related x y (cell.Keep d) e = e
-
   arm_related : (a : Account A) (b : Account B) (on con : ℕ) (arm : CaseArm) → RelatedAccount R a b → RelatedAccount R (in_arm amounts p.types book a on con arm) (in_arm others p.types other b on con arm)
-  arm_related a b on con arm e = record {
-    left = freed_related (cond (is_heap_con p.types con) (amounts.plus a.left (a.carried on con)) a.left) (cond (is_heap_con p.types con) (others.plus b.left (b.carried on con)) b.left) arm.cell (by_heap (is_heap_con p.types con));
-    carried = all_carrying_related R arm.fields a.carried b.carried (a.carried on) (b.carried on) e.carried (e.carried on);
-  }
+  arm_related a b on con arm e = by_cell arm.cell
     where
       by_heap : (t : Bool) → R (cond t (amounts.plus a.left (a.carried on con)) a.left) (cond t (others.plus b.left (b.carried on con)) b.left)
       by_heap true = keeps.plus a.left (a.carried on con) b.left (b.carried on con) e.left (e.carried on con)
       by_heap false = e.left
+
+      node : RelatedAccount R (opened amounts p.types a on con arm.fields) (opened others p.types b on con arm.fields)
+      node = record { left = by_heap (is_heap_con p.types con); carried = all_carrying_related R arm.fields a.carried b.carried (a.carried on) (b.carried on) e.carried (e.carried on) }
+
+      by_cell : (c : CaseCell) → RelatedAccount R (found amounts p.types book.unit a on con arm.fields c) (found others p.types other.unit b on con arm.fields c)
+      by_cell cell.Free = record {
+        left = keeps.plus (opened amounts p.types a on con arm.fields).left book.unit (opened others p.types b on con arm.fields).left other.unit node.left h.unit;
+        carried = node.carried;
+      }
+      by_cell cell.Inline = node
+      by_cell (cell.Keep d) = node
 
   -- ---- lets and ends
 
@@ -207,12 +205,13 @@ module _ {A B : Type 0} (R : A → B → Type 0) (amounts : Amounts A) (others :
       units' : Units B
       units' = other.make s.func s.block s.place
 
-      by_heap : (t : Bool) → AllRelated R (cond t (local_checks p.types f s a.carried args (map (λ x. units) args) ++ left_check s a.left (build_cost amounts book.unit at (units con)) ∷ []) [])
-          (cond t (local_checks p.types f s b.carried args (map (λ x. units') args) ++ left_check s b.left (build_cost others other.unit at (units' con)) ∷ []) [])
+      by_heap : (t : Bool) → AllRelated R (cond t (local_checks p.types f s a.carried (build_asks book s.func s.block s.place args) ++ left_check s a.left (build_cost amounts book.unit at (units con)) ∷ []) [])
+          (cond t (local_checks p.types f s b.carried (build_asks other s.func s.block s.place args) ++ left_check s b.left (build_cost others other.unit at (units' con)) ∷ []) [])
       by_heap true =
-          both R (local_checks p.types f s a.carried args (map (λ x. units) args)) (left_check s a.left (build_cost amounts book.unit at (units con)) ∷ [])
-          (local_checks p.types f s b.carried args (map (λ x. units') args)) (left_check s b.left (build_cost others other.unit at (units' con)) ∷ [])
-          (locals_related R p.types f s a.carried b.carried args (map (λ x. units) args) (map (λ x. units') args) e.carried (lists_related R args (λ x. units) (λ x. units') (λ x. h.make s.func s.block s.place)))
+          both R (local_checks p.types f s a.carried (build_asks book s.func s.block s.place args)) (left_check s a.left (build_cost amounts book.unit at (units con)) ∷ [])
+          (local_checks p.types f s b.carried (build_asks other s.func s.block s.place args)) (left_check s b.left (build_cost others other.unit at (units' con)) ∷ [])
+          (locals_related R p.types f s a.carried b.carried (build_asks book s.func s.block s.place args) (build_asks other s.func s.block s.place args) e.carried
+          (each_like (λ us vs. (c : ℕ) → R (us c) (vs c)) (λ x. units) (λ x. units') (λ x. h.make s.func s.block s.place) args))
           (one R s a.left (build_cost amounts book.unit at (units con)) b.left (build_cost others other.unit at (units' con)) e.left (cost_related (units con) (units' con) at (h.make s.func s.block s.place con)))
       by_heap false = tt
 

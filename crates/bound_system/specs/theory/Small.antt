@@ -3,7 +3,7 @@
 -- comes behind the lets.
 use Rattle.std.proofs.Common.{ℕ, zero, suc, ◌+◌, ◌*◌, ◌≤◌, ◌^◌, Bool, true, false, ℤ, pos, ◌+ℤ◌, List, [], ◌∷◌, ◌++◌, length, map, Option, Some, None, arith}
 use Rattle.std.specs.Prelude.{◌==◌, ◌-ℤ◌, ◌≤ℤ◌, if◌then◌else◌, cond, slice_get, unsigned_abs}
-use Rattle.std.specs.List.{range_with_len, filter, AllByRecursion}
+use Rattle.std.specs.List.{filter, AllByRecursion}
 use Rattle.std.specs.Option.{option_map_or}
 use Rattle.std.proofs.lemmas.Int.{ints}
 use Rattle.std.proofs.lemmas.List.{length-map}
@@ -21,8 +21,9 @@ use Rattle.grail_code.specs.WellFormed.{kind_of}
 use Rattle.grail_code.specs.Limits.{FuncIsWithin, IsWithinLimits}
 use Rattle.annotations.specs.Vectors.{is_heap_con}
 use Rattle.licence.specs.Books.{Units, Carried, Book}
-use Rattle.licence.specs.Rules.{Account, account_at, carrying, all_carrying, build_cost, after_op, freed, in_arm, first_con_of, asked_by}
+use Rattle.licence.specs.Rules.{Account, account_at, carrying, all_carrying, build_cost, after_op, opened, found, in_arm, first_con_of, Asks, call_asks, jump_asks, build_asks}
 use Rattle.licence.specs.Checks.{Check, Site, left_check, value_checks, local_checks, arguments_checks, op_checks, jump_checks, arms_checks, term_checks, lets_checks, blocks_checks, funcs_checks, checks_of}
+use Rattle.licence.specs.theory.Asking.{AllAsked, each_asked, arguments_asked}
 use Rattle.bound_system.specs.Unknowns.{Unknown, Need, Back, Param, Result, BlockNeed, BlockVar, Made, same, unknowns_of}
 use Rattle.bound_system.specs.Forms.{Form, forms, once, one_cell, unknown_book, is_zero, terms_from, row_of, asks, rows_of, cost_of, system_of}
 use Rattle.bound_system.specs.theory.Rows.{by_place}
@@ -30,9 +31,9 @@ use Rattle.bound_system.specs.theory.Rows.{by_place}
 -- ---- sizes of forms
 
 -- each number of the form is at most this in size
-record Sized (k : ℕ) (form : Form) : Type 0 where
-  constant : unsigned_abs form.constant ≤ k
-  factor : (u : Unknown) → unsigned_abs (form.factor u) ≤ k
+pub record Sized (k : ℕ) (form : Form) : Type 0 where
+  pub constant : unsigned_abs form.constant ≤ k
+  pub factor : (u : Unknown) → unsigned_abs (form.factor u) ≤ k
 
 size_plus : (a b : ℤ) → unsigned_abs (a +ℤ b) ≤ unsigned_abs a + unsigned_abs b
 size_plus a b = omega (arith, ints)
@@ -90,9 +91,9 @@ small_book = record {
 
 -- ---- lists of checks
 
-record SmallCheck (k : ℕ) (c : Check Form) : Type 0 where
-  have : Sized k c.have
-  need : Sized k c.need
+pub record SmallCheck (k : ℕ) (c : Check Form) : Type 0 where
+  pub have : Sized k c.have
+  pub need : Sized k c.need
 
 abbrev SmallUnits : Units Form → Type 0
 SmallUnits units = (c : ℕ) → Sized 1 (units c)
@@ -135,16 +136,10 @@ module _ (limit : ℕ) (room : 2 ≤ limit) where
       each [] = tt
       each (c ∷ cons) = (record { have = sized_more 1 limit (have c) (omega (arith, room)) (h c); need = sized_more 1 limit (need c) (omega (arith, room)) (k c) }, each cons)
 
-  locals_small : (types : List DataType) (f : Func) (s : Site) (carried : Carried Form) (xs : List ℕ) (asked : List (Units Form)) → SmallCarried carried → AllByRecursion SmallUnits asked
-      → AllSmall (local_checks types f s carried xs asked)
-  locals_small types f s carried [] asked h k = tt
-  locals_small types f s carried (x ∷ xs) [] h k = tt
-  locals_small types f s carried (x ∷ xs) (u ∷ us) h k =
-      both (value_checks types s (kind_of f x) (carried x) u) (local_checks types f s carried xs us) (values_small types s (kind_of f x) (carried x) u (h x) k.0) (locals_small types f s carried xs us h k.1)
-
-  asked_small : (xs : List ℕ) (units : Carried Form) → SmallCarried units → AllByRecursion SmallUnits (map units xs)
-  asked_small [] units h = tt
-  asked_small (x ∷ xs) units h = (h x, asked_small xs units h)
+  locals_small : (types : List DataType) (f : Func) (s : Site) (carried : Carried Form) (asks : Asks Form) → SmallCarried carried → AllAsked SmallUnits asks → AllSmall (local_checks types f s carried asks)
+  locals_small types f s carried [] h k = tt
+  locals_small types f s carried (a ∷ asks) h k =
+      both (value_checks types s (kind_of f a.0) (carried a.0) a.1) (local_checks types f s carried asks) (values_small types s (kind_of f a.0) (carried a.0) a.1 (h a.0) k.0) (locals_small types f s carried asks h k.1)
 
   module _ (p : Code) (book : Book Form) (h : SmallBook book) where
     start_small : (func block : ℕ) → SmallAccount 1 (account_at book func block)
@@ -182,32 +177,35 @@ module _ (limit : ℕ) (room : 2 ≤ limit) where
         }
         by_heap false = more_left k a e
 
-    freed_small : (k : ℕ) (left : Form) (c : CaseCell) → Sized k left → Sized (k + 1) (freed forms book.unit c left)
-    freed_small k left cell.Free e = sized_plus k 1 left book.unit e h.unit
-    freed_small k left cell.Inline e = sized_more k (k + 1) left (omega arith) e
-    freed_small k left (cell.Keep d) e = sized_more k (k + 1) left (omega arith) e
-
     arm_small : (k : ℕ) (a : Account Form) (on con : ℕ) (arm : CaseArm) → SmallAccount k a → SmallAccount (k + 2) (in_arm forms p.types book a on con arm)
-    arm_small k a on con arm e = record {
-      left = sized_more (k + 1 + 1) (k + 2) (freed forms book.unit arm.cell found) (omega arith) (freed_small (k + 1) found arm.cell (by_heap (is_heap_con p.types con)));
-      carried = all_carrying_small arm.fields a.carried (a.carried on) e.carried (e.carried on);
-    }
+    arm_small k a on con arm e = by_cell arm.cell
       where
-        found : Form
-        found = cond (is_heap_con p.types con) (forms.plus a.left (a.carried on con)) a.left
-
         by_heap : (t : Bool) → Sized (k + 1) (cond t (forms.plus a.left (a.carried on con)) a.left)
         by_heap true = sized_plus k 1 a.left (a.carried on con) e.left (e.carried on con)
         by_heap false = sized_more k (k + 1) a.left (omega arith) e.left
+
+        node : SmallAccount (k + 1) (opened forms p.types a on con arm.fields)
+        node = record { left = by_heap (is_heap_con p.types con); carried = all_carrying_small arm.fields a.carried (a.carried on) e.carried (e.carried on) }
+
+        as_node : SmallAccount (k + 2) (opened forms p.types a on con arm.fields)
+        as_node = record { left = sized_more (k + 1) (k + 2) (opened forms p.types a on con arm.fields).left (omega arith) node.left; carried = node.carried }
+
+        by_cell : (c : CaseCell) → SmallAccount (k + 2) (found forms p.types book.unit a on con arm.fields c)
+        by_cell cell.Inline = as_node
+        by_cell cell.Free = record {
+          left = sized_more (k + 1 + 1) (k + 2) (forms.plus (opened forms p.types a on con arm.fields).left book.unit) (omega arith) (sized_plus (k + 1) 1 (opened forms p.types a on con arm.fields).left book.unit node.left h.unit);
+          carried = node.carried;
+        }
+        by_cell (cell.Keep d) = as_node
 
     -- ---- lets and ends
 
     arguments_small : (f : Func) (s : Site) (k : ℕ) (a : Account Form) (callee : ℕ) (args : List ℕ) → SmallAccount k a → AllSmall (arguments_checks p f book s a callee args)
     arguments_small f s k a callee args e = by_func (slice_get p.funcs callee)
       where
-        by_func : (o : Option Func) → AllSmall (option_map_or (λ g. local_checks p.types f s a.carried args (asked_by book callee g)) o [])
+        by_func : (o : Option Func) → AllSmall (option_map_or (λ g. local_checks p.types f s a.carried (call_asks book callee g args)) o [])
         by_func None = tt
-        by_func (Some g) = locals_small p.types f s a.carried args (asked_by book callee g) e.carried (asked_small (range_with_len 0 (length g.params)) (book.param callee) (h.param callee))
+        by_func (Some g) = locals_small p.types f s a.carried (call_asks book callee g args) e.carried (arguments_asked SmallUnits (book.param callee) (h.param callee) 0 (length g.params) args)
 
     op_small : (f : Func) (s : Site) (k : ℕ) (a : Account Form) (op : Op) → SmallAccount k a → k ≤ limit → AllSmall (op_checks forms p f book s a op)
     op_small f s k a (Lit z) e l = tt
@@ -221,17 +219,17 @@ module _ (limit : ℕ) (room : 2 ≤ limit) where
         units : Units Form
         units = book.make s.func s.block s.place
 
-        by_heap : (t : Bool) → AllSmall (cond t (local_checks p.types f s a.carried args (map (λ x. units) args) ++ left_check s a.left (build_cost forms book.unit at (units con)) ∷ []) [])
+        by_heap : (t : Bool) → AllSmall (cond t (local_checks p.types f s a.carried (build_asks book s.func s.block s.place args) ++ left_check s a.left (build_cost forms book.unit at (units con)) ∷ []) [])
         by_heap true =
-            both (local_checks p.types f s a.carried args (map (λ x. units) args)) (left_check s a.left (build_cost forms book.unit at (units con)) ∷ [])
-            (locals_small p.types f s a.carried args (map (λ x. units) args) e.carried (asked_small args (λ x. units) (λ x. h.make s.func s.block s.place)))
+            both (local_checks p.types f s a.carried (build_asks book s.func s.block s.place args)) (left_check s a.left (build_cost forms book.unit at (units con)) ∷ [])
+            (locals_small p.types f s a.carried (build_asks book s.func s.block s.place args) e.carried (each_asked SmallUnits (λ x. units) (λ x. h.make s.func s.block s.place) args))
             (one s a.left (build_cost forms book.unit at (units con)) k 2 e.left (cost_small (units con) at (h.make s.func s.block s.place con)) l room)
         by_heap false = tt
 
     jump_small : (f : Func) (s : Site) (k : ℕ) (a : Account Form) (to : ℕ) → SmallAccount k a → k ≤ limit → AllSmall (jump_checks p f book s a to)
     jump_small f s k a to e l =
-        both (local_checks p.types f s a.carried (params_at f.blocks to) (map (book.block_var s.func to) (params_at f.blocks to))) (left_check s a.left (book.block_need s.func to) ∷ [])
-        (locals_small p.types f s a.carried (params_at f.blocks to) (map (book.block_var s.func to) (params_at f.blocks to)) e.carried (asked_small (params_at f.blocks to) (book.block_var s.func to) (h.block_var s.func to)))
+        both (local_checks p.types f s a.carried (jump_asks f book s.func to)) (left_check s a.left (book.block_need s.func to) ∷ [])
+        (locals_small p.types f s a.carried (jump_asks f book s.func to) e.carried (each_asked SmallUnits (book.block_var s.func to) (h.block_var s.func to) (params_at f.blocks to)))
         (one s a.left (book.block_need s.func to) k 1 e.left (h.block_need s.func to) l (omega (arith, room)))
 
     arms_small : (f : Func) (s : Site) (k : ℕ) (a : Account Form) (on con : ℕ) (arms : List CaseArm) → SmallAccount k a → k + 2 ≤ limit → AllSmall (arms_checks forms p f book s a on con arms)
@@ -290,10 +288,14 @@ module _ (limit : ℕ) (room : 2 ≤ limit) where
     funcs_small func (f ∷ fs) within l =
         both (blocks_checks forms p f book func 0 f.blocks) (funcs_checks forms p book (suc func) fs) (blocks_small f func 0 f.blocks within.0.few_lets l) (funcs_small (suc func) fs within.1 l)
 
--- ---- rows
-
 small_limit : 2 ≤ 515
 small_limit = omega arith
+
+-- Each form of a code's checks is small.
+pub all_small : (p : Code) → IsWithinLimits p → AllByRecursion (SmallCheck 515) (checks_of forms p unknown_book)
+all_small p within = funcs_small 515 small_limit p unknown_book small_book 0 p.funcs within.funcs (omega arith)
+
+-- ---- rows
 
 ascending : (total low number : ℕ) (us : List Unknown) (factor : Unknown → ℤ) → low ≤ number → number + length us ≤ total → ((u : Unknown) → unsigned_abs (factor u) ≤ 2 ^ 31)
     → IsAscending total low (terms_from number us factor)
@@ -344,6 +346,6 @@ proper p within few_unknowns few_rows = record {
   costs = length-map (unknowns_of p) cost_of;
   not_negative = by_place IsSmallCost (map cost_of (unknowns_of p)) (costs_small (unknowns_of p));
   rows = by_place (IsProperRow (length (unknowns_of p))) (filter asks (map (row_of (unknowns_of p)) (checks_of forms p unknown_book)))
-      (rows_proper (unknowns_of p) (checks_of forms p unknown_book) (funcs_small 515 small_limit p unknown_book small_book 0 p.funcs within.funcs (omega arith)));
+      (rows_proper (unknowns_of p) (checks_of forms p unknown_book) (all_small p within));
   few = omega (arith, few_unknowns, few_rows);
 }

@@ -18,12 +18,12 @@ use Rattle.camelot_values.specs.declared.kinds.Kind.{Kind}
 use Rattle.camelot_values.specs.declared.kinds.Kind.TheVariants as kind
 use Rattle.grail_blocks.specs.declared.blocks.CaseCell.{CaseCell}
 use Rattle.grail_blocks.specs.declared.blocks.CaseCell.TheVariants as cell
-use Rattle.grail_blocks.specs.Events.{Use, Bind, bound_by, kept_diamond, params_at, jump_events, ways, uses_of, term_events}
+use Rattle.grail_blocks.specs.Events.{Use, Bind, uses_of, term_events, bound_by, kept_diamond, params_at, jump_events, ways}
 use Rattle.camelot_values.specs.Lists.{is_among}
 use Rattle.grail_blocks.specs.States.{Ready, State, nothing_bound, bind, after, AreReady, at_start, state_at}
 use Rattle.grail_blocks.specs.StateLaws.{after_append, ready_first, ready_second, state_next, state_last, ready_at}
 use Rattle.grail_code.specs.Code.{Let, CaseArm, Term, Ret, Tail, Goto, If, Case, Block, Func, Code}
-use Rattle.grail_code.specs.WellFormed.{HaveKinds, Gives, LetFits, kind_of, is_owned, TermFits, BlockFits, BlocksFit, FuncFits, IsWellFormed, reads_of}
+use Rattle.grail_code.specs.WellFormed.{HaveKinds, Gives, LetFits, kind_of, is_owned, reads_of, TermFits, BlockFits, BlocksFit, FuncFits, IsWellFormed}
 use Rattle.grail_code.specs.Meaning.{Locals, put, narrowed, arguments, values_of, op_run, narrow, body_run, bodies, from_block, from_place, run_of}
 use Rattle.grail_code.specs.Places.{Holds, LocalsFit, FitAt, FitsTarget, CallsSafe, JumpsTo, with_cell, cell_effect, TakesArm, Claim, IsKept}
 use Rattle.grail_code.specs.PlaceLaws.{fit_used, all_at, holds_from_block, holds_from_place}
