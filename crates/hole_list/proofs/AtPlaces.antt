@@ -3,7 +3,7 @@ use Rattle.std.proofs.Common.{◌≡◌, ℕ, zero, suc, ◌+◌, ◌<◌, ◌�
 use Rattle.std.specs.Option.{option_map}
 use Rattle.std.specs.List.{insert, remove}
 use Rattle.std.proofs.lemmas.Bool.{cond-true, cond-false, lt-ltb, le-ltb, eq-eqb, ne_eqb, ltb-true, ltb-false, leb-true, leb-false, cases_lt}
-use Rattle.std.proofs.lemmas.List.{take_all, drop_all, drop_more, get_or_default, set-get_or}
+use Rattle.std.proofs.lemmas.List.{take_all, drop_all, drop_more, get_or_default}
 use Rattle.std.proofs.lemmas.List.Edits.{get_or-remove_below}
 use Rattle.cell_span.specs.declared.cell.Cell.{Cell}
 use Rattle.cell_span.specs.Arenas.{Arena}
