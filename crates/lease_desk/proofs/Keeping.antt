@@ -216,6 +216,7 @@ module _ {P : Type 0} (number : P → ℕ) (cells : P → List Cell) (h : Holed)
       (record {
         told = waits_told size is fits;
         short = none_taken (map run_of h.holes) size (next_ready size is).0 (not_taken h.holes size fits);
+        leases = refl;
         rest = refl;
       })
 

@@ -100,6 +100,8 @@ module _ {P : Type 0} where
   pub record Waits (old new : DeskView P) (job need largest : ℕ) : Type 0 where
     pub told : next_move old.sizes old.state ≡ Some (move (event.Full job need largest) new.state)
     pub short : largest < need
+    -- the leases stay
+    pub leases : new.state.leases ≡ old.state.leases
     pub rest : new ≡ moved_on old new.state old.holes (event.Full job need largest)
 
   -- No job waits, and all stays.
