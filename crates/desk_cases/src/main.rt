@@ -13,17 +13,16 @@
 mod answers;
 mod copied;
 mod replays;
+mod session;
 
-use answers::answer;
-use copied::Copied;
-use lease_desk::{Desk, Lease};
+use answers::{answer, end};
+use session::Session;
 use std::io;
 use std::io::{BufRead, BufReader};
 
-fn main(rt: HostRuntime) -> io::Result<()> {
+// Answers each line of the input.
+fn answer_lines(rt: &HostRuntime, session: &mut Option<Session>) -> io::Result<()> {
     let alloc = rt.alloc();
-    let mut desk: Option<Desk<Copied>> = None;
-    let mut leases: Vec<Lease> = Vec::new(alloc);
     for line in BufReader::new(alloc, rt.reader())?.lines(alloc) {
         let line = line?;
         let line = line.as_str();
@@ -31,8 +30,15 @@ fn main(rt: HostRuntime) -> io::Result<()> {
             continue;
         }
         print!(rt; "{line}:")?;
-        desk = answer(&rt, desk, &mut leases, line)?;
+        answer(rt, session, line)?;
         println!(rt)?;
     }
     Ok(())
+}
+
+fn main(rt: HostRuntime) -> io::Result<()> {
+    let mut session: Option<Session> = None;
+    let answered = answer_lines(&rt, &mut session);
+    end(session);
+    answered
 }

@@ -1,0 +1,2 @@
+-- Cases of desks.
+pub mod Held
