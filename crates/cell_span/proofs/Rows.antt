@@ -1,26 +1,24 @@
--- Rows of places are cut and put together; a value is taken out of its place and put into it; and a block's room is a row of empty
--- places, as a row of full ones is room again once its values are forgotten. Assumes `Logic`.
-use Rattle.std.proofs.Common.{◌≡◌, ℕ, zero, suc, ◌+◌, ◌*◌, ◌<◌, List, [], ◌∷◌, ◌++◌, length, refl, sym, ap, subst, arith}
+-- Rows of places are cut and put together; a value is taken out of its place and put into it; and a block's room is a
+-- row of empty places, as a row of full ones is room again once its values are forgotten. Assumes `Logic`.
+use Rattle.std.proofs.Common.{◌≡◌, ℕ, zero, suc, ◌+◌, ◌*◌, List, [], ◌∷◌, ◌++◌, length, refl, arith}
 use Rattle.std.specs.Prelude.{Some, slice_get}
 use Rattle.std.specs.Mem.{type_size}
 use native.Mathlib.Nat.{zero-mul, suc-mul}
 use seplogic.Ra.Ura.{Ura}
 use base.Fraction.{full_share}
-use base.Logic.{ent, sep, guard, ex, id⊢}
+use base.Logic.{ent, sep, ex}
 use base.Fml.{Fml, Lft, ftrue, fat, froom}
-use mir.Syntax.{Ty, ty_array}
+use mir.Syntax.{ty_array}
 use mir.Val.{Val}
 use types.Logic.{Logic, sem}
-use types.Kit.{Item, Goal, Seq, ‵, some, given, ◌⊛◌, ◌$◌, ◌∵◌, !, qed, by, move, keep, drop, use1, use2, pick, learn, split, check, show, fsplit, fjoin, rewrite, done}
-use denote.RattleType.{RattleType}
-use denote.Laws.{Typed, Is, shows}
+use types.Kit.{Item, Goal, Seq, ‵, some, ◌⊛◌, ◌$◌, ◌∵◌, !, qed, by, move, keep, drop, use1, use2, pick, split, fsplit, fjoin, rewrite, done}
+use denote.Laws.{Is, shows}
 use denote.Memory.{part_at, shared_of}
-use denote.Param.{param, layout}
-use denote.Param.Laws.{Laws, param_laws}
+use denote.Param.Laws.{param_laws}
 use denote.Steps.{nothing, peeks}
 use borrow.Table.OneValue.{part_in, part_out}
 use Rattle.std.proofs.mem.Param.{El, R, el_x, elτ, Good, one}
-use Rattle.std.proofs.RawLayout.{as_raw, as_written}
+use Rattle.std.proofs.RawLayout.{as_raw}
 use Rattle.cell_span.specs.Ownership.{full, empty, full_lent}
 
 abbrev pub size_of : El → ℕ

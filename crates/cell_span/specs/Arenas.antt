@@ -4,8 +4,8 @@ use Rattle.std.specs.Prelude.{ℕ}
 use denote.RawPtr.{Ptr}
 use Rattle.cell_span.specs.declared.arena.Arena.{Arena as DeclaredArena}
 
--- an arena: where its allocation begins, and how many cells it has. Each arena has an allocation of its own, so that
--- no two that live at once begin at one place.
+-- an arena: where its allocation begins, and how many cells it has. Two arenas that are there at once begin at two
+-- places, since the allocator gives each a block of its own.
 pub record Arena : Type 0 where
   pub at : Ptr
   pub cells : ℕ

@@ -1,6 +1,6 @@
 -- Private: words for functions of this crate.
--- What the owner of places of a block owns and lends, and what the right to free the block is. The places are as large as a
--- value of the type R, one after the other from the block's start on, and a block is known by its pointer.
+-- What the owner of places of a block owns and lends, and what the right to free the block is. The places are as large
+-- as a value of the type R, one after the other from the block's start on, and a block is known by its pointer.
 use Rattle.std.specs.Prelude.{ℕ, suc, zero, ◌+◌, ◌*◌, ◌^◌, List, [], ◌∷◌, length}
 use Rattle.std.specs.Mem.{type_size}
 use base.Fraction.{full_share}
@@ -33,7 +33,8 @@ module _ (R : RattleType) where
 
   -- the places from the index `first` on: those of the values, and `spare` empty ones behind them
   abbrev pub owned : Ptr → (first : ℕ) → List R.Denot → (spare : ℕ) → Fml
-  owned (block_ptr b o) first xs spare = fsep (fits (first + length xs + spare)) (fsep (full b (offset o first) xs) (empty b (offset o (first + length xs)) spare))
+  owned (block_ptr b o) first xs spare =
+      fsep (fits (first + length xs + spare)) (fsep (full b (offset o first) xs) (empty b (offset o (first + length xs)) spare))
   owned null_ptr first xs spare = ffalse
 
   -- the same values, lent for reading

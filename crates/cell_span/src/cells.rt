@@ -1,7 +1,7 @@
 //! The places of a block, as raw memory: the block's pointer, who owns which places, and who may free the block.
 //!
 //! All that follows the pointer stands here, each a few lines that are proved by hand.
-ghost use Rattle.std.specs.Prelude.{◌≡◌, ℕ, ◌+◌, ◌-◌, ◌<◌, ◌≤◌, ◌++◌, List, [], ◌∷◌, Some, length, take, drop, slice_get, slice_set, IfOk, ⊤};
+ghost use Rattle.std.specs.Prelude.{◌≡◌, ℕ, ◌+◌, ◌-◌, ◌<◌, ◌≤◌, ◌++◌, List, [], ◌∷◌, Some, length, take, drop, slice_get, slice_set, IfOk};
 ghost use Rattle.std.specs.Vec.Ownership.{FitsInBlock};
 ghost use base.Fml.{ftrue};
 ghost use denote.RawPtr.{Ptr};
@@ -12,28 +12,17 @@ use std::marker::{Model, PhantomData, Send, Sync};
 use std::mem::{align_of, size_of};
 
 /// Where a block begins. It owns nothing.
+#[derive(Clone, Copy)]
 pub struct Base<T> {
     ptr: *mut T,
 }
-
-impl<T> Clone for Base<T> {
-    ghost is_clone = { λ x y. y ≡ x };
-
-    ghost is_infallible = { λ _. ⊤ };
-
-    fn clone(&self) -> Result<Base<T>, AllocError> {
-        Ok(*self)
-    }
-}
-
-impl<T> Copy for Base<T> {}
 
 unsafe impl<T> Send for Base<T> {}
 
 unsafe impl<T> Sync for Base<T> {}
 
-/// The owner of neighbouring places of a block: those that hold `items`, from the place `first` on, and `spare` empty ones
-/// behind them. It takes no bytes; the block's pointer stands beside it.
+/// The owner of neighbouring places of a block: those that hold `items`, from the place `first` on, and `spare` empty
+/// ones behind them. It takes no bytes; the block's pointer stands beside it.
 ///
 /// Dropping it lets the places go: nobody reads or frees them from then on.
 #[derive(Drop)]
@@ -129,7 +118,8 @@ impl<T> Cells<T> {
         unsafe { base.ptr.add(index).write(item) }
     }
 
-    /// Puts a value over the one in a full place, which is forgotten, not dropped. The place's index in the block is given.
+    /// Puts a value over the one in a full place, which is forgotten, not dropped. The place's index in the block is
+    /// given.
     #[inline(always)]
     pub(crate) fn set(&mut self, base: Base<T>, index: usize, item: T)
         requires block { base.ptr ≡ self.old.at }

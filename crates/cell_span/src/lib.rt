@@ -1,7 +1,7 @@
 //! Runs of cells of one arena: an arena is made whole, its runs are split and joined, and each cell has one owner.
 //!
-//! The cells of an arena lie in one allocation, in which a run stays where it is: no call but `Span::new` takes memory, and
-//! no call but `Span::end` gives it back.
+//! The cells of an arena lie in one allocation, in which a run stays where it is: no call but `Span::new` takes memory,
+//! and no call but `Span::end` gives it back.
 #![tactic(auto)]
 
 mod arena;

@@ -13,11 +13,11 @@ use std::marker::Model;
 /// The most cells of an arena.
 const MOST_CELLS: u32 = 2_147_483_648;
 
-/// A run of cells of one arena, which owns them: no other run has any of them. Its cells lie in the arena's allocation, in which
-/// they stay. The run that has the arena's first cell has the right to free the allocation.
+/// A run of cells of one arena, which owns them: no other run has any of them. Its cells lie in the arena's allocation,
+/// in which they stay. The run that has the arena's first cell has the right to free the allocation.
 ///
-/// A run may go to another thread, and be read from several. It may still be dropped: its cells are then lost to the arena,
-/// which can't be made whole again, and the allocation stays until the program ends.
+/// A run may go to another thread, and be read from several. It may still be dropped: its cells are then lost to the
+/// arena, which can't be made whole again, and the allocation stays until the program ends.
 #[derive(Drop)]
 pub struct Span {
     base: Base<Cell>,
@@ -60,8 +60,8 @@ fn fill(cells: Cells<Cell>, base: Base<Cell>, count: usize) -> Cells<Cell>
 }
 
 impl Span {
-    /// The whole of a new arena of so many cells, from 1 to 2147483648, each with tag 0 and words 0. `AllocError` where memory
-    /// runs out.
+    /// The whole of a new arena of so many cells, from 1 to 2147483648, each with tag 0 and words 0. `AllocError` where
+    /// memory runs out.
     pub fn new(alloc: Global, cells: u32) -> Result<Span, AllocError>
         requires some { 1 ≤ cells }
         requires few { cells ≤ MOST_CELLS }
@@ -79,8 +79,8 @@ impl Span {
         })
     }
 
-    /// What each run keeps: it has at least one cell, lies within its arena, and the arena has at most 2147483648 cells. It
-    /// does nothing; its clause is what whoever holds a run can use.
+    /// What each run keeps: it has at least one cell, lies within its arena, and the arena has at most 2147483648 cells.
+    /// It does nothing; its clause is what whoever holds a run can use.
     pub fn limits(&self)
         ensures { IsRange self.now }
     {

@@ -1,8 +1,9 @@
--- `allocate` takes the room that the allocator gives as a row of empty places, and keeps the right to free it. Assumes `Logic`.
-use Rattle.std.proofs.Common.{◌≡◌, ℕ, ◌+◌, ◌*◌, ◌^◌, ◌<◌, List, [], ◌∷◌, ◌++◌, refl, sym, ap, subst, ◌∙◌, w64, lit<, true, false, arith}
+-- `allocate` takes the room that the allocator gives as a row of empty places, and keeps the right to free it. Assumes
+-- `Logic`.
+use Rattle.std.proofs.Common.{◌≡◌, ℕ, ◌+◌, ◌*◌, ◌^◌, ◌<◌, List, [], ◌∷◌, ◌++◌, refl, sym, ap, subst, w64, lit<, true, false, arith}
 use Rattle.std.specs.Prelude.{IfOk, Ok, Err}
 use Rattle.std.specs.Vec.Ownership.{FitsInBlock}
-use native.Mathlib.Nat.{zero-mul, zero-add}
+use native.Mathlib.Nat.{zero-mul}
 use Rattle.core.proofs.slots.Leases.{uncapped, block_ty, block_size, block_align, args, P}
 use Rattle.core.specs.contracts.alloc.AllocError as refusal
 use Rattle.core.specs.contracts.result.Result as result
@@ -13,7 +14,6 @@ use Rattle.std.proofs.RawLayout.{as_written}
 use Rattle.std.proofs.RcSteps.{Good, word, word-Good, first_Good}
 use Rattle.std.proofs.ResultValues.{ok_of, err_of}
 use Rattle.std.proofs.VecSteps.Shapes.{after, head, arm_body}
-use seplogic.Ra.Ura.{Ura}
 use mir.Syntax.{Fn, Body, ty_array}
 use mir.MapTy.{inst_fn}
 use mir.Val.{Val, vptr, vint, vstruct, vcons, vnil}

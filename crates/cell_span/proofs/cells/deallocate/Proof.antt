@@ -12,13 +12,13 @@ use Rattle.std.proofs.VecSteps.Shapes.{after}
 use mir.Syntax.{Fn, ty_unit, ty_array}
 use mir.MapTy.{inst_fn}
 use mir.Val.{Val, vptr, vint, vunit, has_ty, WT}
-use base.Logic.{SProp, emp, never, id⊢}
+use base.Logic.{SProp, never, id⊢}
 use base.Fml.{ftrue, froom, flft, Incl-trans}
 use prog.Capped.{capped_fits}
 use prog.Memory.{align, capped}
 use prog.Wp.{Env, WpFn}
 use contract.BorrowLft.{◌⊑◌}
-use contract.Monad.{fact, fact_i}
+use contract.Monad.{fact}
 use contract.Running.{tables}
 use types.Kit.{‵, raw, ◌⊛◌, given, later, prop, at_ret, ◌$◌, ◌∵◌, !, qed, by, move, keep, drop as leave, await, learn, group, use1, split, split3, join, regoal, rewrite, fsplit, fsplit3, fjoin, feq_i, feq_l, flt_l}
 use types.Part.{whole, sub}
@@ -26,7 +26,7 @@ use types.Run.{stop, fld, of_opd, unit_lit, bin, size_word, align_word, no_more,
 use types.ByLocal.{alloc_all, pass_all, free_all, look_at, get, get_in, sets, is, lands_last, env}
 use denote.Builtin.{RefOf, usize}
 use denote.RattleType.{owns}
-use denote.RawPtr.{Ptr, block_ptr, ptr_val, in_a_block}
+use denote.RawPtr.{Ptr, ptr_val, in_a_block}
 use denote.Signature.{types_at, plain}
 use denote.Steps.{nothing, heard}
 use denote.Triple.Call.{calls_at_last}

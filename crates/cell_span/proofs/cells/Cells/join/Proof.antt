@@ -11,7 +11,7 @@ use prog.Wp.{WpFn}
 use contract.BorrowLft.{◌⊑◌}
 use contract.Monad.{fact, fact_i}
 use contract.Running.{tables}
-use types.Kit.{‵, raw, ◌⊛◌, prop, ◌$◌, ◌∵◌, !, qed, by, move, drop as leave, use0, use2, split, join, regoal, rewrite, fsplit, fsplit3, fjoin, fjoin3, flt_i, flt_l}
+use types.Kit.{‵, raw, ◌⊛◌, prop, ◌$◌, ◌∵◌, !, qed, by, move, drop as leave, use0, use2, split, regoal, rewrite, fsplit, fsplit3, fjoin, fjoin3, flt_i, flt_l}
 use types.Part.{whole, sub, agg}
 use types.Run.{stop, fld, of_opd, no_more, and_then, returns, enter}
 use types.ByLocal.{alloc_all, pass_all, free_all, look_at, get, get_in, sets}

@@ -7,22 +7,21 @@ use Rattle.std.proofs.raw_atomic.Walks.{proved_at, leaves}
 use Rattle.std.proofs.RawLayout.{as_written}
 use Rattle.std.proofs.RcSteps.{word, word-Good}
 use Rattle.std.proofs.VecSteps.Shapes.{after}
-use mir.Syntax.{Fn, named}
+use mir.Syntax.{Fn}
 use mir.MapTy.{inst_fn}
 use mir.Val.{Val, vptr, vint, vunit}
 use base.Fraction.{full_share}
 use base.Logic.{SProp, emp, never, id⊢}
-use base.Fml.{ftrue, fat, froom, flft}
+use base.Fml.{ftrue, fat, flft}
 use prog.Wp.{Env, WpFn}
 use contract.BorrowLft.{◌⊑◌}
 use contract.Monad.{fact, fact_i}
 use contract.Running.{tables}
-use types.Kit.{‵, raw, ◌⊛◌, prop, at_ret, ◌$◌, ◌∵◌, !, qed, by, move, keep, use0, use1, use2, split, split3, join, regoal, rewrite, fsplit, fsplit3, fjoin, fjoin3, feq_i, feq_l, flt_i, flt_l}
+use types.Kit.{‵, raw, ◌⊛◌, prop, at_ret, ◌$◌, ◌∵◌, !, qed, by, move, keep, use0, use2, split, split3, join, regoal, rewrite, fsplit, fsplit3, fjoin, fjoin3, feq_i, feq_l, flt_i, flt_l}
 use types.Part.{whole, sub}
 use types.Run.{init, stop, fld, of_opd, unit_lit, bin, size_lit, assigns_last, first, blocks, exec, returns, enter}
 use types.ByLocal.{alloc_all, pass_all, free_all, look_at, get, get_in, through, sets, take_at, give_at, env}
-use denote.Builtin.{RefMutOf, usize}
-use denote.Exit.{yes}
+use denote.Builtin.{usize}
 use denote.Memory.{part_at}
 use denote.Param.{layout}
 use denote.RattleType.{owns}
@@ -85,8 +84,8 @@ push_spec 𝓤 𝓛 𝓜 𝓡 wired X laws =
     first ! $ blocks ! $ sets ! (bin ! (get ! refl) (size_lit ! (record { fits = bytes })) (record { fits = far })) refl (tt, record { fits = far }) $
     sets ! (bin ! (get_in ! (fld ! refl (stop !)) (sub ! 0 refl (whole !))) (get ! refl) tt) refl (tt, tt) $
     rewrite ! 1 (λ (k : ℕ × ℕ). ‵ (Empty E 𝓛 b k.0 k.1)) (λ j. (end j, more j)) refl $ move ! (1 ∷ []) $ fsplit ! $ as_written ! (elτ E) b at $
-    -- [room for the value; the empty places behind; the values before; the owner's fields, its cell and the open borrow, in four; the other tokens;
-    -- what the value owns]
+    -- [room for the value; the empty places behind; the values before; the owner's fields, its cell and the open borrow,
+    -- in four; the other tokens; what the value owns]
     sets ! (of_opd ! (get ! refl)) refl good $ assigns_last ! (of_opd ! (get ! refl)) (through ! refl (stop !)) (init ! 0 refl good) $
     exec ! 𝓣.C 𝓣.Λ En (after 1 fn.body) (at_ret En Post) $ sets ! (of_opd ! (unit_lit !)) refl (tt, tt) $
     move ! (0 ∷ 9 ∷ []) $ use2 𝓛 (‵ (part_at (R E) full_share item b at)) (value_in E 𝓛 b item at v) $ nothing ! $ move ! (1 ∷ 0 ∷ []) $ fjoin ! $ move ! (2 ∷ 0 ∷ []) $

@@ -4,10 +4,9 @@ use Rattle.std.specs.Prelude.{slice_set}
 use Rattle.std.proofs.mem.Param.{El, R, args, elτ}
 use Rattle.std.proofs.ptr.Rows.{times_below, one_below}
 use Rattle.std.proofs.raw_atomic.Walks.{proved_at, leaves}
-use Rattle.std.proofs.RawLayout.{as_written}
 use Rattle.std.proofs.RcSteps.{word, word-Good}
 use Rattle.std.proofs.VecSteps.Shapes.{after}
-use mir.Syntax.{Fn, named}
+use mir.Syntax.{Fn}
 use mir.MapTy.{inst_fn}
 use mir.Val.{Val, vptr, vint, vunit}
 use base.Fraction.{full_share}
@@ -21,8 +20,7 @@ use types.Kit.{‵, raw, ◌⊛◌, prop, at_ret, ◌$◌, ◌∵◌, !, qed, by
 use types.Part.{whole, sub}
 use types.Run.{init, stop, fld, of_opd, unit_lit, bin, size_lit, assigns_last, first, blocks, exec, returns, enter}
 use types.ByLocal.{alloc_all, pass_all, free_all, look_at, get, get_in, through, sets, take_at, give_at, env}
-use denote.Builtin.{RefMutOf, usize}
-use denote.Exit.{yes}
+use denote.Builtin.{usize}
 use denote.Memory.{part_at}
 use denote.Param.{layout}
 use denote.RattleType.{owns}
@@ -83,8 +81,8 @@ set_spec 𝓤 𝓛 𝓜 𝓡 wired X laws =
     -- [room for the value; the values behind; the values before; the empty places; ..]
     sets ! (of_opd ! (get ! refl)) refl good $ assigns_last ! (of_opd ! (get ! refl)) (through ! refl (stop !)) (init ! 0 refl good) $
     exec ! 𝓣.C 𝓣.Λ En (after 1 fn.body) (at_ret En Post) $ sets ! (of_opd ! (unit_lit !)) refl (tt, tt) $
-    -- [the value's place; the values behind; the values before; the empty places; the owner's fields, its cell and the open borrow, in four; the
-    -- other tokens; what the value owns]
+    -- [the value's place; the values behind; the values before; the empty places; the owner's fields, its cell and the
+    -- open borrow, in four; the other tokens; what the value owns]
     move ! (0 ∷ 10 ∷ []) $ use2 𝓛 (‵ (part_at (R E) full_share item b at)) (value_in E 𝓛 b item at v) $ fjoin ! $ move ! (1 ∷ 0 ∷ []) $
     use2 𝓛 (‵ (Full E 𝓛 b from (a.before ++ item ∷ a.behind))) (glue E 𝓛 b a.before (item ∷ a.behind) from at there) $
     rewrite ! 0 (λ (xs : List X.Denot). ‵ (Full E 𝓛 b from xs)) (sym (a.put item)) refl $

@@ -1,5 +1,5 @@
 -- `split` runs nothing: the values are cut in two, and each part owns its own. Assumes `Logic`.
-use Rattle.std.proofs.Common.{◌≡◌, ℕ, ◌+◌, ◌*◌, ◌^◌, ◌<◌, ◌≤◌, List, [], ◌∷◌, ◌++◌, length, take, drop, length-drop, refl, sym, ap, subst, ◌∙◌, w64, arith}
+use Rattle.std.proofs.Common.{◌≡◌, ℕ, ◌+◌, ◌*◌, ◌^◌, ◌<◌, ◌≤◌, List, [], ◌∷◌, ◌++◌, length, take, drop, length-drop, refl, sym, ap, ◌∙◌, w64, arith}
 use Rattle.std.proofs.lemmas.List.{take-append-drop, length-take-le}
 use Rattle.std.proofs.alloc.Calls.{Goes-blank}
 use Rattle.std.proofs.mem.Param.{El, R, args}
@@ -29,7 +29,7 @@ use Rattle.cell_span.specs.Ownership.{offset, owned}
 use Rattle.cell_span.specs.contracts.cells.Cells.split.{ended, clauses}
 use Rattle.cell_span.specs.contracts.cells.Cells.split.Key.{name as #self}
 use Rattle.cell_span.proofs.Cutting.{place_behind}
-use Rattle.cell_span.proofs.Rows.{size_of, Full, Empty, cut}
+use Rattle.cell_span.proofs.Rows.{size_of, Full, cut}
 use Rattle.cell_span.proofs.Values.{Owner, Fields, unmarked, unmarked_made, was_unmarked, two_vals, two_of}
 use Rattle.cell_span.proofs.cells.Cells.split.Statement.{statement}
 use Rattle.cell_span.proofs.cells.Cells.split.Code as compiled
