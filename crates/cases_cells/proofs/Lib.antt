@@ -1,4 +1,6 @@
+pub mod Arenas
 pub mod Copies
+pub mod Holding
 pub mod Named
 pub mod Readable
 pub mod Taking

@@ -1,4 +1,6 @@
+-- Private: words for the programs' own functions, by table.
 pub mod Covered
+pub mod Held
 pub mod Jobs
 pub mod Taken
 pub mod Trees

@@ -3,7 +3,8 @@
 //!
 //! - `desk N S1 S2 ..`: a new desk of an arena of N cells, for jobs of these sizes.
 //! - `next`: asks for the next job; once every job was asked for and no lease is out, takes the first one that waits.
-//! - `mark J T`: writes the tag T into the first cell of job J's lease. `give J`: it goes back with a payload that has its cells. `withdraw J`: it goes back
+//! - `mark J T A`: writes the tag T into cell A of job J's lease, counted from 0, the first one where no A is given; into none where the lease has no such
+//!   cell. `give J`: it goes back with a payload that has its cells. `withdraw J`: it goes back
 //!   without one.
 //! - `counts`: how many cells are free and in the largest hole, how many leases are out, and how many were withdrawn. `journal`: the events.
 //! - `replay N S1 S2 ..: E1, E2, ..`: what the journal of these events comes to, as `took J F S`, `full J N L` and `gave J F S`.
@@ -11,25 +12,34 @@
 mod answers;
 mod copied;
 mod replays;
+mod session;
 
-use answers::answer;
-use copied::Copied;
-use lease_desk::{Desk, Lease};
+use answers::{answer, end};
+use session::Session;
 use std::io;
 
-/// Answers the lines of a table.
-pub(crate) fn answer_lines(rt: &HostRuntime, lines: &[String]) -> io::Result<()> {
-    let alloc = rt.alloc();
-    let mut desk: Option<Desk<Copied>> = None;
-    let mut leases: Vec<Lease> = Vec::new(alloc);
+// Answers each line.
+fn answer_each(
+    rt: &HostRuntime,
+    session: &mut Option<Session>,
+    lines: &[String],
+) -> io::Result<()> {
     for line in lines {
         let line = line.as_str();
         if line.starts_with("--") {
             continue;
         }
         print!(rt; "{line}:")?;
-        desk = answer(rt, desk, &mut leases, line)?;
+        answer(rt, session, line)?;
         println!(rt)?;
     }
     Ok(())
+}
+
+/// Answers the lines of a table.
+pub(crate) fn answer_lines(rt: &HostRuntime, lines: &[String]) -> io::Result<()> {
+    let mut session: Option<Session> = None;
+    let answered = answer_each(rt, &mut session, lines);
+    end(session);
+    answered
 }

@@ -3,7 +3,7 @@ use Rattle.std.proofs.Common.{◌≡◌, ℕ, zero, suc, ◌+◌, ◌<◌, ◌�
 use Rattle.std.specs.Option.{option_map}
 use Rattle.std.specs.List.{insert, remove}
 use Rattle.std.proofs.lemmas.Bool.{cond-true, cond-false, lt-ltb, le-ltb, eq-eqb, ne_eqb, ltb-true, ltb-false, leb-true, leb-false, cases_lt}
-use Rattle.std.proofs.lemmas.List.{take_all, drop_all, drop_more, get_or_default, set-get_or}
+use Rattle.std.proofs.lemmas.List.{take_all, drop_all, drop_more, get_or_default}
 use Rattle.std.proofs.lemmas.List.Edits.{get_or-remove_below}
 use Rattle.cell_span.specs.declared.cell.Cell.{Cell}
 use Rattle.cell_span.specs.Arenas.{Arena}
@@ -326,10 +326,14 @@ set_between (h ∷ hs) (suc i) x y r k e f =
     ap (λ m. set (remove (h ∷ hs) m) (suc i) (joined (joined x r) y)) n
     ∙ ap (λ (l : List Range). h ∷ l) (set_between hs i x y r (omega (arith, k)) e (f ∙ ap (λ m. get_or (h ∷ hs) m y) n))
 
-pub put_back : (hs : List Range) (i : ℕ) (y : Range) → i < length hs → y ≡ get_or hs i y → insert (remove hs i) i y ≡ hs
-put_back [] i y k e = absurd (omega (arith, k))
-put_back (h ∷ hs) zero y k e = ap (λ (z : Range). z ∷ hs) e
-put_back (h ∷ hs) (suc i) y k e = ap (λ (l : List Range). h ∷ l) (put_back hs i y (omega (arith, k)) e)
+-- there is room for one more where there is for all behind it
+pub room_for : (hs : List Range) (i : ℕ) (r : Range) (room : ℕ) → i ≤ length hs → insert hs i r ≡ give_cells hs r → length (give_cells hs r) ≤ room → length hs < room
+room_for hs i r room k e few = omega (arith, one_more hs i k, ap (λ (l : List Range). length l) e, few)
+  where
+    one_more : (ks : List Range) (i : ℕ) → i ≤ length ks → length (insert ks i r) ≡ suc (length ks)
+    one_more [] i k = let zero : i ≡ 0 = omega (arith, k) in ap (λ n. length (insert [] n r)) zero
+    one_more (h ∷ ks) zero k = refl
+    one_more (h ∷ ks) (suc i) k = ap suc (one_more ks i (omega (arith, k)))
 
 -- ---- the runs that are out
 
@@ -415,17 +419,18 @@ begins_more rs first mid d o k h = omega (arith, begin_more rs first mid (get_or
 pub begins_less : (rs : List Run) (first mid : ℕ) (d : Run) → mid < length rs → first ≤ (get_or rs mid d).first → begin_before rs first ≤ mid
 begins_less rs first mid d k h = begin_less rs first mid (get_or rs mid d) k (get_or_default rs mid d (get_or rs mid d) k) h
 
-pub between_is : (hs now : List Range) (i : ℕ) (x y r w : Range) → i + 1 < length hs → now ≡ remove hs (i + 1) → x ≡ get_or now i x → y ≡ get_or hs (i + 1) y → w ≡ joined (joined x r) y
+pub between_is : (hs now : List Range) (i : ℕ) (x y r v w : Range) → i + 1 < length hs → now ≡ remove hs (i + 1) → x ≡ get_or now i x → y ≡ get_or hs (i + 1) y → v ≡ joined x r → w ≡ joined v y
     → set now i w ≡ add_between hs i r
-between_is hs now i x y r w k is e f g =
+between_is hs now i x y r v w k is e f g m =
     let e' : x ≡ get_or hs i x = e ∙ ap (λ (l : List Range). get_or l i x) is ∙ get_or-remove_below hs (i + 1) x i (omega arith) k in
-    ap (λ (l : List Range). set l i w) is ∙ ap (λ (z : Range). set (remove hs (i + 1)) i z) g ∙ set_between hs i x y r k e' f
+    ap (λ (l : List Range). set l i w) is ∙ ap (λ (z : Range). set (remove hs (i + 1)) i z) (m ∙ ap (λ (z : Range). joined z y) g) ∙ set_between hs i x y r k e' f
 
-pub back_is : (hs now : List Range) (i : ℕ) (x y w last : Range) → i + 1 < length hs → now ≡ remove hs (i + 1) → x ≡ get_or now i x → y ≡ get_or hs (i + 1) y → w ≡ x → last ≡ y
-    → insert (set now i w) (i + 1) last ≡ hs
-back_is hs now i x y w last k is e f g m =
-    let same : set now i w ≡ now = ap (λ (z : Range). set now i z) (g ∙ e) ∙ set-get_or now i x in
-    ap (λ (l : List Range). insert l (i + 1) last) (same ∙ is) ∙ ap (λ (z : Range). insert (remove hs (i + 1)) (i + 1) z) m ∙ put_back hs (i + 1) y k f
+-- what a range meets, behind it, a range meets that ends with it
+pub meet_behind : (x r y v : Range) → v ≡ joined x r → Meet x r → Meet r y → Meet v y
+meet_behind x r y v e before behind = subst (λ (z : Range). Meet z y) (sym e) (record {
+  arena = before.arena ∙ behind.arena;
+  end = omega (arith, before.end, behind.end, length-append x.cells r.cells);
+})
 
 -- ---- the same, of the elements that the code reads
 

@@ -1,12 +1,14 @@
 -- What the fields keep.
-use Rattle.std.proofs.Common.{◌≡◌, ℕ, ◌+◌, ◌<◌, ◌≤◌, List, [], ◌∷◌, ◌++◌, length, map, Some, sym, ap, ◌∙◌, subst, arith}
+use Rattle.std.proofs.Common.{◌≡◌, ℕ, ◌+◌, ◌<◌, ◌≤◌, List, [], ◌∷◌, ◌++◌, length, map, Some, sym, ap, ◌∙◌, subst, arith, length-append}
 use Rattle.cell_span.specs.Arenas.{Arena}
 use Rattle.cell_span.specs.Range.{Range, IsRange}
 use Rattle.hole_list.specs.declared.run.Run.{Run}
 use Rattle.hole_list.specs.Placing.{taken, total, with_run, without_run, IsOut, AreFreeOf}
-use Rattle.hole_list.specs.Holes.{run_of, Holed, with_holes, AreHoles, TakenCells, take_cells, give_cells}
+use Rattle.hole_list.specs.Holes.{run_of, Holed, with_holes, AreHoles, TakenCells, take_cells, give_cells, with_given}
 use Rattle.hole_list.specs.PlacingLaws.{at_most_one, taken_of, give_total}
 use Rattle.hole_list.specs.HolesLaws.{taken_runs, given_runs}
+use Rattle.hole_list.specs.OutLaws.{without_length}
+use Rattle.hole_list.specs.CountLaws.{holes_few}
 use Rattle.hole_list.specs.KeptLaws.{kept_new, kept_taken, kept_given, free_of_runs}
 
 -- at first
@@ -47,8 +49,20 @@ given_few s r k range arena out =
     let after = kept_given s r k range arena out in
     omega (arith, after.sum, k.base_within, k.arena_few, given_total s.holes r)
 
+-- there is room for all holes then
+pub given_room : (s : Holed) (r : Range) (room : ℕ) → AreHoles s → IsRange r → r.arena ≡ s.arena → IsOut s.out (run_of r) → s.most_out + 1 ≤ room → length (give_cells s.holes r) ≤ room
+given_room s r room k range arena out few =
+    omega (arith, holes_few (with_given s r) (kept_given s r k range arena out), without_length s.out (run_of r) out, k.few, few)
+
 pub give_holds : (s : Holed) (r : Range) (run : Run) (holes : List Range) (out : List Run) → AreHoles s → IsRange r → r.arena ≡ s.arena → IsOut s.out (run_of r)
     → holes ≡ give_cells s.holes r → run ≡ run_of r → out ≡ without_run s.out run.first → AreHoles (with_holes s holes out)
 give_holds s r run holes out k range arena o is e f =
     let g : out ≡ without_run s.out r.first = f ∙ ap (λ (x : Run). without_run s.out x.first) e in
     subst AreHoles (λ i. with_holes s (sym is i) (sym g i)) (kept_given s r k range arena o)
+
+-- the last of one hole is the only one
+pub none_before : (r : Range) (spans rest : List Range) → spans ≡ rest ++ r ∷ [] → spans ≡ r ∷ [] → (n : ℕ) → n ≡ length rest → n ≡ 0
+none_before r spans rest e one n is =
+    let many : length spans ≡ length rest + 1 = ap (λ (l : List Range). length l) e ∙ length-append rest (r ∷ []) in
+    let all : length spans ≡ 1 = ap (λ (l : List Range). length l) one in
+    omega (arith, many, all, is)

@@ -4,11 +4,11 @@ ghost use Rattle.cell_span.specs.Range.{IsRange};
 ghost use Rattle.hole_list.specs.Placing.{largest, total, IsOut};
 ghost use Rattle.hole_list.specs.Holes.{AreHoles, run_of, new_holes, TookFrom, TookNone, with_given};
 
-use super::merge::{GiveRefused, merge, take_first};
+use super::merge::{merge, take_first};
 use super::out::{add_run, count, remove_run};
 use super::run::Run;
 use cell_span::{Arena, Span};
-use std::alloc::{AllocError, Global};
+use std::alloc::Global;
 use std::marker::Model;
 
 /// The holes of a run of an arena, in ascending order, and where the runs lie that were taken out of it. That run is
@@ -26,16 +26,14 @@ pub struct Holes {
 }
 
 impl Model for Holes {
-    ghost use Rattle.std.specs.Prelude.{◌≡◌, ◌≤◌, map, vec_capacity};
-    ghost use Rattle.hole_list.specs.Placing.{total};
-    ghost use Rattle.hole_list.specs.Holes.{Holed, AreHoles, run_of};
-    ghost use Rattle.hole_list.specs.Inside.{holed_of};
+    ghost use Rattle.hole_list.specs.Holes.{Holed};
+    ghost use Rattle.hole_list.specs.Inside.{holed_of, IsKept};
 
     ghost Value = { Holed };
 
     ghost view = { holed_of };
 
-    ghost invariant = { λ s. record { holes : AreHoles (holed_of s); free : s.free ≡ total (map run_of s.spans.items); room : s.most_out ≤ vec_capacity s.runs } };
+    ghost invariant = { IsKept };
 }
 
 /// The memory for holes ran out.
@@ -46,31 +44,29 @@ pub struct HolesRefused {
 }
 
 impl Holes {
-    /// One hole that is all of a span, of which at most so many runs will be out at a time. All room for holes and for
-    /// runs is taken here. Where memory runs out, the span comes back.
+    /// One hole that is all of a span, of which at most so many runs will be out at a time. All room is taken here: for
+    /// one hole more than runs that may be out, and for these runs. Where memory runs out, the span comes back.
     #[tactic(auto, using(crate::proofs::Holding::new_holds, crate::proofs::Holding::new_free))]
     pub fn new(alloc: Global, span: Span, most_out: u32) -> Result<Holes, HolesRefused>
         ensures { MatchResult result (λ holes. holes ≡ new_holes span most_out) (λ refused. refused.span ≡ span) }
     {
-        let Ok(mut spans) = Vec::with_capacity(alloc, most_out as usize + 1) else {
+        let Ok(runs) = Vec::with_capacity(alloc, most_out as usize) else {
             return Err(HolesRefused { span });
         };
-        let Ok(runs) = Vec::with_capacity(alloc, most_out as usize) else {
+        let Ok(mut spans) = Vec::with_capacity(alloc, most_out as usize + 1) else {
             return Err(HolesRefused { span });
         };
         let arena = span.arena();
         let base = run_at(&span);
-        match spans.push(span) {
-            Ok(()) => Ok(Holes {
-                arena,
-                base,
-                most_out,
-                free: base.size,
-                spans,
-                runs,
-            }),
-            Err(full) => Err(HolesRefused { span: full.value }),
-        }
+        spans.push_reserved(span);
+        Ok(Holes {
+            arena,
+            base,
+            most_out,
+            free: base.size,
+            spans,
+            runs,
+        })
     }
 
     /// What holes keep: they lie apart in ascending order, and each cell of their base is in one hole or in one run that
@@ -117,40 +113,34 @@ impl Holes {
         greatest(&self.spans)
     }
 
-    /// Takes so many cells: the front of the first hole that has them. `None` exactly where no hole has so many. Where memory runs out, nothing is taken.
-    pub fn take(&mut self, alloc: Global, size: u32) -> Result<Option<Span>, AllocError>
+    /// Takes so many cells: the front of the first hole that has them. `None` exactly where no hole has so many; all
+    /// stays then. It takes no memory.
+    pub fn take(&mut self, size: u32) -> Option<Span>
         requires some { 1 ≤ size }
         requires few { length self.old.out < self.old.most_out }
-        ensures { MatchResult result (λ t. MatchOption t (TookNone self.old self.new size) (TookFrom self.old self.new size)) (λ _. self.new ≡ self.old) }
+        ensures { MatchOption result (TookNone self.old self.new size) (TookFrom self.old self.new size) }
     {
-        match take_first(&mut self.spans, alloc, size) {
-            Ok(Some(span)) => {
+        match take_first(&mut self.spans, size) {
+            Some(span) => {
                 let run = run_at(&span);
                 add_run(&mut self.runs, run);
                 self.free -= size;
-                Ok(Some(span))
+                Some(span)
             }
-            Ok(None) => Ok(None),
-            Err(full) => Err(full),
+            None => None,
         }
     }
 
-    /// Gives a range back whose run is out: it is a hole again, as one with the holes that it meets. Where memory runs out, it comes back and nothing is
-    /// changed.
-    pub fn give(&mut self, span: Span) -> Result<(), GiveRefused>
+    /// Gives a range back whose run is out: it is a hole again, as one with the holes that it meets. It takes no memory.
+    pub fn give(&mut self, span: Span)
         requires arena { span.arena ≡ self.old.arena }
         requires out { IsOut self.old.out (run_of span) }
-        ensures { MatchResult result (λ _. self.new ≡ with_given self.old span) (λ refused. (refused.span ≡ span) × (self.new ≡ self.old)) }
+        ensures { self.new ≡ with_given self.old span }
     {
         let run = run_at(&span);
-        match merge(&mut self.spans, span) {
-            Ok(()) => {
-                remove_run(&mut self.runs, run);
-                self.free += run.size;
-                Ok(())
-            }
-            Err(refused) => Err(refused),
-        }
+        merge(&mut self.spans, span);
+        remove_run(&mut self.runs, run);
+        self.free += run.size;
     }
 
     /// The span that they were made of, where no run is out: it begins at the same index, with the same size, in the same
@@ -164,9 +154,19 @@ impl Holes {
         // It is of the same arena.
         ensures arena { result.arena ≡ self.arena }
     {
-        let Holes { mut spans, .. } = self;
+        let Holes {
+            arena: _,
+            base: _,
+            most_out: _,
+            free: _,
+            mut spans,
+            runs: _,
+        } = self;
         match spans.pop() {
-            Some(span) => span,
+            Some(span) => {
+                spans.destroy_empty();
+                span
+            }
             None => unreachable!(),
         }
     }

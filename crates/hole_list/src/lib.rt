@@ -10,5 +10,4 @@ mod places;
 mod run;
 
 pub use holes::{Holes, HolesRefused};
-pub use merge::GiveRefused;
 pub use run::Run;

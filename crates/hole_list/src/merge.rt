@@ -1,5 +1,5 @@
-//! Ranges that leave the holes and come back to them.
-ghost use Rattle.std.specs.Prelude.{◌≡◌, ◌+◌, ◌<◌, ◌≤◌, length, map, slice_index_or, ◌↔◌, IsTrue, MatchResult, MatchOption, None, Some, vec_capacity};
+//! Ranges that leave the holes and come back to them. No call takes memory.
+ghost use Rattle.std.specs.Prelude.{◌≡◌, ◌+◌, ◌<◌, ◌≤◌, length, map, slice_index_or, ◌↔◌, IsTrue, IfSome, IfNone, None, Some, vec_capacity};
 ghost use Rattle.std.specs.List.{AllByRecursion, insert};
 ghost use Rattle.cell_span.specs.Range.{Range, Meet};
 ghost use Rattle.hole_list.specs.Placing.{AreOrdered, AreFreeOf};
@@ -8,51 +8,36 @@ ghost use Rattle.hole_list.specs.Places.{too_small, ends_before, add_behind, add
 
 use super::places::{count_ends_before, count_too_small};
 use cell_span::Span;
-use std::alloc::{AllocError, Global};
 
-/// The memory for giving a range back ran out.
-#[derive(Drop)]
-pub struct GiveRefused {
-    /// The range, as it was.
-    pub span: Span,
-}
-
-/// Takes so many cells: the front of the first hole that has them. `None` where no hole has so many. Where memory runs out, all stays.
+/// Takes so many cells: the front of the first hole that has them. `None` where no hole has so many; all stays then.
 #[tactic(auto, using(crate::proofs::AtPlaces::none_fits))]
-pub fn take_first(
-    spans: &mut Vec<Span>,
-    alloc: Global,
-    size: u32,
-) -> Result<Option<Span>, AllocError>
+pub fn take_first(spans: &mut Vec<Span>, size: u32) -> Option<Span>
     requires { 1 ≤ size }
-    ensures { MatchResult result (λ taken. MatchOption taken ((take_cells spans.old.items size ≡ None) × (spans.new.items ≡ spans.old.items)) (λ range. take_cells spans.old.items size ≡ Some (taken_cells range spans.new.items))) (λ _. spans.new.items ≡ spans.old.items) }
+    ensures none { IfNone result ((take_cells spans.old.items size ≡ None) × (spans.new.items ≡ spans.old.items)) }
+    ensures some { IfSome result (λ range. take_cells spans.old.items size ≡ Some (taken_cells range spans.new.items)) }
+    ensures room { vec_capacity spans.old ≤ vec_capacity spans.new }
 {
     let at = count_too_small(spans, size);
     if at == spans.len() {
-        return Ok(None);
+        return None;
     }
-    match cut(spans, alloc, at, size) {
-        Ok(span) => Ok(Some(span)),
-        Err(full) => Err(full),
-    }
+    Some(cut(spans, at, size))
 }
 
-/// Takes the front of the hole at a place, which is the first one that has so many cells. Where memory runs out, all stays.
+/// Takes the front of the hole at a place, which is the first one that has so many cells.
 #[tactic(auto, using(crate::proofs::AtPlaces::takes_whole, crate::proofs::AtPlaces::takes_front, crate::proofs::AtPlaces::fits_here))]
-fn cut(spans: &mut Vec<Span>, alloc: Global, at: usize, size: u32) -> Result<Span, AllocError>
+fn cut(spans: &mut Vec<Span>, at: usize, size: u32) -> Span
     requires some { 1 ≤ size }
     requires place { at ≡ too_small spans.old.items size }
     requires within { at < length spans.old.items }
-    ensures { MatchResult result (λ range. take_cells spans.old.items size ≡ Some (taken_cells range spans.new.items)) (λ _. spans.new.items ≡ spans.old.items) }
+    ensures taken { take_cells spans.old.items size ≡ Some (taken_cells result spans.new.items) }
+    ensures room { vec_capacity spans.old ≤ vec_capacity spans.new }
 {
     if spans[at].len() == size {
-        Ok(spans.remove(at))
+        spans.remove(at)
     } else {
         let hole = &mut spans[at];
-        match hole.split_off_front(alloc, size) {
-            Ok(range) => Ok(range),
-            Err(full) => Err(full),
-        }
+        hole.split_off_front(size)
     }
 }
 
@@ -76,86 +61,72 @@ fn begins_there(spans: &[Span], at: usize, span: &Span) -> bool
     span.first() + span.len() == hole.first()
 }
 
-/// A range as a hole of its own, at its place.
-fn put_in(spans: &mut Vec<Span>, at: usize, span: Span) -> Result<(), GiveRefused>
+/// A range as a hole of its own, at its place; there is room for it.
+#[tactic(auto, using(crate::proofs::AtPlaces::room_for))]
+fn put_in(spans: &mut Vec<Span>, at: usize, span: Span)
     requires within { at ≤ length spans.old.items }
     requires place { insert spans.old.items at span ≡ give_cells spans.old.items span }
-    ensures { MatchResult result (λ _. spans.new.items ≡ give_cells spans.old.items span) (λ refused. (refused.span ≡ span) × (spans.new.items ≡ spans.old.items)) }
+    requires room { length (give_cells spans.old.items span) ≤ vec_capacity spans.old }
+    ensures given { spans.new.items ≡ give_cells spans.old.items span }
+    ensures room { vec_capacity spans.old ≤ vec_capacity spans.new }
 {
     match spans.insert(at, span) {
-        Ok(()) => Ok(()),
-        Err(full) => Err(GiveRefused { span: full.value }),
+        Ok(()) => {}
+        Err(_) => unreachable!(),
     }
 }
 
 /// A range before the hole at its place, which it meets.
 #[tactic(auto, using(crate::proofs::AtPlaces::set_before))]
-fn put_before(spans: &mut Vec<Span>, at: usize, span: Span) -> Result<(), GiveRefused>
+fn put_before(spans: &mut Vec<Span>, at: usize, span: Span)
     requires within { at < length spans.old.items }
     requires meet { Meet span (slice_index_or spans.old.items at span) }
     requires place { add_before spans.old.items at span ≡ give_cells spans.old.items span }
-    ensures { MatchResult result (λ _. spans.new.items ≡ give_cells spans.old.items span) (λ refused. (refused.span ≡ span) × (spans.new.items ≡ spans.old.items)) }
+    ensures given { spans.new.items ≡ give_cells spans.old.items span }
+    ensures room { vec_capacity spans.old ≤ vec_capacity spans.new }
 {
     let hole = &mut spans[at];
-    match hole.prepend(span) {
-        Ok(()) => Ok(()),
-        Err(refused) => Err(GiveRefused { span: refused.span }),
-    }
+    hole.prepend(span);
 }
 
 /// A range behind the hole at its place, which it meets.
 #[tactic(auto, using(crate::proofs::AtPlaces::set_behind))]
-fn put_behind(spans: &mut Vec<Span>, at: usize, span: Span) -> Result<(), GiveRefused>
+fn put_behind(spans: &mut Vec<Span>, at: usize, span: Span)
     requires within { at < length spans.old.items }
     requires meet { Meet (slice_index_or spans.old.items at span) span }
     requires place { add_behind spans.old.items at span ≡ give_cells spans.old.items span }
-    ensures { MatchResult result (λ _. spans.new.items ≡ give_cells spans.old.items span) (λ refused. (refused.span ≡ span) × (spans.new.items ≡ spans.old.items)) }
+    ensures given { spans.new.items ≡ give_cells spans.old.items span }
+    ensures room { vec_capacity spans.old ≤ vec_capacity spans.new }
 {
     let hole = &mut spans[at];
-    match hole.append(span) {
-        Ok(()) => Ok(()),
-        Err(refused) => Err(GiveRefused { span: refused.span }),
-    }
-}
-
-/// A hole that was just taken out of the list goes back to its place.
-fn put_back(spans: &mut Vec<Span>, at: usize, span: Span)
-    requires place { at ≤ length spans.old.items }
-    requires room { length spans.old.items < vec_capacity spans.old }
-    ensures { spans.new.items ≡ insert spans.old.items at span }
-{
-    spans.insert(at, span).unwrap();
+    hole.append(span);
 }
 
 /// A range between the hole at its place and the next one, both of which it meets.
-#[tactic(auto, using(crate::proofs::AtPlaces::between_is, crate::proofs::AtPlaces::back_is))]
-fn put_between(spans: &mut Vec<Span>, at: usize, span: Span) -> Result<(), GiveRefused>
+#[tactic(auto, using(crate::proofs::AtPlaces::between_is, crate::proofs::AtPlaces::meet_behind))]
+fn put_between(spans: &mut Vec<Span>, at: usize, span: Span)
     requires within { at + 1 < length spans.old.items }
     requires last { Meet (slice_index_or spans.old.items at span) span }
     requires next { Meet span (slice_index_or spans.old.items (at + 1) span) }
     requires place { add_between spans.old.items at span ≡ give_cells spans.old.items span }
-    ensures { MatchResult result (λ _. spans.new.items ≡ give_cells spans.old.items span) (λ refused. (refused.span ≡ span) × (spans.new.items ≡ spans.old.items)) }
+    ensures given { spans.new.items ≡ give_cells spans.old.items span }
+    ensures room { vec_capacity spans.old ≤ vec_capacity spans.new }
 {
     let next = spans.remove(at + 1);
     let hole = &mut spans[at];
-    match hole.append_two(span, next) {
-        Ok(()) => Ok(()),
-        Err(refused) => {
-            put_back(spans, at + 1, refused.last);
-            Err(GiveRefused {
-                span: refused.middle,
-            })
-        }
-    }
+    hole.append(span);
+    hole.append(next);
 }
 
-/// A range comes back to the holes: as a hole of its own, or as one with those that it meets. Where memory runs out, all stays.
+/// A range comes back to the holes: as a hole of its own, or as one with those that it meets. There is room for it.
 #[tactic(auto, using(crate::proofs::AtPlaces::merged_last, crate::proofs::AtPlaces::merged_far, crate::proofs::AtPlaces::merged_before, crate::proofs::AtPlaces::meets_last, crate::proofs::AtPlaces::meets_next))]
-pub fn merge(spans: &mut Vec<Span>, span: Span) -> Result<(), GiveRefused>
+pub fn merge(spans: &mut Vec<Span>, span: Span)
     requires order { AreOrdered (map run_of spans.old.items) }
     requires free { AreFreeOf (map run_of spans.old.items) (run_of span) }
     requires arena { AreOf span.arena spans.old.items }
-    ensures { MatchResult result (λ _. spans.new.items ≡ give_cells spans.old.items span) (λ refused. (refused.span ≡ span) × (spans.new.items ≡ spans.old.items)) }
+    requires room { length (give_cells spans.old.items span) ≤ vec_capacity spans.old }
+    ensures given { spans.new.items ≡ give_cells spans.old.items span }
+    ensures room { vec_capacity spans.old ≤ vec_capacity spans.new }
 {
     let at = count_ends_before(spans, span.first());
     if at == spans.len() {
@@ -167,19 +138,20 @@ pub fn merge(spans: &mut Vec<Span>, span: Span) -> Result<(), GiveRefused>
     if begins_there(spans, at, &span) {
         return put_before(spans, at, span);
     }
-    put_in(spans, at, span)
+    put_in(spans, at, span);
 }
 
 /// A range that meets the hole at its place, behind it, comes back.
 #[tactic(auto, using(crate::proofs::AtPlaces::merged_behind_last, crate::proofs::AtPlaces::merged_behind, crate::proofs::AtPlaces::merged_between, crate::proofs::AtPlaces::meets_last, crate::proofs::AtPlaces::meets_next))]
-fn merge_behind(spans: &mut Vec<Span>, at: usize, span: Span) -> Result<(), GiveRefused>
+fn merge_behind(spans: &mut Vec<Span>, at: usize, span: Span)
     requires order { AreOrdered (map run_of spans.old.items) }
     requires free { AreFreeOf (map run_of spans.old.items) (run_of span) }
     requires arena { AreOf span.arena spans.old.items }
     requires place { at ≡ ends_before spans.old.items span.first }
     requires within { at < length spans.old.items }
     requires meets { (slice_index_or spans.old.items at span).first + length (slice_index_or spans.old.items at span).cells ≡ span.first }
-    ensures { MatchResult result (λ _. spans.new.items ≡ give_cells spans.old.items span) (λ refused. (refused.span ≡ span) × (spans.new.items ≡ spans.old.items)) }
+    ensures given { spans.new.items ≡ give_cells spans.old.items span }
+    ensures room { vec_capacity spans.old ≤ vec_capacity spans.new }
 {
     span.limits();
     if at + 1 == spans.len() {
@@ -188,5 +160,5 @@ fn merge_behind(spans: &mut Vec<Span>, at: usize, span: Span) -> Result<(), Give
     if begins_there(spans, at + 1, &span) {
         return put_between(spans, at, span);
     }
-    put_behind(spans, at, span)
+    put_behind(spans, at, span);
 }

@@ -22,8 +22,8 @@ use Rattle.lease_desk.specs.Progress.{times_at, one_out, gave_times, one_asked, 
 use Rattle.lease_desk.specs.Outs.{AreReordered, copies}
 use Rattle.lease_desk.specs.BookView.{BookView, new_book, with_lease, with_asked, with_waiting, with_served}
 use Rattle.lease_desk.specs.Lease.{LeaseView, lease}
-use Rattle.lease_desk.specs.Desk.{DeskView, cells_in, filed_by, Takes, Waits, given_back, Knows, HasPayload, AllFiled}
-use Rattle.lease_desk.specs.Kept.{state_of, desk_of, IsKept}
+use Rattle.lease_desk.specs.Desk.{DeskView, cells_in, filed_by, Takes, Waits, given_back, HasPayload, AllFiled}
+use Rattle.lease_desk.specs.Kept.{state_of, desk_of, IsLeaseOf, IsKept}
 use Rattle.lease_desk.specs.theory.Leases.{none_out_at, room_out, set_there}
 use Rattle.lease_desk.specs.theory.Moves.{after_next, after_left, after_back, replay_more}
 use Rattle.lease_desk.specs.theory.Filing.{holds_first, all_more, all_given, to_all, from_all, Known}
@@ -189,6 +189,8 @@ module _ {P : Type 0} (number : P → ℕ) (cells : P → List Cell) (h : Holed)
     told = next_told size range holes is fits;
     cells = subst (λ n. take_cells h.holes n ≡ Some (taken_cells range holes)) (sym (taken_runs h.holes size (taken_cells range holes) fits).1) fits;
     arena = (taken_arena h.arena h.holes size (taken_cells range holes) fits k.desk.of_arena).0;
+    free = (next_ready size is).2;
+    leases = refl;
     rest = refl;
   }
 
@@ -214,6 +216,7 @@ module _ {P : Type 0} (number : P → ℕ) (cells : P → List Cell) (h : Holed)
       (record {
         told = waits_told size is fits;
         short = none_taken (map run_of h.holes) size (next_ready size is).0 (not_taken h.holes size fits);
+        leases = refl;
         rest = refl;
       })
 
@@ -286,6 +289,8 @@ module _ {P : Type 0} (number : P → ℕ) (cells : P → List Cell) (h : Holed)
     told = left_told job size range holes all none e is fits;
     cells = subst (λ n. take_cells h.holes n ≡ Some (taken_cells range holes)) (sym (taken_runs h.holes size (taken_cells range holes) fits).1) fits;
     arena = (taken_arena h.arena h.holes size (taken_cells range holes) fits k.desk.of_arena).0;
+    free = (left_ready job e).3;
+    leases = refl;
     rest = refl;
   }
 
@@ -298,7 +303,7 @@ module _ {P : Type 0} (number : P → ℕ) (cells : P → List Cell) (h : Holed)
 
   -- ---- a lease that comes back
 
-  pub give_ready : (l : LeaseView) → Knows (desk_of h b ps w) l
+  pub give_ready : (l : LeaseView) → IsLeaseOf (desk_of h b ps w) l
       → (IsOut h.out (run_of l.range)) × (length b.journal < 3 * length b.sizes) × (l.job < length ps) × (gave_times l.job b.journal ≡ 0) × (l.job < length b.sizes)
   give_ready l e =
       let c = is_copied b.leases l.job (run_of l.range) e.1 in
@@ -315,7 +320,7 @@ module _ {P : Type 0} (number : P → ℕ) (cells : P → List Cell) (h : Holed)
       )
 
   -- with these payloads, which differ from those before at the job's place alone, if at all
-  gave_kept : (l : LeaseView) (qs : List (Option P)) (v : ℕ) → Knows (desk_of h b ps w) l
+  gave_kept : (l : LeaseView) (qs : List (Option P)) (v : ℕ) → IsLeaseOf (desk_of h b ps w) l
       → length qs ≡ length ps → ((job : ℕ) → ((l.job ≡ job) → ⊥) → slice_get qs job ≡ slice_get ps job)
       → ((cells_in cells (slice_get qs l.job) ≡ None) ⊎ (cells_in cells (slice_get qs l.job) ≡ Some l.range.cells))
       → ((p : P) → slice_get qs l.job ≡ Some (Some p) → number p ≡ l.job)
@@ -374,7 +379,7 @@ module _ {P : Type 0} (number : P → ℕ) (cells : P → List Cell) (h : Holed)
           (f.0, others job there ∙ f.1)
 
   -- with the job's payload
-  pub filed_kept : (l : LeaseView) (p : P) → Knows (desk_of h b ps w) l → number p ≡ l.job → cells p ≡ l.range.cells
+  pub filed_kept : (l : LeaseView) (p : P) → IsLeaseOf (desk_of h b ps w) l → number p ≡ l.job → cells p ≡ l.range.cells
       → IsKept number cells (with_holes h (give_cells h.holes l.range) (without_run h.out l.range.first)) (with_lease b l.job None (event.Gave l.job l.range.first (length l.range.cells)))
       (slice_set ps l.job (Some p)) w
   filed_kept l p e num cs =
@@ -388,7 +393,7 @@ module _ {P : Type 0} (number : P → ℕ) (cells : P → List Cell) (h : Holed)
       (λ z. (z, (p, here))) (omega arith)
 
   -- with none
-  pub withdrawn_kept : (l : LeaseView) → Knows (desk_of h b ps w) l
+  pub withdrawn_kept : (l : LeaseView) → IsLeaseOf (desk_of h b ps w) l
       → IsKept number cells (with_holes h (give_cells h.holes l.range) (without_run h.out l.range.first)) (with_lease b l.job None (event.Gave l.job l.range.first (length l.range.cells))) ps (w + 1)
   withdrawn_kept l e =
       let n = give_ready l e in

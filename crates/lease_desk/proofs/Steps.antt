@@ -10,8 +10,8 @@ use Rattle.lease_desk.specs.Journal.{leased, next_move, left_move, AreSizes}
 use Rattle.lease_desk.specs.Progress.{times_at, one_out, IsSound}
 use Rattle.lease_desk.specs.BookView.{BookView, new_book, with_lease, with_asked, with_waiting, with_served}
 use Rattle.lease_desk.specs.Lease.{LeaseView, lease}
-use Rattle.lease_desk.specs.Desk.{DeskView, Takes, Waits, filed_with, withdrawn_with, Knows, HasPayload, AllFiled}
-use Rattle.lease_desk.specs.Kept.{state_of, desk_of, IsKept}
+use Rattle.lease_desk.specs.Desk.{DeskView, Takes, Waits, filed_with, withdrawn_with, HasPayload, AllFiled}
+use Rattle.lease_desk.specs.Kept.{state_of, desk_of, IsLeaseOf, IsKept}
 use Rattle.lease_desk.proofs.Keeping.{sound, next_ready, next_kept, next_takes, waits_kept, waits_waits, over_is, all_asked, left_ready, left_size, left_never, left_kept, left_takes, none_waits, left_sized, give_ready, filed_kept, withdrawn_kept, given_is, returned_filed, filed_of, kept_first}
 
 -- what the job's size is
@@ -160,9 +160,9 @@ module _ {P : Type 0} (number : P → ℕ) (cells : P → List Cell) (h : Holed)
 
   -- ---- a lease that comes back
 
-  module _ (l : LeaseView) (known : Knows d l) (j : ℕ) (r : Range) (el : l ≡ lease j r) where
-    known_in : Knows (desk_of h b ps w) (lease j r)
-    known_in = subst (λ (x : DeskView P). Knows x (lease j r)) (sym v) (subst (λ (m : LeaseView). Knows d m) el known)
+  module _ (l : LeaseView) (known : IsLeaseOf d l) (j : ℕ) (r : Range) (el : l ≡ lease j r) where
+    known_in : IsLeaseOf (desk_of h b ps w) (lease j r)
+    known_in = subst (λ (x : DeskView P). IsLeaseOf x (lease j r)) (sym v) (subst (λ (m : LeaseView). IsLeaseOf d m) el known)
 
     pub give_now : (IsOut h.out (run_of r)) × (length b.journal < 3 * length b.sizes) × (j < length ps) × (r.arena ≡ h.arena) × (slice_get b.leases j ≡ Some (Some (run_of r))) × (j < length b.sizes)
     give_now = let n = give_ready number cells h b ps w k (lease j r) known_in in (n.0, n.1, n.2, known_in.0, known_in.1, n.4)

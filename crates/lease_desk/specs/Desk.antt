@@ -91,13 +91,22 @@ module _ {P : Type 0} where
     pub told : next ≡ Some (move (took_event l) new.state)
     pub cells : take_cells old.holes (length l.range.cells) ≡ Some (taken_cells l.range new.holes)
     pub arena : l.range.arena ≡ old.arena
+    -- the job had no lease, and has this one from now on
+    pub free : slice_get old.state.leases l.job ≡ Some None
+    pub leases : new.state.leases ≡ slice_set old.state.leases l.job (Some (run_of l.range))
     pub rest : new ≡ moved_on old new.state new.holes (took_event l)
 
   -- The next job waits: no hole has the cells that it needs.
   pub record Waits (old new : DeskView P) (job need largest : ℕ) : Type 0 where
     pub told : next_move old.sizes old.state ≡ Some (move (event.Full job need largest) new.state)
     pub short : largest < need
+    -- the leases stay
+    pub leases : new.state.leases ≡ old.state.leases
     pub rest : new ≡ moved_on old new.state old.holes (event.Full job need largest)
+
+  -- No job waits, and all stays.
+  abbrev pub NoneLeft : (old new : DeskView P) → Type 0
+  NoneLeft old new = (old.state.waiting ≡ []) × (new ≡ old)
 
   -- the lease's run and cells are a hole again
   abbrev pub given_back : DeskView P → LeaseView → List (Option P) → (withdrawn : ℕ) → DeskView P
@@ -119,9 +128,9 @@ module _ {P : Type 0} where
   abbrev pub withdrawn_with : DeskView P → LeaseView → DeskView P
   withdrawn_with d l = given_back d l d.payloads (d.withdrawn + 1)
 
-  -- the desk has leased just this run of its arena to the job
+  -- The desk has leased just this run to the job. Of which arena the run is, isn't asked.
   abbrev pub Knows : DeskView P → LeaseView → Type 0
-  Knows d l = (l.range.arena ≡ d.arena) × (slice_get d.state.leases l.job ≡ Some (Some (run_of l.range)))
+  Knows d l = slice_get d.state.leases l.job ≡ Some (Some (run_of l.range))
 
   -- ---- payloads
 

@@ -8,7 +8,8 @@ use Rattle.std.specs.Prelude.{map}
 use Rattle.lease_desk.specs.Journal.{DeskState, leased}
 use Rattle.lease_desk.specs.Outs.{AreReordered}
 use Rattle.lease_desk.specs.BookView.{BookView}
-use Rattle.lease_desk.specs.Desk.{DeskView, IsDesk}
+use Rattle.lease_desk.specs.Lease.{LeaseView}
+use Rattle.lease_desk.specs.Desk.{DeskView, IsDesk, Knows}
 
 abbrev pub state_of : Holed → BookView → DeskState
 state_of h b = record { asked = b.asked; waiting = b.waiting; holes = map run_of h.holes; leases = b.leases }
@@ -24,6 +25,10 @@ module _ {P : Type 0} where
     payloads = payloads;
     withdrawn = withdrawn;
   }
+
+  -- the desk has leased just this run of its arena to the job
+  abbrev pub IsLeaseOf : DeskView P → LeaseView → Type 0
+  IsLeaseOf d l = (l.range.arena ≡ d.arena) × Knows d l
 
   pub record IsKept (number : P → ℕ) (cells : P → List Cell) (h : Holed) (b : BookView) (payloads : List (Option P)) (withdrawn : ℕ) : Type 0 where
     pub desk : IsDesk number cells (desk_of h b payloads withdrawn)

@@ -45,10 +45,7 @@ fn record(journal: &mut Vec<Event>, event: Event)
     ensures items { journal.new.items ≡ journal.old.items ++ event ∷ [] }
     ensures capacity { vec_capacity journal.old ≤ vec_capacity journal.new }
 {
-    match journal.push(event) {
-        Ok(()) => {}
-        Err(_) => unreachable!(),
-    }
+    journal.push_reserved(event);
 }
 
 impl Book {
@@ -121,10 +118,7 @@ impl Book {
         ensures { self.new ≡ with_waiting self.old (event.Full self.old.asked need largest) }
     {
         let job = self.asked;
-        match self.waiting.push(job) {
-            Ok(()) => {}
-            Err(_) => unreachable!(),
-        }
+        self.waiting.push_reserved(job);
         self.asked = job + 1;
         record(&mut self.journal, Event::Full { job, need, largest });
     }

@@ -4,7 +4,7 @@ ghost use Rattle.hole_list.specs.Placing.{run, AreParts, total, largest};
 ghost use Rattle.lease_desk.specs.Journal.{leased, left_move, AreSizes, IsLegal};
 ghost use Rattle.lease_desk.specs.Filing.{HoldsFiled};
 ghost use Rattle.lease_desk.specs.Progress.{times_at, one_out, IsSound};
-ghost use Rattle.lease_desk.specs.Desk.{IsDesk, new_desk, Takes, filed_with, withdrawn_with, filed_by, Knows, HasPayload, AllFiled};
+ghost use Rattle.lease_desk.specs.Desk.{IsDesk, new_desk, Takes, NoneLeft, filed_with, withdrawn_with, filed_by, Knows, HasPayload, AllFiled};
 ghost use Rattle.lease_desk.specs.Answers.{NextIs};
 
 use crate::book::Book;
@@ -13,15 +13,15 @@ use crate::filed::Filed;
 use crate::lease::Lease;
 use crate::places::empty_places;
 use cell_span::Span;
-use hole_list::Holes;
-use std::alloc::{AllocError, Global};
+use hole_list::{Holes, HolesRefused};
+use std::alloc::Global;
 use std::marker::Model;
 
 /// Leases the runs of one arena to jobs, and keeps a journal of what it did.
 ///
 /// Each job of a fixed list is asked for once, in order, and is given the front of the first hole that has cells enough (first fit); a job for which no hole
-/// has waits, and is taken once all were asked for and no lease is out. A lease goes back with a payload that stands for its job. All room but that for
-/// splitting and joining spans is taken at the start.
+/// has waits, and is taken once all were asked for and no lease is out. A lease goes back with a payload that stands for its job. All room is taken at
+/// the start: two entries of the journal for each job, and one more for a job that waits.
 #[derive(Drop)]
 pub struct Desk<P: Filed> {
     holes: Holes,
@@ -57,22 +57,6 @@ pub enum Next {
 pub struct DeskRefused {
     /// The arena, as it was.
     pub span: Span,
-}
-
-/// The memory for joining a run with its neighbours ran out.
-#[derive(Drop)]
-pub struct GiveRefused<P: Filed> {
-    /// The lease, as it was.
-    pub lease: Lease,
-    /// The payload, as it was.
-    pub payload: P,
-}
-
-/// The memory for joining a run with its neighbours ran out.
-#[derive(Drop)]
-pub struct WithdrawRefused {
-    /// The lease, as it was.
-    pub lease: Lease,
 }
 
 /// What a desk leaves.
@@ -111,7 +95,7 @@ impl<P: Filed> Desk<P> {
                 payloads,
                 withdrawn: 0,
             }),
-            Err(refused) => Err(DeskRefused { span: refused.span }),
+            Err(HolesRefused { span }) => Err(DeskRefused { span }),
         }
     }
 
@@ -129,95 +113,82 @@ impl<P: Filed> Desk<P> {
         let _ = &self.withdrawn;
     }
 
-    /// Asks for the next job. `AllocError` where the memory for a split runs out: nothing has changed then.
-    pub fn next(&mut self, alloc: Global) -> Result<Next, AllocError>
-        ensures { MatchResult result (NextIs self.old self.new) (λ _. self.new ≡ self.old) }
+    /// Asks for the next job. It takes no memory.
+    pub fn next(&mut self) -> Next
+        ensures { NextIs self.old self.new result }
     {
         let job = self.book.asked();
         let Some(size) = self.book.size(job) else {
-            return Ok(Next::Over);
+            return Next::Over;
         };
-        match self.holes.take(alloc, size)? {
+        match self.holes.take(size) {
             Some(span) => {
                 self.book.take(job, span.first(), span.len());
                 self.book.ask();
-                Ok(Next::Granted(Lease::new(job, span)))
+                Next::Granted(Lease::new(job, span))
             }
             None => {
                 let largest = self.holes.largest();
                 self.book.wait(size, largest);
-                Ok(Next::Full {
+                Next::Full {
                     job,
                     need: size,
                     largest,
-                })
+                }
             }
         }
     }
 
     /// Takes the job that waits first, once every job was asked for and no lease is out; `None` where none waits. The arena is one hole then, so that each
-    /// job fits. `AllocError` where the memory for a split runs out: nothing has changed then.
-    pub fn next_left(&mut self, alloc: Global) -> Result<Option<Lease>, AllocError>
+    /// job fits. It takes no memory.
+    pub fn next_left(&mut self) -> Option<Lease>
         requires asked { self.old.state.asked ≡ length self.old.sizes }
         requires none_out { leased self.old.state.leases ≡ [] }
-        ensures { MatchResult result (λ left. MatchOption left ((self.old.state.waiting ≡ []) × (self.new ≡ self.old)) (Takes (left_move self.old.sizes self.old.state) self.old self.new)) (λ _. self.new ≡ self.old) }
+        ensures { MatchOption result (NoneLeft self.old self.new) (Takes (left_move self.old.sizes self.old.state) self.old self.new) }
     {
         let Some(job) = self.book.first_waiting() else {
-            return Ok(None);
+            return None;
         };
         let Some(size) = self.book.size(job) else {
             unreachable!()
         };
-        match self.holes.take(alloc, size)? {
+        match self.holes.take(size) {
             Some(span) => {
                 self.book.take(job, span.first(), span.len());
                 self.book.serve();
-                Ok(Some(Lease::new(job, span)))
+                Some(Lease::new(job, span))
             }
             None => unreachable!(),
         }
     }
 
-    /// Takes a lease back and files its payload in the place of its job. Where the memory for a join runs out, both come back and nothing has changed.
-    pub fn give(&mut self, lease: Lease, payload: P) -> Result<(), GiveRefused<P>>
+    /// Takes a lease back and files its payload in the place of its job. It takes no memory.
+    pub fn give(&mut self, lease: Lease, payload: P)
         requires known { Knows self.old lease }
+        requires arena { lease.range.arena ≡ self.old.arena }
         requires number { P.job payload ≡ lease.job }
         requires cells { P.cells payload ≡ lease.range.cells }
-        ensures { MatchResult result (λ _. self.new ≡ filed_with self.old lease payload) (λ refused. (refused.lease ≡ lease) × (refused.payload ≡ payload) × (self.new ≡ self.old)) }
+        ensures { self.new ≡ filed_with self.old lease payload }
     {
         let (job, span) = lease.parts();
         let (first, size) = (span.first(), span.len());
-        match self.holes.give(span) {
-            Ok(()) => {
-                self.book.give(job, first, size);
-                self.payloads[job as usize] = Some(payload);
-                Ok(())
-            }
-            Err(refused) => Err(GiveRefused {
-                lease: Lease::new(job, refused.span),
-                payload,
-            }),
-        }
+        self.holes.give(span);
+        self.book.give(job, first, size);
+        self.payloads[job as usize] = Some(payload);
     }
 
-    /// Takes a lease back that leaves no payload; nothing is known of its cells. Where the memory for a join runs out, it comes back and nothing has changed.
-    pub fn withdraw(&mut self, lease: Lease) -> Result<(), WithdrawRefused>
-        requires { Knows self.old lease }
-        ensures { MatchResult result (λ _. self.new ≡ withdrawn_with self.old lease) (λ refused. (refused.lease ≡ lease) × (self.new ≡ self.old)) }
+    /// Takes a lease back that leaves no payload; nothing is known of its cells. It takes no memory.
+    pub fn withdraw(&mut self, lease: Lease)
+        requires known { Knows self.old lease }
+        requires arena { lease.range.arena ≡ self.old.arena }
+        ensures { self.new ≡ withdrawn_with self.old lease }
     {
         let (job, span) = lease.parts();
         let (first, size) = (span.first(), span.len());
-        match self.holes.give(span) {
-            Ok(()) => {
-                self.book.kept();
-                self.withdrawn += 1;
-                self.book.give(job, first, size);
-                Ok(())
-            }
-            Err(refused) => Err(WithdrawRefused {
-                lease: Lease::new(job, refused.span),
-            }),
-        }
+        self.holes.give(span);
+        self.book.kept();
+        self.withdrawn += 1;
+        self.book.give(job, first, size);
     }
 
     /// How many leases were withdrawn.
@@ -227,13 +198,12 @@ impl<P: Filed> Desk<P> {
         self.withdrawn
     }
 
-    /// Whether this desk gave the lease and it is out.
+    /// Whether a lease of this job, with this first index and this size, is out. Which arena it is of isn't looked at.
     pub fn knows(&self, lease: &Lease) -> bool
         ensures { IsTrue result ↔ Knows self.now lease.now }
     {
         let span = lease.span();
-        span.arena().is_same(self.holes.arena())
-            && self.book.knows(lease.job(), span.first(), span.len())
+        self.book.knows(lease.job(), span.first(), span.len())
     }
 
     /// The number of leases that are out.

@@ -9,7 +9,7 @@ pub mod laws;
 mod lease;
 mod places;
 
-pub use desk::{Desk, DeskRefused, Finished, GiveRefused, Next, WithdrawRefused};
+pub use desk::{Desk, DeskRefused, Finished, Next};
 pub use event::Event;
 pub use filed::Filed;
 pub use lease::{Claim, Lease};

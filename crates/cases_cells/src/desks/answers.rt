@@ -4,9 +4,11 @@ ghost use Rattle.lease_desk.specs.Journal.{AreSizes};
 
 use crate::desks::copied::Copied;
 use crate::desks::replays::answer_journal;
-use cell_span::{Cell, Span};
-use lease_desk::{Desk, Event, Lease, Next};
+use crate::desks::session::{Asked, Session};
+use cell_span::Span;
+use lease_desk::{Event, Finished};
 use std::io;
+use std::mem::replace;
 
 // Whether each size is from 1 to the arena's.
 fn fit(arena: u32, sizes: &[u32]) -> bool
@@ -18,8 +20,8 @@ fn fit(arena: u32, sizes: &[u32]) -> bool
     }
 }
 
-// A new desk of an arena and of sizes, all in one line.
-fn open(rt: &HostRuntime, words: &str) -> io::Result<Option<Desk<Copied>>> {
+// A new session with a desk of an arena and of sizes, all in one line.
+fn open(rt: &HostRuntime, words: &str) -> io::Result<Option<Session>> {
     let alloc = rt.alloc();
     let mut numbers = Vec::new(alloc);
     for word in words.split(' ') {
@@ -31,8 +33,8 @@ fn open(rt: &HostRuntime, words: &str) -> io::Result<Option<Desk<Copied>>> {
         print!(rt; " no desk")?;
         return Ok(None);
     }
-    match Desk::new(alloc, Span::new(alloc, arena)?, sizes) {
-        Ok(desk) => Ok(Some(desk)),
+    match Session::open(alloc, arena, sizes) {
+        Ok(session) => Ok(Some(session)),
         Err(_) => {
             print!(rt; " memory")?;
             Ok(None)
@@ -40,70 +42,23 @@ fn open(rt: &HostRuntime, words: &str) -> io::Result<Option<Desk<Copied>>> {
     }
 }
 
-// Keeps a lease, and prints it.
-fn keep(rt: &HostRuntime, leases: &mut Vec<Lease>, lease: Lease) -> io::Result<()> {
-    print!(rt;
-        " {} at {} size {}",
-        lease.job(),
-        lease.span().first(),
-        lease.span().len()
-    )?;
-    leases.push(lease)?;
-    Ok(())
+// Another session, or none, in place of this one, which ends.
+fn put(session: &mut Option<Session>, next: Option<Session>) {
+    match replace(session, next) {
+        Some(before) => before.end(),
+        None => {}
+    }
 }
 
-// The lease of a job, which is taken off the list.
-fn lease_of(leases: &mut Vec<Lease>, job: u32) -> Option<Lease> {
-    let at = leases.iter().position(|lease| lease.job() == job)?;
-    Some(leases.swap_remove(at))
-}
-
-fn next(rt: &HostRuntime, desk: &mut Desk<Copied>, leases: &mut Vec<Lease>) -> io::Result<()> {
-    let alloc = rt.alloc();
-    match desk.next(alloc)? {
-        Next::Granted(lease) => keep(rt, leases, lease),
-        Next::Full { job, need, largest } => print!(rt;
+// Asks for the next job, and prints what comes of it.
+fn next(rt: &HostRuntime, session: &mut Session) -> io::Result<()> {
+    match session.ask() {
+        Asked::Granted { job, first, size } => print!(rt; " {job} at {first} size {size}"),
+        Asked::Full { job, need, largest } => print!(rt;
             " {job} waits for {need}, largest {largest}"
         ),
-        Next::Over => {
-            if desk.out() > 0 {
-                return print!(rt; " leases are out");
-            }
-            match desk.next_left(alloc)? {
-                Some(lease) => keep(rt, leases, lease),
-                None => print!(rt; " over"),
-            }
-        }
-    }
-}
-
-// Writes a tag into the first cell of a lease.
-fn mark(lease: Lease, tag: u32) -> Lease {
-    let (mut span, claim) = lease.open();
-    span.limits();
-    let words = span.get(0).words;
-    span.set(0, Cell { tag, words });
-    claim.close(span)
-}
-
-fn give(rt: &HostRuntime, desk: &mut Desk<Copied>, lease: Lease) -> io::Result<()> {
-    let payload = Copied::of(rt.alloc(), &lease)?;
-    if !desk.knows(&lease) {
-        return print!(rt; " unknown");
-    }
-    match desk.give(lease, payload) {
-        Ok(()) => Ok(()),
-        Err(_) => print!(rt; " memory"),
-    }
-}
-
-fn withdraw(rt: &HostRuntime, desk: &mut Desk<Copied>, lease: Lease) -> io::Result<()> {
-    if !desk.knows(&lease) {
-        return print!(rt; " unknown");
-    }
-    match desk.withdraw(lease) {
-        Ok(()) => Ok(()),
-        Err(_) => print!(rt; " memory"),
+        Asked::LeasesOut => print!(rt; " leases are out"),
+        Asked::Over => print!(rt; " over"),
     }
 }
 
@@ -115,20 +70,16 @@ fn tell(rt: &HostRuntime, event: Event) -> io::Result<()> {
     }
 }
 
-// Ends a desk, and prints the tags of its cells and the jobs with a payload.
-fn finish(rt: &HostRuntime, desk: Desk<Copied>) -> io::Result<()> {
-    if desk.out() > 0 {
-        return print!(rt; " leases are out");
-    }
-    let finished = desk.finish();
+// Prints the tags of an arena's cells, and the jobs with a payload.
+fn tell_end(rt: &HostRuntime, span: &Span, payloads: &[Option<Copied>]) -> io::Result<()> {
     print!(rt; " tags")?;
-    let count = finished.span.len();
+    let count = span.len();
     for at in 0..count {
-        let cell = finished.span.get(at);
+        let cell = span.get(at);
         print!(rt; " {}", cell.tag)?;
     }
     print!(rt; ", filed")?;
-    for payload in &finished.payloads {
+    for payload in payloads {
         if let Some(copied) = payload {
             print!(rt; " {}", copied.job)?;
         }
@@ -136,78 +87,108 @@ fn finish(rt: &HostRuntime, desk: Desk<Copied>) -> io::Result<()> {
     Ok(())
 }
 
-// The command with a job's number, and a second number where there is one.
-fn numbers(words: &str) -> Option<(u32, u32)> {
-    match words.split_once(' ') {
-        Some((job, tag)) => Some((job.parse::<u32>().ok()?, tag.parse::<u32>().ok()?)),
-        None => Some((words.parse::<u32>().ok()?, 0)),
-    }
+// Ends a session and its arena; where no lease is out, prints what is left.
+fn finish(rt: &HostRuntime, session: Session) -> io::Result<()> {
+    let out = session.out();
+    let Finished {
+        span,
+        journal: _,
+        payloads,
+    } = session.finish();
+    let told = if out > 0 {
+        print!(rt; " leases are out")
+    } else {
+        tell_end(rt, &span, &payloads)
+    };
+    span.end();
+    told
 }
 
-fn with_lease(
-    rt: &HostRuntime,
-    desk: &mut Desk<Copied>,
-    leases: &mut Vec<Lease>,
-    line: &str,
-) -> io::Result<()> {
+// The first number, and what stands behind it.
+fn number(words: &str) -> Option<(u32, &str)> {
+    let (first, rest) = match words.split_once(' ') {
+        Some(parts) => parts,
+        None => (words, "0"),
+    };
+    Some((first.parse::<u32>().ok()?, rest))
+}
+
+// A job's number, a tag and the place of a cell; 0 for each that isn't given.
+fn numbers(words: &str) -> Option<(u32, u32, u32)> {
+    let (job, rest) = number(words)?;
+    let (tag, rest) = number(rest)?;
+    let (at, _) = number(rest)?;
+    Some((job, tag, at))
+}
+
+fn with_lease(rt: &HostRuntime, session: &mut Session, line: &str) -> io::Result<()> {
     let Some((command, words)) = line.split_once(' ') else {
         return print!(rt; " no command");
     };
-    let Some((job, tag)) = numbers(words) else {
+    let Some((job, tag, at)) = numbers(words) else {
         return print!(rt; " no number");
     };
-    let Some(lease) = lease_of(leases, job) else {
-        return print!(rt; " no lease");
-    };
-    if command == "mark" {
-        leases.push(mark(lease, tag))?;
-        Ok(())
+    let has_lease = if command == "mark" {
+        session.mark(job, tag, at)
     } else if command == "give" {
-        give(rt, desk, lease)
+        session.give(rt.alloc(), job)?
     } else {
-        withdraw(rt, desk, lease)
+        session.withdraw(job)
+    };
+    if !has_lease {
+        return print!(rt; " no lease");
+    }
+    Ok(())
+}
+
+fn with_session(rt: &HostRuntime, session: &mut Session, line: &str) -> io::Result<()> {
+    if line == "next" {
+        return next(rt, session);
+    }
+    if line == "counts" {
+        let (free, largest, out, withdrawn) = session.counts();
+        return print!(rt; " free {free} largest {largest} out {out} withdrawn {withdrawn}");
+    }
+    if line == "journal" {
+        for event in session.journal() {
+            tell(rt, *event)?;
+        }
+        return Ok(());
+    }
+    with_lease(rt, session, line)
+}
+
+/// Answers a line. The session is the one behind it, where there is one.
+pub(crate) fn answer(
+    rt: &HostRuntime,
+    session: &mut Option<Session>,
+    line: &str,
+) -> io::Result<()> {
+    if let Some(words) = line.strip_prefix("desk ") {
+        put(session, None);
+        let opened = open(rt, words)?;
+        put(session, opened);
+        return Ok(());
+    }
+    if let Some(words) = line.strip_prefix("replay ") {
+        return answer_journal(rt, words);
+    }
+    if line == "finish" {
+        return match replace(session, None) {
+            Some(session) => finish(rt, session),
+            None => print!(rt; " no desk"),
+        };
+    }
+    match session {
+        Some(session) => with_session(rt, session, line),
+        None => print!(rt; " no desk"),
     }
 }
 
-/// Answers a line, and hands the desk on, where there is one behind it.
-pub(crate) fn answer(
-    rt: &HostRuntime,
-    desk: Option<Desk<Copied>>,
-    leases: &mut Vec<Lease>,
-    line: &str,
-) -> io::Result<Option<Desk<Copied>>> {
-    if let Some(words) = line.strip_prefix("desk ") {
-        leases.clear();
-        return open(rt, words);
+/// Ends the session, where there is one.
+pub(crate) fn end(session: Option<Session>) {
+    match session {
+        Some(session) => session.end(),
+        None => {}
     }
-    if let Some(words) = line.strip_prefix("replay ") {
-        answer_journal(rt, words)?;
-        return Ok(desk);
-    }
-    let Some(mut desk) = desk else {
-        print!(rt; " no desk")?;
-        return Ok(None);
-    };
-    if line == "finish" {
-        finish(rt, desk)?;
-        return Ok(None);
-    }
-    if line == "next" {
-        next(rt, &mut desk, leases)?;
-    } else if line == "counts" {
-        print!(rt;
-            " free {} largest {} out {} withdrawn {}",
-            desk.free(),
-            desk.largest(),
-            desk.out(),
-            desk.withdrawn()
-        )?;
-    } else if line == "journal" {
-        for event in desk.journal() {
-            tell(rt, *event)?;
-        }
-    } else {
-        with_lease(rt, &mut desk, leases, line)?;
-    }
-    Ok(Some(desk))
 }

@@ -3,16 +3,16 @@ use Rattle.lease_desk.proofs.Steps.{give_now, filed_keeps, filed_answers}
 use Rattle.lease_desk.proofs.desk.Desk.give.Goals as goal
 
 pub give-requires-clause-out : goal.give-requires-clause-out
-give-requires-clause-out g c = (give_now _ _ _ _ _ _ c.self.invariant _ c.self.view_is c.args.lease c.requires.known c.parts-job.result.0 c.parts-job.result.1 c.parts-job.ensures).0
+give-requires-clause-out g c = (give_now _ _ _ _ _ _ c.self.invariant _ c.self.view_is c.args.lease (c.requires.arena, c.requires.known) c.parts-job.result.0 c.parts-job.result.1 c.parts-job.ensures).0
 
-pub give-requires-in-Ok-clause-room : goal.give-requires-in-Ok-clause-room
-give-requires-in-Ok-clause-room g c = (give_now _ _ _ _ _ _ c.self.invariant _ c.self.view_is c.args.lease c.requires.known c.parts-job.result.0 c.parts-job.result.1 c.parts-job.ensures).1
+pub give-requires-2-clause-room : goal.give-requires-2-clause-room
+give-requires-2-clause-room g c = (give_now _ _ _ _ _ _ c.self.invariant _ c.self.view_is c.args.lease (c.requires.arena, c.requires.known) c.parts-job.result.0 c.parts-job.result.1 c.parts-job.ensures).1
 
 pub index_mut-requires : goal.index_mut-requires
-index_mut-requires g c = omega (arith, (give_now _ _ _ _ _ _ c.self.invariant _ c.self.view_is c.args.lease c.requires.known c.parts-job.result.0 c.parts-job.result.1 c.parts-job.ensures).2, c.self.inside.payloads.ok.0)
+index_mut-requires g c = omega (arith, (give_now _ _ _ _ _ _ c.self.invariant _ c.self.view_is c.args.lease (c.requires.arena, c.requires.known) c.parts-job.result.0 c.parts-job.result.1 c.parts-job.ensures).2, c.self.inside.payloads.ok.0)
 
 pub invariant_of-self : goal.invariant_of-self
-invariant_of-self g c = filed_keeps _ _ _ _ _ _ c.self.invariant _ c.self.view_is c.args.lease c.requires.known c.parts-job.result.0 c.parts-job.result.1 c.parts-job.ensures c.give.new.self c.give-in-Ok.new.self c.first-first.result c.len-size.result c.first-first.ensures.index c.len-size.ensures.count c.in-Ok.ensures c.give-in-Ok.ensures c.args.payload c.requires.number c.requires.cells
+invariant_of-self g c = filed_keeps _ _ _ _ _ _ c.self.invariant _ c.self.view_is c.args.lease (c.requires.arena, c.requires.known) c.parts-job.result.0 c.parts-job.result.1 c.parts-job.ensures c.give.new.self c.give-2.new.self c.first-first.result c.len-size.result c.first-first.ensures.index c.len-size.ensures.count c.give.ensures c.give-2.ensures c.args.payload c.requires.number c.requires.cells
 
-pub returns-in-Ok : goal.returns-in-Ok
-returns-in-Ok g c = filed_answers _ _ _ _ _ _ c.self.invariant _ c.self.view_is c.args.lease c.requires.known c.parts-job.result.0 c.parts-job.result.1 c.parts-job.ensures c.give.new.self c.give-in-Ok.new.self c.first-first.result c.len-size.result c.first-first.ensures.index c.len-size.ensures.count c.in-Ok.ensures c.give-in-Ok.ensures c.args.payload
+pub returns : goal.returns
+returns g c = filed_answers _ _ _ _ _ _ c.self.invariant _ c.self.view_is c.args.lease (c.requires.arena, c.requires.known) c.parts-job.result.0 c.parts-job.result.1 c.parts-job.ensures c.give.new.self c.give-2.new.self c.first-first.result c.len-size.result c.first-first.ensures.index c.len-size.ensures.count c.give.ensures c.give-2.ensures c.args.payload

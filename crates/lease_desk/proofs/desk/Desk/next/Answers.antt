@@ -10,20 +10,20 @@ take-requires-clause-some g c = (next_now _ _ _ _ _ _ c.self.invariant _ c.self.
 pub take-requires-clause-few : goal.take-requires-clause-few
 take-requires-clause-few g c = (next_now _ _ _ _ _ _ c.self.invariant _ c.self.view_is c.asked-job.result c.size.result c.in-Some.size c.asked-job.ensures c.size.ensures c.in-Some.is).1
 
-pub take-requires-in-Some-2-clause-free : goal.take-requires-in-Some-2-clause-free
-take-requires-in-Some-2-clause-free g c = (next_now _ _ _ _ _ _ c.self.invariant _ c.self.view_is c.asked-job.result c.size.result c.in-Some.size c.asked-job.ensures c.size.ensures c.in-Some.is).2
+pub take-requires-in-Some-take-clause-free : goal.take-requires-in-Some-take-clause-free
+take-requires-in-Some-take-clause-free g c = (next_now _ _ _ _ _ _ c.self.invariant _ c.self.view_is c.asked-job.result c.size.result c.in-Some.size c.asked-job.ensures c.size.ensures c.in-Some.is).2
 
-pub take-requires-in-Some-2-clause-room : goal.take-requires-in-Some-2-clause-room
-take-requires-in-Some-2-clause-room g c = (next_now _ _ _ _ _ _ c.self.invariant _ c.self.view_is c.asked-job.result c.size.result c.in-Some.size c.asked-job.ensures c.size.ensures c.in-Some.is).3
+pub take-requires-in-Some-take-clause-room : goal.take-requires-in-Some-take-clause-room
+take-requires-in-Some-take-clause-room g c = (next_now _ _ _ _ _ _ c.self.invariant _ c.self.view_is c.asked-job.result c.size.result c.in-Some.size c.asked-job.ensures c.size.ensures c.in-Some.is).3
 
 pub ask-requires : goal.ask-requires
-ask-requires g c = rw c.take-in-Some-2.ensures (next_now _ _ _ _ _ _ c.self.invariant _ c.self.view_is c.asked-job.result c.size.result c.in-Some.size c.asked-job.ensures c.size.ensures c.in-Some.is).4
+ask-requires g c = rw c.take-in-Some-take.ensures (next_now _ _ _ _ _ _ c.self.invariant _ c.self.view_is c.asked-job.result c.size.result c.in-Some.size c.asked-job.ensures c.size.ensures c.in-Some.is).4
 
-pub invariant_of-self-in-Some-2 : goal.invariant_of-self-in-Some-2
-invariant_of-self-in-Some-2 g c =
-    let q = rw c.in-Some-2.is at c.in_ok-span.ensures in
+pub invariant_of-self : goal.invariant_of-self
+invariant_of-self g c =
+    let q = c.in-Some-take.ensures in
     next_keeps _ _ _ _ _ _ c.self.invariant _ c.self.view_is c.asked-job.result c.size.result c.in-Some.size c.asked-job.ensures c.size.ensures c.in-Some.is
-    c.take.new.self c.take-in-Some-2.new.self c.ask.new.self c.first.result c.len.result c.in-Some-2.span q c.take-in-Some-2.ensures c.first.ensures.index c.len.ensures.count c.ask.ensures
+    c.take.new.self c.take-in-Some-take.new.self c.ask.new.self c.first.result c.len.result c.in-Some-take.span q c.take-in-Some-take.ensures c.first.ensures.index c.len.ensures.count c.ask.ensures
 
 pub wait-requires-clause-more : goal.wait-requires-clause-more
 wait-requires-clause-more g c = (next_now _ _ _ _ _ _ c.self.invariant _ c.self.view_is c.asked-job.result c.size.result c.in-Some.size c.asked-job.ensures c.size.ensures c.in-Some.is).4
@@ -33,18 +33,18 @@ wait-requires-clause-room g c = (next_now _ _ _ _ _ _ c.self.invariant _ c.self.
 
 pub invariant_of-self-in-None : goal.invariant_of-self-in-None
 invariant_of-self-in-None g c =
-    let q = rw c.in-None.is at c.in_ok-span.ensures in
+    let q = c.in-None.ensures in
     waits_keeps _ _ _ _ _ _ c.self.invariant _ c.self.view_is c.asked-job.result c.size.result c.in-Some.size c.asked-job.ensures c.size.ensures c.in-Some.is
     c.take.new.self c.wait.new.self c.largest-largest.result q.0 q.1 c.largest-largest.ensures c.wait.ensures
 
-pub returns-in-Some-2 : goal.returns-in-Some-2
-returns-in-Some-2 g c =
-    let q = rw c.in-Some-2.is at c.in_ok-span.ensures in
+pub returns-in-Some-take : goal.returns-in-Some-take
+returns-in-Some-take g c =
+    let q = c.in-Some-take.ensures in
     next_answers _ _ _ _ _ _ c.self.invariant _ c.self.view_is c.asked-job.result c.size.result c.in-Some.size c.asked-job.ensures c.size.ensures c.in-Some.is
-    c.take.new.self c.take-in-Some-2.new.self c.ask.new.self c.first.result c.len.result c.in-Some-2.span c.new.result q c.take-in-Some-2.ensures c.first.ensures.index c.len.ensures.count c.ask.ensures c.new.ensures
+    c.take.new.self c.take-in-Some-take.new.self c.ask.new.self c.first.result c.len.result c.in-Some-take.span c.new.result q c.take-in-Some-take.ensures c.first.ensures.index c.len.ensures.count c.ask.ensures c.new.ensures
 
 pub returns-in-None : goal.returns-in-None
 returns-in-None g c =
-    let q = rw c.in-None.is at c.in_ok-span.ensures in
+    let q = c.in-None.ensures in
     waits_answers _ _ _ _ _ _ c.self.invariant _ c.self.view_is c.asked-job.result c.size.result c.in-Some.size c.asked-job.ensures c.size.ensures c.in-Some.is
     c.take.new.self c.wait.new.self c.largest-largest.result q.0 q.1 c.largest-largest.ensures c.wait.ensures
