@@ -14,7 +14,7 @@ use Rattle.bound_system.specs.theory.Natural.{checks_map, mapped_check, mapped_b
 use Rattle.constraint_rows.specs.Dense.{Dense, more, less, sums, differences, plus, minus, dense, ticks, once_with, nothings, terms_less, row}
 use Rattle.constraint_rows.specs.Walk.{funcs_rows}
 use Rattle.constraint_rows.proofs.Walking.{asked, book, walked}
-use Rattle.constraint_rows.proofs.Small.{Sized, SmallCheck, all_small}
+use Rattle.bound_system.specs.theory.Small.{Sized, SmallCheck, all_small}
 
 -- ---- numbers
 

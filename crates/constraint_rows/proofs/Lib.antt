@@ -3,6 +3,5 @@ mod Made
 mod Numbers
 mod Same
 mod Locals
-mod Small
 mod Turns
 mod Walking

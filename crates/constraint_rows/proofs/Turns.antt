@@ -1,5 +1,5 @@
 -- One turn of a loop, and one step after another.
-use Rattle.std.proofs.Common.{◌≡◌, ℕ, suc, ◌+◌, ◌-◌, ◌<◌, ◌≤◌, Bool, true, false, ℤ, pos, List, [], ◌∷◌, ◌++◌, length, map, take, drop, get_or, Option, refl, sym, ap, ◌∙◌, subst, arith, append_assoc, set, add-one, drop-cons, drop_of_length-le}
+use Rattle.std.proofs.Common.{◌≡◌, ℕ, zero, suc, ◌+◌, ◌-◌, ◌<◌, ◌≤◌, Bool, true, false, ℤ, pos, List, [], ◌∷◌, ◌++◌, length, map, take, drop, get_or, Option, refl, sym, ap, ◌∙◌, subst, arith, append_assoc, set, add-one, drop-cons, drop_of_length-le}
 use Rattle.std.specs.Prelude.{if◌then◌else◌, cond, flat_map}
 use Rattle.std.specs.List.{range_with_len, filter}
 use Rattle.std.specs.Int.{w64, int_wrapping_sub}
@@ -12,6 +12,7 @@ use Rattle.grail_code.specs.Code.{Func, func_of}
 use Rattle.grail_code.specs.declared.code.Func.{Func as DeclaredFunc}
 use Rattle.grail_code.specs.WellFormed.{kind_of}
 use Rattle.licence.specs.Books.{Units, Carried}
+use Rattle.licence.specs.Rules.{arguments_asks}
 use Rattle.bound_system.specs.Unknowns.{Unknown, Param, same, carriers, params_unknowns, block_unknowns, func_unknowns, funcs_unknowns}
 use Rattle.bound_system.specs.Forms.{is_zero, asks}
 use Rattle.constraint_rows.specs.Dense.{more, less, sums, differences, tick, ticks, term_at, terms_less}
@@ -133,33 +134,31 @@ one_block types f func old new whole v n h e d =
     turn old new (block_unknowns types f func v) (flat_map (block_unknowns types f func) (range_with_len (v + 1) (n - (v + 1)))) whole
     (sym (ap (λ k. old ++ flat_map (block_unknowns types f func) (range_with_len v k)) s) ∙ e) d
 
--- an argument against the parameter of its number
-abbrev argument_rows : List DataType → List Unknown → Func → Carried Unknown → ℕ → List ℕ → ℕ → ℕ → List Inequality
-argument_rows types us f carried callee xs v k = local_rows types us f carried xs (map (λ x con. Param callee x con) (range_with_len v k))
+-- arguments against the parameters from this number on
+abbrev argument_rows : List DataType → List Unknown → Func → Carried Unknown → (callee number count : ℕ) → List ℕ → List Inequality
+argument_rows types us f carried callee v k xs = local_rows types us f carried (arguments_asks (λ x con. Param callee x con) v k xs)
 
 pub one_argument : (types : List DataType) (us : List Unknown) (f : Func) (carried : Carried Unknown) (callee x : ℕ) (xs : List ℕ) (old new whole : List Inequality) (v n : ℕ) → v < n
-    → old ++ local_rows types us f carried (x ∷ xs) (map (λ y con. Param callee y con) (range_with_len v (n - v))) ≡ whole
+    → old ++ local_rows types us f carried (arguments_asks (λ y con. Param callee y con) v (n - v) (x ∷ xs)) ≡ whole
     → new ≡ old ++ value_rows types us (kind_of f x) (carried x) (λ con. Param callee v con)
-    → new ++ local_rows types us f carried xs (map (λ y con. Param callee y con) (range_with_len (v + 1) (n - (v + 1)))) ≡ whole
+    → new ++ local_rows types us f carried (arguments_asks (λ y con. Param callee y con) (v + 1) (n - (v + 1)) xs) ≡ whole
 one_argument types us f carried callee x xs old new whole v n h e d =
     let s : n - v ≡ suc (n - (v + 1)) = omega (arith, h) in
-    turn old new (value_rows types us (kind_of f x) (carried x) (λ con. Param callee v con)) (argument_rows types us f carried callee xs (v + 1) (n - (v + 1))) whole
-    (sym (ap (λ k. old ++ argument_rows types us f carried callee (x ∷ xs) v k) s) ∙ e) d
-
-no_locals : (types : List DataType) (us : List Unknown) (f : Func) (carried : Carried Unknown) (xs : List ℕ) → local_rows types us f carried xs [] ≡ []
-no_locals types us f carried [] = refl
-no_locals types us f carried (x ∷ xs) = refl
+    let next : suc v ≡ v + 1 = omega arith in
+    subst (λ w. new ++ argument_rows types us f carried callee w (n - (v + 1)) xs ≡ whole) next
+    (turn old new (value_rows types us (kind_of f x) (carried x) (λ con. Param callee v con)) (argument_rows types us f carried callee (suc v) (n - (v + 1)) xs) whole
+    (sym (ap (λ k. old ++ argument_rows types us f carried callee v k (x ∷ xs)) s) ∙ e) d)
 
 pub no_argument : (types : List DataType) (us : List Unknown) (f : Func) (carried : Carried Unknown) (callee : ℕ) (xs : List ℕ) (old whole : List Inequality) (v n : ℕ) → n ≤ v
-    → old ++ local_rows types us f carried xs (map (λ y con. Param callee y con) (range_with_len v (n - v))) ≡ whole → old ≡ whole
+    → old ++ local_rows types us f carried (arguments_asks (λ y con. Param callee y con) v (n - v) xs) ≡ whole → old ≡ whole
 no_argument types us f carried callee xs old whole v n h e =
-    let s : n - v ≡ 0 = omega (arith, h) in
-    sym (no_more old) ∙ ap (λ q. old ++ q) (sym (no_locals types us f carried xs)) ∙ sym (ap (λ k. old ++ argument_rows types us f carried callee xs v k) s) ∙ e
+    let s : n - v ≡ 0 = omega (arith, h) in sym (no_more old) ∙ sym (ap (λ k. old ++ argument_rows types us f carried callee v k xs) s) ∙ e
 
-pub no_more_locals : (types : List DataType) (us : List Unknown) (f : Func) (carried : Carried Unknown) (xs : List ℕ) (others : List (Units Unknown)) (old whole : List Inequality) → length xs < 1
-    → old ++ local_rows types us f carried xs others ≡ whole → old ≡ whole
-no_more_locals types us f carried [] others old whole h e = sym (no_more old) ∙ e
-no_more_locals types us f carried (x ∷ xs) others old whole h e = absurd (omega (arith, h))
+pub no_more_arguments : (types : List DataType) (us : List Unknown) (f : Func) (carried : Carried Unknown) (callee : ℕ) (xs : List ℕ) (old whole : List Inequality) (v n : ℕ) → length xs < 1
+    → old ++ local_rows types us f carried (arguments_asks (λ y con. Param callee y con) v n xs) ≡ whole → old ≡ whole
+no_more_arguments types us f carried callee [] old whole v zero h e = sym (no_more old) ∙ e
+no_more_arguments types us f carried callee [] old whole v (suc n) h e = sym (no_more old) ∙ e
+no_more_arguments types us f carried callee (x ∷ xs) old whole v n h e = absurd (omega (arith, h))
 
 -- ---- what is left of a list behind its first item
 
@@ -218,12 +217,12 @@ no_unknowns old whole n xs (w ∷ us) v h e = absurd (omega (arith, h))
 
 pub argument_turn : (types : List DataType) (us : List Unknown) (f : Func) (carried : Carried Unknown) (callee : ℕ) (xs : List ℕ) (old new whole : List Inequality) (v n : ℕ) (q : Option Kind) (have : Units Unknown) → v < n → 1 ≤ length xs
     → q ≡ kind_of f (get_or xs 0 0) → have ≡ carried (get_or xs 0 0)
-    → old ++ local_rows types us f carried xs (map (λ y con. Param callee y con) (range_with_len v (n - v))) ≡ whole
+    → old ++ local_rows types us f carried (arguments_asks (λ y con. Param callee y con) v (n - v) xs) ≡ whole
     → new ≡ old ++ value_rows types us q have (λ con. Param callee v con)
-    → new ++ local_rows types us f carried (take (length xs - 1) (drop 1 xs)) (map (λ y con. Param callee y con) (range_with_len (v + 1) (n - (v + 1)))) ≡ whole
+    → new ++ local_rows types us f carried (arguments_asks (λ y con. Param callee y con) (v + 1) (n - (v + 1)) (take (length xs - 1) (drop 1 xs))) ≡ whole
 argument_turn types us f carried callee xs old new whole v n q have h k e d before pushed =
     one_argument types us f carried callee (get_or xs 0 0) (take (length xs - 1) (drop 1 xs)) old new whole v n h
-    (ap (λ z. old ++ argument_rows types us f carried callee z v (n - v)) (sym (rest_is xs 0 k)) ∙ before)
+    (ap (λ z. old ++ argument_rows types us f carried callee v (n - v) z) (sym (rest_is xs 0 k)) ∙ before)
     (pushed ∙ (λ i. old ++ value_rows types us (e i) (d i) (λ con. Param callee v con)))
 
 pub func_turn : (types : List DataType) (fs gs : List DeclaredFunc) (i n : ℕ) (item : DeclaredFunc) (old new whole : List Unknown) → fs ≡ gs → i < length fs → item ≡ get_or fs i item

@@ -1,7 +1,7 @@
 -- The walk lists the rows of the checks over forms in 64 bits.
 use Rattle.std.proofs.Common.{◌≡◌, ℕ, zero, suc, ◌-◌, ◌*◌, ◌^◌, ◌<◌, ◌≤◌, Bool, true, false, ℤ, pos, List, [], ◌∷◌, ◌++◌, length, map, Option, Some, None, refl, sym, ap, ◌∙◌, subst, arith, append_assoc}
 use Rattle.std.specs.Prelude.{◌==◌, ◌||◌, nat_lt, min, if◌then◌else◌, cond, slice_get}
-use Rattle.std.specs.List.{range_with_len, AllByRecursion}
+use Rattle.std.specs.List.{AllByRecursion}
 use Rattle.std.specs.Option.{option_map_or}
 use Rattle.std.proofs.lemmas.Bool.Decides.{nat_tests}
 use Rattle.dual_simplex.specs.Systems.{Inequality}
@@ -19,13 +19,14 @@ use Rattle.grail_code.specs.Code.{Op, Lit, Flag, Copy, Prim, Make, Call, Let, Ca
 use Rattle.grail_code.specs.WellFormed.{kind_of}
 use Rattle.annotations.specs.Vectors.{is_heap_con}
 use Rattle.licence.specs.Books.{Units, Carried, Book}
-use Rattle.licence.specs.Rules.{Account, account_at, carrying, all_carrying, build_cost, after_op, freed, in_arm, first_con_of, asked_by}
+use Rattle.licence.specs.Rules.{Account, account_at, carrying, all_carrying, build_cost, after_op, in_arm, first_con_of, Asks, arguments_asks, call_asks, jump_asks, build_asks}
+use Rattle.licence.specs.Rules as licence
 use Rattle.licence.specs.Checks.{Check, Site, left_check, value_checks, local_checks, arguments_checks, op_checks, jump_checks, arms_checks, term_checks, lets_checks, blocks_checks, funcs_checks, checks_of}
 use Rattle.bound_system.specs.Unknowns.{Unknown, Need, Back, Param, Result, BlockNeed, BlockVar, Made}
 use Rattle.constraint_rows.specs.Dense.{Dense, more, sums, plus, minus, dense, ticks, once_with, nothings}
 use Rattle.constraint_rows.specs.Plain.{own}
 use Rattle.constraint_rows.specs.Walk as walk
-use Rattle.constraint_rows.specs.Walk.{row_against, unknown_rows, left_rows, cons_rows, value_rows, local_rows, argument_rows, price, made_rows, call_rows, op_rows, left_called, left_after, carried_after, bound, jump_rows, found, next_con, arm_rows, arms_rows, ret_rows, tail_rows, term_rows, next_place, lets_rows, need_of, block_rows, blocks_rows, funcs_rows}
+use Rattle.constraint_rows.specs.Walk.{row_against, unknown_rows, left_rows, cons_rows, value_rows, local_rows, argument_rows, price, call_rows, op_rows, left_called, left_after, carried_after, bound, jump_rows, found, next_con, arm_rows, arms_rows, tail_rows, term_rows, next_place, lets_rows, need_of, block_rows, blocks_rows, funcs_rows}
 use Rattle.constraint_rows.proofs.Numbers.{few_before}
 
 -- the rows of these checks that ask something
@@ -110,18 +111,27 @@ module _ (us : List Unknown) where
       each [] = refl
       each (c ∷ cons) = ap (λ rs. unknown_rows us (have c) (need c) ++ rs) (each cons)
 
-  locals_are : (types : List DataType) (f : Func) (s : Site) (carried : Carried Unknown) (xs : List ℕ) (others : List (Units Unknown))
-      → local_rows types us f carried xs others ≡ asked (local_checks types f s (form_carried carried) xs (map form_units others))
-  locals_are types f s carried [] others = refl
-  locals_are types f s carried (x ∷ xs) [] = refl
-  locals_are types f s carried (x ∷ xs) (u ∷ others) =
-      join (value_checks types s (kind_of f x) (form_units (carried x)) (form_units u)) (local_checks types f s (form_carried carried) xs (map form_units others))
-      (value_rows types us (kind_of f x) (carried x) u) (local_rows types us f carried xs others) (values_are types s (kind_of f x) (carried x) u) (locals_are types f s carried xs others)
+  -- the same locals, asked for forms
+  abbrev form_asks : Asks Unknown → Asks Dense
+  form_asks asks = map (λ a. (a.0, form_units a.1)) asks
 
-  -- against units that are listed by numbers
-  locals_by : (types : List DataType) (f : Func) (s : Site) (carried : Carried Unknown) (xs ys : List ℕ) (units : Carried Unknown)
-      → local_rows types us f carried xs (map units ys) ≡ asked (local_checks types f s (form_carried carried) xs (map (form_carried units) ys))
-  locals_by types f s carried xs ys units = locals_are types f s carried xs (map units ys) ∙ ap (λ q. asked (local_checks types f s (form_carried carried) xs q)) (mapped form_units units ys)
+  locals_are : (types : List DataType) (f : Func) (s : Site) (carried : Carried Unknown) (asks : Asks Unknown) → local_rows types us f carried asks ≡ asked (local_checks types f s (form_carried carried) (form_asks asks))
+  locals_are types f s carried [] = refl
+  locals_are types f s carried (a ∷ asks) =
+      join (value_checks types s (kind_of f a.0) (form_units (carried a.0)) (form_units a.1)) (local_checks types f s (form_carried carried) (form_asks asks))
+      (value_rows types us (kind_of f a.0) (carried a.0) a.1) (local_rows types us f carried asks) (values_are types s (kind_of f a.0) (carried a.0) a.1) (locals_are types f s carried asks)
+
+  -- where the same is asked of each
+  each_are : (types : List DataType) (f : Func) (s : Site) (carried : Carried Unknown) (units : Carried Unknown) (xs : List ℕ)
+      → local_rows types us f carried (map (λ x. (x, units x)) xs) ≡ asked (local_checks types f s (form_carried carried) (map (λ x. (x, form_carried units x)) xs))
+  each_are types f s carried units xs =
+      locals_are types f s carried (map (λ x. (x, units x)) xs) ∙ ap (λ q. asked (local_checks types f s (form_carried carried) q)) (mapped (λ a. (a.0, form_units a.1)) (λ x. (x, units x)) xs)
+
+  -- where arguments are asked for what parameters carry
+  arguments_forms : (units : Carried Unknown) (number count : ℕ) (args : List ℕ) → form_asks (arguments_asks units number count args) ≡ arguments_asks (form_carried units) number count args
+  arguments_forms units number zero args = refl
+  arguments_forms units number (suc count) [] = refl
+  arguments_forms units number (suc count) (x ∷ xs) = ap (λ q. (x, form_units (units number)) ∷ q) (arguments_forms units (suc number) count xs)
 
   carrying_is : (carried : Carried Unknown) (x : ℕ) (units : Units Unknown) → form_carried (carrying carried x units) ≡ carrying (form_carried carried) x (form_units units)
   carrying_is carried x units = λ i y. by_test y (x == y) i
@@ -160,9 +170,10 @@ module _ (us : List Unknown) where
         → argument_rows p.types us f carried callee args (slice_get p.funcs callee) ≡ asked (arguments_checks p f book s (account left carried) callee args)
     arguments_are f s left carried callee args = by_func (slice_get p.funcs callee)
       where
-        by_func : (o : Option Func) → argument_rows p.types us f carried callee args o ≡ asked (option_map_or (λ g. local_checks p.types f s (form_carried carried) args (asked_by book callee g)) o [])
+        by_func : (o : Option Func) → argument_rows p.types us f carried callee args o ≡ asked (option_map_or (λ g. local_checks p.types f s (form_carried carried) (call_asks book callee g args)) o [])
         by_func None = refl
-        by_func (Some g) = locals_by p.types f s carried args (range_with_len 0 (length g.params)) (λ x con. Param callee x con)
+        by_func (Some g) = locals_are p.types f s carried (arguments_asks (λ x con. Param callee x con) 0 (length g.params) args)
+            ∙ ap (λ q. asked (local_checks p.types f s (form_carried carried) q)) (arguments_forms (λ x con. Param callee x con) 0 (length g.params) args)
 
     call_is : (f : Func) (s : Site) (left : Dense) (carried : Carried Unknown) (callee : ℕ) (args : List ℕ)
         → call_rows p us f left carried callee args ≡ asked (arguments_checks p f book s (account left carried) callee args ++ left_check s left (book.need callee) ∷ [])
@@ -177,12 +188,12 @@ module _ (us : List Unknown) where
     op_is f s left carried (Call callee args) = call_is f s left carried callee args
     op_is f s left carried (Make con args at) = by_heap (is_heap_con p.types con)
       where
-        by_heap : (t : Bool) → cond t (local_rows p.types us f carried args (map (λ x. Made s.func s.block s.place) args) ++ left_rows us left (price at) (Made s.func s.block s.place con)) []
-            ≡ asked (cond t (local_checks p.types f s (form_carried carried) args (map (λ x con. unit_of (Made s.func s.block s.place con)) args)
+        by_heap : (t : Bool) → cond t (local_rows p.types us f carried (map (λ x. (x, Made s.func s.block s.place)) args) ++ left_rows us left (price at) (Made s.func s.block s.place con)) []
+            ≡ asked (cond t (local_checks p.types f s (form_carried carried) (build_asks book s.func s.block s.place args)
             ++ left_check s left (build_cost dense book.unit at (unit_of (Made s.func s.block s.place con))) ∷ []) [])
-        by_heap true = ap (λ q. local_rows p.types us f carried args (map (λ x. Made s.func s.block s.place) args) ++ row_against left q) (sym (cost_is at (Made s.func s.block s.place con)))
-            ∙ one_more (local_checks p.types f s (form_carried carried) args (map (λ x con. unit_of (Made s.func s.block s.place con)) args)) s left (build_cost dense book.unit at (unit_of (Made s.func s.block s.place con)))
-            (local_rows p.types us f carried args (map (λ x. Made s.func s.block s.place) args)) (locals_by p.types f s carried args args (λ x. Made s.func s.block s.place))
+        by_heap true = ap (λ q. local_rows p.types us f carried (map (λ x. (x, Made s.func s.block s.place)) args) ++ row_against left q) (sym (cost_is at (Made s.func s.block s.place con)))
+            ∙ one_more (local_checks p.types f s (form_carried carried) (build_asks book s.func s.block s.place args)) s left (build_cost dense book.unit at (unit_of (Made s.func s.block s.place con)))
+            (local_rows p.types us f carried (map (λ x. (x, Made s.func s.block s.place)) args)) (each_are p.types f s carried (λ x. Made s.func s.block s.place) args)
         by_heap false = refl
 
     after_is : (s : Site) (left : Dense) (carried : Carried Unknown) (x : ℕ) (op : Op)
@@ -202,14 +213,9 @@ module _ (us : List Unknown) where
     -- ---- ends of blocks
 
     jump_is : (f : Func) (s : Site) (left : Dense) (carried : Carried Unknown) (to : ℕ) → jump_rows p.types us f s.func left carried to ≡ asked (jump_checks p f book s (account left carried) to)
-    jump_is f s left carried to = one_more (local_checks p.types f s (form_carried carried) (params_at f.blocks to) (map (book.block_var s.func to) (params_at f.blocks to))) s left (book.block_need s.func to)
-        (local_rows p.types us f carried (params_at f.blocks to) (map (λ x con. BlockVar s.func to x con) (params_at f.blocks to)))
-        (locals_by p.types f s carried (params_at f.blocks to) (params_at f.blocks to) (λ x con. BlockVar s.func to x con))
-
-    freed_is : (c : CaseCell) (left : Dense) → walk.freed c left ≡ freed dense book.unit c left
-    freed_is cell.Free left = λ i. record { constant = more left.constant (pos 1); factors = sym (sums_nothing left.factors us) i }
-    freed_is cell.Inline left = refl
-    freed_is (cell.Keep d) left = refl
+    jump_is f s left carried to = one_more (local_checks p.types f s (form_carried carried) (jump_asks f book s.func to)) s left (book.block_need s.func to)
+        (local_rows p.types us f carried (map (λ x. (x, λ con. BlockVar s.func to x con)) (params_at f.blocks to)))
+        (each_are p.types f s carried (λ x con. BlockVar s.func to x con) (params_at f.blocks to))
 
     -- a constructor by the code's count
     abbrev capped : ℕ → ℕ
@@ -229,12 +235,23 @@ module _ (us : List Unknown) where
             ap (λ t. cond t (plus left (unit_of (matched (capped con)))) left) (not_heap p.types (capped con) known big_too)
             ∙ sym (ap (λ t. cond t (plus left (unit_of (matched con))) left) (not_heap p.types con known big))
 
+    price_is : (left : Dense) → walk.freed cell.Free left ≡ plus left book.unit
+    price_is left = λ i. record { constant = more left.constant (pos 1); factors = sym (sums_nothing left.factors us) i }
+
     arm_account : (left : Dense) (carried : Carried Unknown) (on con : ℕ) (a : CaseArm)
         → account (walk.freed a.cell (found p.types us left (carried on) (capped con))) (bound carried a.fields (carried on)) ≡ in_arm dense p.types book (account left carried) on con a
-    arm_account left carried on con a = λ i. record {
-      left = (freed_is a.cell (found p.types us left (carried on) (capped con)) ∙ ap (freed dense book.unit a.cell) (found_is left (carried on) con)) i;
-      carried = bound_is carried a.fields (carried on) i;
-    }
+    arm_account left carried on con a = by_cell a.cell
+      where
+        node : Dense
+        node = found p.types us left (carried on) (capped con)
+
+        by_cell : (c : CaseCell) → account (walk.freed c node) (bound carried a.fields (carried on)) ≡ licence.found dense p.types book.unit (account left carried) on con a.fields c
+        by_cell cell.Free = λ i. record {
+          left = (price_is node ∙ ap (λ d. plus d book.unit) (found_is left (carried on) con)) i;
+          carried = bound_is carried a.fields (carried on) i;
+        }
+        by_cell cell.Inline = λ i. record { left = found_is left (carried on) con i; carried = bound_is carried a.fields (carried on) i }
+        by_cell (cell.Keep d) = λ i. record { left = found_is left (carried on) con i; carried = bound_is carried a.fields (carried on) i }
 
     arms_are : (f : Func) (s : Site) (left : Dense) (carried : Carried Unknown) (on con : ℕ) (arms : List CaseArm)
         → arms_rows p.types us f s.func left carried (carried on) (capped con) arms ≡ asked (arms_checks dense p f book s (account left carried) on con arms)

@@ -2,7 +2,7 @@
 -- The rows of a code as a walk through it. At each place there is a form of what is left, and for each local the unknowns of what its
 -- value carries.
 use Rattle.std.specs.Prelude.{ℕ, zero, suc, ◌+◌, ◌-◌, ◌^◌, min, ℤ, pos, if◌then◌else◌, List, [], ◌∷◌, ◌++◌, map, length, slice_get, Option, Some, None, cond}
-use Rattle.std.specs.List.{filter, range_with_len}
+use Rattle.std.specs.List.{filter}
 use Rattle.dual_simplex.specs.Systems.{Inequality}
 use Rattle.camelot_values.specs.Kinds.{DataType}
 use Rattle.camelot_values.specs.Lists.{is_among}
@@ -16,7 +16,7 @@ use Rattle.grail_code.specs.Code.{Op, Lit, Flag, Copy, Prim, Make, Call, Let, Ca
 use Rattle.grail_code.specs.WellFormed.{kind_of}
 use Rattle.annotations.specs.Vectors.{is_heap_con}
 use Rattle.licence.specs.Books.{Units, Carried}
-use Rattle.licence.specs.Rules.{carrying, first_con_of}
+use Rattle.licence.specs.Rules.{carrying, first_con_of, Asks, arguments_asks}
 use Rattle.licence.specs.Checks.{Site}
 use Rattle.bound_system.specs.Unknowns.{Unknown, Need, Back, Param, Result, BlockNeed, BlockVar, Made, carriers}
 use Rattle.bound_system.specs.Forms.{asks}
@@ -43,16 +43,15 @@ cons_rows us have need (c ∷ cs) = unknown_rows us (have c) (need c) ++ cons_ro
 abbrev pub value_rows : List DataType → List Unknown → Option Kind → Units Unknown → Units Unknown → List Inequality
 value_rows types us q have need = cons_rows us have need (carriers types q)
 
--- of locals in order
-abbrev pub local_rows : List DataType → List Unknown → Func → Carried Unknown → List ℕ → List (Units Unknown) → List Inequality
-local_rows types us f carried [] asked = []
-local_rows types us f carried (x ∷ xs) [] = []
-local_rows types us f carried (x ∷ xs) (asked ∷ others) = value_rows types us (kind_of f x) (carried x) asked ++ local_rows types us f carried xs others
+-- of locals, against what is asked of them
+abbrev pub local_rows : List DataType → List Unknown → Func → Carried Unknown → Asks Unknown → List Inequality
+local_rows types us f carried [] = []
+local_rows types us f carried (a ∷ asks) = value_rows types us (kind_of f a.0) (carried a.0) a.1 ++ local_rows types us f carried asks
 
 -- of arguments; a function that isn't there asks nothing of them
 abbrev pub argument_rows : List DataType → List Unknown → Func → Carried Unknown → (callee : ℕ) → List ℕ → Option Func → List Inequality
 argument_rows types us f carried callee args None = []
-argument_rows types us f carried callee args (Some g) = local_rows types us f carried args (map (λ x con. Param callee x con) (range_with_len 0 (length g.params)))
+argument_rows types us f carried callee args (Some g) = local_rows types us f carried (arguments_asks (λ x con. Param callee x con) 0 (length g.params) args)
 
 -- ---- lets
 
@@ -64,7 +63,7 @@ price (place.Reuse d) = pos 0
 
 abbrev pub made_rows : List DataType → List Unknown → Func → Site → Dense → Carried Unknown → (con : ℕ) → List ℕ → Place → List Inequality
 made_rows types us f s left carried con args at = cond (is_heap_con types con)
-    (local_rows types us f carried args (map (λ x. Made s.func s.block s.place) args) ++ left_rows us left (price at) (Made s.func s.block s.place con))
+    (local_rows types us f carried (map (λ x. (x, Made s.func s.block s.place)) args) ++ left_rows us left (price at) (Made s.func s.block s.place con))
     []
 
 abbrev pub call_rows : Code → List Unknown → Func → Dense → Carried Unknown → (callee : ℕ) → List ℕ → List Inequality
@@ -107,7 +106,7 @@ bound carried fields matched x = if is_among fields x then matched else carried 
 
 abbrev pub jump_rows : List DataType → List Unknown → Func → (func : ℕ) → Dense → Carried Unknown → ℕ → List Inequality
 jump_rows types us f func left carried to =
-    local_rows types us f carried (params_at f.blocks to) (map (λ x con. BlockVar func to x con) (params_at f.blocks to)) ++ left_rows us left (pos 0) (BlockNeed func to)
+    local_rows types us f carried (map (λ x. (x, λ con. BlockVar func to x con)) (params_at f.blocks to)) ++ left_rows us left (pos 0) (BlockNeed func to)
 
 -- what is left in an arm
 abbrev pub freed : CaseCell → Dense → Dense

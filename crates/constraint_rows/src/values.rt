@@ -1,5 +1,5 @@
 ghost use Rattle.std.specs.Prelude.{◌≡◌, ◌++◌, ◌-◌, map, OnOk, length};
-ghost use Rattle.std.specs.List.{range_with_len};
+ghost use Rattle.licence.specs.Rules.{arguments_asks};
 ghost use Rattle.dual_simplex.specs.Systems.{plain_row};
 ghost use Rattle.annotations.specs.Tables.{table_of};
 ghost use Rattle.grail_code.specs.Code.{func_of, code_of};
@@ -85,7 +85,7 @@ pub(crate) fn push_all(
     locals: &[u32],
     need: Origin,
 ) -> Result<(), AllocError>
-    ensures { OnOk result (map plain_row rows.new.items ≡ map plain_row rows.old.items ++ local_rows (code_of books.entry.code.now).types (map plain books.entry.unknowns.now) (func_of here.entry.func.now) (names here.entry.site.func here.entry.site.block slots.now) locals.now (map (λ x. units_of need) locals.now)) }
+    ensures { OnOk result (map plain_row rows.new.items ≡ map plain_row rows.old.items ++ local_rows (code_of books.entry.code.now).types (map plain books.entry.unknowns.now) (func_of here.entry.func.now) (names here.entry.site.func here.entry.site.block slots.now) (map (λ x. (x, units_of need)) locals.now)) }
 {
     'locals: for local in locals {
         let have = origin_at(here.site, slots, *local);
@@ -95,7 +95,7 @@ pub(crate) fn push_all(
 }
 
 /// Adds the rows of arguments against so many parameters of a function.
-#[tactic(auto, using(crate::proofs::Turns::no_argument, crate::proofs::Turns::no_more_locals))]
+#[tactic(auto, using(crate::proofs::Turns::no_argument, crate::proofs::Turns::no_more_arguments))]
 pub(crate) fn push_arguments(
     books: Books<'_>,
     here: Here<'_>,
@@ -105,7 +105,7 @@ pub(crate) fn push_arguments(
     count: u32,
     args: &[u32],
 ) -> Result<(), AllocError>
-    ensures { OnOk result (map plain_row rows.new.items ≡ map plain_row rows.old.items ++ local_rows (code_of books.entry.code.now).types (map plain books.entry.unknowns.now) (func_of here.entry.func.now) (names here.entry.site.func here.entry.site.block slots.now) args.now (map (λ x con. Param callee x con) (range_with_len 0 count))) }
+    ensures { OnOk result (map plain_row rows.new.items ≡ map plain_row rows.old.items ++ local_rows (code_of books.entry.code.now).types (map plain books.entry.unknowns.now) (func_of here.entry.func.now) (names here.entry.site.func here.entry.site.block slots.now) (arguments_asks (λ x con. Param callee x con) 0 count args.now)) }
 {
     let mut var = 0;
     let mut rest = args;
@@ -133,7 +133,7 @@ pub(crate) fn push_vars(
     to: u32,
     vars: &[u32],
 ) -> Result<(), AllocError>
-    ensures { OnOk result (map plain_row rows.new.items ≡ map plain_row rows.old.items ++ local_rows (code_of books.entry.code.now).types (map plain books.entry.unknowns.now) (func_of here.entry.func.now) (bound (names here.entry.site.func here.entry.site.block slots.now) fields.now (units_of matched)) vars.now (map (λ x con. BlockVar here.entry.site.func to x con) vars.now)) }
+    ensures { OnOk result (map plain_row rows.new.items ≡ map plain_row rows.old.items ++ local_rows (code_of books.entry.code.now).types (map plain books.entry.unknowns.now) (func_of here.entry.func.now) (bound (names here.entry.site.func here.entry.site.block slots.now) fields.now (units_of matched)) (map (λ x. (x, λ con. BlockVar here.entry.site.func to x con)) vars.now)) }
 {
     'vars: for var in vars {
         let have = bound_at(here.site, slots, fields, matched, *var);
