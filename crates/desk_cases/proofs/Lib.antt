@@ -1,3 +1,2 @@
-pub mod Arenas
 pub mod Copies
 pub mod Holding
