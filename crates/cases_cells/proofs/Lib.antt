@@ -1,4 +1,3 @@
-pub mod Arenas
 pub mod Copies
 pub mod Holding
 pub mod Named
