@@ -15,8 +15,9 @@ use Rattle.grail_code.specs.WellFormed.{local_kinds, kind_of, HaveKinds, PlaceFi
 use Rattle.grail_code.specs.Limits.{FuncIsWithin, IsWithinLimits}
 use Rattle.annotations.specs.Vectors.{is_heap_con}
 use Rattle.licence.specs.Books.{Units, Carried}
-use Rattle.licence.specs.Rules.{Account, account_at, after_op, in_arm, first_con_of, asked_by, build_cost}
+use Rattle.licence.specs.Rules.{Account, account_at, after_op, in_arm, first_con_of, Asks, call_asks, jump_asks, build_asks, build_cost}
 use Rattle.licence.specs.Checks.{Check, Site, left_check, value_checks, local_checks, arguments_checks, op_checks, jump_checks, arms_checks, term_checks, lets_checks, blocks_checks, funcs_checks, checks_of}
+use Rattle.licence.specs.theory.Asking.{arguments_few}
 use Rattle.bound_system.specs.Unknowns.{Unknown, BlockVar, Param, Result, Made, carriers, params_unknowns, block_unknowns, blocks_unknowns, made_unknowns, lets_unknowns, builds_unknowns, func_unknowns, funcs_unknowns, unknowns_of}
 use Rattle.bound_system.specs.Forms.{Form, forms, unknown_book, row_of, asks, rows_of}
 use Rattle.constraint_count.proofs.Steps.{held, same_length}
@@ -84,14 +85,13 @@ module _ (p : Code) (w : IsWellFormed p) (l : IsWithinLimits p) where
   value_few : (s : Site) (q : Option Kind) (have need : Units Form) → length (value_checks p.types s q have need) ≤ 4096
   value_few s q have need = let e = length-map {B = Check Form} (carriers p.types q) (λ c. record { func = s.func; block = s.block; place = s.place; con = Some c; have = have c; need = need c }) in let c = carriers_few p.types l.types q in omega (arith, e, c)
 
-  local_few : (f : Func) (s : Site) (carried : Carried Form) (xs : List ℕ) (needs : List (Units Form)) → length (local_checks p.types f s carried xs needs) ≤ 4096 * length xs
-  local_few f s carried [] needs = omega arith
-  local_few f s carried (x ∷ xs) [] = omega arith
-  local_few f s carried (x ∷ xs) (need ∷ needs) =
-      let a = length-append (value_checks p.types s (kind_of f x) (carried x) need) (local_checks p.types f s carried xs needs) in
-      let v = value_few s (kind_of f x) (carried x) need in
-      let r = local_few f s carried xs needs in
-      omega (arith, a, v, r)
+  local_few : (f : Func) (s : Site) (carried : Carried Form) (asks : Asks Form) → length (local_checks p.types f s carried asks) ≤ 4096 * length asks
+  local_few f s carried [] = omega arith
+  local_few f s carried (a ∷ asks) =
+      let b = length-append (value_checks p.types s (kind_of f a.0) (carried a.0) a.1) (local_checks p.types f s carried asks) in
+      let v = value_few s (kind_of f a.0) (carried a.0) a.1 in
+      let r = local_few f s carried asks in
+      omega (arith, b, v, r)
 
   -- one more check behind
   one_behind : (xs : List (Check Form)) (x : Check Form) (n : ℕ) → length xs ≤ n → length (xs ++ x ∷ []) ≤ n + 1
@@ -101,22 +101,24 @@ module _ (p : Code) (w : IsWellFormed p) (l : IsWithinLimits p) where
   args_few f s account callee g args e q =
       let few = (at_all FuncIsWithin p.funcs callee g l.funcs e).few_params in
       let n = same_length f args g.params q in
-      let r = local_few f s account.carried args (asked_by unknown_book callee g) in
-      subst (λ o. length (option_map_or (λ b. local_checks p.types f s account.carried args (asked_by unknown_book callee b)) o []) ≤ 65536) (sym e) (omega (arith, few, n, r))
+      let k = arguments_few (unknown_book.param callee) 0 (length g.params) args in
+      let r = local_few f s account.carried (call_asks unknown_book callee g args) in
+      subst (λ o. length (option_map_or (λ b. local_checks p.types f s account.carried (call_asks unknown_book callee b args)) o []) ≤ 65536) (sym e) (omega (arith, few, n, k, r))
 
   op_few : (f : Func) (s : Site) (account : Account Form) (op : Op) (q : Kind) → Gives p f op q → length (op_checks forms p f unknown_book s account op) ≤ 65537
   op_few f s account (Make con args into) q fits = by_heap (is_heap_con p.types con)
     where
       values : List (Check Form)
-      values = local_checks p.types f s account.carried args (map (λ x. unknown_book.make s.func s.block s.place) args)
+      values = local_checks p.types f s account.carried (build_asks unknown_book s.func s.block s.place args)
 
       values_few : length values ≤ 65536
       values_few =
           let c = held (λ c. HaveKinds f args c.fields × PlaceFits f c.inline into × (option_map kind.Of (type_of p.types con) ≡ Some q)) (constructor p.types con) fits in
           let few = (at_all IsConstructor (constructors p.types) con c.0 (cons_all p.types l.types.each) c.1).few_fields in
           let n = same_length f args c.0.fields c.2.0 in
-          let r = local_few f s account.carried args (map (λ x. unknown_book.make s.func s.block s.place) args) in
-          omega (arith, few, n, r)
+          let k = length-map {B = ℕ × Units Form} args (λ x. (x, unknown_book.make s.func s.block s.place)) in
+          let r = local_few f s account.carried (build_asks unknown_book s.func s.block s.place args) in
+          omega (arith, few, n, k, r)
 
       by_heap : (t : Bool) → length (cond t (values ++ left_check s account.left (build_cost forms unknown_book.unit into (unknown_book.make s.func s.block s.place con)) ∷ []) []) ≤ 65537
       by_heap true = one_behind values (left_check s account.left (build_cost forms unknown_book.unit into (unknown_book.make s.func s.block s.place con))) 65536 values_few
@@ -141,8 +143,9 @@ module _ (p : Code) (w : IsWellFormed p) (l : IsWithinLimits p) where
     jump_few : (s : Site) (account : Account Form) (to : ℕ) → length (jump_checks p f unknown_book s account to) ≤ 1048577
     jump_few s account to =
         let n = params_few f within 0 f.blocks fits.blocks to in
-        let r = local_few f s account.carried (params_at f.blocks to) (map (unknown_book.block_var s.func to) (params_at f.blocks to)) in
-        one_behind (local_checks p.types f s account.carried (params_at f.blocks to) (map (unknown_book.block_var s.func to) (params_at f.blocks to))) (left_check s account.left (unknown_book.block_need s.func to)) 1048576 (omega (arith, n, r))
+        let k = length-map {B = ℕ × Units Form} (params_at f.blocks to) (λ x. (x, unknown_book.block_var s.func to x)) in
+        let r = local_few f s account.carried (jump_asks f unknown_book s.func to) in
+        one_behind (local_checks p.types f s account.carried (jump_asks f unknown_book s.func to)) (left_check s account.left (unknown_book.block_need s.func to)) 1048576 (omega (arith, n, k, r))
 
     arms_few : (number : ℕ) (s : Site) (account : Account Form) (on con : ℕ) (cs : List Constructor) (arms : List CaseArm) → ArmsFit f number cs arms → length (arms_checks forms p f unknown_book s account on con arms) ≤ 1048577 * length cs
     arms_few number s account on con [] [] h = omega arith

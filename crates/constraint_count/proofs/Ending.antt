@@ -11,7 +11,7 @@ use Rattle.grail_code.specs.Code.{CaseArm, Term, Ret, Tail, Goto, If, Case, Func
 use Rattle.grail_code.specs.WellFormed.{kind_of, HaveKinds, JumpFits, ArmsFit, data_type, TermFits}
 use Rattle.annotations.specs.Vectors.{is_heap_con}
 use Rattle.licence.specs.Books.{Carried}
-use Rattle.licence.specs.Rules.{Account, freed, in_arm, first_con_of}
+use Rattle.licence.specs.Rules.{Account, opened, found, in_arm, first_con_of, jump_asks}
 use Rattle.licence.specs.Checks.{Check, Site, left_check, value_checks, local_checks, arguments_checks, jump_checks, arms_checks, term_checks}
 use Rattle.bound_system.specs.Unknowns.{Need, Back, Result, BlockNeed, BlockVar, is_listed, carriers, unknowns_of}
 use Rattle.bound_system.specs.Forms.{Form, forms, once, one_cell, unknown_book}
@@ -38,11 +38,6 @@ carried_need (origin.Made f b n) con func to = refl
 sum_none : (a x : ℤ) → a ≡ pos 0 → x ≡ pos 0 → a +ℤ x ≡ pos 0
 sum_none a x e d = omega (arith, ints, e, d)
 
-freed_need : (c : CaseCell) (form : Form) (func to : ℕ) → form.factor (BlockNeed func to) ≡ pos 0 → (freed forms one_cell c form).factor (BlockNeed func to) ≡ pos 0
-freed_need cell.Free form func to e = sum_none (form.factor (BlockNeed func to)) (pos 0) e refl
-freed_need cell.Inline form func to e = e
-freed_need (cell.Keep d) form func to e = e
-
 matched_need : (t : Bool) (form units : Form) (func to : ℕ) → form.factor (BlockNeed func to) ≡ pos 0 → units.factor (BlockNeed func to) ≡ pos 0 → (cond t (forms.plus form units) form).factor (BlockNeed func to) ≡ pos 0
 matched_need true form units func to e d = sum_none (form.factor (BlockNeed func to)) (units.factor (BlockNeed func to)) e d
 matched_need false form units func to e d = e
@@ -52,13 +47,13 @@ module _ (p : Code) (func : ℕ) (f : Func) (there : slice_get p.funcs func ≡ 
 
   vars_kept : (s : Site) (carried : Carried Form) (fields : List ℕ) (matched : Origin) → ((x : ℕ) → carried x ≡ units_of (bound func block slots fields matched x)) → (to total : ℕ) (xs : List ℕ)
       → ((x c : ℕ) → IsTrue (is_among xs x) → IsTrue (is_among (carriers p.types (kind_of f x)) c) → IsTrue (is_listed (unknowns_of p) (BlockVar func to x c)))
-      → vars_onto p.types f func block slots fields matched to (cap total) xs ≡ cap (total + kept (unknowns_of p) (local_checks p.types f s carried xs (map (unknown_book.block_var func to) xs)))
+      → vars_onto p.types f func block slots fields matched to (cap total) xs ≡ cap (total + kept (unknowns_of p) (local_checks p.types f s carried (map (λ x. (x, unknown_book.block_var func to x)) xs)))
   vars_kept s carried fields matched same to total [] listed = let z : total ≡ total + 0 = omega arith in ap cap z
   vars_kept s carried fields matched same to total (x ∷ xs) listed =
       ap (λ t. vars_onto p.types f func block slots fields matched to t xs) (more_left total (value_rows p.types (kind_of f x) (bound func block slots fields matched x) (origin.BlockVar func to x)))
       ∙ vars_kept s carried fields matched same to (total + value_rows p.types (kind_of f x) (bound func block slots fields matched x) (origin.BlockVar func to x)) xs (λ y c m. listed y c (among_later y x xs m))
       ∙ ap cap (counted (unknowns_of p) total (value_rows p.types (kind_of f x) (bound func block slots fields matched x) (origin.BlockVar func to x))
-      (value_checks p.types s (kind_of f x) (carried x) (unknown_book.block_var func to x)) (local_checks p.types f s carried xs (map (unknown_book.block_var func to) xs))
+      (value_checks p.types s (kind_of f x) (carried x) (unknown_book.block_var func to x)) (local_checks p.types f s carried (map (λ x. (x, unknown_book.block_var func to x)) xs))
       (ap (λ u. kept (unknowns_of p) (value_checks p.types s (kind_of f x) u (unknown_book.block_var func to x))) (same x)
       ∙ value_kept (unknowns_of p) s p.types (kind_of f x) (bound func block slots fields matched x) (origin.BlockVar func to x) (λ c m. listed x c (among_here x xs) m)))
 
@@ -80,7 +75,7 @@ module _ (p : Code) (func : ℕ) (f : Func) (there : slice_get p.funcs func ≡ 
         some = omega (arith, fits.0)
 
         values : List (Check Form)
-        values = local_checks p.types f site account.carried (params_at f.blocks to) (map (unknown_book.block_var func to) (params_at f.blocks to))
+        values = local_checks p.types f site account.carried (jump_asks f unknown_book func to)
 
         whole : 0 + kept (unknowns_of p) values + 1 ≡ kept (unknowns_of p) (values ++ left_check site account.left (once (BlockNeed func to)) ∷ [])
         whole =
@@ -94,10 +89,21 @@ module _ (p : Code) (func : ℕ) (f : Func) (there : slice_get p.funcs func ≡ 
 
       arm_kept : (on con : ℕ) (a : CaseArm) → JumpFits f block a.target
           → jump_rows p.types f func block slots a.fields (origin_at func block slots on) a.target ≡ cap (kept (unknowns_of p) (jump_checks p f unknown_book site (in_arm forms p.types unknown_book account on con a) a.target))
-      arm_kept on con a fits = jump_kept (in_arm forms p.types unknown_book account on con a) a.fields (origin_at func block slots on) (arm_carried func block slots account.carried a.fields on h) a.target fits
-          (freed_need a.cell (cond (is_heap_con p.types con) (forms.plus account.left (account.carried on con)) account.left) func a.target
-          (matched_need (is_heap_con p.types con) account.left (account.carried on con) func a.target (l.need a.target fits.0)
-          (ap (λ u. (u con).factor (BlockNeed func a.target)) (h.same on) ∙ carried_need (origin_at func block slots on) con func a.target)))
+      arm_kept on con a fits = jump_kept (in_arm forms p.types unknown_book account on con a) a.fields (origin_at func block slots on) (carried a.cell) a.target fits (left a.cell)
+        where
+          carried : (c : CaseCell) (x : ℕ) → (found forms p.types one_cell account on con a.fields c).carried x ≡ units_of (bound func block slots a.fields (origin_at func block slots on) x)
+          carried cell.Free = arm_carried func block slots account.carried a.fields on h
+          carried cell.Inline = arm_carried func block slots account.carried a.fields on h
+          carried (cell.Keep d) = arm_carried func block slots account.carried a.fields on h
+
+          node : (opened forms p.types account on con a.fields).left.factor (BlockNeed func a.target) ≡ pos 0
+          node = matched_need (is_heap_con p.types con) account.left (account.carried on con) func a.target (l.need a.target fits.0)
+              (ap (λ u. (u con).factor (BlockNeed func a.target)) (h.same on) ∙ carried_need (origin_at func block slots on) con func a.target)
+
+          left : (c : CaseCell) → (found forms p.types one_cell account on con a.fields c).left.factor (BlockNeed func a.target) ≡ pos 0
+          left cell.Free = sum_none ((opened forms p.types account on con a.fields).left.factor (BlockNeed func a.target)) (pos 0) node refl
+          left cell.Inline = node
+          left (cell.Keep d) = node
 
       arms_kept : (on con total : ℕ) (cs : List Constructor) (arms : List CaseArm) → ArmsFit f block cs arms
           → arms_onto p.types f func block slots (origin_at func block slots on) (cap total) arms ≡ cap (total + kept (unknowns_of p) (arms_checks forms p f unknown_book site account on con arms))

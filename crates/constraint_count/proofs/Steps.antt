@@ -1,7 +1,6 @@
 -- The rows of lets and ends of blocks are counted.
 use Rattle.std.proofs.Common.{◌≡◌, ◌⊎◌, ℕ, suc, ◌+◌, ◌-◌, ◌<◌, Bool, true, false, List, [], ◌∷◌, ◌++◌, length, map, Option, Some, None, IsTrue, refl, sym, ap, ◌∙◌, subst, arith, inl, inr}
 use Rattle.std.specs.Prelude.{cond, slice_get, IsSomeAnd}
-use Rattle.std.specs.List.{range_with_len}
 use Rattle.std.specs.Option.{option_map, option_map_or}
 use Rattle.std.proofs.lemmas.Option.{slice_get_within}
 use Rattle.camelot_values.specs.KindLaws.{slice_get_front}
@@ -14,7 +13,7 @@ use Rattle.grail_code.specs.Code.{Op, Lit, Flag, Copy, Prim, Make, Call, Let, Bl
 use Rattle.grail_code.specs.WellFormed.{kind_of, HaveKinds, PlaceFits, Gives}
 use Rattle.annotations.specs.Vectors.{is_heap_con}
 use Rattle.licence.specs.Books.{Carried}
-use Rattle.licence.specs.Rules.{Account, build_cost, asked_by}
+use Rattle.licence.specs.Rules.{Account, build_cost, arguments_asks, call_asks, build_asks}
 use Rattle.licence.specs.Checks.{Check, Site, left_check, value_checks, local_checks, arguments_checks, op_checks}
 use Rattle.bound_system.specs.Unknowns.{Unknown, Need, Back, Param, Made, is_listed, carriers, unknowns_of}
 use Rattle.bound_system.specs.Forms.{Form, forms, once, one_cell, unknown_book}
@@ -71,14 +70,13 @@ module _ (p : Code) (func : ℕ) (f : Func) (there : slice_get p.funcs func ≡ 
 
     args_kept : (callee : ℕ) (g : Func) → slice_get p.funcs callee ≡ Some g → (number total : ℕ) (xs : List ℕ) (kinds : List Kind) → HaveKinds f xs kinds
         → ((i : ℕ) (q : Kind) → slice_get kinds i ≡ Some q → (number + i < length g.params) × (kind_of g (number + i) ≡ Some q))
-        → args_onto p.types f func block slots callee number (cap total) xs ≡ cap (total + kept (unknowns_of p) (local_checks p.types f s carried xs (map (unknown_book.param callee) (range_with_len number (length kinds)))))
+        → args_onto p.types f func block slots callee number (cap total) xs ≡ cap (total + kept (unknowns_of p) (local_checks p.types f s carried (arguments_asks (unknown_book.param callee) number (length kinds) xs)))
     args_kept callee g e number total [] [] k at = let z : total ≡ total + 0 = omega arith in ap cap z
     args_kept callee g e number total [] (q ∷ kinds) k at = absurd cc
     args_kept callee g e number total (x ∷ xs) [] k at = absurd cc
     args_kept callee g e number total (x ∷ xs) (q ∷ kinds) k at =
         let first : kind_of f x ≡ Some q = cc in
         let rest : map (kind_of f) xs ≡ map Some kinds = cc in
-        let next : number + 1 ≡ suc number = omega arith in
         let n : number + 0 ≡ number = omega arith in
         let here = at 0 q refl in
         let few : number < length g.params = omega (arith, here.0) in
@@ -86,21 +84,19 @@ module _ (p : Code) (func : ℕ) (f : Func) (there : slice_get p.funcs func ≡ 
         let part = local_kept x (origin.Param callee number)
         (λ c m. stands_listed p (Param callee number c) (g, e, (few, subst (λ o. IsTrue (is_among (carriers p.types o) c)) kinds_same m))) in
         ap (λ t. args_onto p.types f func block slots callee (suc number) t xs) (more_left total (local_rows p.types f func block slots x (origin.Param callee number)))
-        ∙ subst (λ m. args_onto p.types f func block slots callee m (cap (total + local_rows p.types f func block slots x (origin.Param callee number))) xs
-        ≡ cap (total + local_rows p.types f func block slots x (origin.Param callee number) + kept (unknowns_of p) (local_checks p.types f s carried xs (map (unknown_book.param callee) (range_with_len (number + 1) (length kinds)))))) next
-        (args_kept callee g e (number + 1) (total + local_rows p.types f func block slots x (origin.Param callee number)) xs kinds rest
-        (λ i r q. (let later = at (suc i) r q in let j : number + suc i ≡ number + 1 + i = omega arith in (omega (arith, later.0), ap (kind_of g) (sym j) ∙ later.1))))
+        ∙ args_kept callee g e (suc number) (total + local_rows p.types f func block slots x (origin.Param callee number)) xs kinds rest
+        (λ i r q. (let later = at (suc i) r q in let j : number + suc i ≡ suc number + i = omega arith in (omega (arith, later.0), ap (kind_of g) (sym j) ∙ later.1)))
         ∙ ap cap (counted (unknowns_of p) total (local_rows p.types f func block slots x (origin.Param callee number)) (value_checks p.types s (kind_of f x) (carried x) (unknown_book.param callee number))
-        (local_checks p.types f s carried xs (map (unknown_book.param callee) (range_with_len (number + 1) (length kinds)))) part)
+        (local_checks p.types f s carried (arguments_asks (unknown_book.param callee) (suc number) (length kinds) xs)) part)
 
     fields_kept : (need : Origin) (total : ℕ) (xs : List ℕ) → ((x c : ℕ) → IsTrue (is_among xs x) → IsTrue (is_among (carriers p.types (kind_of f x)) c) → IsTrue (is_listed (unknowns_of p) (unknown_at need c)))
-        → fields_onto p.types f func block slots need (cap total) xs ≡ cap (total + kept (unknowns_of p) (local_checks p.types f s carried xs (map (λ x. units_of need) xs)))
+        → fields_onto p.types f func block slots need (cap total) xs ≡ cap (total + kept (unknowns_of p) (local_checks p.types f s carried (map (λ x. (x, units_of need)) xs)))
     fields_kept need total [] listed = let z : total ≡ total + 0 = omega arith in ap cap z
     fields_kept need total (x ∷ xs) listed =
         ap (λ t. fields_onto p.types f func block slots need t xs) (more_left total (local_rows p.types f func block slots x need))
         ∙ fields_kept need (total + local_rows p.types f func block slots x need) xs (λ y c m. listed y c (among_later y x xs m))
         ∙ ap cap (counted (unknowns_of p) total (local_rows p.types f func block slots x need) (value_checks p.types s (kind_of f x) (carried x) (units_of need))
-        (local_checks p.types f s carried xs (map (λ y. units_of need) xs)) (local_kept x need (λ c m. listed x c (among_here x xs) m)))
+        (local_checks p.types f s carried (map (λ y. (y, units_of need)) xs)) (local_kept x need (λ c m. listed x c (among_here x xs) m)))
 
   -- ---- lets
 
@@ -119,8 +115,8 @@ module _ (p : Code) (func : ℕ) (f : Func) (there : slice_get p.funcs func ≡ 
     arguments_kept callee g e args q =
         ap (λ n. args_onto p.types f func block slots callee 0 n args) none
         ∙ args_kept site block slots account.carried h callee g e 0 0 args g.params q (λ i r d. (let o = param_kind g i r d in let z : 0 + i ≡ i = omega arith in (omega (arith, o.0), ap (kind_of g) z ∙ o.1)))
-        ∙ ap cap (let z : 0 + kept (unknowns_of p) (local_checks p.types f site account.carried args (asked_by unknown_book callee g)) ≡ kept (unknowns_of p) (local_checks p.types f site account.carried args (asked_by unknown_book callee g)) = omega arith in z)
-        ∙ ap (λ o. cap (kept (unknowns_of p) (option_map_or (λ b. local_checks p.types f site account.carried args (asked_by unknown_book callee b)) o []))) (sym e)
+        ∙ ap cap (let z : 0 + kept (unknowns_of p) (local_checks p.types f site account.carried (call_asks unknown_book callee g args)) ≡ kept (unknowns_of p) (local_checks p.types f site account.carried (call_asks unknown_book callee g args)) = omega arith in z)
+        ∙ ap (λ o. cap (kept (unknowns_of p) (option_map_or (λ b. local_checks p.types f site account.carried (call_asks unknown_book callee b args)) o []))) (sym e)
 
     pub call_kept : (callee : ℕ) (g : Func) → slice_get p.funcs callee ≡ Some g → (args : List ℕ) → HaveKinds f args g.params
         → call_rows p.types f func block slots t callee args ≡ cap (kept (unknowns_of p) (arguments_checks p f unknown_book site account callee args ++ left_check site account.left (once (Need callee)) ∷ []))
@@ -152,7 +148,7 @@ module _ (p : Code) (func : ℕ) (f : Func) (there : slice_get p.funcs func ≡ 
           made = origin.Made func block at
 
           values : List (Check Form)
-          values = local_checks p.types f site account.carried args (map (λ y. units_of (origin.Made func block at)) args)
+          values = local_checks p.types f site account.carried (build_asks unknown_book func block at args)
 
           left : List (Check Form)
           left = left_check site account.left (build_cost forms one_cell into (once (Made func block at con))) ∷ []
