@@ -68,7 +68,11 @@ fn serve_next<N: JobName>(
             let kept = run_and_give(alloc, desk, jobs, lease, kept)?;
             Ok(Some(kept))
         }
-        Next::Full { .. } => Ok(kept),
+        Next::Full {
+            job: _,
+            need: _,
+            largest: _,
+        } => Ok(kept),
         Next::Over => unreachable!(),
     }
 }
