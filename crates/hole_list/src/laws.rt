@@ -13,8 +13,8 @@ pub fn law_of_placing()
     ensures given { (hs : List Range) (r : Range) → map run_of (give_cells hs r) ≡ give_run (map run_of hs) (run_of r) }
 {}
 
-/// A run that is taken has so many cells, which were cells of a hole and are so no longer; no other cell changes hands. None is taken exactly where each
-/// hole is too small.
+/// A run that is taken has so many cells, which were cells of a hole and are so no longer; no other cell changes hands.
+/// None is taken exactly where each hole is too small.
 pub fn law_of_taking()
     ensures size { (hs : List Run) (size : ℕ) (t : Taken) → take_run hs size ≡ Some t → t.run.size ≡ size }
     ensures cells { (hs : List Run) (size : ℕ) (t : Taken) → take_run hs size ≡ Some t → (index : ℕ) → times_in t.holes index + in_run t.run index ≡ times_in hs index }
@@ -44,8 +44,8 @@ pub fn law_of_holes()
     ensures count { (s : Holed) → AreHoles s → length s.holes ≤ suc (length s.out) }
 {}
 
-/// Cells stay where they are: what a test says of each cell of the holes, and of the range that comes back, at its index in the arena, it says of each cell
-/// behind taking and giving.
+/// Cells stay where they are: what a test says of each cell of the holes, and of the range that comes back, at its
+/// index in the arena, it says of each cell behind taking and giving.
 pub fn law_of_cells()
     ensures taken { (test : ℕ → Cell → Bool) (hs : List Range) (size : ℕ) (t : TakenCells) → take_cells hs size ≡ Some t → AllPass test hs → AllPass test (t.range ∷ t.holes) }
     ensures given { (test : ℕ → Cell → Bool) (hs : List Range) (r : Range) → AllPass test (r ∷ hs) → AllPass test (give_cells hs r) }

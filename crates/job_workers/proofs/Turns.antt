@@ -10,9 +10,9 @@ use Rattle.lease_desk.specs.declared.event.Event.TheVariants as event
 use Rattle.lease_desk.specs.Journal.{DeskState, Move, move, leased, took_left, asked_for, next_move, left_with, first_left, is_none_out, left_move}
 use Rattle.lease_desk.specs.Progress.{IsSound}
 use Rattle.lease_desk.specs.Lease.{LeaseView}
-use Rattle.lease_desk.specs.Desk.{DeskView, Takes, filed_with}
+use Rattle.lease_desk.specs.Desk.{DeskView, Takes}
 use Rattle.job_world.specs.Plans.{Plan, Planned, leases_of}
-use Rattle.job_workers.specs.Serving.{IsServed, IsDue, IsDone, IsServing}
+use Rattle.job_workers.specs.Serving.{IsDue, IsServing}
 
 -- ---- leases that are out
 
@@ -134,7 +134,8 @@ taken_due {P} ps old new l next serving sound takes k =
       none_withdrawn = withdrawn ∙ serving.none_withdrawn;
       job = omega (arith, within, ap length serving.sizes, leases_many ps.plans);
       size = sym (ap (λ xs. slice_get xs l.job) serving.sizes) ∙ k.sized;
-      knows = (takes.arena ∙ sym arena, out ∙ ap (λ r. Some (Some r)) is);
+      knows = out ∙ ap (λ r. Some (Some r)) is;
+      arena = takes.arena ∙ sym arena;
       only = ap (λ ls. leased (slice_set ls l.job None)) k.leases ∙ none_again old.state.leases l.job k.run serving.none_out;
     }
 
@@ -149,16 +150,3 @@ pub left_due : {P : Type 0} (ps : Planned) (old new : DeskView P) (l : LeaseView
 left_due {P} ps old new l serving sound takes =
     let k = left_taking old.sizes old.state new.state l.job l.range.first (length l.range.cells) takes.told in
     (taken_due ps old new l (left_move old.sizes old.state) serving sound takes k.taking, k.asked, ap (λ (d : DeskView P). d.arena) takes.rest, k.fewer)
-
--- ---- and comes back
-
-pub done_of : {P : Type 0} (ps : Planned) (old new : DeskView P) (l back : LeaseView) (answer : P) (number : ℕ) → IsDue ps old l → IsServed ps l back number → new ≡ filed_with old back answer
-    → IsDone ps old l new
-done_of {P} ps old new l back answer number due served e =
-    let serving : IsServing ps (filed_with old back answer) = record {
-      sizes = due.sizes;
-      none_out = ap (λ job. leased (slice_set old.state.leases job None)) served.job ∙ due.only;
-      none_withdrawn = due.none_withdrawn;
-    } in
-    let done : IsDone ps old l (filed_with old back answer) = record { serving = serving; arena = refl; asked = refl; waiting = refl } in
-    subst (IsDone ps old l) (sym e) done

@@ -39,6 +39,7 @@ module _ {P : Type 0} where
     pub job : l.job < length ps.plans
     pub size : slice_get (leases_of ps.plans) l.job ≡ Some (length l.range.cells)
     pub knows : Knows d l
+    pub arena : l.range.arena ≡ d.arena
     pub only : leased (slice_set d.state.leases l.job None) ≡ []
 
   -- Behind the run no lease is out; the arena, what was asked for and who waits are as before.

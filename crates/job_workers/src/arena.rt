@@ -13,7 +13,7 @@ use crate::workers::serve_jobs;
 use cell_machine::Ending;
 use cell_span::Span;
 use job_world::{JobName, Jobs};
-use lease_desk::{Desk, Event};
+use lease_desk::{Desk, DeskRefused, Event, Finished};
 use std::alloc::{AllocError, Global};
 use std::marker::Brand;
 
@@ -67,23 +67,36 @@ fn serve_named<N: JobName>(alloc: Global, span: Span, jobs: &Jobs) -> Result<Ser
     ensures arena { IfOk result (λ served. served.span.arena ≡ span.arena) }
     ensures cells { IfOk result (λ served. HoldsFiled (all_cells jobs.now) served.journal.items served.span) }
 {
-    let sizes = jobs.sizes(alloc)?;
+    let Ok(sizes) = jobs.sizes(alloc) else {
+        span.end();
+        return Err(AllocError);
+    };
     let desk = match Desk::<Answer<N>>::new(alloc, span, sizes) {
         Ok(desk) => desk,
-        Err(_) => return Err(AllocError),
+        Err(DeskRefused { span }) => {
+            span.end();
+            return Err(AllocError);
+        }
     };
-    let finished = serve_jobs(alloc, desk, jobs)?;
-    let endings = endings_in(alloc, finished.payloads)?;
+    let Finished {
+        span,
+        journal,
+        payloads,
+    } = serve_jobs(alloc, desk, jobs)?;
+    let Ok(endings) = endings_in(alloc, payloads) else {
+        span.end();
+        return Err(AllocError);
+    };
     Ok(ServedJobs {
-        span: finished.span,
-        journal: finished.journal,
+        span,
+        journal,
         endings,
     })
 }
 
 /// Serves planned jobs in a new arena, whose cells are all blank: on a new desk, as [`serve_jobs`] does. There are at
 /// most 4,096, and the lease of each fits into the arena. It is the call that picks which jobs are served. `AllocError`
-/// where memory runs out: the arena is lost then.
+/// where memory runs out: the arena is ended then.
 pub fn serve_planned(alloc: Global, span: Span, jobs: &Jobs) -> Result<ServedJobs, AllocError>
     requires whole { IsWhole span }
     requires blanks { span.cells ≡ replicate span.arena.cells blank }

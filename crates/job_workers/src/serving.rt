@@ -97,14 +97,19 @@ pub(crate) fn serve_lease<N: JobName>(
     };
     let (span, claim) = lease.open();
     let ran = run_plan(licence, plan, span, stack, room);
+    let Ran {
+        ending,
+        span,
+        stack,
+    } = ran;
     let answer = Answer {
         job,
-        ending: compact(alloc, ran.ending),
+        ending: compact(alloc, ending),
         of: PhantomData,
     };
-    let kept = Kept::new(plan.licence, ran.stack);
+    let kept = Kept::new(plan.licence, stack);
     Ok(Served {
-        lease: claim.close(ran.span),
+        lease: claim.close(span),
         answer,
         kept,
     })

@@ -9,14 +9,14 @@ ghost use Rattle.job_workers.specs.Filings.{AllAnswered};
 ghost use Rattle.job_workers.specs.Serving.{IsDue, IsDone, IsServing};
 
 use crate::answer::Answer;
-use crate::serving::serve_lease;
+use crate::serving::{Served, serve_lease};
 use crate::stacks::Kept;
 use job_world::{JobName, Jobs};
 use lease_desk::{Desk, Finished, Lease, Next};
 use std::alloc::{AllocError, Global};
 
 // Runs the job of a lease that the desk just gave, and gives the lease back with the job's answer. Where memory for the
-// run is lacking, the lease goes back without one.
+// run is lacking, the lease goes back without one. No lease is out in either case.
 fn run_and_give<N: JobName>(
     alloc: Global,
     desk: &mut Desk<Answer<N>>,
@@ -26,15 +26,22 @@ fn run_and_give<N: JobName>(
 ) -> Result<Kept<N>, AllocError>
     requires plans { jobs.now ≡ N.planned }
     requires due { IsDue jobs.now desk.old lease }
-    ensures { OnOk result (IsDone jobs.now desk.old lease desk.new) }
+    ensures done { OnOk result (IsDone jobs.now desk.old lease desk.new) }
+    ensures none_out { leased desk.new.state.leases ≡ [] }
 {
     match serve_lease(alloc, jobs, lease, kept) {
-        Ok(served) => match desk.give(served.lease, served.answer) {
-            Ok(()) => Ok(served.kept),
-            Err(_) => Err(AllocError),
-        },
+        Ok(
+            Served {
+                lease,
+                answer,
+                kept,
+            },
+        ) => {
+            desk.give(lease, answer);
+            Ok(kept)
+        }
         Err(lease) => {
-            let _ = desk.withdraw(lease);
+            desk.withdraw(lease);
             Err(AllocError)
         }
     }
@@ -53,16 +60,20 @@ fn serve_next<N: JobName>(
     ensures serving { OnOk result (IsServing jobs.now desk.new) }
     ensures arena { OnOk result (desk.new.arena ≡ desk.old.arena) }
     ensures asked { OnOk result (desk.new.state.asked ≡ desk.old.state.asked + 1) }
+    ensures none_out { leased desk.new.state.leases ≡ [] }
 {
-    match desk.next(alloc) {
-        Ok(Next::Granted(lease)) => {
+    match desk.next() {
+        Next::Granted(lease) => {
             desk.kept();
             let kept = run_and_give(alloc, desk, jobs, lease, kept)?;
             Ok(Some(kept))
         }
-        Ok(Next::Full { .. }) => Ok(kept),
-        Ok(Next::Over) => unreachable!(),
-        Err(full) => Err(full),
+        Next::Full {
+            job: _,
+            need: _,
+            largest: _,
+        } => Ok(kept),
+        Next::Over => unreachable!(),
     }
 }
 
@@ -78,6 +89,7 @@ fn serve_asked<N: JobName>(
     ensures serving { OnOk result (IsServing jobs.now desk.new) }
     ensures arena { OnOk result (desk.new.arena ≡ desk.old.arena) }
     ensures asked { OnOk result (desk.new.state.asked ≡ length desk.new.sizes) }
+    ensures none_out { leased desk.new.state.leases ≡ [] }
 {
     let mut kept: Option<Kept<N>> = None;
     'jobs: for _ in 0..jobs.count() {
@@ -100,15 +112,15 @@ fn serve_next_left<N: JobName>(
     ensures arena { OnOk result (desk.new.arena ≡ desk.old.arena) }
     ensures asked { OnOk result (desk.new.state.asked ≡ length desk.new.sizes) }
     ensures left { IfOk result (λ kept. MatchOption kept (desk.new.state.waiting ≡ []) (λ _. length desk.new.state.waiting < length desk.old.state.waiting)) }
+    ensures none_out { leased desk.new.state.leases ≡ [] }
 {
-    match desk.next_left(alloc) {
-        Ok(Some(lease)) => {
+    match desk.next_left() {
+        Some(lease) => {
             desk.kept();
             let kept = run_and_give(alloc, desk, jobs, lease, kept)?;
             Ok(Some(kept))
         }
-        Ok(None) => Ok(None),
-        Err(full) => Err(full),
+        None => Ok(None),
     }
 }
 
@@ -126,6 +138,7 @@ fn serve_left<N: JobName>(
     ensures arena { OnOk result (desk.new.arena ≡ desk.old.arena) }
     ensures asked { OnOk result (desk.new.state.asked ≡ length desk.new.sizes) }
     ensures left { OnOk result (desk.new.state.waiting ≡ []) }
+    ensures none_out { leased desk.new.state.leases ≡ [] }
 {
     let mut kept = kept;
     'turns: loop {
@@ -137,10 +150,29 @@ fn serve_left<N: JobName>(
     }
 }
 
+// Serves every job. No lease is out then, also where memory runs out.
+fn serve_all<N: JobName>(
+    alloc: Global,
+    desk: &mut Desk<Answer<N>>,
+    jobs: &Jobs,
+) -> Result<(), AllocError>
+    requires plans { jobs.now ≡ N.planned }
+    requires serving { IsServing jobs.now desk.old }
+    requires asked { desk.old.state.asked ≡ 0 }
+    ensures serving { OnOk result (IsServing jobs.now desk.new) }
+    ensures arena { OnOk result (desk.new.arena ≡ desk.old.arena) }
+    ensures asked { OnOk result (desk.new.state.asked ≡ length desk.new.sizes) }
+    ensures left { OnOk result (desk.new.state.waiting ≡ []) }
+    ensures none_out { leased desk.new.state.leases ≡ [] }
+{
+    let kept = serve_asked(alloc, desk, jobs)?;
+    serve_left(alloc, desk, jobs, kept)
+}
+
 /// Serves the planned jobs of the name on a new desk for them, by one worker. It asks the desk for one job after the
 /// other, runs each one that is given a lease in the lease's cells, and gives the lease back with the job's ending.
 /// Then it does the same with the jobs that wait, and ends the desk. A run takes no memory; its stack is kept for the
-/// next job of the same licence. `AllocError` where memory runs out: the arena is lost then.
+/// next job of the same licence. `AllocError` where memory runs out: the desk and its arena are ended then.
 pub fn serve_jobs<N: JobName>(
     alloc: Global,
     desk: Desk<Answer<N>>,
@@ -163,8 +195,19 @@ pub fn serve_jobs<N: JobName>(
     ensures cells { IfOk result (λ f. HoldsFiled (all_cells jobs.now) f.journal.items f.span) }
 {
     let mut desk = desk;
-    let kept = serve_asked(alloc, &mut desk, jobs)?;
-    serve_left(alloc, &mut desk, jobs, kept)?;
-    desk.kept();
-    Ok(desk.finish())
+    match serve_all(alloc, &mut desk, jobs) {
+        Ok(()) => {
+            desk.kept();
+            Ok(desk.finish())
+        }
+        Err(full) => {
+            let Finished {
+                span,
+                journal: _,
+                payloads: _,
+            } = desk.finish();
+            span.end();
+            Err(full)
+        }
+    }
 }

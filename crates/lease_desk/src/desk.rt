@@ -19,9 +19,10 @@ use std::marker::Model;
 
 /// Leases the runs of one arena to jobs, and keeps a journal of what it did.
 ///
-/// Each job of a fixed list is asked for once, in order, and is given the front of the first hole that has cells enough (first fit); a job for which no hole
-/// has waits, and is taken once all were asked for and no lease is out. A lease goes back with a payload that stands for its job. All room is taken at
-/// the start: two entries of the journal for each job, and one more for a job that waits.
+/// Each job of a fixed list is asked for once, in order, and is given the front of the first hole that has cells enough
+/// (first fit); a job for which no hole has waits, and is taken once all were asked for and no lease is out. A lease
+/// goes back with a payload that stands for its job. All room is taken at the start: two entries of the journal for
+/// each job, and one more for a job that waits.
 #[derive(Drop)]
 pub struct Desk<P: Filed> {
     holes: Holes,
@@ -71,8 +72,8 @@ pub struct Finished<P: Filed> {
 }
 
 impl<P: Filed> Desk<P> {
-    /// A desk of a whole arena whose cells are all blank, for at most 4,096 jobs with these numbers of cells, each from 1 to the arena's. Where memory runs
-    /// out, the arena comes back.
+    /// A desk of a whole arena whose cells are all blank, for at most 4,096 jobs with these numbers of cells, each from
+    /// 1 to the arena's. Where memory runs out, the arena comes back.
     pub fn new(alloc: Global, span: Span, sizes: Vec<u32>) -> Result<Desk<P>, DeskRefused>
         requires whole { IsWhole span }
         requires blanks { span.cells ≡ replicate span.arena.cells blank }
@@ -139,8 +140,8 @@ impl<P: Filed> Desk<P> {
         }
     }
 
-    /// Takes the job that waits first, once every job was asked for and no lease is out; `None` where none waits. The arena is one hole then, so that each
-    /// job fits. It takes no memory.
+    /// Takes the job that waits first, once every job was asked for and no lease is out; `None` where none waits. The
+    /// arena is one hole then, so that each job fits. It takes no memory.
     pub fn next_left(&mut self) -> Option<Lease>
         requires asked { self.old.state.asked ≡ length self.old.sizes }
         requires none_out { leased self.old.state.leases ≡ [] }

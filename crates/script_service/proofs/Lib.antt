@@ -1,3 +1,4 @@
+pub mod Arenas
 pub mod Filing
 pub mod SameReports
 pub mod Handing

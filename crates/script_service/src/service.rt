@@ -101,7 +101,7 @@ fn serve_read(alloc: Global, script: Script) -> Result<ServedScript, ServeFault>
 /// # Errors
 ///
 /// [`ServeFault::NoScript`] exactly where the input is no script, with its first wrong line; [`ServeFault::NotYet`] exactly where it is one with a Grail
-/// program; [`ServeFault::Memory`] where memory runs out: the arena is lost then.
+/// program; [`ServeFault::Memory`] where memory runs out: the arena is ended then.
 pub fn run_script(alloc: Global, input: Vec<u8>) -> Result<ServedScript, ServeFault>
     requires { length input.items < 4294967296 }
     // What is handed out is what comes of the script that the input is the text of; an input is refused for its cause.
