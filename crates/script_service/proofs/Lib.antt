@@ -1,4 +1,3 @@
-pub mod Arenas
 pub mod Filing
 pub mod SameReports
 pub mod Handing

@@ -12,7 +12,6 @@ use job_world::Jobs;
 use std::alloc::{AllocError, Global};
 
 /// Runs all planned jobs in a new arena of so many cells. `AllocError` where memory runs out: the arena is ended then.
-#[tactic(auto, using(crate::proofs::Arenas::whole_new, crate::proofs::Arenas::blanks_new, crate::proofs::Arenas::sizes_new, crate::proofs::Arenas::legal_new))]
 pub(crate) fn run_jobs(alloc: Global, arena: u32, jobs: &Jobs) -> Result<ServedJobs, AllocError>
     requires arena { 1 ≤ arena }
     requires few_cells { arena ≤ 2147483648 }
