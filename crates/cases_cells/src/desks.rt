@@ -8,7 +8,7 @@
 //!   without one.
 //! - `counts`: how many cells are free and in the largest hole, how many leases are out, and how many were withdrawn. `journal`: the events.
 //! - `replay N S1 S2 ..: E1, E2, ..`: what the journal of these events comes to, as `took J F S`, `full J N L` and `gave J F S`.
-//! - `finish`: ends the desk; its cells' tags, and the jobs with a payload.
+//! - `finish`: withdraws what is out, and ends the desk; its cells' tags, and the jobs with a payload, where nothing was out.
 mod answers;
 mod copied;
 mod replays;

@@ -4,7 +4,7 @@
 //! `--` is a note. Any other line is a command on a code, and its answer stands behind it. Each word as `3=67` puts these bytes, any number
 //! of them, in the place of one byte, counted from 0.
 //!
-//! - `decode NAME EDITS`: the code's types and functions, or its fault. A code is written again too.
+//! - `decode NAME EDITS`: the code's types and functions, as Rust's `Debug` prints them, or its fault. A code is written again too.
 //! - `fronts NAME`: how many of its fronts are short. `values NAME`: at how many values of each byte it is still code.
 //! - `find NAME FUNCTION`: the function's number.
 //! - `types NAME`: each type with the constructors that it reaches.

@@ -2,6 +2,9 @@
 //!
 //! `system NAME COSTS` begins a system of as many unknowns as there are costs, `row LEAST UNKNOWN:FACTOR ..` is a row of it, and
 //! `each COUNT` adds so many unknowns of cost 1, each with a row that makes it 1 at least. A line that begins with `--` is a note.
+//!
+//! The answer is the name and `least VALUES over UNIT, prices PRICES over UNIT`, `nothing at VARIABLE`, `wide at PIVOT` or `spent`, and the pivots; or
+//! `not a proper system`.
 mod cases;
 
 use cases::Case;
