@@ -88,12 +88,7 @@ impl Text {
     }
 
     /// The bytes of the text with this change, and these bytes at its end.
-    fn bytes(
-        &self,
-        alloc: Global,
-        change: Change,
-        ending: &str,
-    ) -> Result<Vec<u8>, AllocError> {
+    fn bytes(&self, alloc: Global, change: Change, ending: &str) -> Result<Vec<u8>, AllocError> {
         let mut out = Vec::new(alloc);
         for (index, line) in self.lines.iter().enumerate() {
             push_changed(alloc, &mut out, line, index + 1, change)?;
