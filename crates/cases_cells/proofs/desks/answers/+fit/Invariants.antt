@@ -1,5 +1,5 @@
 use Rattle.std.proofs.Common.{length}
-use Rattle.cases_cells.proofs.answers.+fit.Given as goal
+use Rattle.cases_cells.proofs.desks.answers.+fit.Given as goal
 
 abbrev pub decreases-fit : goal.decreases-fit
 decreases-fit l = length l.sizes.now

@@ -1,6 +1,6 @@
 use Rattle.std.proofs.Common.{◌≡◌, ◌≤◌, replicate, None}
 use Rattle.std.specs.Prelude.{vec_capacity}
-use Rattle.cases_cells.proofs.session.places.Given as goal
+use Rattle.cases_cells.proofs.desks.session.places.Given as goal
 
 abbrev pub invariant-loop : goal.invariant-loop
 invariant-loop l = record { items : l.places.items ≡ replicate l.counter None; room : l.jobs ≤ vec_capacity l.places }

@@ -1,5 +1,5 @@
 use Rattle.cases_cells.proofs.Readable.{verified_readable}
-use Rattle.cases_cells.proofs.jobs.licence_of.Goals as goal
+use Rattle.cases_cells.proofs.licences.jobs.licence_of.Goals as goal
 
 pub returns-in-Ok : goal.returns-in-Ok
 returns-in-Ok c = verified_readable c.args.code.now c.args.cert.now c.in-Ok.licence c.in-Ok.ensures.found

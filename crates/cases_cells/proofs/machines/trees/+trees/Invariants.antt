@@ -2,7 +2,7 @@ use Rattle.std.proofs.Common.{◌≡◌, ◌≤◌, ◌+◌, ◌*◌, length}
 use Rattle.camelot_values.specs.Value.{parts, part_count}
 use Rattle.grail_evaluator.specs.Trees.{plain_all}
 use Rattle.cases_cells.specs.Trees.{InFront}
-use Rattle.cases_cells.proofs.trees.+trees.Given as goal
+use Rattle.cases_cells.proofs.machines.trees.+trees.Given as goal
 
 abbrev pub decreases-take_tree : goal.decreases-take_tree
 decreases-take_tree l = 2 * length l.items.now

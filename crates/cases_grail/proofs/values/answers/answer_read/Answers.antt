@@ -1,6 +1,6 @@
 use Rattle.grail_code.specs.Code.{code_of}
 use Rattle.cases_grail.proofs.Named.{code_named}
-use Rattle.cases_grail.proofs.answers.answer_read.Goals as goal
+use Rattle.cases_grail.proofs.values.answers.answer_read.Goals as goal
 
 pub answer_text-requires-clause-named : goal.answer_text-requires-clause-named
 answer_text-requires-clause-named c = code_named (code_of c.in-Ok.code) c.in-Ok.ensures.found.fits

@@ -1,7 +1,7 @@
 use Rattle.std.proofs.Common.{ap, ◌∙◌, ◌++◌, [], ◌∷◌, Option}
 use Rattle.lease_desk.specs.Lease.{LeaseView}
 use Rattle.cases_cells.proofs.Holding.{empty_front, last_known, last_arena, last_front}
-use Rattle.cases_cells.proofs.session.Session.finish.Goals as goal
+use Rattle.cases_cells.proofs.desks.session.Session.finish.Goals as goal
 
 pub withdraw-requires-clause-known : goal.withdraw-requires-clause-known
 withdraw-requires-clause-known c = last_known c.places.held.items c.pop.new.self.items c.in-Some-place.lease c.places.desk c.places.invariant (c.in-Some.ensures.items ∙ ap (λ (x : Option LeaseView). c.pop.new.self.items ++ x ∷ []) c.in-Some-place.is)

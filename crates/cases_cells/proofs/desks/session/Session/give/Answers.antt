@@ -1,6 +1,6 @@
 use Rattle.std.proofs.Common.{refl}
 use Rattle.cases_cells.proofs.Holding.{is_known, given_held, is_back, back_held}
-use Rattle.cases_cells.proofs.session.Session.give.Goals as goal
+use Rattle.cases_cells.proofs.desks.session.Session.give.Goals as goal
 
 pub give-requires-clause-known : goal.give-requires-clause-known
 give-requires-clause-known c = is_known c.self.inside.held.items c.self.inside.desk c.self.invariant c.args.job c.in-Some.lease c.in-Some.ensures.some.0

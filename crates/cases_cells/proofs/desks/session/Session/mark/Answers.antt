@@ -1,5 +1,5 @@
 use Rattle.cases_cells.proofs.Holding.{back_held}
-use Rattle.cases_cells.proofs.session.Session.mark.Goals as goal
+use Rattle.cases_cells.proofs.desks.session.Session.mark.Goals as goal
 
 pub invariant_of-self : goal.invariant_of-self
 invariant_of-self c =

@@ -1,5 +1,5 @@
 use Rattle.cases_cells.proofs.Holding.{is_known, given_held}
-use Rattle.cases_cells.proofs.session.Session.withdraw.Goals as goal
+use Rattle.cases_cells.proofs.desks.session.Session.withdraw.Goals as goal
 
 pub withdraw-requires-clause-known : goal.withdraw-requires-clause-known
 withdraw-requires-clause-known c = is_known c.self.inside.held.items c.self.inside.desk c.self.invariant c.args.job c.in-Some.lease c.in-Some.ensures.some.0
