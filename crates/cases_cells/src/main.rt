@@ -8,6 +8,7 @@
 //! - `scripts`: texts of scripts.
 #![tactic(auto)]
 
+mod arenas;
 mod desks;
 mod licences;
 mod machines;

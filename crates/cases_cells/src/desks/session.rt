@@ -1,10 +1,11 @@
 //! A desk together with the leases that it gave.
 ghost use Rattle.std.specs.Prelude.{◌≡◌, ◌<◌, ◌≤◌, [], length, replicate, slice_get, slice_set, Some, None, IfOk, IfSome, IfNone, MatchResult, vec_capacity};
-ghost use Rattle.cell_span.specs.Range.{IsWhole, blank};
+ghost use Rattle.cell_span.specs.Range.{IsWhole};
 ghost use Rattle.hole_list.specs.Holes.{run_of};
 ghost use Rattle.lease_desk.specs.Journal.{leased, AreSizes};
 ghost use Rattle.cases_cells.specs.Held.{AllHeld};
 
+use crate::arenas::new_arena;
 use crate::desks::copied::Copied;
 use cell_span::{Cell, Span};
 use lease_desk::{Desk, DeskRefused, Event, Finished, Lease, Next};
@@ -41,18 +42,6 @@ pub(crate) enum Asked {
     LeasesOut,
     /// Every job was asked for, and none waits.
     Over,
-}
-
-// The whole of a new arena, all of whose cells are blank.
-fn new_arena(alloc: Global, cells: u32) -> Result<Span, AllocError>
-    requires some { 1 ≤ cells }
-    requires few { cells ≤ 2147483648 }
-    ensures whole { IfOk result IsWhole }
-    ensures size { IfOk result (λ span. span.arena.cells ≡ cells) }
-    ensures blanks { IfOk result (λ span. span.cells ≡ replicate span.arena.cells blank) }
-{
-    let span = Span::new(alloc, cells)?;
-    Ok(span)
 }
 
 // A place for each of so many jobs, in which no lease is.

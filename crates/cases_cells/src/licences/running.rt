@@ -1,10 +1,12 @@
 //! Answers about licensed runs.
 ghost use Rattle.std.specs.Prelude.{◌≡◌, ◌≤◌, length, IfOk};
+ghost use Rattle.cell_span.specs.Range.{IsWhole};
 ghost use Rattle.cell_machine.specs.Views.{HasRoom, IsStackFor};
 ghost use Rattle.grail_code.specs.Code.{code_of};
 ghost use Rattle.licence.specs.Bound.{bound, lease};
 ghost use Rattle.cases_cells.specs.Covered.{IsReady};
 
+use crate::arenas::new_arena;
 use crate::licences::jobs::Job;
 use camelot_values::Types;
 use cell_machine::{Ending, Ran, Room, Stack, run};
@@ -35,6 +37,7 @@ fn run_in(job: &Job, span: Span, stack: Stack, room: Room) -> Ran
     requires cells { length span.cells ≡ lease job.now.licence.code job.now.licence.cert job.now.entry job.now.args.items }
     requires stack { IsStackFor job.now.licence.code stack }
     requires room { HasRoom (length span.cells) room }
+    ensures whole { IsWhole span → IsWhole result.span }
 {
     run(
         &job.licence,
@@ -58,18 +61,23 @@ fn print_ending(rt: &HostRuntime, types: &Types, ending: &Ending) -> io::Result<
     }
 }
 
-// Makes the run in cells of its own, and prints how it ends.
+// Makes the run in an arena of its own, which is ended, and prints how the run ends.
 fn answer_ending(rt: &HostRuntime, job: &Job, cells: u32) -> io::Result<()>
     requires job { IsReady job.now }
     requires cells { cells ≡ lease job.now.licence.code job.now.licence.cert job.now.entry job.now.args.items }
     requires few { cells ≤ 2147483648 }
 {
     let alloc = rt.alloc();
-    let span = Span::new(alloc, cells)?;
     let stack = Stack::new(alloc, &job.licence)?;
     let room = Room::new(alloc, cells)?;
-    let ran = run_in(job, span, stack, room);
-    print_ending(rt, &job.licence.code().types, &ran.ending)
+    let span = new_arena(alloc, cells)?;
+    let Ran {
+        ending,
+        span,
+        stack: _,
+    } = run_in(job, span, stack, room);
+    span.end();
+    print_ending(rt, &job.licence.code().types, &ending)
 }
 
 /// Prints the bound and the lease of the run, and then, where it is asked for, how it ends.
