@@ -103,7 +103,8 @@ pub(crate) fn answer_run(
     };
     let room = Room::new(alloc, job.lease)?;
     let place = place_of(alloc, &job)?;
-    let (ending, Place { span, stack: _ }) = run_job(&job, place, room);
+    let (ending, place) = run_job(&job, place, room);
+    let Place { span, stack: _ } = place;
     let told = tell(rt, &job, &ending, &span, with_cells);
     span.end();
     told
