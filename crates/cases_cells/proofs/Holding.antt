@@ -88,26 +88,22 @@ module _ {P : Type 0} (held : List Place) (old : DeskView P) (k : AllHeld held o
 
   pub taken_held : (next : Option Move) (new : DeskView P) (l : LeaseView) (now : List Place) → Takes next old new l → now ≡ slice_set held l.job (Some l) → AllHeld now new
   taken_held next new l now t e =
-      let arena : new.arena ≡ old.arena = ap (λ (d : DeskView P). d.arena) t.rest in
       let less : l.job < length held = slice_get_within held l.job None (is_free next new l t) in
       subst (λ (xs : List Place). AllHeld xs new) (sym e) (record {
         leases = map-set run_in held l.job (Some l) ∙ ap (λ (ls : List (Option Run)). slice_set ls l.job (Some (run_of l.range))) k.leases ∙ sym t.leases;
-        own = λ at m q. by_place at m (cases_eq l.job at) less (t.arena ∙ sym arena) arena q;
+        own = λ at m q. by_place at m (cases_eq l.job at) less q;
       })
     where
-      by_place : (at : ℕ) (m : LeaseView) → (l.job ≡ at) ⊎ ((l.job ≡ at) → ⊥) → l.job < length held → l.range.arena ≡ new.arena → new.arena ≡ old.arena
-          → slice_get (slice_set held l.job (Some l)) at ≡ Some (Some m) → (m.job ≡ at) × (m.range.arena ≡ new.arena)
-      by_place at m (inl here) less a b q =
+      by_place : (at : ℕ) (m : LeaseView) → (l.job ≡ at) ⊎ ((l.job ≡ at) → ⊥) → l.job < length held → slice_get (slice_set held l.job (Some l)) at ≡ Some (Some m) → m.job ≡ at
+      by_place at m (inl here) less q =
           let same : l ≡ m = some_same l m (some_same (Some l) (Some m) (sym (put_here held l.job (Some l) less) ∙ subst (λ j. slice_get (slice_set held l.job (Some l)) j ≡ Some (Some m)) (sym here) q)) in
-          subst (λ (x : LeaseView). (x.job ≡ at) × (x.range.arena ≡ new.arena)) same (here, a)
-      by_place at m (inr there) less a b q =
-          let o = k.own at m (sym (put_there held l.job at (Some l) there) ∙ q) in
-          (o.0, o.1 ∙ sym b)
+          subst (λ (x : LeaseView). x.job ≡ at) same here
+      by_place at m (inr there) less q = k.own at m (sym (put_there held l.job at (Some l) there) ∙ q)
 
   pub waits_held : (new : DeskView P) (job need largest : ℕ) → Waits old new job need largest → AllHeld held new
   waits_held new job need largest t = record {
     leases = k.leases ∙ sym t.leases;
-    own = λ at l q. ((k.own at l q).0, (k.own at l q).1 ∙ ap (λ (d : DeskView P). d.arena) (sym t.rest));
+    own = k.own;
   }
 
   -- ---- one less
@@ -116,15 +112,12 @@ module _ {P : Type 0} (held : List Place) (old : DeskView P) (k : AllHeld held o
     pub is_known : slice_get old.state.leases l.job ≡ Some (Some (run_of l.range))
     is_known =
         let there : slice_get (map run_in held) job ≡ Some (Some (run_of l.range)) = slice_get-map run_in held job ∙ ap (option_map run_in) at in
-        subst (λ j. slice_get old.state.leases j ≡ Some (Some (run_of l.range))) (sym (k.own job l at).0) (ap (λ (ls : List (Option Run)). slice_get ls job) (sym k.leases) ∙ there)
+        subst (λ j. slice_get old.state.leases j ≡ Some (Some (run_of l.range))) (sym (k.own job l at)) (ap (λ (ls : List (Option Run)). slice_get ls job) (sym k.leases) ∙ there)
 
-    pub is_own : l.range.arena ≡ old.arena
-    is_own = (k.own job l at).1
-
-    others_own : AreOwn old.arena (slice_set held job None)
+    others_own : AreOwn (slice_set held job None)
     others_own i m q = by_place (cases_eq job i)
       where
-        by_place : (job ≡ i) ⊎ ((job ≡ i) → ⊥) → (m.job ≡ i) × (m.range.arena ≡ old.arena)
+        by_place : (job ≡ i) ⊎ ((job ≡ i) → ⊥) → m.job ≡ i
         by_place (inl here) =
             let less : job < length held = slice_get_within held job (Some l) at in
             let none : None ≡ Some m = some_same None (Some m) (sym (put_here held job None less) ∙ subst (λ j. slice_get (slice_set held job None) j ≡ Some (Some m)) (sym here) q) in
@@ -134,7 +127,7 @@ module _ {P : Type 0} (held : List Place) (old : DeskView P) (k : AllHeld held o
     pub given_held : (payloads : List (Option P)) (withdrawn : ℕ) (now : List Place) (new : DeskView P) → now ≡ slice_set held job None → new ≡ given_back old l payloads withdrawn → AllHeld now new
     given_held payloads withdrawn now new e f =
         subst (λ (xs : List Place). AllHeld xs new) (sym e) (subst (λ (d : DeskView P). AllHeld (slice_set held job None) d) (sym f) (record {
-          leases = map-set run_in held job None ∙ ap (λ (ls : List (Option Run)). slice_set ls job None) k.leases ∙ ap (λ j. slice_set old.state.leases j None) (sym (k.own job l at).0);
+          leases = map-set run_in held job None ∙ ap (λ (ls : List (Option Run)). slice_set ls job None) k.leases ∙ ap (λ j. slice_set old.state.leases j None) (sym (k.own job l at));
           own = others_own;
         }))
 
@@ -143,11 +136,11 @@ module _ {P : Type 0} (held : List Place) (old : DeskView P) (k : AllHeld held o
       pub is_back : slice_get now m.job ≡ Some None
       is_back =
           let less : job < length held = slice_get_within held job (Some l) at in
-          ap (λ (xs : List Place). slice_get xs m.job) e ∙ subst (λ i. slice_get (slice_set held job None) i ≡ Some None) (sym (j ∙ (k.own job l at).0)) (put_here held job None less)
+          ap (λ (xs : List Place). slice_get xs m.job) e ∙ subst (λ i. slice_get (slice_set held job None) i ≡ Some None) (sym (j ∙ k.own job l at)) (put_here held job None less)
 
-      pub back_held : run_of m.range ≡ run_of l.range → m.range.arena ≡ l.range.arena → (last : List Place) → last ≡ slice_set now m.job (Some m) → AllHeld last old
-      back_held r a last f =
-          let place : m.job ≡ job = j ∙ (k.own job l at).0 in
+      pub back_held : run_of m.range ≡ run_of l.range → (last : List Place) → last ≡ slice_set now m.job (Some m) → AllHeld last old
+      back_held r last f =
+          let place : m.job ≡ job = j ∙ k.own job l at in
           let is : last ≡ slice_set (slice_set held job None) job (Some m) = f ∙ (λ i. slice_set (e i) (place i) (Some m)) in
           let there : slice_get (map run_in held) job ≡ Some (Some (run_of l.range)) = slice_get-map run_in held job ∙ ap (option_map run_in) at in
           subst (λ (xs : List Place). AllHeld xs old) (sym is) (record {
@@ -159,12 +152,12 @@ module _ {P : Type 0} (held : List Place) (old : DeskView P) (k : AllHeld held o
             own = λ i n q. by_place i n (cases_eq job i) place q;
           })
         where
-          by_place : (i : ℕ) (n : LeaseView) → (job ≡ i) ⊎ ((job ≡ i) → ⊥) → m.job ≡ job → slice_get (slice_set (slice_set held job None) job (Some m)) i ≡ Some (Some n) → (n.job ≡ i) × (n.range.arena ≡ old.arena)
+          by_place : (i : ℕ) (n : LeaseView) → (job ≡ i) ⊎ ((job ≡ i) → ⊥) → m.job ≡ job → slice_get (slice_set (slice_set held job None) job (Some m)) i ≡ Some (Some n) → n.job ≡ i
           by_place i n (inl here) place q =
               let less : job < length (slice_set held job None) = slice_get_within (slice_set held job None) job None (put_here held job None (slice_get_within held job (Some l) at)) in
               let same : m ≡ n = some_same m n (some_same (Some m) (Some n) (sym (put_here (slice_set held job None) job (Some m) less)
               ∙ subst (λ x. slice_get (slice_set (slice_set held job None) job (Some m)) x ≡ Some (Some n)) (sym here) q)) in
-              subst (λ (x : LeaseView). (x.job ≡ i) × (x.range.arena ≡ old.arena)) same (place ∙ here, a ∙ is_own)
+              subst (λ (x : LeaseView). x.job ≡ i) same (place ∙ here)
           by_place i n (inr there) place q = others_own i n (sym (put_there (slice_set held job None) job i (Some m) there) ∙ q)
 
 -- ---- all of them back, from the last place on
@@ -198,7 +191,7 @@ module _ {P : Type 0} where
   pub all_front : (held : List Place) (d : DeskView P) → AllHeld held d → FrontHeld held d
   all_front held d k = record { behind = []; leases = nothing_behind (map run_in held) ∙ k.leases; none = refl; own = k.own }
 
-  front_own : (held now : List Place) (x : Place) (d : DeskView P) → FrontHeld held d → held ≡ now ++ x ∷ [] → AreOwn d.arena now
+  front_own : (held now : List Place) (x : Place) (d : DeskView P) → FrontHeld held d → held ≡ now ++ x ∷ [] → AreOwn now
   front_own held now x d k e at l q = k.own at l (ap (λ (xs : List Place). slice_get xs at) e ∙ get_longer now (x ∷ []) at (Some l) q)
 
   front_leases : (held now : List Place) (x : Place) (d : DeskView P) → (k : FrontHeld held d) → held ≡ now ++ x ∷ [] → map run_in now ++ run_in x ∷ k.behind ≡ d.state.leases
@@ -208,21 +201,18 @@ module _ {P : Type 0} where
   empty_front held now d k e = record { behind = None ∷ k.behind; leases = front_leases held now None d k e; none = k.none; own = front_own held now None d k e }
 
   module _ (held now : List Place) (l : LeaseView) (d : DeskView P) (k : FrontHeld held d) (e : held ≡ now ++ Some l ∷ []) where
-    last_own : (l.job ≡ length now) × (l.range.arena ≡ d.arena)
+    last_own : l.job ≡ length now
     last_own = k.own (length now) l (ap (λ (xs : List Place). slice_get xs (length now)) e ∙ get_last now (Some l))
 
     pub last_known : slice_get d.state.leases l.job ≡ Some (Some (run_of l.range))
     last_known =
-        subst (λ j. slice_get d.state.leases j ≡ Some (Some (run_of l.range))) (sym last_own.0)
+        subst (λ j. slice_get d.state.leases j ≡ Some (Some (run_of l.range))) (sym last_own)
         (ap (λ (ls : List (Option Run)). slice_get ls (length now)) (sym (front_leases held now (Some l) d k e)) ∙ get_seam now (Some (run_of l.range)) k.behind)
-
-    pub last_arena : l.range.arena ≡ d.arena
-    last_arena = last_own.1
 
     pub last_front : (payloads : List (Option P)) (withdrawn : ℕ) (new : DeskView P) → new ≡ given_back d l payloads withdrawn → FrontHeld now new
     last_front payloads withdrawn new f = subst (λ (x : DeskView P). FrontHeld now x) (sym f) (record {
       behind = None ∷ k.behind;
-      leases = sym ((λ i. slice_set (sym (front_leases held now (Some l) d k e) i) (last_own.0 i) None) ∙ set_seam now (Some (run_of l.range)) None k.behind);
+      leases = sym ((λ i. slice_set (sym (front_leases held now (Some l) d k e) i) (last_own i) None) ∙ set_seam now (Some (run_of l.range)) None k.behind);
       none = k.none;
       own = front_own held now (Some l) d k e;
     })

@@ -14,32 +14,17 @@ mod copied;
 mod replays;
 mod session;
 
-use answers::{answer, end};
-use session::Session;
+use answers::{answer_new, answer_without};
 use std::io;
 
-// Answers each line.
-fn answer_each(
-    rt: &HostRuntime,
-    session: &mut Option<Session>,
-    lines: &[String],
-) -> io::Result<()> {
-    for line in lines {
-        let line = line.as_str();
-        if line.starts_with("--") {
-            continue;
+/// Answers the lines of a table. A desk's lines go up to that of the next desk.
+pub(crate) fn answer_lines(rt: &HostRuntime, lines: &[String]) -> io::Result<()> {
+    answer_without(rt, lines)?;
+    for (place, line) in lines.iter().enumerate() {
+        if let Some(words) = line.strip_prefix("desk ") {
+            print!(rt; "{line}:")?;
+            answer_new(rt, words, lines.get(place + 1..).unwrap_or(&[]))?;
         }
-        print!(rt; "{line}:")?;
-        answer(rt, session, line)?;
-        println!(rt)?;
     }
     Ok(())
-}
-
-/// Answers the lines of a table.
-pub(crate) fn answer_lines(rt: &HostRuntime, lines: &[String]) -> io::Result<()> {
-    let mut session: Option<Session> = None;
-    let answered = answer_each(rt, &mut session, lines);
-    end(session);
-    answered
 }

@@ -10,6 +10,7 @@ use Rattle.lease_desk.specs.declared.event.Event.{Event}
 use Rattle.lease_desk.specs.Journal.{leased, opened}
 use Rattle.lease_desk.specs.Filing.{FiledCells, HoldsFiled}
 use Rattle.lease_desk.specs.Desk.{DeskView, cells_in, filed_by, AllFiled}
+use Rattle.lease_desk.specs.declared.name.DeskName as desk_name
 use Rattle.job_world.specs.declared.name.JobName as job_name
 use Rattle.job_world.specs.Plans.{Plan, Planned, leases_of, job_run, job_cells}
 use Rattle.job_workers.specs.declared.answer.Answer.{Answer}
@@ -25,9 +26,9 @@ none_out : (n : ℕ) → leased (replicate n None) ≡ []
 none_out zero = refl
 none_out (suc n) = none_out n
 
-pub new_serving : {P : Type 0} (ps : Planned) (d : DeskView P) → d.sizes ≡ leases_of ps.plans → d.state ≡ opened d.arena.cells (length d.sizes) → d.payloads ≡ replicate (length d.sizes) None → d.withdrawn ≡ 0 → IsServing ps d
-new_serving ps d sizes state payloads withdrawn = record {
-  sizes = sizes;
+pub new_serving : {P : Type 0} (ps qs : Planned) (d : DeskView P) (sizes : List ℕ) → ps ≡ qs → sizes ≡ leases_of qs.plans → d.sizes ≡ sizes → d.state ≡ opened d.arena.cells (length d.sizes) → d.payloads ≡ replicate (length d.sizes) None → d.withdrawn ≡ 0 → IsServing ps d
+new_serving ps qs d sizes plans named is state payloads withdrawn = record {
+  sizes = is ∙ named ∙ ap (λ (x : Planned). leases_of x.plans) (sym plans);
   none_out = ap (λ s. leased s.leases) state ∙ none_out (length d.sizes);
   none_withdrawn = withdrawn;
 }
@@ -39,8 +40,8 @@ past (p ∷ plans) (suc job) e = omega (arith, past plans job e)
 
 -- ---- all answers
 
-module _ {N : Type 0} {j : job_name.Ghosts N} where
-  answer_of : (ps : Planned) (job : ℕ) (o : Option (Option (Answer N j))) (a : Answer N j) → ps ≡ j.planned → o ≡ Some (Some a) → a.job ≡ job → HasAnswer ps job o
+module _ {N : Type 0} {j : job_name.Ghosts N} {n : desk_name.Ghosts N} where
+  answer_of : (ps : Planned) (job : ℕ) (o : Option (Option (Answer N j n))) (a : Answer N j n) → ps ≡ j.planned → o ≡ Some (Some a) → a.job ≡ job → HasAnswer ps job o
   answer_of ps job o a plans is number = record {
     answer = a;
     is = is;
@@ -48,20 +49,20 @@ module _ {N : Type 0} {j : job_name.Ghosts N} where
     meant = subst (λ q. EndsWith q a.ending) (ap (λ ps. job_run ps a.job) (sym plans) ∙ ap (job_run ps) number) a.meant;
   }
 
-  pub all_answered : (ps : Planned) (d : DeskView (Answer N j)) (payloads : List (Option (Answer N j))) → ps ≡ j.planned → IsServing ps d → payloads ≡ d.payloads
-      → AllFiled (λ (a : Answer N j). a.job) (length d.sizes) d.payloads → AllAnswered ps payloads
+  pub all_answered : (ps : Planned) (d : DeskView (Answer N j n)) (payloads : List (Option (Answer N j n))) → ps ≡ j.planned → IsServing ps d → payloads ≡ d.payloads
+      → AllFiled (λ (a : Answer N j n). a.job) (length d.sizes) d.payloads → AllAnswered ps payloads
   all_answered ps d payloads plans serving is filed job less =
       let p = filed job (omega (arith, less, ap length serving.sizes, leases_many ps.plans)) in
       answer_of ps job (slice_get payloads job) p.0 plans (ap (λ l. slice_get l job) is ∙ p.1) p.2
 
   -- ---- their endings
 
-  ending_of : (payloads : List (Option (Answer N j))) (job : ℕ) (a : Answer N j) → slice_get payloads job ≡ Some (Some a) → slice_get (map ending_in payloads) job ≡ Some (Some a.ending)
+  ending_of : (payloads : List (Option (Answer N j n))) (job : ℕ) (a : Answer N j n) → slice_get payloads job ≡ Some (Some a) → slice_get (map ending_in payloads) job ≡ Some (Some a.ending)
   ending_of [] job a e = let c : None ≡ Some (Some a) = e in absurd cc
   ending_of (p ∷ payloads) zero a e = let same : p ≡ Some a = cc in ap (λ p. Some (ending_in p)) same
   ending_of (p ∷ payloads) (suc job) a e = ending_of payloads job a e
 
-  pub all_ended : (ps : Planned) (payloads : List (Option (Answer N j))) (endings : List (Option Ending)) → AllAnswered ps payloads → endings ≡ map ending_in payloads → AllEnded ps endings
+  pub all_ended : (ps : Planned) (payloads : List (Option (Answer N j n))) (endings : List (Option Ending)) → AllAnswered ps payloads → endings ≡ map ending_in payloads → AllEnded ps endings
   all_ended ps payloads endings all is job less =
       let h : HasAnswer ps job (slice_get payloads job) = all job less in
       record { ending = h.answer.ending; is = ap (λ l. slice_get l job) is ∙ ending_of payloads job h.answer h.is; meant = h.meant }
@@ -69,10 +70,10 @@ module _ {N : Type 0} {j : job_name.Ghosts N} where
   -- ---- all cells
 
   -- the cells that an answer tells
-  abbrev told : Answer N j → List Cell
+  abbrev told : Answer N j n → List Cell
   told a = job_cells j.planned a.job
 
-  filed_at : (ps : Planned) (payloads : List (Option (Answer N j))) (job : ℕ) → ps ≡ j.planned → AllAnswered ps payloads → length payloads ≡ length ps.plans → filed_by told payloads job ≡ all_cells ps job
+  filed_at : (ps : Planned) (payloads : List (Option (Answer N j n))) (job : ℕ) → ps ≡ j.planned → AllAnswered ps payloads → length payloads ≡ length ps.plans → filed_by told payloads job ≡ all_cells ps job
   filed_at ps payloads job plans all many = by_plan (slice_get ps.plans job) refl
     where
       by_plan : (o : Option Plan) → slice_get ps.plans job ≡ o → cells_in told (slice_get payloads job) ≡ cells_for ps job o
@@ -81,7 +82,7 @@ module _ {N : Type 0} {j : job_name.Ghosts N} where
           let h = all job (slice_get_within ps.plans job p e) in
           ap (cells_in told) h.is ∙ ap Some (ap (λ ps. job_cells ps h.answer.job) (sym plans) ∙ ap (job_cells ps) h.number)
 
-  pub all_held : (ps : Planned) (d : DeskView (Answer N j)) (payloads : List (Option (Answer N j))) (journal : List Event) (span : Range) → ps ≡ j.planned → IsServing ps d → payloads ≡ d.payloads
+  pub all_held : (ps : Planned) (d : DeskView (Answer N j n)) (payloads : List (Option (Answer N j n))) (journal : List Event) (span : Range) → ps ≡ j.planned → IsServing ps d → payloads ≡ d.payloads
       → AllAnswered ps payloads → length d.payloads ≡ length d.sizes → HoldsFiled (filed_by told d.payloads) d.journal span → journal ≡ d.journal → HoldsFiled (all_cells ps) journal span
   all_held ps d payloads journal span plans serving is all many holds same =
       let count : length payloads ≡ length ps.plans = ap length is ∙ many ∙ ap length serving.sizes ∙ leases_many ps.plans in

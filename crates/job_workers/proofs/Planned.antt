@@ -1,7 +1,9 @@
 -- What the plan of a job says of its run.
-use Rattle.std.proofs.Common.{◌≡◌, ℕ, zero, suc, ◌≤◌, List, [], ◌∷◌, length, Option, Some, None, refl, sym, ap, ◌∙◌, subst, arith}
+use Rattle.std.proofs.Common.{◌≡◌, ℕ, zero, suc, ◌<◌, ◌≤◌, List, [], ◌∷◌, length, Option, Some, None, refl, sym, ap, ◌∙◌, subst, arith}
 use Rattle.std.specs.Prelude.{slice_get, IsSomeAnd}
 use Rattle.std.specs.List.{AllByRecursion}
+use Rattle.std.proofs.lemmas.Option.{slice_get_within}
+use Rattle.job_workers.proofs.Turns.{leases_many}
 use Rattle.cell_span.specs.declared.cell.Cell.{Cell}
 use Rattle.grail_code.specs.Code.{Func}
 use Rattle.grail_code.specs.Meaning.{run_of}
@@ -69,6 +71,13 @@ kept_fits licences kept number l stack h same at = h l (ap (slice_get licences) 
 
 -- ---- the run of a lease
 
+-- a job with a size of the name has a plan, whose lease is that size
+pub due_now : (ps qs : Planned) (sizes : List ℕ) (job many : ℕ) → ps ≡ qs → sizes ≡ leases_of qs.plans → slice_get sizes job ≡ Some many
+    → (job < length ps.plans) × (slice_get (leases_of ps.plans) job ≡ Some many)
+due_now ps qs sizes job many plans named at =
+    let size : slice_get (leases_of ps.plans) job ≡ Some many = ap (λ (x : Planned). slice_get (leases_of x.plans) job) plans ∙ sym (ap (λ xs. slice_get xs job) named) ∙ at in
+    (omega (arith, slice_get_within (leases_of ps.plans) job many size, leases_many ps.plans), size)
+
 pub lease_now : (ps : Planned) (job : ℕ) (l : LeaseView) (p : Plan) (li : Licensed) → AreFit ps → job ≡ l.job → slice_get (leases_of ps.plans) l.job ≡ Some (length l.range.cells)
     → slice_get ps.plans job ≡ Some p → IsSomeAnd (slice_get ps.plans job) (λ p. slice_get ps.licences p.licence ≡ Some li) → RunIs ps job p li (length l.range.cells)
 lease_now ps job l p li fit same size at known = run_is ps job p li (length l.range.cells) fit at known (ap (slice_get (leases_of ps.plans)) same ∙ size)
@@ -92,7 +101,6 @@ pub served_now : (ps : Planned) (job : ℕ) (l : LeaseView) (p : Plan) (li : Lic
 served_now ps job l p li now range_in claim ran args back number is opened claimed same range cells closed numbered = record {
   job = ap (λ (m : LeaseView). m.job) closed ∙ ap (λ (m : ClaimView). m.job) claimed;
   first = ap (λ (m : LeaseView). m.range.first) closed ∙ range.first ∙ ap (λ (r : Range). r.first) opened;
-  arena = ap (λ (m : LeaseView). m.range.arena) closed ∙ range.arena ∙ ap (λ (r : Range). r.arena) opened;
   size = ap (λ (m : LeaseView). length m.range.cells) closed ∙ range.cells ∙ ap (λ (r : Range). length r.cells) opened;
   cells = ap (λ (m : LeaseView). m.range.cells) closed
       ∙ now.left ran.cells (λ f at. cells f at ∙ ap (λ args. last_cells li.code most_calls p.entry f args p.fuel (length range_in.cells)) same

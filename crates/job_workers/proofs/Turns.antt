@@ -121,7 +121,6 @@ taken_due : {P : Type 0} (ps : Planned) (old new : DeskView P) (l : LeaseView) (
     → Taking old.sizes old.state new.state l.job l.range.first (length l.range.cells) → IsDue ps new l
 taken_due {P} ps old new l next serving sound takes k =
     let sizes : new.sizes ≡ old.sizes = ap (λ (d : DeskView P). d.sizes) takes.rest in
-    let arena : new.arena ≡ old.arena = ap (λ (d : DeskView P). d.arena) takes.rest in
     let withdrawn : new.withdrawn ≡ old.withdrawn = ap (λ (d : DeskView P). d.withdrawn) takes.rest in
     let within : l.job < length old.sizes = slice_get_within old.sizes l.job (length l.range.cells) k.sized in
     let many : length new.state.leases ≡ length old.state.leases = ap length k.leases ∙ set_many old.state.leases l.job (Some k.run) in
@@ -132,10 +131,7 @@ taken_due {P} ps old new l next serving sound takes k =
     record {
       sizes = sizes ∙ serving.sizes;
       none_withdrawn = withdrawn ∙ serving.none_withdrawn;
-      job = omega (arith, within, ap length serving.sizes, leases_many ps.plans);
-      size = sym (ap (λ xs. slice_get xs l.job) serving.sizes) ∙ k.sized;
       knows = out ∙ ap (λ r. Some (Some r)) is;
-      arena = takes.arena ∙ sym arena;
       only = ap (λ ls. leased (slice_set ls l.job None)) k.leases ∙ none_again old.state.leases l.job k.run serving.none_out;
     }
 

@@ -1,7 +1,7 @@
 -- Private: words for functions of this crate.
 -- The stack that is kept for the next run, what the run of a lease hands back, and what stands of a desk between two
 -- runs.
-use Rattle.std.specs.Prelude.{◌≡◌, ℕ, ◌<◌, List, [], length, slice_get, slice_set, Some, None}
+use Rattle.std.specs.Prelude.{◌≡◌, ℕ, List, [], length, slice_get, slice_set, Some, None}
 use Rattle.licence.specs.Licensed.{Licensed}
 use Rattle.cell_machine.specs.Views.{IsStackFor}
 use Rattle.cell_machine.specs.declared.machine.Stack.{Stack}
@@ -19,7 +19,6 @@ IsStackAt licences number stack = (l : Licensed) → slice_get licences number �
 pub record IsServed (ps : Planned) (l back : LeaseView) (number : ℕ) : Type 0 where
   pub job : back.job ≡ l.job
   pub first : back.range.first ≡ l.range.first
-  pub arena : back.range.arena ≡ l.range.arena
   pub size : length back.range.cells ≡ length l.range.cells
   pub cells : back.range.cells ≡ job_cells ps number
   pub same : number ≡ l.job
@@ -32,14 +31,11 @@ module _ {P : Type 0} where
     pub none_out : leased d.state.leases ≡ []
     pub none_withdrawn : d.withdrawn ≡ 0
 
-  -- The desk just gave this lease, of the size of its job, and no other one is out.
+  -- The desk just gave this lease, and no other one is out.
   pub record IsDue (ps : Planned) (d : DeskView P) (l : LeaseView) : Type 0 where
     pub sizes : d.sizes ≡ leases_of ps.plans
     pub none_withdrawn : d.withdrawn ≡ 0
-    pub job : l.job < length ps.plans
-    pub size : slice_get (leases_of ps.plans) l.job ≡ Some (length l.range.cells)
     pub knows : Knows d l
-    pub arena : l.range.arena ≡ d.arena
     pub only : leased (slice_set d.state.leases l.job None) ≡ []
 
   -- Behind the run no lease is out; the arena, what was asked for and who waits are as before.

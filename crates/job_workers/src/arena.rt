@@ -52,10 +52,12 @@ fn endings_in<N: JobName>(
     Ok(endings)
 }
 
-// Serves the jobs of the name on a new desk. Nothing that it takes or hands out is of the name, so that its caller may
-// pick it.
+// Serves the jobs of the name on its desk, which is a new one. Nothing that it takes or hands out is of the name, so
+// that its caller may pick it.
 fn serve_named<N: JobName>(alloc: Global, span: Span, jobs: &Jobs) -> Result<ServedJobs, AllocError>
     requires plans { jobs.now ≡ N.planned }
+    requires arena { span.arena ≡ N.arena }
+    requires named { N.sizes ≡ leases_of N.planned.plans }
     requires whole { IsWhole span }
     requires blanks { span.cells ≡ replicate span.arena.cells blank }
     requires few { length jobs.now.plans ≤ 4096 }
@@ -71,7 +73,7 @@ fn serve_named<N: JobName>(alloc: Global, span: Span, jobs: &Jobs) -> Result<Ser
         span.end();
         return Err(AllocError);
     };
-    let desk = match Desk::<Answer<N>>::new(alloc, span, sizes) {
+    let desk = match Desk::<N, Answer<N>>::new(alloc, span, sizes) {
         Ok(desk) => desk,
         Err(DeskRefused { span }) => {
             span.end();

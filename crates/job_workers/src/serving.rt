@@ -1,5 +1,5 @@
 //! The run of one lease, and its way back to the desk.
-ghost use Rattle.std.specs.Prelude.{◌≡◌, ◌<◌, length, slice_get, Some, MatchResult};
+ghost use Rattle.std.specs.Prelude.{◌≡◌, length, slice_get, Some, MatchResult};
 ghost use Rattle.grail_code.specs.Code as plain;
 ghost use Rattle.grail_code.specs.Meaning.{run_of};
 ghost use Rattle.cell_machine.specs.Views.{HasRoom, IsStackFor};
@@ -26,7 +26,7 @@ use std::marker::PhantomData;
 /// next run.
 #[derive(Drop)]
 pub(crate) struct Served<N: JobName> {
-    pub(crate) lease: Lease,
+    pub(crate) lease: Lease<N>,
     pub(crate) answer: Answer<N>,
     pub(crate) kept: Kept<N>,
 }
@@ -77,15 +77,15 @@ fn compact(alloc: Global, ending: Ending) -> Ending
 pub(crate) fn serve_lease<N: JobName>(
     alloc: Global,
     jobs: &Jobs,
-    lease: Lease,
+    lease: Lease<N>,
     kept: Option<Kept<N>>,
-) -> Result<Served<N>, Lease>
+) -> Result<Served<N>, Lease<N>>
     requires plans { jobs.now ≡ N.planned }
-    requires job { lease.job < length jobs.now.plans }
-    requires size { slice_get (leases_of jobs.now.plans) lease.job ≡ Some (length lease.range.cells) }
+    requires sizes { N.sizes ≡ leases_of N.planned.plans }
     ensures { MatchResult result (λ served. IsServed jobs.now lease served.lease served.answer.job) (λ back. back ≡ lease) }
 {
     jobs.kept();
+    lease.kept();
     let job = lease.job();
     let plan = jobs.plan(job);
     let licence = jobs.licence(job);

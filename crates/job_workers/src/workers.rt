@@ -19,12 +19,13 @@ use std::alloc::{AllocError, Global};
 // run is lacking, the lease goes back without one. No lease is out in either case.
 fn run_and_give<N: JobName>(
     alloc: Global,
-    desk: &mut Desk<Answer<N>>,
+    desk: &mut Desk<N, Answer<N>>,
     jobs: &Jobs,
-    lease: Lease,
+    lease: Lease<N>,
     kept: Option<Kept<N>>,
 ) -> Result<Kept<N>, AllocError>
     requires plans { jobs.now ≡ N.planned }
+    requires sizes { N.sizes ≡ leases_of N.planned.plans }
     requires due { IsDue jobs.now desk.old lease }
     ensures done { OnOk result (IsDone jobs.now desk.old lease desk.new) }
     ensures none_out { leased desk.new.state.leases ≡ [] }
@@ -50,11 +51,12 @@ fn run_and_give<N: JobName>(
 // Asks for the next job; where it is given a lease, runs it and gives the lease back.
 fn serve_next<N: JobName>(
     alloc: Global,
-    desk: &mut Desk<Answer<N>>,
+    desk: &mut Desk<N, Answer<N>>,
     jobs: &Jobs,
     kept: Option<Kept<N>>,
 ) -> Result<Option<Kept<N>>, AllocError>
     requires plans { jobs.now ≡ N.planned }
+    requires sizes { N.sizes ≡ leases_of N.planned.plans }
     requires serving { IsServing jobs.now desk.old }
     requires more { desk.old.state.asked < length desk.old.sizes }
     ensures serving { OnOk result (IsServing jobs.now desk.new) }
@@ -80,10 +82,11 @@ fn serve_next<N: JobName>(
 // Asks for every job.
 fn serve_asked<N: JobName>(
     alloc: Global,
-    desk: &mut Desk<Answer<N>>,
+    desk: &mut Desk<N, Answer<N>>,
     jobs: &Jobs,
 ) -> Result<Option<Kept<N>>, AllocError>
     requires plans { jobs.now ≡ N.planned }
+    requires sizes { N.sizes ≡ leases_of N.planned.plans }
     requires serving { IsServing jobs.now desk.old }
     requires asked { desk.old.state.asked ≡ 0 }
     ensures serving { OnOk result (IsServing jobs.now desk.new) }
@@ -101,11 +104,12 @@ fn serve_asked<N: JobName>(
 // Takes the job that waits first, once no lease is out, runs it and gives its lease back; `None` where none waits.
 fn serve_next_left<N: JobName>(
     alloc: Global,
-    desk: &mut Desk<Answer<N>>,
+    desk: &mut Desk<N, Answer<N>>,
     jobs: &Jobs,
     kept: Option<Kept<N>>,
 ) -> Result<Option<Kept<N>>, AllocError>
     requires plans { jobs.now ≡ N.planned }
+    requires sizes { N.sizes ≡ leases_of N.planned.plans }
     requires serving { IsServing jobs.now desk.old }
     requires asked { desk.old.state.asked ≡ length desk.old.sizes }
     ensures serving { OnOk result (IsServing jobs.now desk.new) }
@@ -127,11 +131,12 @@ fn serve_next_left<N: JobName>(
 // Serves the jobs that wait.
 fn serve_left<N: JobName>(
     alloc: Global,
-    desk: &mut Desk<Answer<N>>,
+    desk: &mut Desk<N, Answer<N>>,
     jobs: &Jobs,
     kept: Option<Kept<N>>,
 ) -> Result<(), AllocError>
     requires plans { jobs.now ≡ N.planned }
+    requires sizes { N.sizes ≡ leases_of N.planned.plans }
     requires serving { IsServing jobs.now desk.old }
     requires asked { desk.old.state.asked ≡ length desk.old.sizes }
     ensures serving { OnOk result (IsServing jobs.now desk.new) }
@@ -153,10 +158,11 @@ fn serve_left<N: JobName>(
 // Serves every job. No lease is out then, also where memory runs out.
 fn serve_all<N: JobName>(
     alloc: Global,
-    desk: &mut Desk<Answer<N>>,
+    desk: &mut Desk<N, Answer<N>>,
     jobs: &Jobs,
 ) -> Result<(), AllocError>
     requires plans { jobs.now ≡ N.planned }
+    requires sizes { N.sizes ≡ leases_of N.planned.plans }
     requires serving { IsServing jobs.now desk.old }
     requires asked { desk.old.state.asked ≡ 0 }
     ensures serving { OnOk result (IsServing jobs.now desk.new) }
@@ -169,17 +175,17 @@ fn serve_all<N: JobName>(
     serve_left(alloc, desk, jobs, kept)
 }
 
-/// Serves the planned jobs of the name on a new desk for them, by one worker. It asks the desk for one job after the
+/// Serves the planned jobs of the name on its desk, a new one, by one worker. It asks the desk for one job after the
 /// other, runs each one that is given a lease in the lease's cells, and gives the lease back with the job's ending.
 /// Then it does the same with the jobs that wait, and ends the desk. A run takes no memory; its stack is kept for the
 /// next job of the same licence. `AllocError` where memory runs out: the desk and its arena are ended then.
 pub fn serve_jobs<N: JobName>(
     alloc: Global,
-    desk: Desk<Answer<N>>,
+    desk: Desk<N, Answer<N>>,
     jobs: &Jobs,
 ) -> Result<Finished<Answer<N>>, AllocError>
     requires plans { jobs.now ≡ N.planned }
-    requires sizes { desk.sizes ≡ leases_of jobs.now.plans }
+    requires sizes { N.sizes ≡ leases_of N.planned.plans }
     requires state { desk.state ≡ opened desk.arena.cells (length desk.sizes) }
     requires payloads { desk.payloads ≡ replicate (length desk.sizes) None }
     requires withdrawn { desk.withdrawn ≡ 0 }
@@ -195,6 +201,7 @@ pub fn serve_jobs<N: JobName>(
     ensures cells { IfOk result (λ f. HoldsFiled (all_cells jobs.now) f.journal.items f.span) }
 {
     let mut desk = desk;
+    desk.kept();
     match serve_all(alloc, &mut desk, jobs) {
         Ok(()) => {
             desk.kept();

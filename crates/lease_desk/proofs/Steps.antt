@@ -1,6 +1,7 @@
 -- What each call of a desk needs and leaves, in the words of its callees.
 use Rattle.std.proofs.Common.{◌≡◌, ℕ, ◌+◌, ◌*◌, ◌<◌, ◌≤◌, List, [], length, map, replicate, Option, Some, None, refl, sym, ap, ◌∙◌, subst, arith}
 use Rattle.std.specs.Prelude.{slice_get, slice_set}
+use Rattle.cell_span.specs.Arenas.{Arena}
 use Rattle.cell_span.specs.declared.cell.Cell.{Cell}
 use Rattle.cell_span.specs.Range.{Range, IsWhole, blank}
 use Rattle.hole_list.specs.Placing.{run, largest, with_run, without_run, IsOut, AreParts}
@@ -10,8 +11,8 @@ use Rattle.lease_desk.specs.Journal.{leased, next_move, left_move, AreSizes}
 use Rattle.lease_desk.specs.Progress.{times_at, one_out, IsSound}
 use Rattle.lease_desk.specs.BookView.{BookView, new_book, with_lease, with_asked, with_waiting, with_served}
 use Rattle.lease_desk.specs.Lease.{LeaseView, lease}
-use Rattle.lease_desk.specs.Desk.{DeskView, Takes, Waits, filed_with, withdrawn_with, HasPayload, AllFiled}
-use Rattle.lease_desk.specs.Kept.{state_of, desk_of, IsLeaseOf, IsKept}
+use Rattle.lease_desk.specs.Desk.{DeskView, Takes, Waits, Knows, filed_with, withdrawn_with, HasPayload, AllFiled}
+use Rattle.lease_desk.specs.Kept.{state_of, desk_of, IsLeaseOf, IsKept, IsNamed}
 use Rattle.lease_desk.proofs.Keeping.{sound, next_ready, next_kept, next_takes, waits_kept, waits_waits, over_is, all_asked, left_ready, left_size, left_never, left_kept, left_takes, none_waits, left_sized, give_ready, filed_kept, withdrawn_kept, given_is, returned_filed, filed_of, kept_first}
 
 -- what the job's size is
@@ -190,3 +191,48 @@ module _ {P : Type 0} (number : P → ℕ) (cells : P → List Cell) (h : Holed)
 
       pub withdrawn_answers : desk_of h' b1 ps (w + 1) ≡ withdrawn_with d l
       withdrawn_answers = gives ps (w + 1) ∙ given_is number cells h b ps w k (lease j r) ps (w + 1) ∙ (λ i. withdrawn_with (v i) (sym el i))
+
+-- ---- the name
+
+module _ {arena : Arena} {sizes : List ℕ} (h : Holed) (b : BookView) (k : IsNamed arena sizes h b) where
+  -- behind the next job's lease
+  pub next_named : (h' : Holed) (size : ℕ) (range : Range) (b1 b2 : BookView) (j first n : ℕ) → TookFrom h h' size range
+      → b1 ≡ with_lease b j (Some (run first n)) (event.Took j first n) → b2 ≡ with_asked b1 → IsNamed arena sizes h' b2
+  next_named h' size range b1 b2 j first n q e1 e2 = record {
+    of_arena = ap (λ (x : Holed). x.arena) q.1 ∙ k.of_arena;
+    of_sizes = ap (λ (y : BookView). y.sizes) (e2 ∙ ap with_asked e1) ∙ k.of_sizes;
+  }
+
+  -- behind the lease of one that waited
+  pub left_named : (h' : Holed) (size : ℕ) (range : Range) (b1 b2 : BookView) (j first n : ℕ) → TookFrom h h' size range
+      → b1 ≡ with_lease b j (Some (run first n)) (event.Took j first n) → b2 ≡ with_served b1 → IsNamed arena sizes h' b2
+  left_named h' size range b1 b2 j first n q e1 e2 = record {
+    of_arena = ap (λ (x : Holed). x.arena) q.1 ∙ k.of_arena;
+    of_sizes = ap (λ (y : BookView). y.sizes) (e2 ∙ ap with_served e1) ∙ k.of_sizes;
+  }
+
+  -- where the next job waits
+  pub waits_named : (h' : Holed) (b1 : BookView) (size most : ℕ) → h' ≡ h → b1 ≡ with_waiting b (event.Full b.asked size most) → IsNamed arena sizes h' b1
+  waits_named h' b1 size most eh eb = record {
+    of_arena = ap (λ (x : Holed). x.arena) eh ∙ k.of_arena;
+    of_sizes = ap (λ (y : BookView). y.sizes) eb ∙ k.of_sizes;
+  }
+
+  -- behind a lease that came back
+  pub gave_named : (h' : Holed) (r : Range) (b1 : BookView) (j first n : ℕ) → h' ≡ with_given h r → b1 ≡ with_lease b j None (event.Gave j first n) → IsNamed arena sizes h' b1
+  gave_named h' r b1 j first n eh eb = record {
+    of_arena = ap (λ (x : Holed). x.arena) eh ∙ k.of_arena;
+    of_sizes = ap (λ (y : BookView). y.sizes) eb ∙ k.of_sizes;
+  }
+
+  module _ {P : Type 0} (ps : List (Option P)) (w : ℕ) (d : DeskView P) (v : desk_of h b ps w ≡ d) where
+    arena_now : d.arena ≡ arena
+    arena_now = ap (λ (x : DeskView P). x.arena) (sym v) ∙ k.of_arena
+
+    -- a lease of the name that the desk knows is of its arena
+    pub is_of : (l : LeaseView) → l.range.arena ≡ arena → Knows d l → IsLeaseOf d l
+    is_of l e known = (e ∙ sym arena_now, known)
+
+    -- a lease of the desk's arena is of the name's
+    pub of_name : (l : LeaseView) → l.range.arena ≡ d.arena → l.range.arena ≡ arena
+    of_name l e = e ∙ arena_now

@@ -128,7 +128,7 @@ module _ {P : Type 0} where
   abbrev pub withdrawn_with : DeskView P → LeaseView → DeskView P
   withdrawn_with d l = given_back d l d.payloads (d.withdrawn + 1)
 
-  -- The desk has leased just this run to the job. Of which arena the run is, isn't asked.
+  -- The desk has leased just this run to the job. Of which arena the run is, isn't asked: a lease's type says it.
   abbrev pub Knows : DeskView P → LeaseView → Type 0
   Knows d l = slice_get d.state.leases l.job ≡ Some (Some (run_of l.range))
 

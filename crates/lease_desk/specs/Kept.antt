@@ -1,6 +1,7 @@
 -- Private: words for functions of this crate.
--- What a desk keeps of its holes and its book.
-use Rattle.std.specs.Prelude.{◌≡◌, ℕ, ◌≤◌, List, length, Option}
+-- What a desk keeps of its holes and its book, and what a lease keeps of its name.
+use Rattle.std.specs.Prelude.{◌≡◌, ℕ, ◌≤◌, List, length, slice_get, Option, Some}
+use Rattle.cell_span.specs.Arenas.{Arena}
 use Rattle.cell_span.specs.declared.cell.Cell.{Cell}
 use Rattle.hole_list.specs.Placing.{run}
 use Rattle.hole_list.specs.Holes.{Holed, run_of}
@@ -38,3 +39,14 @@ module _ {P : Type 0} where
     pub most_out : h.most_out ≡ length b.sizes
     pub out : AreReordered h.out (leased b.leases)
     pub few : withdrawn ≤ length b.journal
+
+-- it is a desk of this arena, and of jobs with these numbers of cells
+pub record IsNamed (arena : Arena) (sizes : List ℕ) (h : Holed) (b : BookView) : Type 0 where
+  pub of_arena : h.arena ≡ arena
+  pub of_sizes : b.sizes ≡ sizes
+
+-- A lease on a desk of this arena, and of jobs with these numbers of cells: it is of the arena, and has as many cells as
+-- its job's size.
+pub record IsLease (arena : Arena) (sizes : List ℕ) (job : ℕ) (of : Arena) (size : ℕ) : Type 0 where
+  pub of_arena : of ≡ arena
+  pub sized : slice_get sizes job ≡ Some size

@@ -11,11 +11,12 @@ use crate::book::Book;
 use crate::event::Event;
 use crate::filed::Filed;
 use crate::lease::Lease;
+use crate::name::DeskName;
 use crate::places::empty_places;
 use cell_span::Span;
 use hole_list::{Holes, HolesRefused};
 use std::alloc::Global;
-use std::marker::Model;
+use std::marker::{Model, PhantomData};
 
 /// Leases the runs of one arena to jobs, and keeps a journal of what it did.
 ///
@@ -24,29 +25,30 @@ use std::marker::Model;
 /// goes back with a payload that stands for its job. All room is taken at the start: two entries of the journal for
 /// each job, and one more for a job that waits.
 #[derive(Drop)]
-pub struct Desk<P: Filed> {
+pub struct Desk<N: DeskName, P: Filed> {
     holes: Holes,
     book: Book,
     payloads: Vec<Option<P>>,
     withdrawn: u32,
+    of: PhantomData<N>,
 }
 
-impl<P: Filed> Model for Desk<P> {
+impl<N: DeskName, P: Filed> Model for Desk<N, P> {
     ghost use Rattle.lease_desk.specs.Desk.{DeskView};
-    ghost use Rattle.lease_desk.specs.Kept.{desk_of, IsKept};
+    ghost use Rattle.lease_desk.specs.Kept.{desk_of, IsKept, IsNamed};
 
     ghost Value = { DeskView P };
 
     ghost view = { λ d. desk_of d.holes d.book d.payloads.items d.withdrawn };
 
-    ghost invariant = { λ d. IsKept P.job P.cells d.holes d.book d.payloads.items d.withdrawn };
+    ghost invariant = { λ d. IsKept P.job P.cells d.holes d.book d.payloads.items d.withdrawn × IsNamed N.arena N.sizes d.holes d.book };
 }
 
 /// What a desk answers when it is asked for the next job.
 #[derive(Drop)]
-pub enum Next {
+pub enum Next<N: DeskName> {
     /// The job's lease.
-    Granted(Lease),
+    Granted(Lease<N>),
     /// The job needs so many cells, and the largest hole has fewer: it waits.
     Full { job: u32, need: u32, largest: u32 },
     /// Every job was asked for.
@@ -71,10 +73,12 @@ pub struct Finished<P: Filed> {
     pub payloads: Vec<Option<P>>,
 }
 
-impl<P: Filed> Desk<P> {
+impl<N: DeskName, P: Filed> Desk<N, P> {
     /// A desk of a whole arena whose cells are all blank, for at most 4,096 jobs with these numbers of cells, each from
-    /// 1 to the arena's. Where memory runs out, the arena comes back.
-    pub fn new(alloc: Global, span: Span, sizes: Vec<u32>) -> Result<Desk<P>, DeskRefused>
+    /// 1 to the arena's: the arena and the sizes of its name. Where memory runs out, the arena comes back.
+    pub fn new(alloc: Global, span: Span, sizes: Vec<u32>) -> Result<Desk<N, P>, DeskRefused>
+        requires arena { span.arena ≡ N.arena }
+        requires named { sizes.items ≡ N.sizes }
         requires whole { IsWhole span }
         requires blanks { span.cells ≡ replicate span.arena.cells blank }
         requires few { length sizes.items ≤ 4096 }
@@ -95,6 +99,7 @@ impl<P: Filed> Desk<P> {
                 book,
                 payloads,
                 withdrawn: 0,
+                of: PhantomData,
             }),
             Err(HolesRefused { span }) => Err(DeskRefused { span }),
         }
@@ -102,6 +107,9 @@ impl<P: Filed> Desk<P> {
 
     /// What each desk keeps. It does nothing.
     pub fn kept(&self)
+        // It is of the arena and of the sizes of its name.
+        ensures arena { self.now.arena ≡ N.arena }
+        ensures sizes { self.now.sizes ≡ N.sizes }
         // Its state is the one behind its journal, and each cell of a hole is the one that was filed.
         ensures desk { IsDesk P.job P.cells self.now }
         // What holds behind each journal holds of its state.
@@ -115,7 +123,7 @@ impl<P: Filed> Desk<P> {
     }
 
     /// Asks for the next job. It takes no memory.
-    pub fn next(&mut self) -> Next
+    pub fn next(&mut self) -> Next<N>
         ensures { NextIs self.old self.new result }
     {
         let job = self.book.asked();
@@ -142,7 +150,7 @@ impl<P: Filed> Desk<P> {
 
     /// Takes the job that waits first, once every job was asked for and no lease is out; `None` where none waits. The
     /// arena is one hole then, so that each job fits. It takes no memory.
-    pub fn next_left(&mut self) -> Option<Lease>
+    pub fn next_left(&mut self) -> Option<Lease<N>>
         requires asked { self.old.state.asked ≡ length self.old.sizes }
         requires none_out { leased self.old.state.leases ≡ [] }
         ensures { MatchOption result (NoneLeft self.old self.new) (Takes (left_move self.old.sizes self.old.state) self.old self.new) }
@@ -164,13 +172,13 @@ impl<P: Filed> Desk<P> {
     }
 
     /// Takes a lease back and files its payload in the place of its job. It takes no memory.
-    pub fn give(&mut self, lease: Lease, payload: P)
+    pub fn give(&mut self, lease: Lease<N>, payload: P)
         requires known { Knows self.old lease }
-        requires arena { lease.range.arena ≡ self.old.arena }
         requires number { P.job payload ≡ lease.job }
         requires cells { P.cells payload ≡ lease.range.cells }
         ensures { self.new ≡ filed_with self.old lease payload }
     {
+        lease.kept();
         let (job, span) = lease.parts();
         let (first, size) = (span.first(), span.len());
         self.holes.give(span);
@@ -179,11 +187,11 @@ impl<P: Filed> Desk<P> {
     }
 
     /// Takes a lease back that leaves no payload; nothing is known of its cells. It takes no memory.
-    pub fn withdraw(&mut self, lease: Lease)
-        requires known { Knows self.old lease }
-        requires arena { lease.range.arena ≡ self.old.arena }
+    pub fn withdraw(&mut self, lease: Lease<N>)
+        requires { Knows self.old lease }
         ensures { self.new ≡ withdrawn_with self.old lease }
     {
+        lease.kept();
         let (job, span) = lease.parts();
         let (first, size) = (span.first(), span.len());
         self.holes.give(span);
@@ -199,8 +207,9 @@ impl<P: Filed> Desk<P> {
         self.withdrawn
     }
 
-    /// Whether a lease of this job, with this first index and this size, is out. Which arena it is of isn't looked at.
-    pub fn knows(&self, lease: &Lease) -> bool
+    /// Whether a lease of this job, with this first index and this size, is out. That it is of this desk's arena is in
+    /// its type.
+    pub fn knows(&self, lease: &Lease<N>) -> bool
         ensures { IsTrue result ↔ Knows self.now lease.now }
     {
         let span = lease.span();
@@ -260,6 +269,7 @@ impl<P: Filed> Desk<P> {
             book,
             payloads,
             withdrawn: _,
+            of: _,
         } = self;
         Finished {
             span: holes.finish(),

@@ -7,9 +7,11 @@ mod event;
 mod filed;
 pub mod laws;
 mod lease;
+mod name;
 mod places;
 
 pub use desk::{Desk, DeskRefused, Finished, Next};
 pub use event::Event;
 pub use filed::Filed;
 pub use lease::{Claim, Lease};
+pub use name::DeskName;

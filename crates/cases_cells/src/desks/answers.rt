@@ -1,13 +1,16 @@
 //! What is answered to a command.
-ghost use Rattle.std.specs.Prelude.{IsTrue};
+ghost use Rattle.std.specs.Prelude.{◌≡◌, ◌≤◌, length, replicate, IsTrue};
+ghost use Rattle.cell_span.specs.Range.{IsWhole, blank};
 ghost use Rattle.lease_desk.specs.Journal.{AreSizes};
 
+use crate::arenas::new_arena;
 use crate::desks::copied::Copied;
 use crate::desks::replays::answer_journal;
 use crate::desks::session::{Asked, Session};
 use cell_span::Span;
-use lease_desk::{Event, Finished};
+use lease_desk::{DeskName, DeskRefused, Event, Finished};
 use std::io;
+use std::marker::Brand;
 use std::mem::replace;
 
 // Whether each size is from 1 to the arena's.
@@ -20,38 +23,8 @@ fn fit(arena: u32, sizes: &[u32]) -> bool
     }
 }
 
-// A new session with a desk of an arena and of sizes, all in one line.
-fn open(rt: &HostRuntime, words: &str) -> io::Result<Option<Session>> {
-    let alloc = rt.alloc();
-    let mut numbers = Vec::new(alloc);
-    for word in words.split(' ') {
-        numbers.push(word.parse::<u32>().unwrap_or(0))?;
-    }
-    let arena = numbers.first().copied().unwrap_or(0);
-    let sizes = numbers.get(1..).unwrap_or(&[]).to_vec(alloc)?;
-    if arena == 0 || arena > 2_147_483_648 || sizes.len() > 4096 || !fit(arena, &sizes) {
-        print!(rt; " no desk")?;
-        return Ok(None);
-    }
-    match Session::open(alloc, arena, sizes) {
-        Ok(session) => Ok(Some(session)),
-        Err(_) => {
-            print!(rt; " memory")?;
-            Ok(None)
-        }
-    }
-}
-
-// Another session, or none, in place of this one, which ends.
-fn put(session: &mut Option<Session>, next: Option<Session>) {
-    match replace(session, next) {
-        Some(before) => before.end(),
-        None => {}
-    }
-}
-
 // Asks for the next job, and prints what comes of it.
-fn next(rt: &HostRuntime, session: &mut Session) -> io::Result<()> {
+fn next<N: DeskName>(rt: &HostRuntime, session: &mut Session<N>) -> io::Result<()> {
     match session.ask() {
         Asked::Granted { job, first, size } => print!(rt; " {job} at {first} size {size}"),
         Asked::Full { job, need, largest } => print!(rt;
@@ -88,7 +61,7 @@ fn tell_end(rt: &HostRuntime, span: &Span, payloads: &[Option<Copied>]) -> io::R
 }
 
 // Ends a session and its arena; where no lease is out, prints what is left.
-fn finish(rt: &HostRuntime, session: Session) -> io::Result<()> {
+fn finish<N: DeskName>(rt: &HostRuntime, session: Session<N>) -> io::Result<()> {
     let out = session.out();
     let Finished {
         span,
@@ -121,7 +94,11 @@ fn numbers(words: &str) -> Option<(u32, u32, u32)> {
     Some((job, tag, at))
 }
 
-fn with_lease(rt: &HostRuntime, session: &mut Session, line: &str) -> io::Result<()> {
+fn with_lease<N: DeskName>(
+    rt: &HostRuntime,
+    session: &mut Session<N>,
+    line: &str,
+) -> io::Result<()> {
     let Some((command, words)) = line.split_once(' ') else {
         return print!(rt; " no command");
     };
@@ -141,7 +118,11 @@ fn with_lease(rt: &HostRuntime, session: &mut Session, line: &str) -> io::Result
     Ok(())
 }
 
-fn with_session(rt: &HostRuntime, session: &mut Session, line: &str) -> io::Result<()> {
+fn with_session<N: DeskName>(
+    rt: &HostRuntime,
+    session: &mut Session<N>,
+    line: &str,
+) -> io::Result<()> {
     if line == "next" {
         return next(rt, session);
     }
@@ -158,21 +139,12 @@ fn with_session(rt: &HostRuntime, session: &mut Session, line: &str) -> io::Resu
     with_lease(rt, session, line)
 }
 
-/// Answers a line. The session is the one behind it, where there is one.
-pub(crate) fn answer(
+// Answers a line that makes no desk. The session is the one behind it, where there is one.
+fn answer<N: DeskName>(
     rt: &HostRuntime,
-    session: &mut Option<Session>,
+    session: &mut Option<Session<N>>,
     line: &str,
 ) -> io::Result<()> {
-    if let Some(words) = line.strip_prefix("desk ") {
-        put(session, None);
-        let opened = open(rt, words)?;
-        put(session, opened);
-        return Ok(());
-    }
-    if let Some(words) = line.strip_prefix("replay ") {
-        return answer_journal(rt, words);
-    }
     if line == "finish" {
         return match replace(session, None) {
             Some(session) => finish(rt, session),
@@ -185,10 +157,108 @@ pub(crate) fn answer(
     }
 }
 
-/// Ends the session, where there is one.
-pub(crate) fn end(session: Option<Session>) {
+// Ends the line of a desk, and answers the lines up to that of the next one.
+fn answer_each<N: DeskName>(
+    rt: &HostRuntime,
+    session: &mut Option<Session<N>>,
+    lines: &[String],
+) -> io::Result<()> {
+    println!(rt)?;
+    for line in lines {
+        let line = line.as_str();
+        if line.starts_with("desk ") {
+            return Ok(());
+        }
+        if line.starts_with("--") {
+            continue;
+        }
+        print!(rt; "{line}:")?;
+        match line.strip_prefix("replay ") {
+            Some(words) => answer_journal(rt, words)?,
+            None => answer(rt, session, line)?,
+        }
+        println!(rt)?;
+    }
+    Ok(())
+}
+
+/// Answers the lines up to that of the next desk, where there is no desk.
+pub(crate) fn answer_without(rt: &HostRuntime, lines: &[String]) -> io::Result<()> {
+    for line in lines {
+        let line = line.as_str();
+        if line.starts_with("desk ") {
+            return Ok(());
+        }
+        if line.starts_with("--") {
+            continue;
+        }
+        print!(rt; "{line}:")?;
+        match line.strip_prefix("replay ") {
+            Some(words) => answer_journal(rt, words)?,
+            None => print!(rt; " no desk")?,
+        }
+        println!(rt)?;
+    }
+    Ok(())
+}
+
+// Ends the session, where there is one.
+fn end<N: DeskName>(session: Option<Session<N>>) {
     match session {
         Some(session) => session.end(),
         None => {}
+    }
+}
+
+// Answers on the name's desk, a new one. Nothing that it takes or hands out is of the name, so that its caller may pick
+// it.
+fn answer_on<N: DeskName>(
+    rt: &HostRuntime,
+    span: Span,
+    sizes: Vec<u32>,
+    lines: &[String],
+) -> io::Result<()>
+    requires arena { span.arena ≡ N.arena }
+    requires named { sizes.items ≡ N.sizes }
+    requires whole { IsWhole span }
+    requires blanks { span.cells ≡ replicate span.arena.cells blank }
+    requires few { length sizes.items ≤ 4096 }
+    requires fit { AreSizes span.arena.cells sizes.items }
+{
+    match Session::<N>::open(rt.alloc(), span, sizes) {
+        Ok(session) => {
+            let mut session = Some(session);
+            let answered = answer_each(rt, &mut session, lines);
+            end(session);
+            answered
+        }
+        Err(DeskRefused { span }) => {
+            span.end();
+            println!(rt; " memory")?;
+            answer_without(rt, lines)
+        }
+    }
+}
+
+/// Answers the line of a desk, whose arena and sizes are these words, and the lines up to that of the next one. It is
+/// the call that picks which desk it is.
+pub(crate) fn answer_new(rt: &HostRuntime, words: &str, lines: &[String]) -> io::Result<()> {
+    let alloc = rt.alloc();
+    let mut numbers = Vec::new(alloc);
+    for word in words.split(' ') {
+        numbers.push(word.parse::<u32>().unwrap_or(0))?;
+    }
+    let arena = numbers.first().copied().unwrap_or(0);
+    let sizes = numbers.get(1..).unwrap_or(&[]).to_vec(alloc)?;
+    if arena == 0 || arena > 2_147_483_648 || sizes.len() > 4096 || !fit(arena, &sizes) {
+        println!(rt; " no desk")?;
+        return answer_without(rt, lines);
+    }
+    match new_arena(alloc, arena) {
+        Ok(span) => answer_on::<Brand>(rt, span, sizes, lines),
+        Err(_) => {
+            println!(rt; " memory")?;
+            answer_without(rt, lines)
+        }
     }
 }

@@ -3,7 +3,7 @@ ghost use Rattle.std.specs.Prelude.{◌≡◌, ℕ, List, IfOk};
 ghost use Rattle.cell_span.specs.declared.cell.Cell.{Cell};
 
 use cell_span::{Cell, Span};
-use lease_desk::{Filed, Lease};
+use lease_desk::{DeskName, Filed, Lease};
 use std::alloc::{AllocError, Global};
 
 /// The number of a job, and its lease's cells.
@@ -38,7 +38,7 @@ fn cells_of(alloc: Global, span: &Span) -> Result<Vec<Cell>, AllocError>
 
 impl Copied {
     /// A copy of a lease's job and cells.
-    pub fn of(alloc: Global, lease: &Lease) -> Result<Copied, AllocError>
+    pub fn of<N: DeskName>(alloc: Global, lease: &Lease<N>) -> Result<Copied, AllocError>
         ensures job { IfOk result (λ copied. copied.job ≡ lease.now.job) }
         ensures cells { IfOk result (λ copied. copied.cells.items ≡ lease.now.range.cells) }
     {

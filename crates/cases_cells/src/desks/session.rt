@@ -1,26 +1,25 @@
 //! A desk together with the leases that it gave.
-ghost use Rattle.std.specs.Prelude.{◌≡◌, ◌<◌, ◌≤◌, [], length, replicate, slice_get, slice_set, Some, None, IfOk, IfSome, IfNone, MatchResult, vec_capacity};
-ghost use Rattle.cell_span.specs.Range.{IsWhole};
+ghost use Rattle.std.specs.Prelude.{◌≡◌, ◌<◌, ◌≤◌, [], length, replicate, slice_get, slice_set, Some, None, IfErr, IfSome, IfNone, vec_capacity};
+ghost use Rattle.cell_span.specs.Range.{IsWhole, blank};
 ghost use Rattle.hole_list.specs.Holes.{run_of};
 ghost use Rattle.lease_desk.specs.Journal.{leased, AreSizes};
 ghost use Rattle.cases_cells.specs.Held.{AllHeld};
 
-use crate::arenas::new_arena;
 use crate::desks::copied::Copied;
 use cell_span::{Cell, Span};
-use lease_desk::{Desk, DeskRefused, Event, Finished, Lease, Next};
+use lease_desk::{Desk, DeskName, DeskRefused, Event, Finished, Lease, Next};
 use std::alloc::{AllocError, Global};
 use std::marker::Model;
 use std::mem::replace;
 
 /// A desk and, in the place of each job, its lease where that is out.
 #[derive(Drop)]
-pub(crate) struct Session {
-    desk: Desk<Copied>,
-    held: Vec<Option<Lease>>,
+pub(crate) struct Session<N: DeskName> {
+    desk: Desk<N, Copied>,
+    held: Vec<Option<Lease<N>>>,
 }
 
-impl Model for Session {
+impl<N: DeskName> Model for Session<N> {
     ghost use Rattle.lease_desk.specs.Desk.{DeskView};
     ghost use Rattle.cases_cells.specs.declared.desks.copied.Copied.{Copied};
     ghost use Rattle.cases_cells.specs.Held.{AllHeld};
@@ -45,7 +44,7 @@ pub(crate) enum Asked {
 }
 
 // A place for each of so many jobs, in which no lease is.
-fn places(room: Vec<Option<Lease>>, jobs: usize) -> Vec<Option<Lease>>
+fn places<N: DeskName>(room: Vec<Option<Lease<N>>>, jobs: usize) -> Vec<Option<Lease<N>>>
     requires empty { room.items ≡ [] }
     requires room { jobs ≤ vec_capacity room }
     ensures { result.items ≡ replicate jobs None }
@@ -59,7 +58,7 @@ fn places(room: Vec<Option<Lease>>, jobs: usize) -> Vec<Option<Lease>>
 
 // Takes the lease of a job out of its place.
 #[tactic(auto, using(crate::proofs::Holding::place_stays, crate::proofs::Holding::place_read))]
-fn take(held: &mut Vec<Option<Lease>>, job: u32) -> Option<Lease>
+fn take<N: DeskName>(held: &mut Vec<Option<Lease<N>>>, job: u32) -> Option<Lease<N>>
     ensures some { IfSome result (λ l. (slice_get held.old.items job ≡ Some (Some l)) × (held.new.items ≡ slice_set held.old.items job None)) }
     ensures none { IfNone result (held.new.items ≡ held.old.items) }
 {
@@ -73,7 +72,7 @@ fn take(held: &mut Vec<Option<Lease>>, job: u32) -> Option<Lease>
 
 // Puts a lease into the place of its job, where none is.
 #[tactic(auto, using(crate::proofs::Holding::place_empty))]
-fn keep(held: &mut Vec<Option<Lease>>, lease: Lease)
+fn keep<N: DeskName>(held: &mut Vec<Option<Lease<N>>>, lease: Lease<N>)
     requires { slice_get held.old.items lease.job ≡ Some None }
     ensures { held.new.items ≡ slice_set held.old.items lease.job (Some lease) }
 {
@@ -96,49 +95,49 @@ fn write_tag(span: &mut Span, tag: u32, at: u32)
 }
 
 // Writes a tag into a cell of a lease, where it has that one.
-fn mark(lease: Lease, tag: u32, at: u32) -> Lease
+fn mark<N: DeskName>(lease: Lease<N>, tag: u32, at: u32) -> Lease<N>
     ensures job { result.job ≡ lease.job }
     ensures run { run_of result.range ≡ run_of lease.range }
-    ensures arena { result.range.arena ≡ lease.range.arena }
 {
     let (mut span, claim) = lease.open();
     write_tag(&mut span, tag, at);
     claim.close(span)
 }
 
-impl Session {
-    /// A new desk of a new arena of so many cells, from 1 to 2147483648, for at most 4,096 jobs of these sizes.
-    /// `AllocError` where memory runs out.
-    pub(crate) fn open(alloc: Global, arena: u32, sizes: Vec<u32>) -> Result<Session, AllocError>
-        requires some { 1 ≤ arena }
-        requires most { arena ≤ 2147483648 }
+impl<N: DeskName> Session<N> {
+    /// A new desk of the name's arena, whose cells are all blank, for at most 4,096 jobs of the name's sizes. Where
+    /// memory runs out, the arena comes back.
+    pub(crate) fn open(
+        alloc: Global,
+        span: Span,
+        sizes: Vec<u32>,
+    ) -> Result<Session<N>, DeskRefused>
+        requires arena { span.arena ≡ N.arena }
+        requires named { sizes.items ≡ N.sizes }
+        requires whole { IsWhole span }
+        requires blanks { span.cells ≡ replicate span.arena.cells blank }
         requires few { length sizes.items ≤ 4096 }
-        requires fit { AreSizes arena sizes.items }
+        requires fit { AreSizes span.arena.cells sizes.items }
+        ensures { IfErr result (λ refused. refused.span ≡ span) }
     {
         let jobs = sizes.len();
-        let room = Vec::with_capacity(alloc, jobs)?;
-        let span = match new_arena(alloc, arena) {
-            Ok(span) => span,
-            Err(full) => {
-                room.destroy_empty();
-                return Err(full);
-            }
+        let Ok(room) = Vec::with_capacity(alloc, jobs) else {
+            return Err(DeskRefused { span });
         };
         match Desk::new(alloc, span, sizes) {
             Ok(desk) => Ok(Session {
                 desk,
                 held: places(room, jobs),
             }),
-            Err(DeskRefused { span }) => {
-                span.end();
+            Err(refused) => {
                 room.destroy_empty();
-                Err(AllocError)
+                Err(refused)
             }
         }
     }
 
     // Keeps a lease that the desk just gave.
-    fn granted(held: &mut Vec<Option<Lease>>, lease: Lease) -> Asked
+    fn granted(held: &mut Vec<Option<Lease<N>>>, lease: Lease<N>) -> Asked
         requires { slice_get held.old.items lease.job ≡ Some None }
         ensures { held.new.items ≡ slice_set held.old.items lease.job (Some lease) }
     {
@@ -154,7 +153,7 @@ impl Session {
     /// Asks for the next job; once every job was asked for and no lease is out, takes the first one that waits.
     pub(crate) fn ask(&mut self) -> Asked {
         match self.desk.next() {
-            Next::Granted(lease) => Session::granted(&mut self.held, lease),
+            Next::Granted(lease) => Session::<N>::granted(&mut self.held, lease),
             Next::Full { job, need, largest } => Asked::Full { job, need, largest },
             Next::Over => self.ask_left(),
         }
@@ -168,7 +167,7 @@ impl Session {
             return Asked::LeasesOut;
         }
         match self.desk.next_left() {
-            Some(lease) => Session::granted(&mut self.held, lease),
+            Some(lease) => Session::<N>::granted(&mut self.held, lease),
             None => Asked::Over,
         }
     }

@@ -1,42 +1,42 @@
-use Rattle.std.proofs.Common.{refl, sym, subst}
+use Rattle.std.proofs.Common.{length, refl, sym, subst}
 use Rattle.job_world.specs.Plans.{Planned}
 use Rattle.job_world.specs.Words.{plan_of}
 use Rattle.job_workers.specs.Served.{EndsAsMeant}
-use Rattle.job_workers.proofs.Planned.{lease_now, plan_now, room_now, meant_now, served_now, stack_now, licence_now}
+use Rattle.job_workers.proofs.Planned.{due_now, lease_now, plan_now, room_now, meant_now, served_now, stack_now, licence_now}
 use Rattle.job_workers.proofs.serving.serve_lease.Goals as goal
 
 pub run_plan-ran-requires-clause-plan : goal.run_plan-ran-requires-clause-plan
 run_plan-ran-requires-clause-plan g c = plan_now c.args.jobs.now c.job-job.result c.args.lease (plan_of c.plan-plan.result.now) c.licence-licence.result.now
-    (lease_now c.args.jobs.now c.job-job.result c.args.lease (plan_of c.plan-plan.result.now) c.licence-licence.result.now c.kept.ensures c.job-job.ensures c.requires.size c.plan-plan.ensures.is c.licence-licence.ensures.is)
+    (lease_now c.args.jobs.now c.job-job.result c.args.lease (plan_of c.plan-plan.result.now) c.licence-licence.result.now c.kept.ensures c.job-job.ensures (due_now c.args.jobs.now g.N.JobName.planned g.N.DeskName.sizes c.args.lease.job (length c.args.lease.range.cells) c.requires.plans c.requires.sizes c.kept-2.ensures.size).1 c.plan-plan.ensures.is c.licence-licence.ensures.is)
     c.open-span.result.0 c.plan-plan.result.now.args.items c.open-span.ensures.span refl
 
 pub run_plan-ran-requires-clause-room : goal.run_plan-ran-requires-clause-room
 run_plan-ran-requires-clause-room g c = room_now c.args.jobs.now c.job-job.result c.args.lease (plan_of c.plan-plan.result.now) c.licence-licence.result.now
-    (lease_now c.args.jobs.now c.job-job.result c.args.lease (plan_of c.plan-plan.result.now) c.licence-licence.result.now c.kept.ensures c.job-job.ensures c.requires.size c.plan-plan.ensures.is c.licence-licence.ensures.is)
+    (lease_now c.args.jobs.now c.job-job.result c.args.lease (plan_of c.plan-plan.result.now) c.licence-licence.result.now c.kept.ensures c.job-job.ensures (due_now c.args.jobs.now g.N.JobName.planned g.N.DeskName.sizes c.args.lease.job (length c.args.lease.range.cells) c.requires.plans c.requires.sizes c.kept-2.ensures.size).1 c.plan-plan.ensures.is c.licence-licence.ensures.is)
     c.open-span.result.0 c.in-Ok-new.room c.open-span.ensures.span c.in-Ok-new.ensures.room
 
 pub invariant_of-answer : goal.invariant_of-answer
 invariant_of-answer g c = record {
   meant = subst (λ (ps : Planned). EndsAsMeant ps c.job-job.result c.compact.result) c.requires.plans (subst (EndsAsMeant c.args.jobs.now c.job-job.result) (sym c.compact.ensures)
       (meant_now c.args.jobs.now c.job-job.result c.args.lease (plan_of c.plan-plan.result.now) c.licence-licence.result.now
-      (lease_now c.args.jobs.now c.job-job.result c.args.lease (plan_of c.plan-plan.result.now) c.licence-licence.result.now c.kept.ensures c.job-job.ensures c.requires.size c.plan-plan.ensures.is c.licence-licence.ensures.is)
+      (lease_now c.args.jobs.now c.job-job.result c.args.lease (plan_of c.plan-plan.result.now) c.licence-licence.result.now c.kept.ensures c.job-job.ensures (due_now c.args.jobs.now g.N.JobName.planned g.N.DeskName.sizes c.args.lease.job (length c.args.lease.range.cells) c.requires.plans c.requires.sizes c.kept-2.ensures.size).1 c.plan-plan.ensures.is c.licence-licence.ensures.is)
       c.plan-plan.result.now.args.items c.run_plan-ran.result.ending refl c.run_plan-ran.ensures.ending));
 }
 
 pub stack_for-requires : goal.stack_for-requires
 stack_for-requires g c = record {
   is = licence_now c.args.jobs.now g.N.JobName.planned c.job-job.result c.args.lease (plan_of c.plan-plan.result.now) c.licence-licence.result.now
-      (lease_now c.args.jobs.now c.job-job.result c.args.lease (plan_of c.plan-plan.result.now) c.licence-licence.result.now c.kept.ensures c.job-job.ensures c.requires.size c.plan-plan.ensures.is c.licence-licence.ensures.is)
+      (lease_now c.args.jobs.now c.job-job.result c.args.lease (plan_of c.plan-plan.result.now) c.licence-licence.result.now c.kept.ensures c.job-job.ensures (due_now c.args.jobs.now g.N.JobName.planned g.N.DeskName.sizes c.args.lease.job (length c.args.lease.range.cells) c.requires.plans c.requires.sizes c.kept-2.ensures.size).1 c.plan-plan.ensures.is c.licence-licence.ensures.is)
       c.requires.plans;
 }
 
 pub new-kept-requires : goal.new-kept-requires
 new-kept-requires g c = stack_now c.args.jobs.now g.N.JobName.planned c.job-job.result c.args.lease (plan_of c.plan-plan.result.now) c.licence-licence.result.now
-    (lease_now c.args.jobs.now c.job-job.result c.args.lease (plan_of c.plan-plan.result.now) c.licence-licence.result.now c.kept.ensures c.job-job.ensures c.requires.size c.plan-plan.ensures.is c.licence-licence.ensures.is)
+    (lease_now c.args.jobs.now c.job-job.result c.args.lease (plan_of c.plan-plan.result.now) c.licence-licence.result.now c.kept.ensures c.job-job.ensures (due_now c.args.jobs.now g.N.JobName.planned g.N.DeskName.sizes c.args.lease.job (length c.args.lease.range.cells) c.requires.plans c.requires.sizes c.kept-2.ensures.size).1 c.plan-plan.ensures.is c.licence-licence.ensures.is)
     c.run_plan-ran.result.stack c.requires.plans c.run_plan-ran.ensures.stack
 
 pub returns : goal.returns
 returns g c = served_now c.args.jobs.now c.job-job.result c.args.lease (plan_of c.plan-plan.result.now) c.licence-licence.result.now
-    (lease_now c.args.jobs.now c.job-job.result c.args.lease (plan_of c.plan-plan.result.now) c.licence-licence.result.now c.kept.ensures c.job-job.ensures c.requires.size c.plan-plan.ensures.is c.licence-licence.ensures.is)
+    (lease_now c.args.jobs.now c.job-job.result c.args.lease (plan_of c.plan-plan.result.now) c.licence-licence.result.now c.kept.ensures c.job-job.ensures (due_now c.args.jobs.now g.N.JobName.planned g.N.DeskName.sizes c.args.lease.job (length c.args.lease.range.cells) c.requires.plans c.requires.sizes c.kept-2.ensures.size).1 c.plan-plan.ensures.is c.licence-licence.ensures.is)
     c.open-span.result.0 c.open-span.result.1 c.run_plan-ran.result.span c.plan-plan.result.now.args.items _ _ c.job-job.ensures c.open-span.ensures.span c.open-span.ensures.claim refl c.run_plan-ran.ensures.range
     c.run_plan-ran.ensures.cells c.close.ensures refl

@@ -3,4 +3,4 @@ use Rattle.std.specs.Prelude.{vec_capacity}
 use Rattle.cases_cells.proofs.desks.session.places.Given as goal
 
 abbrev pub invariant-loop : goal.invariant-loop
-invariant-loop l = record { items : l.places.items ≡ replicate l.counter None; room : l.jobs ≤ vec_capacity l.places }
+invariant-loop g l = record { items : l.places.items ≡ replicate l.counter None; room : l.jobs ≤ vec_capacity l.places }

@@ -2,4 +2,4 @@ use Rattle.cases_cells.proofs.Holding.{taken_held}
 use Rattle.cases_cells.proofs.desks.session.Session.ask.Goals as goal
 
 pub invariant_of-self : goal.invariant_of-self
-invariant_of-self c = taken_held c.self.inside.held.items c.self.inside.desk c.self.invariant _ c.next.new.self c.in-Granted.lease c.granted.new.held.items c.in-Granted.ensures c.granted.ensures
+invariant_of-self g c = taken_held c.self.inside.held.items c.self.inside.desk c.self.invariant _ c.next.new.self c.in-Granted.lease c.granted.new.held.items c.in-Granted.ensures c.granted.ensures

@@ -3,7 +3,7 @@ use Rattle.cases_cells.specs.Held.{FrontHeld}
 use Rattle.cases_cells.proofs.desks.session.Session.finish.Given as goal
 
 abbrev pub invariant-places : goal.invariant-places
-invariant-places l = FrontHeld l.held.items l.desk
+invariant-places g l = FrontHeld l.held.items l.desk
 
 abbrev pub decreases-places : goal.decreases-places
-decreases-places l = length l.held.items
+decreases-places g l = length l.held.items
