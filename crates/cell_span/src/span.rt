@@ -16,9 +16,8 @@ const MOST_CELLS: u32 = 2_147_483_648;
 /// A run of cells of one arena, which owns them: no other run has any of them. Its cells lie in the arena's allocation,
 /// in which they stay. The run that has the arena's first cell has the right to free the allocation.
 ///
-/// A run may go to another thread, and be read from several. It may still be dropped: its cells are then lost to the
-/// arena, which can't be made whole again, and the allocation stays until the program ends.
-#[derive(Drop)]
+/// A run may go to another thread, and be read from several. It can't be dropped: it is joined to its neighbours again,
+/// and the whole arena is ended by [`Span::end`].
 pub struct Span {
     base: Base<Cell>,
     first: u32,

@@ -15,7 +15,6 @@ use std::marker::Model;
 /// their base.
 ///
 /// Each cell of the base is in one hole or in one run that is out.
-#[derive(Drop)]
 pub struct Holes {
     arena: Arena,
     base: Run,
@@ -37,7 +36,6 @@ impl Model for Holes {
 }
 
 /// The memory for holes ran out.
-#[derive(Drop)]
 pub struct HolesRefused {
     /// The span, as it was.
     pub span: Span,

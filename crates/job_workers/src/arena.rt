@@ -18,7 +18,6 @@ use std::alloc::{AllocError, Global};
 use std::marker::Brand;
 
 /// What comes of jobs that are served.
-#[derive(Drop)]
 pub struct ServedJobs {
     /// The whole arena, with the cells that the runs left.
     pub span: Span,

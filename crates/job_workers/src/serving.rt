@@ -24,7 +24,6 @@ use std::marker::PhantomData;
 
 /// What the run of a lease hands back: the lease with the cells as the run left them, the answer, and the stack for the
 /// next run.
-#[derive(Drop)]
 pub(crate) struct Served<N: JobName> {
     pub(crate) lease: Lease<N>,
     pub(crate) answer: Answer<N>,

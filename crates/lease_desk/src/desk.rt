@@ -24,7 +24,6 @@ use std::marker::{Model, PhantomData};
 /// (first fit); a job for which no hole has waits, and is taken once all were asked for and no lease is out. A lease
 /// goes back with a payload that stands for its job. All room is taken at the start: two entries of the journal for
 /// each job, and one more for a job that waits.
-#[derive(Drop)]
 pub struct Desk<N: DeskName, P: Filed> {
     holes: Holes,
     book: Book,
@@ -45,7 +44,6 @@ impl<N: DeskName, P: Filed> Model for Desk<N, P> {
 }
 
 /// What a desk answers when it is asked for the next job.
-#[derive(Drop)]
 pub enum Next<N: DeskName> {
     /// The job's lease.
     Granted(Lease<N>),
@@ -56,14 +54,12 @@ pub enum Next<N: DeskName> {
 }
 
 /// The memory for a desk ran out.
-#[derive(Drop)]
 pub struct DeskRefused {
     /// The arena, as it was.
     pub span: Span,
 }
 
 /// What a desk leaves.
-#[derive(Drop)]
 pub struct Finished<P: Filed> {
     /// The whole arena.
     pub span: Span,

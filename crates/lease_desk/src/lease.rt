@@ -8,7 +8,6 @@ use std::marker::{Model, PhantomData};
 
 /// A run of cells that a desk gave to a job. It owns the cells. Its type keeps that they are of the desk's arena, and as
 /// many as the job's size.
-#[derive(Drop)]
 pub struct Lease<N: DeskName> {
     job: u32,
     span: Span,
@@ -28,7 +27,6 @@ impl<N: DeskName> Model for Lease<N> {
 }
 
 /// What is left of a lease while its span is used: the job, and which span makes it whole again.
-#[derive(Drop)]
 pub struct Claim<N: DeskName> {
     job: u32,
     first: u32,

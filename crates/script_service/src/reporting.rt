@@ -18,7 +18,6 @@ use script_plans::Plans;
 use std::alloc::{AllocError, Global};
 
 /// The report of a script that was served, and the arena as the runs left it.
-#[derive(Drop)]
 pub struct ReportedScript {
     pub text: Vec<u8>,
     pub arena: Span,

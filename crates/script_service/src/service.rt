@@ -22,7 +22,6 @@ use std::alloc::{AllocError, Global};
 use thiserror::Error;
 
 /// What serving a script hands out.
-#[derive(Drop)]
 pub struct ServedScript {
     /// The script, as it was read.
     pub script: Script,
