@@ -118,8 +118,15 @@ impl<N: DeskName> Claim<N> {
         requires arena { span.arena ≡ self.arena }
         ensures { result ≡ lease self.job span }
     {
+        let Claim {
+            job,
+            first: _,
+            size: _,
+            arena: _,
+            of: _,
+        } = self;
         Lease {
-            job: self.job,
+            job,
             span,
             of: PhantomData,
         }
