@@ -1,5 +1,5 @@
--- The first and the last state of a desk that serves jobs.
-use Rattle.std.proofs.Common.{◌≡◌, ℕ, zero, suc, ◌≤◌, List, [], ◌∷◌, length, map, replicate, Option, Some, None, refl, sym, ap, ◌∙◌, subst, arith}
+-- The last state of a desk that served jobs.
+use Rattle.std.proofs.Common.{◌≡◌, ℕ, zero, suc, ◌≤◌, List, [], ◌∷◌, length, map, Option, Some, None, refl, sym, ap, ◌∙◌, subst, arith}
 use Rattle.std.specs.Prelude.{slice_get}
 use Rattle.std.proofs.lemmas.Option.{slice_get_within, slice_get_past}
 use Rattle.cell_span.specs.Range.{Range}
@@ -7,7 +7,6 @@ use Rattle.cell_span.specs.declared.cell.Cell.{Cell}
 use Rattle.cell_machine.specs.Endings.{EndsWith}
 use Rattle.cell_machine.specs.declared.machine.Ending.{Ending}
 use Rattle.lease_desk.specs.declared.event.Event.{Event}
-use Rattle.lease_desk.specs.Journal.{leased, opened}
 use Rattle.lease_desk.specs.Filing.{FiledCells, HoldsFiled}
 use Rattle.lease_desk.specs.Desk.{DeskView, cells_in, filed_by, AllFiled}
 use Rattle.lease_desk.specs.declared.name.DeskName as desk_name
@@ -17,21 +16,13 @@ use Rattle.job_workers.specs.declared.answer.Answer.{Answer}
 use Rattle.job_workers.specs.Served.{cells_for, all_cells}
 use Rattle.job_workers.specs.Ended.{AllEnded}
 use Rattle.job_workers.specs.Filings.{HasAnswer, AllAnswered, ending_in}
-use Rattle.job_workers.specs.Serving.{IsServing}
 use Rattle.job_workers.proofs.Turns.{leases_many}
 
--- ---- a new desk
+-- ---- the sizes
 
-none_out : (n : ℕ) → leased (replicate n None) ≡ []
-none_out zero = refl
-none_out (suc n) = none_out n
-
-pub new_serving : {P : Type 0} (ps qs : Planned) (d : DeskView P) (sizes : List ℕ) → ps ≡ qs → sizes ≡ leases_of qs.plans → d.sizes ≡ sizes → d.state ≡ opened d.arena.cells (length d.sizes) → d.payloads ≡ replicate (length d.sizes) None → d.withdrawn ≡ 0 → IsServing ps d
-new_serving ps qs d sizes plans named is state payloads withdrawn = record {
-  sizes = is ∙ named ∙ ap (λ (x : Planned). leases_of x.plans) (sym plans);
-  none_out = ap (λ s. leased s.leases) state ∙ none_out (length d.sizes);
-  none_withdrawn = withdrawn;
-}
+-- the jobs of a desk of the name are those of the plans
+pub sizes_now : (ps qs : Planned) (sizes own : List ℕ) → ps ≡ qs → sizes ≡ leases_of qs.plans → own ≡ sizes → own ≡ leases_of ps.plans
+sizes_now ps qs sizes own plans named is = is ∙ named ∙ ap (λ (x : Planned). leases_of x.plans) (sym plans)
 
 past : (plans : List Plan) (job : ℕ) → slice_get plans job ≡ None → length plans ≤ job
 past [] job e = omega arith
@@ -49,10 +40,10 @@ module _ {N : Type 0} {j : job_name.Ghosts N} {n : desk_name.Ghosts N} where
     meant = subst (λ q. EndsWith q a.ending) (ap (λ ps. job_run ps a.job) (sym plans) ∙ ap (job_run ps) number) a.meant;
   }
 
-  pub all_answered : (ps : Planned) (d : DeskView (Answer N j n)) (payloads : List (Option (Answer N j n))) → ps ≡ j.planned → IsServing ps d → payloads ≡ d.payloads
+  pub all_answered : (ps : Planned) (d : DeskView (Answer N j n)) (payloads : List (Option (Answer N j n))) → ps ≡ j.planned → d.sizes ≡ leases_of ps.plans → payloads ≡ d.payloads
       → AllFiled (λ (a : Answer N j n). a.job) (length d.sizes) d.payloads → AllAnswered ps payloads
-  all_answered ps d payloads plans serving is filed job less =
-      let p = filed job (omega (arith, less, ap length serving.sizes, leases_many ps.plans)) in
+  all_answered ps d payloads plans sizes is filed job less =
+      let p = filed job (omega (arith, less, ap length sizes, leases_many ps.plans)) in
       answer_of ps job (slice_get payloads job) p.0 plans (ap (λ l. slice_get l job) is ∙ p.1) p.2
 
   -- ---- their endings
@@ -82,10 +73,10 @@ module _ {N : Type 0} {j : job_name.Ghosts N} {n : desk_name.Ghosts N} where
           let h = all job (slice_get_within ps.plans job p e) in
           ap (cells_in told) h.is ∙ ap Some (ap (λ ps. job_cells ps h.answer.job) (sym plans) ∙ ap (job_cells ps) h.number)
 
-  pub all_held : (ps : Planned) (d : DeskView (Answer N j n)) (payloads : List (Option (Answer N j n))) (journal : List Event) (span : Range) → ps ≡ j.planned → IsServing ps d → payloads ≡ d.payloads
+  pub all_held : (ps : Planned) (d : DeskView (Answer N j n)) (payloads : List (Option (Answer N j n))) (journal : List Event) (span : Range) → ps ≡ j.planned → d.sizes ≡ leases_of ps.plans → payloads ≡ d.payloads
       → AllAnswered ps payloads → length d.payloads ≡ length d.sizes → HoldsFiled (filed_by told d.payloads) d.journal span → journal ≡ d.journal → HoldsFiled (all_cells ps) journal span
-  all_held ps d payloads journal span plans serving is all many holds same =
-      let count : length payloads ≡ length ps.plans = ap length is ∙ many ∙ ap length serving.sizes ∙ leases_many ps.plans in
+  all_held ps d payloads journal span plans sizes is all many holds same =
+      let count : length payloads ≡ length ps.plans = ap length is ∙ many ∙ ap length sizes ∙ leases_many ps.plans in
       let filed : filed_by told payloads ≡ all_cells ps = λ i job. filed_at ps payloads job plans all count i in
       let known : HoldsFiled (filed_by told payloads) d.journal span = subst (λ p. HoldsFiled (filed_by told p) d.journal span) (sym is) holds in
       let cells : HoldsFiled (all_cells ps) d.journal span = subst (λ (f : FiledCells). HoldsFiled f d.journal span) filed known in

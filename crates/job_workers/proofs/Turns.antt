@@ -1,4 +1,4 @@
--- Turns of a desk with one worker: a lease goes out, its job is run, and it comes back.
+-- Turns of a desk that somebody has alone: a lease goes out, its job is run, and it comes back.
 use Rattle.std.proofs.Common.{◌≡◌, ℕ, zero, suc, ◌<◌, List, [], ◌∷◌, length, Bool, true, false, ◌==◌, ◌&&◌, if◌then◌else◌, Option, Some, None, refl, sym, ap, ◌∙◌, subst, arith}
 use Rattle.std.specs.Prelude.{slice_get, slice_set}
 use Rattle.std.specs.Option.{option_map}
@@ -12,7 +12,7 @@ use Rattle.lease_desk.specs.Progress.{IsSound}
 use Rattle.lease_desk.specs.Lease.{LeaseView}
 use Rattle.lease_desk.specs.Desk.{DeskView, Takes}
 use Rattle.job_world.specs.Plans.{Plan, Planned, leases_of}
-use Rattle.job_workers.specs.Serving.{IsDue, IsServing}
+use Rattle.job_workers.specs.Serving.{IsOnlyOut}
 
 -- ---- leases that are out
 
@@ -117,11 +117,10 @@ set_many [] job x = refl
 set_many (l ∷ ls) zero x = refl
 set_many (l ∷ ls) (suc job) x = ap suc (set_many ls job x)
 
-taken_due : {P : Type 0} (ps : Planned) (old new : DeskView P) (l : LeaseView) (next : Option Move) → IsServing ps old → IsSound new.arena.cells new.sizes new.journal new.state → Takes next old new l
-    → Taking old.sizes old.state new.state l.job l.range.first (length l.range.cells) → IsDue ps new l
-taken_due {P} ps old new l next serving sound takes k =
+taken_only : {P : Type 0} (old new : DeskView P) (l : LeaseView) (next : Option Move) → leased old.state.leases ≡ [] → IsSound new.arena.cells new.sizes new.journal new.state → Takes next old new l
+    → Taking old.sizes old.state new.state l.job l.range.first (length l.range.cells) → IsOnlyOut new l
+taken_only {P} old new l next none sound takes k =
     let sizes : new.sizes ≡ old.sizes = ap (λ (d : DeskView P). d.sizes) takes.rest in
-    let withdrawn : new.withdrawn ≡ old.withdrawn = ap (λ (d : DeskView P). d.withdrawn) takes.rest in
     let within : l.job < length old.sizes = slice_get_within old.sizes l.job (length l.range.cells) k.sized in
     let many : length new.state.leases ≡ length old.state.leases = ap length k.leases ∙ set_many old.state.leases l.job (Some k.run) in
     let placed : l.job < length old.state.leases = omega (arith, many, sound.places, ap length sizes, within) in
@@ -129,20 +128,33 @@ taken_due {P} ps old new l next serving sound takes k =
     let same : k.run.size ≡ length l.range.cells = some_same k.run.size (length l.range.cells) (sym (sound.sized l.job k.run out) ∙ ap (λ xs. slice_get xs l.job) sizes ∙ k.sized) in
     let is : k.run ≡ run_of l.range = λ i. run (k.first_is i) (same i) in
     record {
-      sizes = sizes ∙ serving.sizes;
-      none_withdrawn = withdrawn ∙ serving.none_withdrawn;
       knows = out ∙ ap (λ r. Some (Some r)) is;
-      only = ap (λ ls. leased (slice_set ls l.job None)) k.leases ∙ none_again old.state.leases l.job k.run serving.none_out;
+      only = ap (λ ls. leased (slice_set ls l.job None)) k.leases ∙ none_again old.state.leases l.job k.run none;
     }
 
-pub next_due : {P : Type 0} (ps : Planned) (old new : DeskView P) (l : LeaseView) → IsServing ps old → IsSound new.arena.cells new.sizes new.journal new.state → Takes (next_move old.sizes old.state) old new l
-    → IsDue ps new l × (new.state.asked ≡ suc old.state.asked) × (new.arena ≡ old.arena)
-next_due {P} ps old new l serving sound takes =
+pub next_only : {P : Type 0} (old new : DeskView P) (l : LeaseView) → leased old.state.leases ≡ [] → IsSound new.arena.cells new.sizes new.journal new.state → Takes (next_move old.sizes old.state) old new l
+    → IsOnlyOut new l
+next_only {P} old new l none sound takes =
     let k = next_taking old.sizes old.state new.state l.job l.range.first (length l.range.cells) takes.told in
-    (taken_due ps old new l (next_move old.sizes old.state) serving sound takes k.0, k.1, ap (λ (d : DeskView P). d.arena) takes.rest)
+    taken_only old new l (next_move old.sizes old.state) none sound takes k.0
 
-pub left_due : {P : Type 0} (ps : Planned) (old new : DeskView P) (l : LeaseView) → IsServing ps old → IsSound new.arena.cells new.sizes new.journal new.state → Takes (left_move old.sizes old.state) old new l
-    → IsDue ps new l × (new.state.asked ≡ old.state.asked) × (new.arena ≡ old.arena) × (length new.state.waiting < length old.state.waiting)
-left_due {P} ps old new l serving sound takes =
+pub left_only : {P : Type 0} (old new : DeskView P) (l : LeaseView) → leased old.state.leases ≡ [] → IsSound new.arena.cells new.sizes new.journal new.state → Takes (left_move old.sizes old.state) old new l
+    → IsOnlyOut new l
+left_only {P} old new l none sound takes =
     let k = left_taking old.sizes old.state new.state l.job l.range.first (length l.range.cells) takes.told in
-    (taken_due ps old new l (left_move old.sizes old.state) serving sound takes k.taking, k.asked, ap (λ (d : DeskView P). d.arena) takes.rest, k.fewer)
+    taken_only old new l (left_move old.sizes old.state) none sound takes k.taking
+
+-- the job that was taken is the one more that was asked for, of those that there are
+pub next_asked : {P : Type 0} (old new : DeskView P) (sizes : List ℕ) (l : LeaseView) → new.sizes ≡ sizes → Takes (next_move old.sizes old.state) old new l
+    → (old.state.asked < length sizes) × (new.state.asked ≡ suc old.state.asked)
+next_asked {P} old new sizes l is takes =
+    let k = next_taking old.sizes old.state new.state l.job l.range.first (length l.range.cells) takes.told in
+    let within : l.job < length old.sizes = slice_get_within old.sizes l.job (length l.range.cells) k.0.sized in
+    (omega (arith, within, k.2, ap (λ (d : DeskView P). length d.sizes) takes.rest, ap length is), k.1)
+
+-- one job fewer waits
+pub left_fewer : {P : Type 0} (old new : DeskView P) (l : LeaseView) → Takes (left_move old.sizes old.state) old new l
+    → (new.state.asked ≡ old.state.asked) × (length new.state.waiting < length old.state.waiting)
+left_fewer old new l takes =
+    let k = left_taking old.sizes old.state new.state l.job l.range.first (length l.range.cells) takes.told in
+    (k.asked, k.fewer)

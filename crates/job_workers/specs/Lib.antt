@@ -3,3 +3,4 @@ pub mod Served
 pub mod Ended
 pub mod Filings
 pub mod Serving
+pub mod Turns

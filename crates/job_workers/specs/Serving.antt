@@ -1,6 +1,5 @@
 -- Private: words for functions of this crate.
--- The stack that is kept for the next run, what the run of a lease hands back, and what stands of a desk between two
--- runs.
+-- The stack that is kept for the next run, what the run of a lease hands back, and a desk with just one lease out.
 use Rattle.std.specs.Prelude.{◌≡◌, ℕ, List, [], length, slice_get, slice_set, Some, None}
 use Rattle.licence.specs.Licensed.{Licensed}
 use Rattle.cell_machine.specs.Views.{IsStackFor}
@@ -25,22 +24,7 @@ pub record IsServed (ps : Planned) (l back : LeaseView) (number : ℕ) : Type 0 
 
 -- for payloads of any sort
 module _ {P : Type 0} where
-  -- The desk is one for these jobs, no lease is out, and none was withdrawn.
-  pub record IsServing (ps : Planned) (d : DeskView P) : Type 0 where
-    pub sizes : d.sizes ≡ leases_of ps.plans
-    pub none_out : leased d.state.leases ≡ []
-    pub none_withdrawn : d.withdrawn ≡ 0
-
-  -- The desk just gave this lease, and no other one is out.
-  pub record IsDue (ps : Planned) (d : DeskView P) (l : LeaseView) : Type 0 where
-    pub sizes : d.sizes ≡ leases_of ps.plans
-    pub none_withdrawn : d.withdrawn ≡ 0
+  -- The desk gave this lease, and no other one is out.
+  pub record IsOnlyOut (d : DeskView P) (l : LeaseView) : Type 0 where
     pub knows : Knows d l
     pub only : leased (slice_set d.state.leases l.job None) ≡ []
-
-  -- Behind the run no lease is out; the arena, what was asked for and who waits are as before.
-  pub record IsDone (ps : Planned) (old : DeskView P) (l : LeaseView) (new : DeskView P) : Type 0 where
-    pub serving : IsServing ps new
-    pub arena : new.arena ≡ old.arena
-    pub asked : new.state.asked ≡ old.state.asked
-    pub waiting : new.state.waiting ≡ old.state.waiting

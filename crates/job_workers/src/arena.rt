@@ -1,5 +1,5 @@
 //! Planned jobs served in an arena: the call that says which jobs they are.
-ghost use Rattle.std.specs.Prelude.{◌≡◌, ◌≤◌, length, map, replicate, IfOk};
+ghost use Rattle.std.specs.Prelude.{◌≡◌, ◌≤◌, length, map, replicate, IfOk, IfErr};
 ghost use Rattle.cell_span.specs.Range.{IsWhole, blank};
 ghost use Rattle.job_world.specs.Plans.{leases_of};
 ghost use Rattle.lease_desk.specs.Journal.{AreSizes, IsLegal};
@@ -9,15 +9,18 @@ ghost use Rattle.job_workers.specs.Filings.{ending_in};
 ghost use Rattle.job_workers.specs.Served.{all_cells};
 
 use crate::answer::Answer;
-use crate::workers::serve_jobs;
+use crate::gate::Gate;
+use crate::workers::{Home, serve_jobs};
 use cell_machine::Ending;
 use cell_span::Span;
 use job_world::{JobName, Jobs};
 use lease_desk::{Desk, DeskRefused, Event, Finished};
 use std::alloc::{AllocError, Global};
 use std::marker::Brand;
+use std::sync::Wait;
+use std::thread::Threads;
 
-/// What comes of jobs that are served.
+/// What comes of jobs that are served. It can't be dropped, as its span can't.
 pub struct ServedJobs {
     /// The whole arena, with the cells that the runs left.
     pub span: Span,
@@ -53,7 +56,14 @@ fn endings_in<N: JobName>(
 
 // Serves the jobs of the name on its desk, which is a new one. Nothing that it takes or hands out is of the name, so
 // that its caller may pick it.
-fn serve_named<N: JobName>(alloc: Global, span: Span, jobs: &Jobs) -> Result<ServedJobs, AllocError>
+fn serve_named<N: JobName + Send + Sync, R: Threads + Wait + Sync, G: Gate + Sync>(
+    rt: &R,
+    alloc: Global,
+    span: Span,
+    jobs: &Jobs,
+    workers: u32,
+    gate: &G,
+) -> Result<ServedJobs, Home>
     requires plans { jobs.now ≡ N.planned }
     requires arena { span.arena ≡ N.arena }
     requires named { N.sizes ≡ leases_of N.planned.plans }
@@ -67,38 +77,50 @@ fn serve_named<N: JobName>(alloc: Global, span: Span, jobs: &Jobs) -> Result<Ser
     ensures whole { IfOk result (λ served. IsWhole served.span) }
     ensures arena { IfOk result (λ served. served.span.arena ≡ span.arena) }
     ensures cells { IfOk result (λ served. HoldsFiled (all_cells jobs.now) served.journal.items served.span) }
+    ensures home { IfErr result (λ home. IsWhole home.span) }
+    ensures home_arena { IfErr result (λ home. home.span.arena ≡ span.arena) }
 {
     let Ok(sizes) = jobs.sizes(alloc) else {
-        span.end();
-        return Err(AllocError);
+        return Err(Home { span });
     };
     let desk = match Desk::<N, Answer<N>>::new(alloc, span, sizes) {
         Ok(desk) => desk,
-        Err(DeskRefused { span }) => {
-            span.end();
-            return Err(AllocError);
-        }
+        Err(DeskRefused { span }) => return Err(Home { span }),
     };
-    let Finished {
-        span,
-        journal,
-        payloads,
-    } = serve_jobs(alloc, desk, jobs)?;
-    let Ok(endings) = endings_in(alloc, payloads) else {
-        span.end();
-        return Err(AllocError);
-    };
-    Ok(ServedJobs {
-        span,
-        journal,
-        endings,
-    })
+    match serve_jobs(rt, alloc, desk, jobs, workers, gate) {
+        Ok(
+            Finished {
+                span,
+                journal,
+                payloads,
+            },
+        ) => match endings_in(alloc, payloads) {
+            Ok(endings) => Ok(ServedJobs {
+                span,
+                journal,
+                endings,
+            }),
+            Err(_) => Err(Home { span }),
+        },
+        Err(home) => Err(home),
+    }
 }
 
-/// Serves planned jobs in a new arena, whose cells are all blank: on a new desk, as [`serve_jobs`] does. There are at
-/// most 4,096, and the lease of each fits into the arena. It is the call that picks which jobs are served. `AllocError`
-/// where memory runs out: the arena is ended then.
-pub fn serve_planned(alloc: Global, span: Span, jobs: &Jobs) -> Result<ServedJobs, AllocError>
+/// Serves planned jobs in a new arena, whose cells are all blank: on a new desk, by so many workers, as [`serve_jobs`]
+/// does. There are at most 4,096 jobs, and the lease of each fits into the arena. It is the call that picks which jobs
+/// are served. It may wait for the lock and the desk.
+///
+/// # Errors
+///
+/// [`Home`] where memory ran out. The whole arena comes home then.
+pub fn serve_planned<R: Threads + Wait + Sync, G: Gate + Sync>(
+    rt: &R,
+    alloc: Global,
+    span: Span,
+    jobs: &Jobs,
+    workers: u32,
+    gate: &G,
+) -> Result<ServedJobs, Home>
     requires whole { IsWhole span }
     requires blanks { span.cells ≡ replicate span.arena.cells blank }
     requires few { length jobs.now.plans ≤ 4096 }
@@ -115,6 +137,9 @@ pub fn serve_planned(alloc: Global, span: Span, jobs: &Jobs) -> Result<ServedJob
     // Each of its cells is the one that the machine left there for the last job whose lease went over it, and a blank
     // one where none did.
     ensures cells { IfOk result (λ served. HoldsFiled (all_cells jobs.now) served.journal.items served.span) }
+    // It comes back too where memory ran out.
+    ensures home { IfErr result (λ home. IsWhole home.span) }
+    ensures home_arena { IfErr result (λ home. home.span.arena ≡ span.arena) }
 {
-    serve_named::<Brand>(alloc, span, jobs)
+    serve_named::<Brand, R, G>(rt, alloc, span, jobs, workers, gate)
 }

@@ -1,5 +1,5 @@
 //! The run of one lease, and its way back to the desk.
-ghost use Rattle.std.specs.Prelude.{◌≡◌, length, slice_get, Some, MatchResult};
+ghost use Rattle.std.specs.Prelude.{◌≡◌, length, slice_get, Some, IfOk, MatchResult};
 ghost use Rattle.grail_code.specs.Code as plain;
 ghost use Rattle.grail_code.specs.Meaning.{run_of};
 ghost use Rattle.cell_machine.specs.Views.{HasRoom, IsStackFor};
@@ -12,6 +12,7 @@ ghost use Rattle.job_world.specs.Plans.{leases_of};
 ghost use Rattle.job_workers.specs.Serving.{IsServed};
 
 use crate::answer::Answer;
+use crate::gate::Gate;
 use crate::stacks::{Kept, stack_for};
 use camelot_values::Flat;
 use cell_machine::{Ending, Ran, Room, Stack, run};
@@ -19,7 +20,7 @@ use cell_span::Span;
 use job_world::{JobName, Jobs, Plan};
 use lease_desk::Lease;
 use licence::Licence;
-use std::alloc::Global;
+use std::alloc::{AllocError, Global};
 use std::marker::PhantomData;
 
 /// What the run of a lease hands back: the lease with the cells as the run left them, the answer, and the stack for the
@@ -71,11 +72,32 @@ fn compact(alloc: Global, ending: Ending) -> Ending
     }
 }
 
-/// Runs the job of a lease in the lease's cells, which are as many as its plan says. It needs no desk. Where memory for
-/// a stack or for room runs out, the lease comes back as it was. Once the lease is opened nothing fails.
-pub(crate) fn serve_lease<N: JobName>(
+// A stack for a run, room for its value, and behind them the gate.
+fn make_ready<N: JobName, G: Gate>(
+    alloc: Global,
+    gate: &G,
+    job: u32,
+    plan: &Plan,
+    licence: &Licence,
+    kept: Option<Kept<N>>,
+) -> Result<(Stack, Room), AllocError>
+    requires is { slice_get N.planned.licences plan.now.licence ≡ Some licence.now }
+    ensures stack { IfOk result (λ r. IsStackFor licence.now.code r.0) }
+    ensures room { IfOk result (λ r. HasRoom plan.now.lease r.1) }
+{
+    let stack = stack_for(alloc, plan.licence, licence, kept)?;
+    let room = Room::new(alloc, plan.lease)?;
+    gate.pass(job)?;
+    Ok((stack, room))
+}
+
+/// Runs the job of a lease in the lease's cells, which are as many as its plan says, once the gate lets it pass. It
+/// needs no desk. Where memory for a stack or for room runs out, or the gate refuses, the lease comes back as it was.
+/// Once the lease is opened nothing fails.
+pub(crate) fn serve_lease<N: JobName, G: Gate>(
     alloc: Global,
     jobs: &Jobs,
+    gate: &G,
     lease: Lease<N>,
     kept: Option<Kept<N>>,
 ) -> Result<Served<N>, Lease<N>>
@@ -88,10 +110,7 @@ pub(crate) fn serve_lease<N: JobName>(
     let job = lease.job();
     let plan = jobs.plan(job);
     let licence = jobs.licence(job);
-    let Ok(stack) = stack_for(alloc, plan.licence, licence, kept) else {
-        return Err(lease);
-    };
-    let Ok(room) = Room::new(alloc, plan.lease) else {
+    let Ok((stack, room)) = make_ready(alloc, gate, job, plan, licence, kept) else {
         return Err(lease);
     };
     let (span, claim) = lease.open();

@@ -1,36 +1,86 @@
-//! One worker at a desk: it asks for one job after the other, and then for those that wait.
-ghost use Rattle.std.specs.Prelude.{◌≡◌, ◌+◌, ◌<◌, [], length, replicate, None, IfOk, OnOk, MatchOption};
+//! Workers at one desk behind a lock: each asks for one job after the other, runs it, and gives its lease back.
+//!
+//! What the lock holds is known by its type alone: the desk is the replay of its journal, its holes and leases add up to
+//! the arena, and it is of the arena and the sizes of its name, as is each lease.
+ghost use Rattle.std.specs.Prelude.{◌≡◌, [], length, IfOk, IfErr};
 ghost use Rattle.cell_span.specs.Range.{IsWhole};
-ghost use Rattle.job_world.specs.Plans.{leases_of};
-ghost use Rattle.lease_desk.specs.Journal.{opened, leased, IsLegal};
+ghost use Rattle.job_world.specs.Plans.{leases_of, job_cells};
+ghost use Rattle.lease_desk.specs.Journal.{leased, IsLegal};
 ghost use Rattle.lease_desk.specs.Filing.{HoldsFiled};
 ghost use Rattle.job_workers.specs.Served.{all_cells};
 ghost use Rattle.job_workers.specs.Filings.{AllAnswered};
-ghost use Rattle.job_workers.specs.Serving.{IsDue, IsDone, IsServing};
 
 use crate::answer::Answer;
+use crate::gate::Gate;
+use crate::rest::serve_rest;
 use crate::serving::{Served, serve_lease};
 use crate::stacks::Kept;
+use cell_span::Span;
 use job_world::{JobName, Jobs};
 use lease_desk::{Desk, Finished, Lease, Next};
-use std::alloc::{AllocError, Global};
+use std::alloc::Global;
+use std::sync::{Mutex, Wait};
+use std::thread;
+use std::thread::Threads;
 
-// Runs the job of a lease that the desk just gave, and gives the lease back with the job's answer. Where memory for the
-// run is lacking, the lease goes back without one. No lease is out in either case.
-fn run_and_give<N: JobName>(
+/// Memory ran out. Every lease came home, and no job runs any more.
+pub struct Home {
+    /// The whole arena.
+    pub span: Span,
+}
+
+// Asks the desk for the next job.
+fn ask<N: JobName, R: Wait>(rt: &R, desk: &Mutex<Desk<N, Answer<N>>>) -> Next<N> {
+    desk.lock(rt).next()
+}
+
+// Gives a lease back with its answer, once the desk knows it.
+fn give_back<N: JobName, R: Wait>(
+    rt: &R,
+    desk: &Mutex<Desk<N, Answer<N>>>,
+    lease: Lease<N>,
+    answer: Answer<N>,
+)
+    requires number { answer.job ≡ lease.job }
+    requires cells { job_cells N.planned answer.job ≡ lease.range.cells }
+{
+    for _ in rt.forever() {
+        let mut here = desk.lock(rt);
+        if here.knows(&lease) {
+            here.give(lease, answer);
+            return;
+        }
+    }
+    unreachable!()
+}
+
+// Gives a lease back without an answer, once the desk knows it.
+fn withdraw_back<N: JobName, R: Wait>(rt: &R, desk: &Mutex<Desk<N, Answer<N>>>, lease: Lease<N>) {
+    for _ in rt.forever() {
+        let mut here = desk.lock(rt);
+        if here.knows(&lease) {
+            here.withdraw(lease);
+            return;
+        }
+    }
+    unreachable!()
+}
+
+// Runs the job of a lease without the lock, and gives the lease back: with the job's answer, or without one where memory
+// for the run is lacking or the gate refuses. The stack of the run is kept.
+fn serve_granted<N: JobName, R: Wait, G: Gate>(
+    rt: &R,
     alloc: Global,
-    desk: &mut Desk<N, Answer<N>>,
+    desk: &Mutex<Desk<N, Answer<N>>>,
     jobs: &Jobs,
+    gate: &G,
     lease: Lease<N>,
     kept: Option<Kept<N>>,
-) -> Result<Kept<N>, AllocError>
+) -> Option<Kept<N>>
     requires plans { jobs.now ≡ N.planned }
     requires sizes { N.sizes ≡ leases_of N.planned.plans }
-    requires due { IsDue jobs.now desk.old lease }
-    ensures done { OnOk result (IsDone jobs.now desk.old lease desk.new) }
-    ensures none_out { leased desk.new.state.leases ≡ [] }
 {
-    match serve_lease(alloc, jobs, lease, kept) {
+    match serve_lease(alloc, jobs, gate, lease, kept) {
         Ok(
             Served {
                 lease,
@@ -38,183 +88,111 @@ fn run_and_give<N: JobName>(
                 kept,
             },
         ) => {
-            desk.give(lease, answer);
-            Ok(kept)
+            give_back(rt, desk, lease, answer);
+            Some(kept)
         }
         Err(lease) => {
-            desk.withdraw(lease);
-            Err(AllocError)
+            withdraw_back(rt, desk, lease);
+            None
         }
     }
 }
 
-// Asks for the next job; where it is given a lease, runs it and gives the lease back.
-fn serve_next<N: JobName>(
+// The turns of one worker: it asks for jobs and serves them, until every job was asked for.
+fn work<N: JobName, R: Wait, G: Gate>(
+    rt: &R,
     alloc: Global,
-    desk: &mut Desk<N, Answer<N>>,
+    desk: &Mutex<Desk<N, Answer<N>>>,
     jobs: &Jobs,
-    kept: Option<Kept<N>>,
-) -> Result<Option<Kept<N>>, AllocError>
+    gate: &G,
+)
     requires plans { jobs.now ≡ N.planned }
     requires sizes { N.sizes ≡ leases_of N.planned.plans }
-    requires serving { IsServing jobs.now desk.old }
-    requires more { desk.old.state.asked < length desk.old.sizes }
-    ensures serving { OnOk result (IsServing jobs.now desk.new) }
-    ensures arena { OnOk result (desk.new.arena ≡ desk.old.arena) }
-    ensures asked { OnOk result (desk.new.state.asked ≡ desk.old.state.asked + 1) }
-    ensures none_out { leased desk.new.state.leases ≡ [] }
 {
-    match desk.next() {
-        Next::Granted(lease) => {
-            desk.kept();
-            let kept = run_and_give(alloc, desk, jobs, lease, kept)?;
-            Ok(Some(kept))
-        }
-        Next::Full {
-            job: _,
-            need: _,
-            largest: _,
-        } => Ok(kept),
-        Next::Over => unreachable!(),
-    }
-}
-
-// Asks for every job.
-fn serve_asked<N: JobName>(
-    alloc: Global,
-    desk: &mut Desk<N, Answer<N>>,
-    jobs: &Jobs,
-) -> Result<Option<Kept<N>>, AllocError>
-    requires plans { jobs.now ≡ N.planned }
-    requires sizes { N.sizes ≡ leases_of N.planned.plans }
-    requires serving { IsServing jobs.now desk.old }
-    requires asked { desk.old.state.asked ≡ 0 }
-    ensures serving { OnOk result (IsServing jobs.now desk.new) }
-    ensures arena { OnOk result (desk.new.arena ≡ desk.old.arena) }
-    ensures asked { OnOk result (desk.new.state.asked ≡ length desk.new.sizes) }
-    ensures none_out { leased desk.new.state.leases ≡ [] }
-{
-    let mut kept: Option<Kept<N>> = None;
-    'jobs: for _ in 0..jobs.count() {
-        kept = serve_next(alloc, desk, jobs, kept)?;
-    }
-    Ok(kept)
-}
-
-// Takes the job that waits first, once no lease is out, runs it and gives its lease back; `None` where none waits.
-fn serve_next_left<N: JobName>(
-    alloc: Global,
-    desk: &mut Desk<N, Answer<N>>,
-    jobs: &Jobs,
-    kept: Option<Kept<N>>,
-) -> Result<Option<Kept<N>>, AllocError>
-    requires plans { jobs.now ≡ N.planned }
-    requires sizes { N.sizes ≡ leases_of N.planned.plans }
-    requires serving { IsServing jobs.now desk.old }
-    requires asked { desk.old.state.asked ≡ length desk.old.sizes }
-    ensures serving { OnOk result (IsServing jobs.now desk.new) }
-    ensures arena { OnOk result (desk.new.arena ≡ desk.old.arena) }
-    ensures asked { OnOk result (desk.new.state.asked ≡ length desk.new.sizes) }
-    ensures left { IfOk result (λ kept. MatchOption kept (desk.new.state.waiting ≡ []) (λ _. length desk.new.state.waiting < length desk.old.state.waiting)) }
-    ensures none_out { leased desk.new.state.leases ≡ [] }
-{
-    match desk.next_left() {
-        Some(lease) => {
-            desk.kept();
-            let kept = run_and_give(alloc, desk, jobs, lease, kept)?;
-            Ok(Some(kept))
-        }
-        None => Ok(None),
-    }
-}
-
-// Serves the jobs that wait.
-fn serve_left<N: JobName>(
-    alloc: Global,
-    desk: &mut Desk<N, Answer<N>>,
-    jobs: &Jobs,
-    kept: Option<Kept<N>>,
-) -> Result<(), AllocError>
-    requires plans { jobs.now ≡ N.planned }
-    requires sizes { N.sizes ≡ leases_of N.planned.plans }
-    requires serving { IsServing jobs.now desk.old }
-    requires asked { desk.old.state.asked ≡ length desk.old.sizes }
-    ensures serving { OnOk result (IsServing jobs.now desk.new) }
-    ensures arena { OnOk result (desk.new.arena ≡ desk.old.arena) }
-    ensures asked { OnOk result (desk.new.state.asked ≡ length desk.new.sizes) }
-    ensures left { OnOk result (desk.new.state.waiting ≡ []) }
-    ensures none_out { leased desk.new.state.leases ≡ [] }
-{
-    let mut kept = kept;
-    'turns: loop {
-        match serve_next_left(alloc, desk, jobs, kept) {
-            Ok(Some(next)) => kept = Some(next),
-            Ok(None) => return Ok(()),
-            Err(full) => return Err(full),
+    let mut kept = None;
+    for _ in rt.forever() {
+        match ask(rt, desk) {
+            Next::Over => return,
+            Next::Full {
+                job: _,
+                need: _,
+                largest: _,
+            } => {}
+            Next::Granted(lease) => kept = serve_granted(rt, alloc, desk, jobs, gate, lease, kept),
         }
     }
+    unreachable!()
 }
 
-// Serves every job. No lease is out then, also where memory runs out.
-fn serve_all<N: JobName>(
-    alloc: Global,
-    desk: &mut Desk<N, Answer<N>>,
-    jobs: &Jobs,
-) -> Result<(), AllocError>
-    requires plans { jobs.now ≡ N.planned }
-    requires sizes { N.sizes ≡ leases_of N.planned.plans }
-    requires serving { IsServing jobs.now desk.old }
-    requires asked { desk.old.state.asked ≡ 0 }
-    ensures serving { OnOk result (IsServing jobs.now desk.new) }
-    ensures arena { OnOk result (desk.new.arena ≡ desk.old.arena) }
-    ensures asked { OnOk result (desk.new.state.asked ≡ length desk.new.sizes) }
-    ensures left { OnOk result (desk.new.state.waiting ≡ []) }
-    ensures none_out { leased desk.new.state.leases ≡ [] }
+// Goes on where no lease is out, and else waits for ever.
+fn settle<N: JobName, R: Wait>(rt: &R, desk: &Desk<N, Answer<N>>)
+    ensures { leased desk.now.state.leases ≡ [] }
 {
-    let kept = serve_asked(alloc, desk, jobs)?;
-    serve_left(alloc, desk, jobs, kept)
+    if desk.out() == 0 {
+        return;
+    }
+    for _ in rt.forever() {}
+    unreachable!()
 }
 
-/// Serves the planned jobs of the name on its desk, a new one, by one worker. It asks the desk for one job after the
-/// other, runs each one that is given a lease in the lease's cells, and gives the lease back with the job's ending.
-/// Then it does the same with the jobs that wait, and ends the desk. A run takes no memory; its stack is kept for the
-/// next job of the same licence. `AllocError` where memory runs out: the desk and its arena are ended then.
-pub fn serve_jobs<N: JobName>(
+/// Serves the planned jobs of the name on its desk, by so many workers over a lock.
+///
+/// Each worker asks the desk for the next job, makes a stack and room for it, passes the gate, runs the job in the
+/// lease's cells without the lock, and gives the lease back with the job's ending, until every job was asked for. A run
+/// takes no memory; its stack is kept for the worker's next job of the same licence. Once all workers are done, the
+/// caller asks on alone for the jobs that are left, if any, and serves those that wait, in order. It may wait for the
+/// lock and the desk.
+///
+/// # Errors
+///
+/// [`Home`] where memory ran out: for a worker, a stack, room, or at the gate. The whole arena comes home then.
+pub fn serve_jobs<N: JobName + Send + Sync, R: Threads + Wait + Sync, G: Gate + Sync>(
+    rt: &R,
     alloc: Global,
     desk: Desk<N, Answer<N>>,
     jobs: &Jobs,
-) -> Result<Finished<Answer<N>>, AllocError>
+    workers: u32,
+    gate: &G,
+) -> Result<Finished<Answer<N>>, Home>
     requires plans { jobs.now ≡ N.planned }
     requires sizes { N.sizes ≡ leases_of N.planned.plans }
-    requires state { desk.state ≡ opened desk.arena.cells (length desk.sizes) }
-    requires payloads { desk.payloads ≡ replicate (length desk.sizes) None }
-    requires withdrawn { desk.withdrawn ≡ 0 }
     // The journal is legal, from the first event to the last.
-    ensures legal { IfOk result (λ f. IsLegal desk.arena.cells (leases_of jobs.now.plans) f.journal.items) }
+    ensures legal { IfOk result (λ f. IsLegal N.arena.cells (leases_of jobs.now.plans) f.journal.items) }
     // Each job has its answer, which is the ending that the meaning of its own plan says.
     ensures answered { IfOk result (λ f. AllAnswered jobs.now f.payloads.items) }
     ensures count { IfOk result (λ f. length f.payloads.items ≡ length jobs.now.plans) }
     // The whole arena comes back. Each cell is the one that the machine left there for the last job whose lease went
     // over it, and a blank one where none did.
     ensures whole { IfOk result (λ f. IsWhole f.span) }
-    ensures arena { IfOk result (λ f. f.span.arena ≡ desk.arena) }
+    ensures arena { IfOk result (λ f. f.span.arena ≡ N.arena) }
     ensures cells { IfOk result (λ f. HoldsFiled (all_cells jobs.now) f.journal.items f.span) }
+    // It comes back too where memory ran out.
+    ensures home { IfErr result (λ home. IsWhole home.span) }
+    ensures home_arena { IfErr result (λ home. home.span.arena ≡ N.arena) }
 {
-    let mut desk = desk;
-    desk.kept();
-    match serve_all(alloc, &mut desk, jobs) {
-        Ok(()) => {
-            desk.kept();
-            Ok(desk.finish())
-        }
-        Err(full) => {
-            let Finished {
-                span,
-                journal: _,
-                payloads: _,
-            } = desk.finish();
-            span.end();
-            Err(full)
-        }
+    let shared = Mutex::new(desk);
+    let ran = thread::map_indices(
+        rt,
+        alloc,
+        workers as usize,
+        &|_i| requires { (jobs.now ≡ N.planned) × (N.sizes ≡ leases_of N.planned.plans) } { work(rt, alloc, &shared, jobs, gate) },
+    )
+    .is_ok();
+    let mut desk = shared.into_inner();
+    settle(rt, &desk);
+    if ran {
+        serve_rest(alloc, &mut desk, jobs);
     }
+    desk.kept();
+    let withdrawn = desk.withdrawn();
+    let finished = desk.finish();
+    if ran && withdrawn == 0 {
+        return Ok(finished);
+    }
+    let Finished {
+        span,
+        journal: _,
+        payloads: _,
+    } = finished;
+    Err(Home { span })
 }

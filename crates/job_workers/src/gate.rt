@@ -1,0 +1,21 @@
+use std::alloc::AllocError;
+
+/// What each worker passes between the grant of a lease and the run of its job. Workers share it.
+pub trait Gate {
+    /// Lets the worker of this job pass. It may wait.
+    ///
+    /// # Errors
+    ///
+    /// `AllocError` where the gate is refused memory. The job isn't run then, and its lease is withdrawn.
+    fn pass(&self, job: u32) -> Result<(), AllocError>;
+}
+
+/// A gate that holds nobody.
+#[derive(Drop)]
+pub struct OpenGate;
+
+impl Gate for OpenGate {
+    fn pass(&self, _job: u32) -> Result<(), AllocError> {
+        Ok(())
+    }
+}
