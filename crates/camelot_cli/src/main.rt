@@ -5,7 +5,7 @@ ghost use Rattle.std.specs.Prelude.{◌≡◌};
 ghost use Rattle.std.specs.IoError.{error_kind};
 ghost use Rattle.camelot_cli.specs.Exits.{exit_of};
 
-use camelot_host::{Status, host};
+use camelot_host::{OpenGate, Status, host_gated};
 use host_io::{StdSink, StdSource};
 use std::io::ErrorKind;
 use std::process::ExitCode;
@@ -17,7 +17,7 @@ fn main(rt: HostRuntime) -> ExitCode {
         Ok(words) => {
             let mut source = StdSource::new(rt.reader());
             let mut sink = StdSink::new(io::writer(&rt));
-            host(&rt, rt.alloc(), &words, &mut source, &mut sink)
+            host_gated(&rt, rt.alloc(), &words, &mut source, &mut sink, &OpenGate).end()
         }
         Err(error) => status_without_words(&error),
     };

@@ -46,7 +46,7 @@ written_quiet status.Usage v output t t' old new w = absurd w
 written_quiet status.TooLong v output t t' old new w = absurd w
 
 -- what was read whole is the input of any command, since each reads
-has_read : (command : Command) (before after : Devices) (input : List ℕ) → ReadWhole before after input → HasRead (reads command) before after input
+pub has_read : (command : Command) (before after : Devices) (input : List ℕ) → ReadWhole before after input → HasRead (reads command) before after input
 has_read command before after input h = subst (λ b. HasRead b before after input) (sym (all_read command)) h
 
 -- where the source tells its input, that is the command's

@@ -4,7 +4,7 @@ ghost use Rattle.camelot_host.specs.Commands.{Compile};
 ghost use Rattle.camelot_host.specs.Due.{refused_line};
 ghost use Rattle.camelot_host.specs.Replies.{IsReply};
 
-use super::reply::{Reply, Verdict};
+use super::reply::Reply;
 use camelot_compiler::{CompileFault, compile, write_bundle};
 use refusals::{Cause, cause_text};
 use std::alloc::{AllocError, Global};
@@ -29,18 +29,15 @@ pub(crate) fn compile_source(alloc: Global, input: &[u8]) -> Result<Reply, Alloc
 {
     match compile(alloc, input) {
         Ok(bundle) => {
-            let bytes = write_bundle(alloc, &bundle)?;
-            Ok(Reply {
-                verdict: Verdict::Done,
-                bytes,
+            let output = write_bundle(alloc, &bundle)?;
+            Ok(Reply::Done {
+                output,
+                arena: None,
             })
         }
         Err(CompileFault::Refused(cause)) => {
-            let bytes = refusal(alloc, &cause)?;
-            Ok(Reply {
-                verdict: Verdict::Refused,
-                bytes,
-            })
+            let line = refusal(alloc, &cause)?;
+            Ok(Reply::Refused { line })
         }
         Err(CompileFault::Memory) => Err(AllocError),
     }

@@ -1,57 +1,168 @@
-ghost use Rattle.std.specs.Prelude.{◌≡◌, ℕ, ◌+◌, ◌<◌, ◌≤◌, ◌↔◌, false, List, map, length, string_bytes, IfOk};
+ghost use Rattle.std.specs.Prelude.{◌≡◌, ℕ, ◌+◌, ◌<◌, ◌≤◌, ◌↔◌, false, List, map, length, None, string_bytes, IfOk, IfSome};
+ghost use Rattle.cell_span.specs.Range.{IsWhole};
 ghost use Rattle.host_io.specs.Counts.{last_count};
 ghost use Rattle.camelot_host.specs.Commands as plain;
 ghost use Rattle.camelot_host.specs.Commands.{IsCommand, IsNoCommand, IsInput, reads};
 ghost use Rattle.camelot_host.specs.Answers.{input_limit, devices, Answers, Completes, Quiet, SourceFaults, SinkFaults};
-ghost use Rattle.camelot_host.specs.Replies.{command_named, verdict_named, IsReply, Writes, Responds};
+ghost use Rattle.camelot_host.specs.Due.{Done, Refused};
+ghost use Rattle.camelot_host.specs.Replies.{command_named, verdict_of, bytes_of, IsReply, KeptBy, Keeps, WholeIn, Writes, Responds, RespondsIn};
+ghost use Rattle.camelot_host.specs.Served.{ArenaBy};
 
 use super::command::{Command, command_of};
 use super::compile::compile_source;
-use super::reply::{Reply, Verdict};
+use super::reply::Reply;
 use super::serve::serve;
+use super::served::Served;
 use super::status::Status;
+use cell_span::Span;
 use host_io::{ReadStop, Sink, Source, read_all, write_all};
+use script_service::{Gate, OpenGate};
 use std::alloc::{AllocError, Global};
+use std::sync::Wait;
+use std::thread::Threads;
 
 /// The most bytes of input.
 const INPUT_LIMIT: usize = 8388608;
 
 // What the command makes of an input that was read whole.
-fn work(alloc: Global, command: Command, input: Vec<u8>) -> Result<Reply, AllocError>
+fn work<R: Threads + Wait + Sync, G: Gate + Sync>(
+    rt: &R,
+    alloc: Global,
+    command: Command,
+    input: Vec<u8>,
+    gate: &G,
+) -> Result<Reply, AllocError>
     requires few { length input.items ≤ input_limit }
     ensures { IfOk result (IsReply (command_named command) input.items) }
 {
     match command {
-        Command::Serve => serve(alloc, input),
+        Command::Serve => serve(rt, alloc, input, gate),
         Command::Compile => compile_source(alloc, &input),
     }
 }
 
-// Writes a reply.
-fn write<K: Sink>(sink: &mut K, reply: &Reply) -> Status
-    ensures told { Writes result (verdict_named reply.now.verdict) reply.now.bytes.items (K.told sink.old) (K.told sink.new) }
-    ensures faults { SinkFaults result (K.faults sink.old) (K.faults sink.new) }
+// Writes the output of a command that was done, and hands on the arena that it leaves, which is ended where that fails.
+fn write_done<K: Sink>(sink: &mut K, output: &[u8], arena: Option<Span>) -> Served
+    requires whole { IfSome arena IsWhole }
+    ensures told { Writes result.status Done output.now (K.told sink.old) (K.told sink.new) }
+    ensures arena { KeptBy result.status arena result.arena }
+    ensures faults { SinkFaults result.status (K.faults sink.old) (K.faults sink.new) }
 {
-    match write_all(sink, &reply.bytes) {
-        Ok(()) => match reply.verdict {
-            Verdict::Done => Status::Ok,
-            Verdict::Refused => Status::Refused,
-        },
-        Err(_) => Status::WriteFault,
+    match write_all(sink, output) {
+        Ok(()) => Served::with_arena(Status::Ok, arena),
+        Err(_) => {
+            if let Some(span) = arena {
+                span.end();
+            }
+            Served::without(Status::WriteFault)
+        }
+    }
+}
+
+// Writes the line of a refusal.
+fn write_refusal<K: Sink>(sink: &mut K, line: &[u8]) -> Served
+    ensures told { Writes result.status Refused line.now (K.told sink.old) (K.told sink.new) }
+    ensures arena { result.arena ≡ None }
+    ensures faults { SinkFaults result.status (K.faults sink.old) (K.faults sink.new) }
+{
+    match write_all(sink, line) {
+        Ok(()) => Served::without(Status::Refused),
+        Err(_) => Served::without(Status::WriteFault),
+    }
+}
+
+// Writes a reply, and hands on its arena.
+fn write<K: Sink>(sink: &mut K, reply: Reply) -> Served
+    requires whole { WholeIn reply }
+    ensures told { Writes result.status (verdict_of reply) (bytes_of reply) (K.told sink.old) (K.told sink.new) }
+    ensures arena { Keeps result.status reply result.arena }
+    ensures faults { SinkFaults result.status (K.faults sink.old) (K.faults sink.new) }
+{
+    match reply {
+        Reply::Done { output, arena } => write_done(sink, &output, arena),
+        Reply::Refused { line } => write_refusal(sink, &line),
     }
 }
 
 // Does the command's work on an input that was read whole, and writes what comes of it.
-#[tactic(auto, using(crate::proofs::Answering::responds, crate::proofs::Answering::written_quiet))]
-fn respond<K: Sink>(alloc: Global, command: Command, input: Vec<u8>, sink: &mut K) -> Status
+#[tactic(auto, using(crate::proofs::Answering::responds, crate::proofs::Answering::written_quiet, crate::proofs::Leaving::leaves_whole, crate::proofs::Leaving::told_left))]
+fn respond<R: Threads + Wait + Sync, K: Sink, G: Gate + Sync>(
+    rt: &R,
+    alloc: Global,
+    command: Command,
+    input: Vec<u8>,
+    sink: &mut K,
+    gate: &G,
+) -> Served
     requires few { length input.items ≤ input_limit }
-    ensures told { Responds result (command_named command) input.items (K.told sink.old) (K.told sink.new) }
-    ensures faults { SinkFaults result (K.faults sink.old) (K.faults sink.new) }
-    ensures quiet { Quiet result sink.old sink.new }
+    ensures told { Responds result.status (command_named command) input.items (K.told sink.old) (K.told sink.new) }
+    ensures left { RespondsIn result.status (command_named command) input.items (K.told sink.old) (K.told sink.new) result.arena }
+    ensures faults { SinkFaults result.status (K.faults sink.old) (K.faults sink.new) }
+    ensures quiet { Quiet result.status sink.old sink.new }
 {
-    match work(alloc, command, input) {
-        Ok(reply) => write(sink, &reply),
-        Err(_) => Status::Memory,
+    match work(rt, alloc, command, input, gate) {
+        Ok(reply) => write(sink, reply),
+        Err(_) => Served::without(Status::Memory),
+    }
+}
+
+/// Runs one command, from the bytes that come in to the bytes that go out, as [`host`] does, whose promises are all made
+/// here too. The workers of `serve` pass this gate, each between the grant of a lease and the run of its job. The arena
+/// of a script that was served is handed out with the status.
+#[tactic(auto, using(crate::proofs::Answering::answers_of, crate::proofs::Answering::no_usage, crate::proofs::Answering::not_long, crate::proofs::Answering::source_steady, crate::proofs::Answering::no_rise, crate::proofs::Answering::no_more, crate::proofs::Answering::unread, crate::proofs::Leaving::arena_by))]
+pub fn host_gated<R: Threads + Wait + Sync, S: Source, K: Sink, G: Gate + Sync>(
+    rt: &R,
+    alloc: Global,
+    words: &[String],
+    source: &mut S,
+    sink: &mut K,
+    gate: &G,
+) -> Served
+    // What was taken from the source and told to the sink, by the status.
+    ensures answers { let before = devices (S.left source.old) (S.taken source.old) (K.told sink.old) in
+        let after = devices (S.left source.new) (S.taken source.new) (K.told sink.new) in
+        Answers result.status (map string_bytes words.now) before after }
+
+    // Words that spell no command are refused before anything is read.
+    ensures usage { (result.status ≡ Status.Usage) ↔ IsNoCommand (map string_bytes words.now) }
+    ensures untouched { result.status ≡ Status.Usage → (source.new ≡ source.old) × (sink.new ≡ sink.old) }
+
+    // A command that doesn't read leaves the source as it was.
+    ensures unread { (command : plain.Command) → IsCommand (map string_bytes words.now) command → reads command ≡ false → source.new ≡ source.old }
+
+    // The sink isn't used at a status at which nothing is written.
+    ensures quiet { Quiet result.status sink.old sink.new }
+
+    // A fault is answered where a device failed, and nowhere else while its count has room.
+    ensures source_faults { SourceFaults result.status (S.faults source.old) (S.faults source.new) }
+    ensures sink_faults { SinkFaults result.status (K.faults sink.old) (K.faults sink.new) }
+
+    // The count of bytes taken tells whether the input was too long, as long as the count has room.
+    ensures too_long { S.taken source.old + input_limit < last_count →
+        ((result.status ≡ Status.TooLong) ↔ (S.taken source.new ≡ S.taken source.old + (input_limit + 1))) }
+
+    // The same from the other side: where the words spell a command, the source tells the input of one that reads, this
+    // is within the limit, and no device fails, an output that is due is told whole, unless memory runs out.
+    ensures complete { (command : plain.Command) (input : List ℕ) → IsCommand (map string_bytes words.now) command
+        → IsInput command (S.left source.old) input → length input ≤ input_limit
+        → S.faults source.old < last_count → S.faults source.new ≡ S.faults source.old
+        → K.faults sink.old < last_count → K.faults sink.new ≡ K.faults sink.old
+        → Completes result.status command input (K.told sink.old) (K.told sink.new) }
+
+    // The arena is there exactly where the words are `serve` and the status is `Ok`. It is the script's whole arena, and
+    // each of its cells is the machine's final cell of the last job whose lease went over it, by the printed journal.
+    ensures arena { let before = devices (S.left source.old) (S.taken source.old) (K.told sink.old) in
+        let after = devices (S.left source.new) (S.taken source.new) (K.told sink.new) in
+        ArenaBy result.status (map string_bytes words.now) before after result.arena }
+{
+    let Some(command) = command_of(words) else {
+        return Served::without(Status::Usage);
+    };
+    match read_all(alloc, source, INPUT_LIMIT) {
+        Ok(input) => respond(rt, alloc, command, input, sink, gate),
+        Err(ReadStop::Fault) => Served::without(Status::ReadFault),
+        Err(ReadStop::TooLong) => Served::without(Status::TooLong),
+        Err(ReadStop::Memory) => Served::without(Status::Memory),
     }
 }
 
@@ -73,9 +184,8 @@ fn respond<K: Sink>(alloc: Global, command: Command, input: Vec<u8>, sink: &mut 
 /// what is written for it; [`Status::Usage`] where the words spell no command; [`Status::ReadFault`] and
 /// [`Status::WriteFault`] where a device failed; [`Status::TooLong`] where there are more than 8,388,608 bytes of input; and
 /// [`Status::Memory`] where memory ran out.
-#[tactic(auto, using(crate::proofs::Answering::answers_of, crate::proofs::Answering::no_usage, crate::proofs::Answering::not_long, crate::proofs::Answering::source_steady, crate::proofs::Answering::no_rise, crate::proofs::Answering::no_more, crate::proofs::Answering::unread))]
-pub fn host<R, S: Source, K: Sink>(
-    _rt: &R,
+pub fn host<R: Threads + Wait + Sync, S: Source, K: Sink>(
+    rt: &R,
     alloc: Global,
     words: &[String],
     source: &mut S,
@@ -112,13 +222,5 @@ pub fn host<R, S: Source, K: Sink>(
         → K.faults sink.old < last_count → K.faults sink.new ≡ K.faults sink.old
         → Completes result command input (K.told sink.old) (K.told sink.new) }
 {
-    let Some(command) = command_of(words) else {
-        return Status::Usage;
-    };
-    match read_all(alloc, source, INPUT_LIMIT) {
-        Ok(input) => respond(alloc, command, input, sink),
-        Err(ReadStop::Fault) => Status::ReadFault,
-        Err(ReadStop::TooLong) => Status::TooLong,
-        Err(ReadStop::Memory) => Status::Memory,
-    }
+    host_gated(rt, alloc, words, source, sink, &OpenGate).end()
 }

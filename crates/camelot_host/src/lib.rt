@@ -7,7 +7,10 @@ mod hosting;
 pub mod laws;
 mod reply;
 mod serve;
+mod served;
 mod status;
 
-pub use hosting::host;
+pub use hosting::{host, host_gated};
+pub use script_service::{Gate, OpenGate};
+pub use served::Served;
 pub use status::Status;

@@ -1,14 +1,14 @@
-/// Whether a command did what it was asked for, or refused its input.
-#[derive(Clone, Copy, Debug)]
-pub(crate) enum Verdict {
-    Done,
-    Refused,
-}
+use cell_span::Span;
 
 /// The answer to an input that was read whole, before any of it is written.
-#[derive(Drop)]
-pub(crate) struct Reply {
-    pub(crate) verdict: Verdict,
-    /// The whole output.
-    pub(crate) bytes: Vec<u8>,
+pub(crate) enum Reply {
+    /// The command was done.
+    Done {
+        /// The whole output.
+        output: Vec<u8>,
+        /// The arena that it leaves, where it ran jobs in one.
+        arena: Option<Span>,
+    },
+    /// The input is refused; its line.
+    Refused { line: Vec<u8> },
 }

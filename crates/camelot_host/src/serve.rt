@@ -3,38 +3,37 @@ ghost use Rattle.camelot_host.specs.Answers.{input_limit};
 ghost use Rattle.camelot_host.specs.Commands.{Serve};
 ghost use Rattle.camelot_host.specs.Replies.{IsReply};
 
-use super::reply::{Reply, Verdict};
-use script_service::{ServeFault, fault_line, serve_script};
+use super::reply::Reply;
+use script_service::{Gate, ReportedScript, ServeFault, fault_line, serve_script};
 use std::alloc::{AllocError, Global};
+use std::sync::Wait;
+use std::thread::Threads;
 
 // What is written for a script with a Grail program.
 const NOT_YET: &[u8] = b"refused not-yet\n";
 
-/// The reply to a script: its report, or else the line that tells why it isn't served.
+/// The reply to a script: its report with the arena that it leaves, or else the line that tells why it isn't served.
 #[tactic(auto, using(crate::proofs::Serving::no_script, crate::proofs::Serving::not_yet))]
-pub(crate) fn serve(alloc: Global, input: Vec<u8>) -> Result<Reply, AllocError>
+pub(crate) fn serve<R: Threads + Wait + Sync, G: Gate + Sync>(
+    rt: &R,
+    alloc: Global,
+    input: Vec<u8>,
+    gate: &G,
+) -> Result<Reply, AllocError>
     requires few { length input.items ≤ input_limit }
     ensures { IfOk result (IsReply Serve input.items) }
 {
-    match serve_script(alloc, input) {
-        Ok(bytes) => Ok(Reply {
-            verdict: Verdict::Done,
-            bytes,
+    match serve_script(rt, alloc, input, gate) {
+        Ok(ReportedScript { text, arena }) => Ok(Reply::Done {
+            output: text,
+            arena: Some(arena),
         }),
-        Err(ServeFault::NoScript(fault)) => {
-            let bytes = fault_line(alloc, &fault)?;
-            Ok(Reply {
-                verdict: Verdict::Refused,
-                bytes,
-            })
-        }
-        Err(ServeFault::NotYet) => {
-            let bytes = Vec::from_slice(alloc, NOT_YET)?;
-            Ok(Reply {
-                verdict: Verdict::Refused,
-                bytes,
-            })
-        }
+        Err(ServeFault::NoScript(fault)) => Ok(Reply::Refused {
+            line: fault_line(alloc, &fault)?,
+        }),
+        Err(ServeFault::NotYet) => Ok(Reply::Refused {
+            line: Vec::from_slice(alloc, NOT_YET)?,
+        }),
         Err(ServeFault::Memory) => Err(AllocError),
     }
 }

@@ -19,7 +19,7 @@ use Rattle.lease_desk.specs.declared.event.Event.{Event}
 use Rattle.lease_desk.specs.Filing.{FiledCells, HoldsFiled}
 use Rattle.lease_desk.specs.Journal.{IsLegal}
 use Rattle.script_plans.specs.Lines.{AllCamelot, AreProgramLines, ArePlanned, planned_cells, sizes_of, all_left}
-use Rattle.script_service.specs.Service.{TellsMeaning, IsReport, report_of}
+use Rattle.script_service.specs.Service.{TellsMeaning, IsReportIn, report_of}
 use Rattle.script_service.specs.Handed.{service_of, IsHanded, IsHandedFor, IsRefused}
 use Rattle.script_service.specs.Steps.{IsOf, IsUnserved, serve_fault}
 use Rattle.script_service.specs.declared.service.ServedScript.{ServedScript}
@@ -123,9 +123,7 @@ refused input x y e h = subst (IsRefused input) (sym e) (by_fault x h)
 
 -- ---- the report
 
-pub is_report : (input output : List ℕ) (s : ServedScript) (h : IsHandedFor input s) → ((handed : IsHanded s) → output ≡ report_of (service_of s handed.planned.fates)) → IsReport input output
-is_report input output s h each =
-    record { service = service_of s h.handed.planned.fates; served = record { text = h.text; only = h.only; comes = h.handed.comes }; is = each h.handed }
-
-pub whole_arena : (input : List ℕ) (s : ServedScript) (arena : Range) → IsHandedFor input s → arena ≡ s.arena → IsWhole arena
-whole_arena input s arena h e = subst IsWhole (sym e) h.handed.comes.whole
+pub is_report : (input output : List ℕ) (s : ServedScript) (arena : Range) (h : IsHandedFor input s) → ((handed : IsHanded s) → output ≡ report_of (service_of s handed.planned.fates)) → arena ≡ s.arena
+    → IsReportIn input output arena
+is_report input output s arena h each left =
+    record { service = service_of s h.handed.planned.fates; served = record { text = h.text; only = h.only; comes = h.handed.comes }; is = each h.handed; left = left }

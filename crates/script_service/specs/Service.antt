@@ -77,11 +77,23 @@ told_of s programs fates journal = record {
 abbrev pub report_of : Service → List ℕ
 report_of s = report_text s.script.items (told_of s.script s.programs s.fates s.journal)
 
--- The output is the report of what comes of the input. What comes of it has the arena as it is at the end too, by the same fates and the same journal.
+-- The output is the report of what comes of the input.
 pub record IsReport (input output : List ℕ) : Type 0 where
   pub service : Service
   pub served : IsServiceOf input service
   pub is : output ≡ report_of service
+
+-- The output is the report of what comes of the input, and this is the arena that it leaves: by the same fates as the
+-- lines of jobs, and by the journal that is printed.
+pub record IsReportIn (input output : List ℕ) (arena : Range) : Type 0 where
+  pub service : Service
+  pub served : IsServiceOf input service
+  pub is : output ≡ report_of service
+  pub left : arena ≡ service.arena
+
+-- it is a report
+abbrev pub report_in : {input output : List ℕ} {arena : Range} → IsReportIn input output arena → IsReport input output
+report_in r = record { service = r.service; served = r.served; is = r.is }
 
 -- ---- inputs that aren't served
 

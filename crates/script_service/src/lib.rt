@@ -1,4 +1,4 @@
-//! Scripts served on one worker: from the bytes of a script to what comes of it, and its report.
+//! Scripts served by workers: from the bytes of a script to what comes of it, and its report.
 #![tactic(auto)]
 
 mod faults;
@@ -10,5 +10,6 @@ mod running;
 mod service;
 
 pub use faults::fault_line;
+pub use job_workers::{Gate, OpenGate};
 pub use reporting::{ReportedScript, report_served};
 pub use service::{ServeFault, ServedScript, run_script, serve_script};

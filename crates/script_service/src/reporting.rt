@@ -17,9 +17,11 @@ use run_reports::{Outcome, report};
 use script_plans::Plans;
 use std::alloc::{AllocError, Global};
 
-/// The report of a script that was served, and the arena as the runs left it.
+/// The report of a script that was served, and the whole arena. It can't be dropped, as its arena can't.
 pub struct ReportedScript {
+    /// The report.
     pub text: Vec<u8>,
+    /// The arena, as the runs left it.
     pub arena: Span,
 }
 

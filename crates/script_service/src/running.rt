@@ -7,12 +7,22 @@ ghost use Rattle.lease_desk.specs.Filing.{HoldsFiled};
 ghost use Rattle.lease_desk.specs.Journal.{AreSizes, IsLegal};
 
 use cell_span::Span;
-use job_workers::{ServedJobs, serve_planned};
+use job_workers::{Gate, Home, ServedJobs, serve_planned};
 use job_world::Jobs;
 use std::alloc::{AllocError, Global};
+use std::sync::Wait;
+use std::thread::Threads;
 
-/// Runs all planned jobs in a new arena of so many cells. `AllocError` where memory runs out: the arena is ended then.
-pub(crate) fn run_jobs(alloc: Global, arena: u32, jobs: &Jobs) -> Result<ServedJobs, AllocError>
+/// Runs all planned jobs in a new arena of so many cells, by so many workers. `AllocError` where memory runs out: the
+/// arena is ended then.
+pub(crate) fn run_jobs<R: Threads + Wait + Sync, G: Gate + Sync>(
+    rt: &R,
+    alloc: Global,
+    arena: u32,
+    jobs: &Jobs,
+    workers: u32,
+    gate: &G,
+) -> Result<ServedJobs, AllocError>
     requires arena { 1 ≤ arena }
     requires few_cells { arena ≤ 2147483648 }
     requires few_jobs { length jobs.now.plans ≤ 4096 }
@@ -24,5 +34,11 @@ pub(crate) fn run_jobs(alloc: Global, arena: u32, jobs: &Jobs) -> Result<ServedJ
     ensures cells { IfOk result (λ done. HoldsFiled (all_cells jobs.now) done.journal.items done.span) }
 {
     let span = Span::new(alloc, arena)?;
-    serve_planned(alloc, span, jobs)
+    match serve_planned(rt, alloc, span, jobs, workers, gate) {
+        Ok(served) => Ok(served),
+        Err(Home { span }) => {
+            span.end();
+            Err(AllocError)
+        }
+    }
 }

@@ -4,12 +4,12 @@ ghost use Rattle.job_script.specs.Scripts.{IsScript};
 ghost use Rattle.job_script.specs.Text.{EntryIsShort};
 ghost use Rattle.job_script.specs.Words.{script_of};
 ghost use Rattle.script_plans.specs.Lines.{AllCamelot};
-ghost use Rattle.script_service.specs.Service.{IsReport};
+ghost use Rattle.script_service.specs.Service.{IsReportIn};
 ghost use Rattle.script_service.specs.Handed.{IsHandedFor, IsRefused};
 ghost use Rattle.script_service.specs.Steps.{IsOf, IsUnserved, serve_fault};
 
 use crate::grail::has_grail;
-use crate::reporting::report_served;
+use crate::reporting::{ReportedScript, report_served};
 use crate::running::run_jobs;
 use cell_machine::Ending;
 use cell_span::Span;
@@ -18,10 +18,13 @@ use job_script::{Script, ScriptFault, read_script};
 use lease_desk::Event;
 use script_plans::laws::law_of_short;
 use script_plans::{Plans, plan_script};
+use job_workers::{Gate, ServedJobs};
 use std::alloc::{AllocError, Global};
+use std::sync::Wait;
+use std::thread::Threads;
 use thiserror::Error;
 
-/// What serving a script hands out.
+/// What serving a script hands out. It can't be dropped, as its arena can't.
 pub struct ServedScript {
     /// The script, as it was read.
     pub script: Script,
@@ -61,26 +64,40 @@ fn serve_fault(fault: ScriptFault) -> ServeFault
 
 // Serves a script whose programs are all Camelot.
 #[tactic(auto, using(crate::proofs::Handing::some_cells, crate::proofs::Handing::few_cells))]
-fn serve_camelot(alloc: Global, script: Script) -> Result<ServedScript, AllocError>
+fn serve_camelot<R: Threads + Wait + Sync, G: Gate + Sync>(
+    rt: &R,
+    alloc: Global,
+    script: Script,
+    gate: &G,
+) -> Result<ServedScript, AllocError>
     requires script { IsScript (script_of script) }
     requires camelot { AllCamelot (script_of script).items }
     requires short { AllByRecursion (EntryIsShort 4294967295) (script_of script).items }
     ensures { IfOk result (IsOf (script_of script)) }
 {
     let plans = plan_script(alloc, &script)?;
-    let served = run_jobs(alloc, script.arena, &plans.jobs)?;
+    let ServedJobs {
+        span,
+        journal,
+        endings,
+    } = run_jobs(rt, alloc, script.arena, &plans.jobs, script.workers, gate)?;
     Ok(ServedScript {
         script,
         plans,
-        journal: served.journal,
-        endings: served.endings,
-        arena: served.span,
+        journal,
+        endings,
+        arena: span,
     })
 }
 
 // Serves a script that was read, where its programs are all Camelot.
 #[tactic(auto, using(crate::proofs::Languages::has_grail, crate::proofs::Languages::all_camelot))]
-fn serve_read(alloc: Global, script: Script) -> Result<ServedScript, ServeFault>
+fn serve_read<R: Threads + Wait + Sync, G: Gate + Sync>(
+    rt: &R,
+    alloc: Global,
+    script: Script,
+    gate: &G,
+) -> Result<ServedScript, ServeFault>
     requires script { IsScript (script_of script) }
     requires short { AllByRecursion (EntryIsShort 4294967295) (script_of script).items }
     ensures { MatchResult result (IsOf (script_of script)) (IsUnserved (script_of script)) }
@@ -88,20 +105,27 @@ fn serve_read(alloc: Global, script: Script) -> Result<ServedScript, ServeFault>
     if has_grail(&script.items) {
         return Err(ServeFault::NotYet);
     }
-    match serve_camelot(alloc, script) {
+    match serve_camelot(rt, alloc, script, gate) {
         Ok(served) => Ok(served),
         Err(_) => Err(ServeFault::Memory),
     }
 }
 
-/// Serves a script: its programs are compiled and verified, and its jobs run in one arena. Hands out the script, what was planned of it, the journal of the leases, the endings of the runs, and
-/// the arena as they left it. The input has fewer than 2^32 bytes; it is let go once the script is read.
+/// Serves a script: its programs are compiled and verified, and its jobs run in one arena, by as many workers as it
+/// says, each of which passes the gate. Hands out the script, what was planned of it, the journal of the leases, the
+/// endings of the runs, and the arena as they left it. The input has fewer than 2^32 bytes; it is let go once the script
+/// is read. It may wait for the lock and the desk.
 ///
 /// # Errors
 ///
-/// [`ServeFault::NoScript`] exactly where the input is no script, with its first wrong line; [`ServeFault::NotYet`] exactly where it is one with a Grail
-/// program; [`ServeFault::Memory`] where memory runs out: the arena is ended then.
-pub fn run_script(alloc: Global, input: Vec<u8>) -> Result<ServedScript, ServeFault>
+/// [`ServeFault::NoScript`] exactly where the input is no script, with its first wrong line; [`ServeFault::NotYet`]
+/// exactly where it is one with a Grail program; [`ServeFault::Memory`] where memory runs out: the arena is ended then.
+pub fn run_script<R: Threads + Wait + Sync, G: Gate + Sync>(
+    rt: &R,
+    alloc: Global,
+    input: Vec<u8>,
+    gate: &G,
+) -> Result<ServedScript, ServeFault>
     requires { length input.items < 4294967296 }
     // What is handed out is what comes of the script that the input is the text of; an input is refused for its cause.
     ensures { MatchResult result (IsHandedFor input.items) (IsRefused input.items) }
@@ -112,31 +136,35 @@ pub fn run_script(alloc: Global, input: Vec<u8>) -> Result<ServedScript, ServeFa
     match read_script(alloc, &input) {
         Ok(script) => {
             drop(input);
-            serve_read(alloc, script)
+            serve_read(rt, alloc, script, gate)
         }
         Err(fault) => Err(serve_fault(fault)),
     }
 }
 
-/// The report of a script: each of its programs with its unit or why it is refused, each of its jobs with what it comes to by the meaning of its own program,
-/// its peak and its bound, and the journal of the leases that they had in one arena. The input has fewer than 2^32 bytes; it is let go once the
-/// script is read.
+/// The report of a script: each of its programs with its unit or why it is refused, each of its jobs with what it comes
+/// to by the meaning of its own program, its peak and its bound, and the journal of the leases that they had in one
+/// arena; and that arena, as the jobs left it. The input has fewer than 2^32 bytes; it is let go once the script is read.
+/// It may wait for the lock and the desk.
 ///
 /// # Errors
 ///
 /// Those of [`run_script`].
-#[tactic(auto, using(crate::proofs::Handing::is_report, crate::proofs::Handing::whole_arena))]
-pub fn serve_script(alloc: Global, input: Vec<u8>) -> Result<Vec<u8>, ServeFault>
+#[tactic(auto, using(crate::proofs::Handing::is_report))]
+pub fn serve_script<R: Threads + Wait + Sync, G: Gate + Sync>(
+    rt: &R,
+    alloc: Global,
+    input: Vec<u8>,
+    gate: &G,
+) -> Result<ReportedScript, ServeFault>
     requires { length input.items < 4294967296 }
-    // What is answered is the report of what comes of the input; an input is refused for its cause.
-    ensures { MatchResult result (λ text. IsReport input.items text.items) (IsRefused input.items) }
+    // What is answered is the report of what comes of the input, and the arena that this leaves; an input is refused for
+    // its cause.
+    ensures { MatchResult result (λ r. IsReportIn input.items r.text.items r.arena) (IsRefused input.items) }
 {
-    match run_script(alloc, input) {
+    match run_script(rt, alloc, input, gate) {
         Ok(served) => match report_served(alloc, served) {
-            Ok(reported) => {
-                reported.arena.end();
-                Ok(reported.text)
-            }
+            Ok(reported) => Ok(reported),
             Err(_) => Err(ServeFault::Memory),
         },
         Err(fault) => Err(fault),

@@ -2,7 +2,7 @@ use Rattle.std.proofs.Common.{map}
 use Rattle.std.specs.Prelude.{string_bytes}
 use Rattle.camelot_host.specs.Replies.{command_named}
 use Rattle.camelot_host.proofs.Answering.{completes}
-use Rattle.camelot_host.proofs.hosting.host.Goals as goal
+use Rattle.camelot_host.proofs.hosting.host_gated.Goals as goal
 
 -- The whole input was read, and what was told for it is known.
 pub returns-in-Ok-clause-complete : goal.returns-in-Ok-clause-complete

@@ -1,0 +1,63 @@
+-- The arena that a command leaves.
+use Rattle.std.proofs.Common.{◌≡◌, ℕ, ◌≤◌, List, length, Option, Some, None, sym, subst}
+use Rattle.std.specs.Prelude.{IfSome}
+use Rattle.std.specs.Io.KnownBytes.{IsAtEnd}
+use Rattle.cell_span.specs.Range.{Range, IsWhole}
+use Rattle.host_io.specs.Source.{Took}
+use Rattle.script_service.specs.Service.{IsReportIn}
+use Rattle.camelot_host.specs.Commands.{Command, Serve, Compile, IsCommand}
+use Rattle.camelot_host.specs.Answers.{input_limit, devices}
+use Rattle.camelot_host.specs.Served.{Leaves, ArenaBy}
+use Rattle.camelot_host.specs.Replies.{verdict_of, bytes_of, IsReply, KeptBy, Keeps, WholeIn, Writes, RespondsIn}
+use Rattle.camelot_host.specs.declared.reply.Reply.{Reply}
+use Rattle.camelot_host.specs.declared.reply.Reply.TheVariants as reply
+use Rattle.camelot_host.specs.declared.status.Status.{Status}
+use Rattle.camelot_host.specs.declared.status.Status.TheVariants as status
+use Rattle.camelot_host.proofs.Answering.{has_read}
+
+-- an arena that is left is whole
+whole_left : (command : Command) (input output : List ℕ) (arena : Option Range) → Leaves command input output arena → IfSome arena IsWhole
+whole_left Serve input output (Some arena) h = subst IsWhole (sym h.left) h.served.comes.whole
+whole_left Serve input output None h = absurd h
+whole_left Compile input output arena h = subst (λ (o : Option Range). IfSome o IsWhole) (sym h) tt
+
+pub leaves_whole : (command : Command) (input : List ℕ) (r : Reply) → IsReply command input r → WholeIn r
+leaves_whole command input (reply.Done output arena) h = whole_left command input output.items arena h.leaves
+leaves_whole command input (reply.Refused line) h = tt
+
+-- what was told of a reply leaves its arena
+pub told_left : (s : Status) (command : Command) (input : List ℕ) (r : Reply) (kept : Option Range) (t t' : Option (List ℕ)) → IsReply command input r → Writes s (verdict_of r) (bytes_of r) t t' → Keeps s r kept
+    → RespondsIn s command input t t' kept
+told_left status.Ok command input (reply.Done output arena) kept t t' h w k = record { output = output.items; whole = w; leaves = subst (Leaves command input output.items) (sym k) h.leaves }
+told_left status.Ok command input (reply.Refused line) kept t t' h w k = absurd w
+told_left status.Refused command input (reply.Done output arena) kept t t' h w k = absurd w
+told_left status.Refused command input (reply.Refused line) kept t t' h w k = k
+told_left status.WriteFault command input (reply.Done output arena) kept t t' h w k = k
+told_left status.WriteFault command input (reply.Refused line) kept t t' h w k = k
+told_left status.Memory command input (reply.Done output arena) kept t t' h w k = k
+told_left status.Memory command input (reply.Refused line) kept t t' h w k = k
+told_left status.ReadFault command input (reply.Done output arena) kept t t' h w k = k
+told_left status.ReadFault command input (reply.Refused line) kept t t' h w k = k
+told_left status.Usage command input (reply.Done output arena) kept t t' h w k = k
+told_left status.Usage command input (reply.Refused line) kept t t' h w k = k
+told_left status.TooLong command input (reply.Done output arena) kept t t' h w k = k
+told_left status.TooLong command input (reply.Refused line) kept t t' h w k = k
+
+-- the arena by the status, where the command's input was read whole
+pub arena_by : (s : Status) (words : List (List ℕ)) (command : Command) (input : List ℕ) (l l' t t' : Option (List ℕ)) (n n' : ℕ) (arena : Option Range) → IsCommand words command → RespondsIn s command input t t' arena
+    → Took l l' n n' input → IsAtEnd l' → length input ≤ input_limit → ArenaBy s words (devices l n t) (devices l' n' t') arena
+arena_by status.Ok words command input l l' t t' n n' arena c r k e h = record {
+  command = command;
+  spelled = c;
+  input = input;
+  read = has_read command (devices l n t) (devices l' n' t') input (record { took = k; at_end = e; within = h });
+  output = r.output;
+  whole = r.whole;
+  leaves = r.leaves;
+}
+arena_by status.Refused words command input l l' t t' n n' arena c r k e h = r
+arena_by status.WriteFault words command input l l' t t' n n' arena c r k e h = r
+arena_by status.Memory words command input l l' t t' n n' arena c r k e h = r
+arena_by status.ReadFault words command input l l' t t' n n' arena c r k e h = r
+arena_by status.Usage words command input l l' t t' n n' arena c r k e h = r
+arena_by status.TooLong words command input l l' t t' n n' arena c r k e h = r
