@@ -24,7 +24,8 @@ unsafe impl<T> Sync for Base<T> {}
 /// The owner of neighbouring places of a block: those that hold `items`, from the place `first` on, and `spare` empty
 /// ones behind them. It takes no bytes; the block's pointer stands beside it.
 ///
-/// It can't be dropped: the places would be lost.
+/// Dropping it lets the places go: nobody reads or frees them from then on.
+#[derive(Drop)]
 pub struct Cells<T> {
     mark: PhantomData<*const T>,
     ghost at: { Ptr },
@@ -45,7 +46,8 @@ unsafe impl<T: Sync> Sync for Cells<T> {}
 
 /// The right to give the block of `len` places that begins at `at` back to `alloc`. It takes no bytes.
 ///
-/// It can't be dropped: the block would stay until the program ends.
+/// Dropping it gives nothing back: the block then stays until the program ends.
+#[derive(Drop)]
 pub struct Deed<T, A: Allocator> {
     mark: PhantomData<*const (T, A)>,
     ghost at: { Ptr },
