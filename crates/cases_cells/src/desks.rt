@@ -14,6 +14,7 @@ mod copied;
 mod replays;
 mod session;
 
+pub(crate) use answers::fit;
 use answers::{answer_new, answer_without};
 use std::io;
 

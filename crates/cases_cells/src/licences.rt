@@ -6,12 +6,18 @@
 //!
 //! - `bound CODE CERT FUNCTION |ARGUMENTS|`: the bound and the lease of a run of the function of this number.
 //! - `run CODE CERT FUNCTION FUEL |ARGUMENTS|`: the same, and how the run ends in the cells of its lease, with so much fuel.
+//! - `serve CODE CERT FUNCTION FUEL COPIES ARENA WORKERS GATE |ARGUMENTS|`: the run as so many jobs, numbered from 0, which so many workers serve in an arena of so
+//!   many cells: how many ended, of how many events, and the cells that came back; or, where memory is refused, the first index and the cells of what came home. The
+//!   gate is `open`; or a job's number, at which its worker is refused memory; or `hold`, where job 0 waits until job 1 has passed, and it is told whether it did.
+mod gates;
 mod jobs;
 mod running;
+mod serving;
 
 use case_lines::Texts;
 use jobs::job_of;
 use running::answer_job;
+use serving::{Call, answer_serve};
 use std::io;
 
 /// Prints what is answered about a run of these texts.
@@ -39,6 +45,20 @@ fn number_of(entry: &str) -> Option<(u32, Option<u64>)> {
     Some((entry.parse::<u32>().ok()?, None))
 }
 
+/// The call of these words as so many jobs, where each word is a number.
+fn call_of<'a>(words: [&str; 5], gate: &'a str, text: &'a [u8]) -> Option<Call<'a>> {
+    let [entry, fuel, copies, arena, workers] = words;
+    Some(Call {
+        entry: entry.parse::<u32>().ok()?,
+        fuel: fuel.parse::<u64>().ok()?,
+        copies: copies.parse::<u32>().ok()?,
+        arena: arena.parse::<u32>().ok()?,
+        workers: workers.parse::<u32>().ok()?,
+        gate,
+        text,
+    })
+}
+
 /// Prints what is answered to the command of these words, with these arguments.
 fn answer(
     rt: &HostRuntime,
@@ -47,6 +67,13 @@ fn answer(
     words: &[&str],
     text: &[u8],
 ) -> io::Result<()> {
+    if let ["serve", code, cert, entry, fuel, copies, arena, workers, gate] = words {
+        let call = call_of([*entry, *fuel, *copies, *arena, *workers], *gate, text);
+        return match (codes.find(code), certs.find(cert), call) {
+            (Some(code), Some(cert), Some(call)) => answer_serve(rt, code, cert, &call),
+            _ => print!(rt; " no such code, certificate or number"),
+        };
+    }
     let (code, cert, numbers) = match words {
         ["bound", code, cert, entry] => (*code, *cert, number_of(entry)),
         ["run", code, cert, entry, fuel] => (*code, *cert, numbers_of(entry, fuel)),

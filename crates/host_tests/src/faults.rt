@@ -15,7 +15,7 @@ fn a_fault_of_reading_tells_nothing(rt: HostRuntime) -> Result<(), Fail> {
     let mut source = MemorySource::new(bytes, 16, vec![in alloc; 1]?);
     let mut sink = MemorySink::new(alloc, 1000, 16, Vec::new(alloc))?;
     assert_eq!(rt;
-        host(&(), alloc, &words, &mut source, &mut sink),
+        host(&rt, alloc, &words, &mut source, &mut sink),
         Status::ReadFault
     );
     assert!(rt; sink.told().is_empty());
@@ -30,7 +30,7 @@ fn a_fault_of_writing_leaves_a_front(rt: HostRuntime) -> Result<(), Fail> {
     let mut source = MemorySource::new(bytes, 16, Vec::new(alloc));
     let mut sink = MemorySink::new(alloc, 1000, 16, vec![in alloc; 1]?)?;
     assert_eq!(rt;
-        host(&(), alloc, &words, &mut source, &mut sink),
+        host(&rt, alloc, &words, &mut source, &mut sink),
         Status::WriteFault
     );
     assert_eq!(rt; sink.told(), b"program p accept".as_slice());

@@ -7,3 +7,5 @@ mod adapters;
 mod devices;
 #[cfg(test)]
 mod faults;
+#[cfg(test)]
+mod gates;

@@ -13,8 +13,8 @@ use std::io;
 use std::marker::Brand;
 use std::mem::replace;
 
-// Whether each size is from 1 to the arena's.
-fn fit(arena: u32, sizes: &[u32]) -> bool
+/// Whether each size is from 1 to the arena's.
+pub(crate) fn fit(arena: u32, sizes: &[u32]) -> bool
     ensures { IsTrue result → AreSizes arena sizes.now }
 {
     match sizes {

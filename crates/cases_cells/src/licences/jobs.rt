@@ -24,7 +24,7 @@ pub(crate) struct Job {
 }
 
 /// The licence of these bytes, where there is one; otherwise what is wrong is printed.
-fn licence_of(rt: &HostRuntime, code: &[u8], cert: &[u8]) -> io::Result<Option<Licence>>
+pub(crate) fn licence_of(rt: &HostRuntime, code: &[u8], cert: &[u8]) -> io::Result<Option<Licence>>
     ensures { IfOk result (λ found. IfSome found (λ licence. IsReadable licence.code)) }
 {
     if code.len() >= 4_294_967_296 || cert.len() >= 4_294_967_296 {
@@ -43,8 +43,8 @@ fn licence_of(rt: &HostRuntime, code: &[u8], cert: &[u8]) -> io::Result<Option<L
     }
 }
 
-// The arguments of an entry.
-fn arguments_of(
+/// The arguments of an entry, of this text.
+pub(crate) fn arguments_of(
     alloc: Global,
     code: &Code,
     entry: u32,
