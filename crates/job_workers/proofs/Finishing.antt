@@ -2,12 +2,14 @@
 use Rattle.std.proofs.Common.{◌≡◌, ℕ, zero, suc, ◌≤◌, List, [], ◌∷◌, length, map, Option, Some, None, refl, sym, ap, ◌∙◌, subst, arith}
 use Rattle.std.specs.Prelude.{slice_get}
 use Rattle.std.proofs.lemmas.Option.{slice_get_within, slice_get_past}
+use Rattle.cell_span.specs.Arenas.{Arena}
 use Rattle.cell_span.specs.Range.{Range}
 use Rattle.cell_span.specs.declared.cell.Cell.{Cell}
 use Rattle.cell_machine.specs.Endings.{EndsWith}
 use Rattle.cell_machine.specs.declared.machine.Ending.{Ending}
 use Rattle.lease_desk.specs.declared.event.Event.{Event}
 use Rattle.lease_desk.specs.Filing.{FiledCells, HoldsFiled}
+use Rattle.lease_desk.specs.Journal.{IsLegal}
 use Rattle.lease_desk.specs.Desk.{DeskView, cells_in, filed_by, AllFiled}
 use Rattle.lease_desk.specs.declared.name.DeskName as desk_name
 use Rattle.job_world.specs.declared.name.JobName as job_name
@@ -23,6 +25,12 @@ use Rattle.job_workers.proofs.Turns.{leases_many}
 -- the jobs of a desk of the name are those of the plans
 pub sizes_now : (ps qs : Planned) (sizes own : List ℕ) → ps ≡ qs → sizes ≡ leases_of qs.plans → own ≡ sizes → own ≡ leases_of ps.plans
 sizes_now ps qs sizes own plans named is = is ∙ named ∙ ap (λ (x : Planned). leases_of x.plans) (sym plans)
+
+-- the journal of a desk of the name is legal for the plans
+pub legal_now : {P : Type 0} (d : DeskView P) (ps : Planned) (arena : Arena) (journal : List Event) → d.arena ≡ arena → d.sizes ≡ leases_of ps.plans → journal ≡ d.journal → IsLegal d.arena.cells d.sizes d.journal
+    → IsLegal arena.cells (leases_of ps.plans) journal
+legal_now d ps arena journal of sizes is h =
+    subst (λ j. IsLegal arena.cells (leases_of ps.plans) j) (sym is) (subst (λ s. IsLegal arena.cells s d.journal) sizes (subst (λ (a : Arena). IsLegal a.cells d.sizes d.journal) of h))
 
 past : (plans : List Plan) (job : ℕ) → slice_get plans job ≡ None → length plans ≤ job
 past [] job e = omega arith

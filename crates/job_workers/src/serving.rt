@@ -1,5 +1,5 @@
 //! The run of one lease, and its way back to the desk.
-ghost use Rattle.std.specs.Prelude.{◌≡◌, length, slice_get, Some, IfOk, MatchResult};
+ghost use Rattle.std.specs.Prelude.{◌≡◌, ◌≤◌, length, slice_get, Some, IfOk, MatchResult};
 ghost use Rattle.grail_code.specs.Code as plain;
 ghost use Rattle.grail_code.specs.Meaning.{run_of};
 ghost use Rattle.cell_machine.specs.Views.{HasRoom, IsStackFor};
@@ -82,6 +82,7 @@ fn make_ready<N: JobName, G: Gate>(
     kept: Option<Kept<N>>,
 ) -> Result<(Stack, Room), AllocError>
     requires is { slice_get N.planned.licences plan.now.licence ≡ Some licence.now }
+    requires few { plan.now.lease ≤ 2147483648 }
     ensures stack { IfOk result (λ r. IsStackFor licence.now.code r.0) }
     ensures room { IfOk result (λ r. HasRoom plan.now.lease r.1) }
 {

@@ -135,6 +135,21 @@ fn settle<N: JobName, R: Wait>(rt: &R, desk: &Desk<N, Answer<N>>)
     unreachable!()
 }
 
+// The whole arena of a desk with no lease out, whose journal and answers are let go.
+fn bring_home<N: JobName>(desk: Desk<N, Answer<N>>) -> Home
+    requires none_out { leased desk.state.leases ≡ [] }
+    ensures whole { IsWhole result.span }
+    ensures arena { result.span.arena ≡ N.arena }
+{
+    desk.kept();
+    let Finished {
+        span,
+        journal: _,
+        payloads: _,
+    } = desk.finish();
+    Home { span }
+}
+
 /// Serves the planned jobs of the name on its desk, by so many workers over a lock.
 ///
 /// Each worker asks the desk for the next job, makes a stack and room for it, passes the gate, runs the job in the
@@ -180,19 +195,14 @@ pub fn serve_jobs<N: JobName + Send + Sync, R: Threads + Wait + Sync, G: Gate + 
     .is_ok();
     let mut desk = shared.into_inner();
     settle(rt, &desk);
-    if ran {
-        serve_rest(alloc, &mut desk, jobs);
+    if !ran {
+        return Err(bring_home(desk));
     }
+    serve_rest(alloc, &mut desk, jobs);
     desk.kept();
     let withdrawn = desk.withdrawn();
-    let finished = desk.finish();
-    if ran && withdrawn == 0 {
-        return Ok(finished);
+    if withdrawn == 0 {
+        return Ok(desk.finish());
     }
-    let Finished {
-        span,
-        journal: _,
-        payloads: _,
-    } = finished;
-    Err(Home { span })
+    Err(bring_home(desk))
 }

@@ -13,7 +13,7 @@ run_plan-ran-requires-clause-plan g c = plan_now c.args.jobs.now c.job-job.resul
 pub run_plan-ran-requires-clause-room : goal.run_plan-ran-requires-clause-room
 run_plan-ran-requires-clause-room g c = room_now c.args.jobs.now c.job-job.result c.args.lease (plan_of c.plan-plan.result.now) c.licence-licence.result.now
     (lease_now c.args.jobs.now c.job-job.result c.args.lease (plan_of c.plan-plan.result.now) c.licence-licence.result.now c.kept.ensures c.job-job.ensures (due_now c.args.jobs.now g.N.JobName.planned g.N.DeskName.sizes c.args.lease.job (length c.args.lease.range.cells) c.requires.plans c.requires.sizes c.kept-2.ensures.size).1 c.plan-plan.ensures.is c.licence-licence.ensures.is)
-    c.open-span.result.0 c.in-Ok-new.room c.open-span.ensures.span c.in-Ok-new.ensures.room
+    c.open-span.result.0 c.in-Ok.room c.open-span.ensures.span c.in-Ok.ensures.room
 
 pub invariant_of-answer : goal.invariant_of-answer
 invariant_of-answer g c = record {
@@ -23,11 +23,12 @@ invariant_of-answer g c = record {
       c.plan-plan.result.now.args.items c.run_plan-ran.result.ending refl c.run_plan-ran.ensures.ending));
 }
 
-pub stack_for-requires : goal.stack_for-requires
-stack_for-requires g c = record {
+pub make_ready-requires : goal.make_ready-requires
+make_ready-requires g c = record {
   is = licence_now c.args.jobs.now g.N.JobName.planned c.job-job.result c.args.lease (plan_of c.plan-plan.result.now) c.licence-licence.result.now
       (lease_now c.args.jobs.now c.job-job.result c.args.lease (plan_of c.plan-plan.result.now) c.licence-licence.result.now c.kept.ensures c.job-job.ensures (due_now c.args.jobs.now g.N.JobName.planned g.N.DeskName.sizes c.args.lease.job (length c.args.lease.range.cells) c.requires.plans c.requires.sizes c.kept-2.ensures.size).1 c.plan-plan.ensures.is c.licence-licence.ensures.is)
       c.requires.plans;
+  few = (lease_now c.args.jobs.now c.job-job.result c.args.lease (plan_of c.plan-plan.result.now) c.licence-licence.result.now c.kept.ensures c.job-job.ensures (due_now c.args.jobs.now g.N.JobName.planned g.N.DeskName.sizes c.args.lease.job (length c.args.lease.range.cells) c.requires.plans c.requires.sizes c.kept-2.ensures.size).1 c.plan-plan.ensures.is c.licence-licence.ensures.is).few;
 }
 
 pub new-kept-requires : goal.new-kept-requires
