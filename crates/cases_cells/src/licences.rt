@@ -19,6 +19,8 @@ use jobs::job_of;
 use running::answer_job;
 use serving::{Call, answer_serve};
 use std::io;
+use std::sync::Wait;
+use std::thread::Threads;
 
 /// Prints what is answered about a run of these texts.
 fn answer_run(
@@ -60,8 +62,9 @@ fn call_of<'a>(words: [&str; 5], gate: &'a str, text: &'a [u8]) -> Option<Call<'
 }
 
 /// Prints what is answered to the command of these words, with these arguments.
-fn answer(
+fn answer<R: Threads + Wait + Sync>(
     rt: &HostRuntime,
+    threads: &R,
     codes: &Texts,
     certs: &Texts,
     words: &[&str],
@@ -70,7 +73,7 @@ fn answer(
     if let ["serve", code, cert, entry, fuel, copies, arena, workers, gate] = words {
         let call = call_of([*entry, *fuel, *copies, *arena, *workers], *gate, text);
         return match (codes.find(code), certs.find(cert), call) {
-            (Some(code), Some(cert), Some(call)) => answer_serve(rt, code, cert, &call),
+            (Some(code), Some(cert), Some(call)) => answer_serve(rt, threads, code, cert, &call),
             _ => print!(rt; " no such code, certificate or number"),
         };
     }
@@ -87,13 +90,19 @@ fn answer(
     }
 }
 
-fn answer_line(rt: &HostRuntime, codes: &Texts, certs: &Texts, line: &str) -> io::Result<()> {
+fn answer_line<R: Threads + Wait + Sync>(
+    rt: &HostRuntime,
+    threads: &R,
+    codes: &Texts,
+    certs: &Texts,
+    line: &str,
+) -> io::Result<()> {
     let parts: Vec<&str> = line.split("|").collect(rt.alloc())?;
     match parts.as_slice() {
         [head, text, ""] => {
             let words: Vec<&str> = head.split_whitespace().collect(rt.alloc())?;
             print!(rt; "{line}:")?;
-            answer(rt, codes, certs, &words, text.as_bytes())?;
+            answer(rt, threads, codes, certs, &words, text.as_bytes())?;
             println!(rt; "")
         }
         _ => println!(rt; "{line}: no such command"),
@@ -116,7 +125,11 @@ fn extend(
 }
 
 /// Answers the lines of a table.
-pub(crate) fn answer_lines(rt: &HostRuntime, lines: &[String]) -> io::Result<()> {
+pub(crate) fn answer_lines<R: Threads + Wait + Sync>(
+    rt: &HostRuntime,
+    threads: &R,
+    lines: &[String],
+) -> io::Result<()> {
     let alloc = rt.alloc();
     let mut codes = Texts::new(alloc);
     let mut certs = Texts::new(alloc);
@@ -132,7 +145,7 @@ pub(crate) fn answer_lines(rt: &HostRuntime, lines: &[String]) -> io::Result<()>
         } else if let Some(text) = line.strip_prefix(" ") {
             extend(rt, &mut codes, &mut certs, in_cert, text)?;
         } else if !line.starts_with("--") {
-            answer_line(rt, &codes, &certs, line)?;
+            answer_line(rt, threads, &codes, &certs, line)?;
         }
     }
     Ok(())

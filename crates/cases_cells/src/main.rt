@@ -17,13 +17,19 @@ mod scripts;
 use case_lines::{Table, Tables};
 use std::io;
 use std::io::{BufRead, BufReader};
+use std::sync::Wait;
+use std::thread::Threads;
 
-/// Answers a table.
-fn answer_table(rt: &HostRuntime, table: &Table) -> io::Result<()> {
+/// Answers a table. The runtime comes twice: it prints, and it starts threads.
+fn answer_table<R: Threads + Wait + Sync>(
+    rt: &HostRuntime,
+    threads: &R,
+    table: &Table,
+) -> io::Result<()> {
     println!(rt; "table {}", table.name)?;
     match table.name.as_str() {
         "desks" => desks::answer_lines(rt, &table.lines),
-        "licences" => licences::answer_lines(rt, &table.lines),
+        "licences" => licences::answer_lines(rt, threads, &table.lines),
         "machines" => machines::answer_lines(rt, &table.lines),
         "scripts" => scripts::answer_lines(rt, &table.lines),
         _ => println!(rt; "no such table"),
@@ -37,7 +43,7 @@ fn main(rt: HostRuntime) -> io::Result<()> {
         tables.add(alloc, line?)?;
     }
     for table in &tables.all {
-        answer_table(&rt, table)?;
+        answer_table(&rt, &rt, table)?;
     }
     Ok(())
 }

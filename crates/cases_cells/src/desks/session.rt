@@ -13,7 +13,6 @@ use std::marker::Model;
 use std::mem::replace;
 
 /// A desk and, in the place of each job, its lease where that is out.
-#[derive(Drop)]
 pub(crate) struct Session<N: DeskName> {
     desk: Desk<N, Copied>,
     held: Vec<Option<Lease<N>>>,

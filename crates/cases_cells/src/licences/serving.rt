@@ -13,6 +13,8 @@ use job_world::Jobs;
 use licence::Licence;
 use std::alloc::Global;
 use std::io;
+use std::sync::Wait;
+use std::thread::Threads;
 
 /// A call, how often it is made, and in what.
 pub(crate) struct Call<'a> {
@@ -49,7 +51,13 @@ fn plan_copies(alloc: Global, licence: Licence, call: &Call<'_>) -> io::Result<O
 }
 
 // Serves the jobs, and prints how many of them ended and how many events there were; or what came home.
-fn print_served<G: Gate + Sync>(rt: &HostRuntime, jobs: &Jobs, call: &Call<'_>, gate: &G) -> io::Result<()>
+fn print_served<R: Threads + Wait + Sync, G: Gate + Sync>(
+    rt: &HostRuntime,
+    threads: &R,
+    jobs: &Jobs,
+    call: &Call<'_>,
+    gate: &G,
+) -> io::Result<()>
     requires few { length jobs.now.plans ≤ 4096 }
     requires some { 1 ≤ call.now.arena }
     requires arena { call.now.arena ≤ 2147483648 }
@@ -57,7 +65,7 @@ fn print_served<G: Gate + Sync>(rt: &HostRuntime, jobs: &Jobs, call: &Call<'_>, 
 {
     let alloc = rt.alloc();
     let span = new_arena(alloc, call.arena)?;
-    match serve_planned(rt, alloc, span, jobs, call.workers, gate) {
+    match serve_planned(threads, alloc, span, jobs, call.workers, gate) {
         Ok(
             ServedJobs {
                 span,
@@ -78,28 +86,39 @@ fn print_served<G: Gate + Sync>(rt: &HostRuntime, jobs: &Jobs, call: &Call<'_>, 
 }
 
 // The same at the gate of this word.
-fn print_at_gate(rt: &HostRuntime, jobs: &Jobs, call: &Call<'_>) -> io::Result<()>
+fn print_at_gate<R: Threads + Wait + Sync>(
+    rt: &HostRuntime,
+    threads: &R,
+    jobs: &Jobs,
+    call: &Call<'_>,
+) -> io::Result<()>
     requires few { length jobs.now.plans ≤ 4096 }
     requires some { 1 ≤ call.now.arena }
     requires arena { call.now.arena ≤ 2147483648 }
     requires sizes { AreSizes call.now.arena (leases_of jobs.now.plans) }
 {
     if call.gate == "open" {
-        return print_served(rt, jobs, call, &OpenGate);
+        return print_served(rt, threads, jobs, call, &OpenGate);
     }
     if call.gate == "hold" {
         let gate = Holds::new();
-        print_served(rt, jobs, call, &gate)?;
+        print_served(rt, threads, jobs, call, &gate)?;
         return print!(rt; "{}", if gate.saw() { " beside each other" } else { " one by one" });
     }
     match call.gate.parse::<u32>() {
-        Ok(job) => print_served(rt, jobs, call, &Refuses { job }),
+        Ok(job) => print_served(rt, threads, jobs, call, &Refuses { job }),
         Err(_) => print!(rt; " no such gate"),
     }
 }
 
 /// Prints what comes of the call's copies, which workers serve in one arena.
-pub(crate) fn answer_serve(rt: &HostRuntime, code: &[u8], cert: &[u8], call: &Call<'_>) -> io::Result<()> {
+pub(crate) fn answer_serve<R: Threads + Wait + Sync>(
+    rt: &HostRuntime,
+    threads: &R,
+    code: &[u8],
+    cert: &[u8],
+    call: &Call<'_>,
+) -> io::Result<()> {
     let alloc = rt.alloc();
     let Some(licence) = licence_of(rt, code, cert)? else {
         return Ok(());
@@ -115,5 +134,5 @@ pub(crate) fn answer_serve(rt: &HostRuntime, code: &[u8], cert: &[u8], call: &Ca
     if !fit(call.arena, &sizes) {
         return print!(rt; " no such call");
     }
-    print_at_gate(rt, &jobs, call)
+    print_at_gate(rt, threads, &jobs, call)
 }

@@ -16,7 +16,6 @@ use std::time::Instant;
 use value_text::print;
 
 /// An arena and a stack for runs of a job.
-#[derive(Drop)]
 struct Place {
     span: Span,
     stack: Stack,
