@@ -10,5 +10,7 @@ pub(crate) enum Reply {
         arena: Option<Span>,
     },
     /// The input is refused; its line.
-    Refused { line: Vec<u8> },
+    Refused {
+        line: Vec<u8>,
+    },
 }

@@ -70,7 +70,18 @@ fn answer<R: Threads + Wait + Sync>(
     words: &[&str],
     text: &[u8],
 ) -> io::Result<()> {
-    if let ["serve", code, cert, entry, fuel, copies, arena, workers, gate] = words {
+    if let [
+        "serve",
+        code,
+        cert,
+        entry,
+        fuel,
+        copies,
+        arena,
+        workers,
+        gate,
+    ] = words
+    {
         let call = call_of([*entry, *fuel, *copies, *arena, *workers], *gate, text);
         return match (codes.find(code), certs.find(cert), call) {
             (Some(code), Some(cert), Some(call)) => answer_serve(rt, threads, code, cert, &call),

@@ -79,7 +79,10 @@ fn a_job_leaves_its_value_in_the_arena(rt: HostRuntime) -> Result<(), Fail> {
     };
     assert_eq!(rt; served.end(), Status::Ok);
     let [first, others @ ..] = cells.ok_or(AllocError)?;
-    assert_eq!(rt; (first.tag, first.words), (4294967295, [4294967295, 0, 0, 0]));
+    assert_eq!(rt;
+        (first.tag, first.words),
+        (4294967295, [4294967295, 0, 0, 0])
+    );
     for cell in others {
         assert_eq!(rt; (cell.tag, cell.words), (0, [0; 4]));
     }

@@ -190,7 +190,9 @@ pub fn serve_jobs<N: JobName + Send + Sync, R: Threads + Wait + Sync, G: Gate + 
         rt,
         alloc,
         workers as usize,
-        &|_i| requires { (jobs.now ≡ N.planned) × (N.sizes ≡ leases_of N.planned.plans) } { work(rt, alloc, &shared, jobs, gate) },
+        &|_i|
+            requires { (jobs.now ≡ N.planned) × (N.sizes ≡ leases_of N.planned.plans) }
+        { work(rt, alloc, &shared, jobs, gate) },
     )
     .is_ok();
     let mut desk = shared.into_inner();

@@ -43,7 +43,10 @@ fn plan_copies(alloc: Global, licence: Licence, call: &Call<'_>) -> io::Result<O
         let Ok(args) = arguments_of(alloc, jobs.licences()[0].code(), call.entry, call.text) else {
             return Ok(None);
         };
-        if jobs.add(0, call.entry, args, call.fuel, call.arena).is_err() {
+        if jobs
+            .add(0, call.entry, args, call.fuel, call.arena)
+            .is_err()
+        {
             return Ok(None);
         }
     }
@@ -75,7 +78,11 @@ fn print_served<R: Threads + Wait + Sync, G: Gate + Sync>(
         ) => {
             let cells = span.len();
             span.end();
-            print!(rt; " ended {} events {} cells {cells}", endings.len(), journal.len())
+            print!(rt;
+                " ended {} events {} cells {cells}",
+                endings.len(),
+                journal.len()
+            )
         }
         Err(Home { span }) => {
             let (first, cells) = (span.first(), span.len());
@@ -103,7 +110,14 @@ fn print_at_gate<R: Threads + Wait + Sync>(
     if call.gate == "hold" {
         let gate = Holds::new();
         print_served(rt, threads, jobs, call, &gate)?;
-        return print!(rt; "{}", if gate.saw() { " beside each other" } else { " one by one" });
+        return print!(rt;
+            "{}",
+            if gate.saw() {
+                " beside each other"
+            } else {
+                " one by one"
+            }
+        );
     }
     match call.gate.parse::<u32>() {
         Ok(job) => print_served(rt, threads, jobs, call, &Refuses { job }),
@@ -123,8 +137,14 @@ pub(crate) fn answer_serve<R: Threads + Wait + Sync>(
     let Some(licence) = licence_of(rt, code, cert)? else {
         return Ok(());
     };
-    let known = (call.entry as usize) < licence.code().funcs.len() && call.text.len() < 4_294_967_296;
-    if !known || call.fuel < 1 || call.copies > 4096 || call.arena < 1 || call.arena > 2_147_483_648 {
+    let known = (call.entry as usize) < licence.code().funcs.len()
+        && call.text.len() < 4_294_967_296;
+    if !known
+        || call.fuel < 1
+        || call.copies > 4096
+        || call.arena < 1
+        || call.arena > 2_147_483_648
+    {
         return print!(rt; " no such call");
     }
     let Some(jobs) = plan_copies(alloc, licence, call)? else {
