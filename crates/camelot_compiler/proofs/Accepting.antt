@@ -17,7 +17,7 @@ use Rattle.grail_verifier.specs.AcceptedLaws.{verdict_of}
 use Rattle.lp_constraints.specs.Inference as inference
 use Rattle.lp_constraints.specs.Inference.{Infers}
 use Rattle.refusals.specs.declared.cause.Cause.{Cause}
-use Rattle.camelot_compiler.specs.Bundles.{Bundle}
+use Rattle.grail_bundle.specs.Bundles.{Bundle}
 use Rattle.camelot_compiler.specs.declared.fault.CompileFault.{CompileFault}
 use Rattle.camelot_compiler.specs.declared.fault.CompileFault.TheVariants as compile_fault
 use Rattle.camelot_compiler.specs.Compiled.{Compiled, Bundled, Refused, compiled_of, IsCompiled, IsSo, Answers, OfCode, HasCertificate}

@@ -22,7 +22,7 @@ use Rattle.lp_constraints.specs.declared.fault.NoCert.TheVariants as no_cert
 use Rattle.lp_constraints.specs.Inference as inference
 use Rattle.lp_constraints.specs.Inference.{Inferred, Infers, inferred_of}
 use Rattle.refusals.specs.declared.cause.Cause.TheVariants as cause
-use Rattle.camelot_compiler.specs.Bundles.{Bundle}
+use Rattle.grail_bundle.specs.Bundles.{Bundle}
 use Rattle.camelot_compiler.specs.declared.fault.CompileFault.{CompileFault}
 use Rattle.camelot_compiler.specs.declared.fault.CompileFault.TheVariants as compile_fault
 use Rattle.camelot_compiler.specs.Compiled.{Compiled, Bundled, Refused, compiled_of, IsNoCert, IsCertified, IsNormalFault, IsGenerated, IsUseFault, IsLinear, IsSo, Answers, NoneGrants}

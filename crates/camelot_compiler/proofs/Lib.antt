@@ -1,4 +1,3 @@
-pub mod Wrapping
 pub mod Named
 pub mod Parts
 pub mod Coding

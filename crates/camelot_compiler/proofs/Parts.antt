@@ -4,7 +4,7 @@ use Rattle.grail_code.specs.Code.{Code}
 use Rattle.grail_code.specs.Spelling.{spelling}
 use Rattle.certificate.specs.Certificates.{Cert}
 use Rattle.certificate.specs.Text.{text_of}
-use Rattle.camelot_compiler.specs.Bundles.{first_line, HasParts}
+use Rattle.grail_bundle.specs.Bundles.{first_line, HasParts}
 
 some_code : (p : Code) → 1 ≤ length (spelling p)
 some_code p = omega arith

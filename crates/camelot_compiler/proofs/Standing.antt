@@ -7,7 +7,7 @@ use Rattle.typing_rules.specs.Settled.{IsSettled}
 use Rattle.code_gen.specs.Generated.{compiled}
 use Rattle.lp_constraints.specs.declared.fault.NoCert.TheVariants as no_cert
 use Rattle.refusals.specs.declared.cause.Cause.TheVariants as cause
-use Rattle.camelot_compiler.specs.Bundles.{Bundle}
+use Rattle.grail_bundle.specs.Bundles.{Bundle}
 use Rattle.camelot_compiler.specs.declared.fault.CompileFault.{CompileFault}
 use Rattle.camelot_compiler.specs.declared.fault.CompileFault.TheVariants as compile_fault
 use Rattle.camelot_compiler.specs.Compiled.{compiled_of, OfCode, HasCertificate, NoneGrants}

@@ -4,9 +4,9 @@ ghost use Rattle.refusals.specs.declared.cause.Cause.TheVariants as cause;
 ghost use Rattle.camelot_compiler.specs.declared.fault.CompileFault.TheVariants.{Refused};
 ghost use Rattle.camelot_compiler.specs.Compiled.{Compiled, compiled_of, IsCompiled, IsSo, Answers, OfCode, HasCertificate, NoneGrants};
 
-use crate::bundle::Bundle;
 use crate::fault::CompileFault;
 use crate::stages::compile_text;
+use grail_bundle::Bundle;
 use std::alloc::Global;
 
 /// The bundle of a Camelot source: the code of its program, and the certificate of least cost of those that grant the code (Hofmann and Jost 2003). The

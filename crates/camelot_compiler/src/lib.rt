@@ -2,16 +2,13 @@
 //! for which the source is refused.
 #![tactic(auto)]
 
-mod bundle;
 mod compiling;
 mod fault;
 pub mod laws;
 mod licensing;
 mod stages;
-mod writing;
 
-pub use bundle::Bundle;
 pub use compiling::compile;
 pub use fault::CompileFault;
+pub use grail_bundle::{Bundle, write_bundle};
 pub use licensing::license;
-pub use writing::write_bundle;

@@ -8,9 +8,9 @@ ghost use Rattle.camelot_compiler.specs.Accepted.{AreAccepted, IsMemory};
 ghost use Rattle.camelot_compiler.specs.Compiled.{IsCompiled, Refused};
 ghost use Rattle.camelot_compiler.specs.Licences.{HasLicence, IsLicensedOr, IsRefusedOr};
 
-use crate::bundle::Bundle;
 use crate::compiling::compile;
 use crate::fault::CompileFault;
+use grail_bundle::Bundle;
 use grail_verifier::{Refusal, verify};
 use licence::Licence;
 use std::alloc::Global;

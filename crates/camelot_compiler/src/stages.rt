@@ -15,11 +15,11 @@ ghost use Rattle.camelot_compiler.specs.declared.fault.CompileFault.TheVariants.
 ghost use Rattle.camelot_compiler.specs.Compiled.{Compiled, compiled_of, IsCertified, IsGenerated, IsLinear, IsTyped, IsCompiled, IsSo, Answers};
 ghost use Rattle.camelot_compiler.specs.Stages.{parse_fault, type_fault, use_fault, normal_fault, inference_fault, Stands};
 
-use crate::bundle::Bundle;
 use crate::fault::CompileFault;
 use camelot_syntax::{ParseFault, Program, parse};
 use camelot_types::{TypeFault, check_program};
 use certificate::{Cert, write_cert};
+use grail_bundle::Bundle;
 use grail_code::{Code, encode};
 use linear_use::{Linear, UseFault, check_use};
 use lp_constraints::{NoCert, infer};

@@ -3,7 +3,7 @@ use Rattle.std.proofs.Common.{◌≡◌, ℕ, List}
 use Rattle.refusals.specs.declared.cause.Cause.{Cause}
 use Rattle.camelot_compiler.specs.Compiled as compiler
 use Rattle.camelot_compiler.specs.Compiled.{IsCompiled}
-use Rattle.camelot_compiler.specs.Bundles.{bundle_text}
+use Rattle.grail_bundle.specs.Bundles.{bundle_text}
 use Rattle.camelot_host.specs.Due.{IsBundleOf, IsRefusalOf, refused_line}
 
 pub is_bundle : (input output code cert : List ℕ) → IsCompiled input (compiler.Bundled code cert) → output ≡ bundle_text code cert → IsBundleOf input output

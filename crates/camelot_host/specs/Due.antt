@@ -3,7 +3,7 @@
 use Rattle.std.specs.Prelude.{◌≡◌, ℕ, ◌++◌, List, [], ◌∷◌, codes}
 use Rattle.refusals.specs.declared.cause.Cause.{Cause}
 use Rattle.refusals.specs.Texts.{cause_text}
-use Rattle.camelot_compiler.specs.Bundles.{bundle_text}
+use Rattle.grail_bundle.specs.Bundles.{bundle_text}
 use Rattle.camelot_compiler.specs.Compiled as compiler
 use Rattle.camelot_compiler.specs.Compiled.{IsCompiled}
 use Rattle.script_service.specs.Service.{IsReport, IsRefusal}

@@ -12,26 +12,4 @@
 //! - `fronts`: of each front of the text, from none to all of it; answers that are equal stand together, with their number.
 mod answers;
 
-use answers::Certificates;
-use case_lines::{Text, answer};
-use std::io;
-
-/// Answers the lines of a table.
-pub(crate) fn answer_lines(rt: &HostRuntime, lines: &[String]) -> io::Result<()> {
-    let alloc = rt.alloc();
-    let mut text = Text::new(alloc);
-    for line in lines {
-        let line = line.as_str();
-        if line.starts_with("--") {
-            continue;
-        }
-        if line == "text" {
-            text = Text::new(alloc);
-        } else if let Some(added) = line.strip_prefix("|") {
-            text.add(alloc, added)?;
-        } else {
-            println!(rt; "{line}:{}", answer(alloc, &Certificates, &text, line)?)?;
-        }
-    }
-    Ok(())
-}
+pub(crate) use answers::Certificates;

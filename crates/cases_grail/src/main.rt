@@ -2,6 +2,7 @@
 //!
 //! A line `table NAME` begins a table, and names what its lines are about:
 //!
+//! - `bundles`: texts of bundles.
 //! - `certificates`: texts of certificates.
 //! - `codes`: codes: their bytes, their check and their runs.
 //! - `systems`: systems of linear inequalities.
@@ -9,13 +10,17 @@
 //! - `verdicts`: what the verifier says of codes with certificates.
 #![tactic(auto)]
 
+mod bundles;
 mod certificates;
 mod codes;
 mod systems;
+mod texts;
 mod values;
 mod verdicts;
 
+use bundles::Bundles;
 use case_lines::{Table, Tables};
+use certificates::Certificates;
 use std::io;
 use std::io::{BufRead, BufReader};
 
@@ -23,7 +28,8 @@ use std::io::{BufRead, BufReader};
 fn answer_table(rt: &HostRuntime, table: &Table) -> io::Result<()> {
     println!(rt; "table {}", table.name)?;
     match table.name.as_str() {
-        "certificates" => certificates::answer_lines(rt, &table.lines),
+        "bundles" => texts::answer_lines(rt, &Bundles, &table.lines),
+        "certificates" => texts::answer_lines(rt, &Certificates, &table.lines),
         "codes" => codes::answer_lines(rt, &table.lines),
         "systems" => systems::answer_lines(rt, &table.lines),
         "values" => values::answer_lines(rt, &table.lines),

@@ -15,7 +15,7 @@ use Rattle.licence.specs.Licensed.{Licensed}
 use Rattle.grail_verifier.specs.Accepted.{IsAccepted}
 use Rattle.cell_machine.specs.State.{most_calls}
 use Rattle.refusals.specs.declared.cause.Cause.{Cause}
-use Rattle.camelot_compiler.specs.Bundles.{bundle_text}
+use Rattle.grail_bundle.specs.Bundles.{bundle_text}
 use Rattle.camelot_compiler.specs.Compiled.{IsCompiled, Refused}
 use Rattle.camelot_compiler.specs.Licences.{IsLicence}
 use Rattle.job_script.specs.Scripts.{Program, Entry, AProgram, AJob}

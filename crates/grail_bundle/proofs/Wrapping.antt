@@ -1,15 +1,15 @@
 -- Digits in lines.
 use Rattle.std.proofs.Common.{◌≡◌, ℕ, zero, suc, ◌<◌, ◌≤◌, List, [], ◌∷◌, ◌++◌, length, take, drop, refl, sym, ap, ◌∙◌, arith, append_assoc}
-use Rattle.camelot_compiler.specs.Bundles.{wrapped, digit_lines}
+use Rattle.grail_bundle.specs.Bundles.{wrapped, digit_lines}
 
 -- a line that is full, and then the rest
-full : (room : ℕ) (xs : List ℕ) → room < length xs → wrapped room xs ≡ take room xs ++ 10 ∷ wrapped 64 (drop room xs)
+pub full : (room : ℕ) (xs : List ℕ) → room < length xs → wrapped room xs ≡ take room xs ++ 10 ∷ wrapped 64 (drop room xs)
 full room [] h = absurd (omega arith)
 full zero (x ∷ xs) h = refl
 full (suc room) (x ∷ xs) h = ap (λ l. x ∷ l) (full room xs (omega arith))
 
 -- all fits
-fitting : (room : ℕ) (xs : List ℕ) → length xs ≤ room → wrapped room xs ≡ xs ++ 10 ∷ []
+pub fitting : (room : ℕ) (xs : List ℕ) → length xs ≤ room → wrapped room xs ≡ xs ++ 10 ∷ []
 fitting room [] h = refl
 fitting zero (x ∷ xs) h = absurd (omega arith)
 fitting (suc room) (x ∷ xs) h = ap (λ l. x ∷ l) (fitting room xs (omega arith))

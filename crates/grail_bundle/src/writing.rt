@@ -1,5 +1,5 @@
 ghost use Rattle.std.specs.Prelude.{◌≡◌, ◌++◌, IfOk, OnOk};
-ghost use Rattle.camelot_compiler.specs.Bundles.{digit_lines, bundle_text};
+ghost use Rattle.grail_bundle.specs.Bundles.{digit_lines, bundle_text};
 
 use crate::bundle::Bundle;
 use std::alloc::{AllocError, Global};
@@ -20,8 +20,8 @@ fn push_lines(text: &mut Vec<u8>, digits: &[u8]) -> Result<(), AllocError>
     Ok(())
 }
 
-/// The text of the bundle: the line `grail code`, the code's bytes in lower-case hexadecimal digits, 64 on a line, and the certificate. `AllocError` where
-/// memory runs out.
+/// The text of the bundle: the line `grail code`, the code's bytes in lower-case hexadecimal digits, 64 on a line, and
+/// the certificate. `AllocError` where memory runs out.
 #[tactic(auto, unfolding(crate::specs::Bundles::bundle_text))]
 pub fn write_bundle(alloc: Global, bundle: &Bundle) -> Result<Vec<u8>, AllocError>
     ensures { IfOk result (λ text. text.items ≡ bundle_text bundle.now.code bundle.now.cert) }

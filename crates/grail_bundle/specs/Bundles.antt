@@ -2,7 +2,7 @@
 -- Bundles, and the text of one: the line `grail code`, the code's bytes in lower-case hexadecimal digits, 64 on a
 -- line, and the text of the certificate.
 use Rattle.std.specs.Prelude.{◌≡◌, ℕ, zero, suc, ◌≤◌, List, [], ◌∷◌, ◌++◌, length, take, codes}
-use Rattle.hex.specs.Hex.{encode_lower}
+use Rattle.hex.specs.Hex.{encode_lower, IsBytes}
 
 -- the bytes of code, and those of a certificate's text
 pub record Bundle : Type 0 where
@@ -18,6 +18,11 @@ first_line = codes "grail certificate 1\n"
 pub record HasParts (b : Bundle) : Type 0 where
   pub code : 1 ≤ length b.code
   pub cert : take (length first_line) b.cert ≡ first_line
+
+-- plain data that is a bundle: it has its parts, and the code is of bytes
+pub record IsBundle (b : Bundle) : Type 0 where
+  pub parts : HasParts b
+  pub bytes : IsBytes b.code
 
 -- ---- the text
 

@@ -1,6 +1,6 @@
 use Rattle.std.proofs.Common.{◌≡◌, ◌++◌, length}
-use Rattle.camelot_compiler.specs.Bundles.{digit_lines}
-use Rattle.camelot_compiler.proofs.writing.push_lines.Given as goal
+use Rattle.grail_bundle.specs.Bundles.{digit_lines}
+use Rattle.grail_bundle.proofs.writing.push_lines.Given as goal
 
 abbrev pub decreases-lines : goal.decreases-lines
 decreases-lines l = length l.rest

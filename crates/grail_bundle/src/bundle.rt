@@ -1,5 +1,6 @@
 ghost use Rattle.std.specs.Prelude.{◌≡◌};
-ghost use Rattle.camelot_compiler.specs.Bundles.{HasParts};
+ghost use Rattle.hex.specs.Hex.{IsBytes};
+ghost use Rattle.grail_bundle.specs.Bundles.{HasParts};
 
 use std::marker::Model;
 
@@ -11,7 +12,7 @@ pub struct Bundle {
 }
 
 impl Model for Bundle {
-    ghost use Rattle.camelot_compiler.specs.Bundles.{Bundle as Plain, HasParts};
+    ghost use Rattle.grail_bundle.specs.Bundles.{Bundle as Plain, HasParts};
 
     ghost Value = { Plain };
 
@@ -20,9 +21,16 @@ impl Model for Bundle {
     ghost invariant = { λ b. HasParts (record { code = b.code.items; cert = b.cert.items }) };
 }
 
+// A list of bytes has no number above 255.
+fn are_bytes(bytes: &[u8])
+    ensures { IsBytes bytes.now }
+{
+    let _ = bytes;
+}
+
 impl Bundle {
-    // This code with this certificate.
-    pub(crate) fn new(code: Vec<u8>, cert: Vec<u8>) -> Bundle
+    /// This code with this certificate: there is some code, and the certificate begins with its first line.
+    pub fn new(code: Vec<u8>, cert: Vec<u8>) -> Bundle
         requires { HasParts (record { code = code.items; cert = cert.items }) }
         ensures { result ≡ record { code = code.items; cert = cert.items } }
     {
@@ -44,10 +52,12 @@ impl Bundle {
     }
 
     /// What the type keeps: there is some code, and the certificate begins with its first line. It does nothing; its
-    /// clause is what whoever holds a `Bundle` can use.
+    /// clauses are what whoever holds a `Bundle` can use.
     pub fn kept(&self)
-        ensures { HasParts self.now }
+        ensures parts { HasParts self.now }
+        ensures bytes { IsBytes self.now.code }
     {
         let _ = &self.code;
+        are_bytes(self.code());
     }
 }

@@ -1,7 +1,7 @@
 use Rattle.std.proofs.Common.{arith, ◌++◌}
-use Rattle.camelot_compiler.specs.Bundles.{digit_lines}
-use Rattle.camelot_compiler.proofs.Wrapping.{one_line, last_line}
-use Rattle.camelot_compiler.proofs.writing.push_lines.Goals as goal
+use Rattle.grail_bundle.specs.Bundles.{digit_lines}
+use Rattle.grail_bundle.proofs.Wrapping.{one_line, last_line}
+use Rattle.grail_bundle.proofs.writing.push_lines.Goals as goal
 
 pub lines-preserved : goal.lines-preserved
 lines-preserved c =

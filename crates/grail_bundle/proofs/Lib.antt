@@ -1,0 +1,8 @@
+pub mod Wrapping
+pub mod Cutting
+pub mod Digits
+pub mod Leading
+pub mod Stopping
+pub mod Decoding
+pub mod Judging
+pub mod Answering

@@ -1,0 +1,4 @@
+pub mod Bundles
+pub mod Faults
+pub mod Answers
+pub mod Lines
