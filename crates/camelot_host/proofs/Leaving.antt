@@ -8,12 +8,12 @@ use Rattle.script_service.specs.Service.{IsReportIn}
 use Rattle.camelot_host.specs.Commands.{Command, Serve, Compile, IsCommand}
 use Rattle.camelot_host.specs.Answers.{input_limit, devices}
 use Rattle.camelot_host.specs.Served.{Leaves, ArenaBy}
-use Rattle.camelot_host.specs.Replies.{verdict_of, bytes_of, IsReply, KeptBy, Keeps, WholeIn, Writes, RespondsIn}
+use Rattle.camelot_host.specs.Replies.{verdict_of, bytes_of, IsReply, KeptBy, Keeps, WholeIn, Writes, Responds, RespondsIn}
 use Rattle.camelot_host.specs.declared.reply.Reply.{Reply}
 use Rattle.camelot_host.specs.declared.reply.Reply.TheVariants as reply
 use Rattle.camelot_host.specs.declared.status.Status.{Status}
 use Rattle.camelot_host.specs.declared.status.Status.TheVariants as status
-use Rattle.camelot_host.proofs.Answering.{has_read}
+use Rattle.camelot_host.proofs.Answering.{has_read, responds}
 
 -- an arena that is left is whole
 whole_left : (command : Command) (input output : List ℕ) (arena : Option Range) → Leaves command input output arena → IfSome arena IsWhole
@@ -24,6 +24,10 @@ whole_left Compile input output arena h = subst (λ (o : Option Range). IfSome o
 pub leaves_whole : (command : Command) (input : List ℕ) (r : Reply) → IsReply command input r → WholeIn r
 leaves_whole command input (reply.Done output arena) h = whole_left command input output.items arena h.leaves
 leaves_whole command input (reply.Refused line) h = tt
+
+-- what was told of a reply is what is due for the input
+pub reply_responds : (s : Status) (command : Command) (input : List ℕ) (r : Reply) (t t' : Option (List ℕ)) → IsReply command input r → Writes s (verdict_of r) (bytes_of r) t t' → Responds s command input t t'
+reply_responds s command input r t t' h w = responds s (verdict_of r) command input (bytes_of r) t t' h.due w
 
 -- what was told of a reply leaves its arena
 pub told_left : (s : Status) (command : Command) (input : List ℕ) (r : Reply) (kept : Option Range) (t t' : Option (List ℕ)) → IsReply command input r → Writes s (verdict_of r) (bytes_of r) t t' → Keeps s r kept

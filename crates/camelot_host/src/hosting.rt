@@ -49,12 +49,18 @@ fn write_done<K: Sink>(sink: &mut K, output: &[u8], arena: Option<Span>) -> Serv
     ensures faults { SinkFaults result.status (K.faults sink.old) (K.faults sink.new) }
 {
     match write_all(sink, output) {
-        Ok(()) => Served::with_arena(Status::Ok, arena),
+        Ok(()) => Served {
+            status: Status::Ok,
+            arena,
+        },
         Err(_) => {
             if let Some(span) = arena {
                 span.end();
             }
-            Served::without(Status::WriteFault)
+            Served {
+                status: Status::WriteFault,
+                arena: None,
+            }
         }
     }
 }
@@ -66,8 +72,14 @@ fn write_refusal<K: Sink>(sink: &mut K, line: &[u8]) -> Served
     ensures faults { SinkFaults result.status (K.faults sink.old) (K.faults sink.new) }
 {
     match write_all(sink, line) {
-        Ok(()) => Served::without(Status::Refused),
-        Err(_) => Served::without(Status::WriteFault),
+        Ok(()) => Served {
+            status: Status::Refused,
+            arena: None,
+        },
+        Err(_) => Served {
+            status: Status::WriteFault,
+            arena: None,
+        },
     }
 }
 
@@ -85,7 +97,7 @@ fn write<K: Sink>(sink: &mut K, reply: Reply) -> Served
 }
 
 // Does the command's work on an input that was read whole, and writes what comes of it.
-#[tactic(auto, using(crate::proofs::Answering::responds, crate::proofs::Answering::written_quiet, crate::proofs::Leaving::leaves_whole, crate::proofs::Leaving::told_left))]
+#[tactic(auto, using(crate::proofs::Leaving::reply_responds, crate::proofs::Answering::written_quiet, crate::proofs::Leaving::leaves_whole, crate::proofs::Leaving::told_left))]
 fn respond<R: Threads + Wait + Sync, K: Sink, G: Gate + Sync>(
     rt: &R,
     alloc: Global,
@@ -102,7 +114,10 @@ fn respond<R: Threads + Wait + Sync, K: Sink, G: Gate + Sync>(
 {
     match work(rt, alloc, command, input, gate) {
         Ok(reply) => write(sink, reply),
-        Err(_) => Served::without(Status::Memory),
+        Err(_) => Served {
+            status: Status::Memory,
+            arena: None,
+        },
     }
 }
 
@@ -156,13 +171,25 @@ pub fn host_gated<R: Threads + Wait + Sync, S: Source, K: Sink, G: Gate + Sync>(
         ArenaBy result.status (map string_bytes words.now) before after result.arena }
 {
     let Some(command) = command_of(words) else {
-        return Served::without(Status::Usage);
+        return Served {
+            status: Status::Usage,
+            arena: None,
+        };
     };
     match read_all(alloc, source, INPUT_LIMIT) {
         Ok(input) => respond(rt, alloc, command, input, sink, gate),
-        Err(ReadStop::Fault) => Served::without(Status::ReadFault),
-        Err(ReadStop::TooLong) => Served::without(Status::TooLong),
-        Err(ReadStop::Memory) => Served::without(Status::Memory),
+        Err(ReadStop::Fault) => Served {
+            status: Status::ReadFault,
+            arena: None,
+        },
+        Err(ReadStop::TooLong) => Served {
+            status: Status::TooLong,
+            arena: None,
+        },
+        Err(ReadStop::Memory) => Served {
+            status: Status::Memory,
+            arena: None,
+        },
     }
 }
 

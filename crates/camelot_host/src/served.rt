@@ -1,5 +1,4 @@
-ghost use Rattle.std.specs.Prelude.{◌≡◌, IfSome, MatchOption, None, Some};
-ghost use Rattle.cell_span.specs.Range.{IsWhole};
+ghost use Rattle.std.specs.Prelude.{◌≡◌, MatchOption, None, Some};
 
 use super::status::Status;
 use cell_span::Span;
@@ -8,8 +7,8 @@ use std::marker::Model;
 /// How a run of the host ended, and the arena that it leaves where it served a script. It can't be dropped: who has it
 /// ends it, and the arena with it.
 pub struct Served {
-    status: Status,
-    arena: Option<Span>,
+    pub(crate) status: Status,
+    pub(crate) arena: Option<Span>,
 }
 
 impl Model for Served {
@@ -25,24 +24,6 @@ impl Model for Served {
 }
 
 impl Served {
-    // This status, with the whole arena.
-    pub(crate) fn with_arena(status: Status, arena: Option<Span>) -> Served
-        requires { IfSome arena IsWhole }
-        ensures { result ≡ record { status = status; arena = arena } }
-    {
-        Served { status, arena }
-    }
-
-    // This status, without an arena.
-    pub(crate) fn without(status: Status) -> Served
-        ensures { result ≡ record { status = status; arena = None } }
-    {
-        Served {
-            status,
-            arena: None,
-        }
-    }
-
     /// How the run ended.
     pub fn status(&self) -> Status
         ensures { result ≡ self.now.status }
@@ -54,7 +35,10 @@ impl Served {
     pub fn arena(&self) -> Option<&Span>
         ensures { MatchOption result (self.now.arena ≡ None) (λ span. self.now.arena ≡ Some span.now) }
     {
-        self.arena.as_ref()
+        match &self.arena {
+            Some(span) => Some(span),
+            None => None,
+        }
     }
 
     /// Ends the arena where there is one, and answers how the run ended.
