@@ -1,12 +1,14 @@
 -- The arena that a command leaves.
-use Rattle.std.proofs.Common.{◌≡◌, ℕ, ◌≤◌, List, length, Option, Some, None, sym, subst}
+use Rattle.std.proofs.Common.{◌≡◌, ℕ, ◌≤◌, List, [], length, Option, Some, None, refl, sym, subst, arith}
 use Rattle.std.specs.Prelude.{IfSome}
-use Rattle.std.specs.Io.KnownBytes.{IsAtEnd}
+use Rattle.std.proofs.lemmas.List.{append-nil}
+use Rattle.std.specs.Io.KnownBytes.{Consumes, IsAtEnd}
 use Rattle.cell_span.specs.Range.{Range, IsWhole}
+use Rattle.host_io.specs.Sink.{Tells}
 use Rattle.host_io.specs.Source.{Took}
 use Rattle.script_service.specs.Service.{IsReportIn}
 use Rattle.camelot_host.specs.Commands.{Command, Serve, Compile, IsCommand}
-use Rattle.camelot_host.specs.Answers.{input_limit, devices}
+use Rattle.camelot_host.specs.Answers.{input_limit, devices, Broken}
 use Rattle.camelot_host.specs.Served.{Leaves, ArenaBy}
 use Rattle.camelot_host.specs.Replies.{verdict_of, bytes_of, IsReply, KeptBy, Keeps, WholeIn, Writes, Responds, RespondsIn}
 use Rattle.camelot_host.specs.declared.reply.Reply.{Reply}
@@ -65,3 +67,17 @@ arena_by status.Memory words command input l l' t t' n n' arena c r k e h = r
 arena_by status.ReadFault words command input l l' t t' n n' arena c r k e h = r
 arena_by status.Usage words command input l l' t t' n n' arena c r k e h = r
 arena_by status.TooLong words command input l l' t t' n n' arena c r k e h = r
+
+-- ---- words that are no command
+
+none_taken : (l : Option (List ℕ)) → Consumes l l []
+none_taken None = tt
+none_taken (Some xs) = refl
+
+none_told : (t : Option (List ℕ)) → Tells t t []
+none_told None = tt
+none_told (Some xs) = sym (append-nil xs)
+
+-- nothing was taken, and nothing was told
+pub untouched : (l t : Option (List ℕ)) (n : ℕ) → Broken 0 (devices l n t) (devices l n t)
+untouched l t n = record { gone = record { bytes = []; within = omega arith; took = record { gone = none_taken l; counted = omega arith } }; silent = none_told t }
