@@ -17,6 +17,7 @@ use std::sync::Wait;
 use std::thread::Threads;
 
 /// A call, how often it is made, and in what.
+#[derive(Drop)]
 pub(crate) struct Call<'a> {
     pub(crate) entry: u32,
     pub(crate) fuel: u64,
