@@ -1,6 +1,7 @@
 //! The host's workers at a gate: that jobs run beside each other, and the arena that they leave.
 
 use camelot_host::{Gate, OpenGate, Status, host_gated};
+use cell_span::{Cell, Span};
 use host_io::{SureSink, SureSource};
 use std::alloc::AllocError;
 use std::sync::atomic::{AtomicBool, Ordering};
@@ -66,6 +67,14 @@ fn a_job_waits_until_the_next_one_has_passed(rt: HostRuntime) -> Result<(), Fail
     Ok(())
 }
 
+// The tags and the words of an arena of four cells.
+fn four_of(span: &Span) -> Option<[Cell; 4]> {
+    if span.len() != 4 {
+        return None;
+    }
+    Some([span.get(0), span.get(1), span.get(2), span.get(3)])
+}
+
 #[test]
 fn a_job_leaves_its_value_in_the_arena(rt: HostRuntime) -> Result<(), Fail> {
     let alloc = rt.alloc();
@@ -74,18 +83,20 @@ fn a_job_leaves_its_value_in_the_arena(rt: HostRuntime) -> Result<(), Fail> {
     let mut sink = SureSink::new(alloc, 1000)?;
     let served = host_gated(&rt, alloc, &words, &mut source, &mut sink, &OpenGate);
     let cells = match served.arena() {
-        Some(span) if span.len() == 4 => Some([span.get(0), span.get(1), span.get(2), span.get(3)]),
-        _ => None,
+        Some(span) => four_of(span),
+        None => None,
     };
-    assert_eq!(rt; served.end(), Status::Ok);
-    let [first, others @ ..] = cells.ok_or(AllocError)?;
-    assert_eq!(rt;
-        (first.tag, first.words),
-        (4294967295, [4294967295, 0, 0, 0])
-    );
-    for cell in others {
-        assert_eq!(rt; (cell.tag, cell.words), (0, [0; 4]));
-    }
+    let status = served.end();
+    assert_eq!(rt; status, Status::Ok);
+    let value = Cell {
+        tag: 4294967295,
+        words: [4294967295, 0, 0, 0],
+    };
+    let blank = Cell {
+        tag: 0,
+        words: [0; 4],
+    };
+    assert_eq!(rt; cells, Some([value, blank, blank, blank]));
     Ok(())
 }
 
