@@ -34,22 +34,25 @@ fn plan_copies(alloc: Global, licence: Licence, call: &Call<'_>) -> io::Result<O
     requires readable { IsReadable licence.code }
     requires there { call.now.entry < length licence.code.funcs }
     requires fuel { 1 ≤ call.now.fuel }
-    requires copies { call.now.copies ≤ 4096 }
     requires arena { call.now.arena ≤ 2147483648 }
     requires short { length call.now.text.now < 4294967296 }
     ensures { IfOk result (λ found. IfSome found (λ jobs. length jobs.plans ≤ 4096)) }
 {
     let mut jobs = Jobs::new(alloc, vec![in alloc; licence]?);
     'copies: for _ in 0..call.copies {
+        if jobs.count() >= 4096 {
+            return Ok(None);
+        }
         let Ok(args) = arguments_of(alloc, jobs.licences()[0].code(), call.entry, call.text) else {
             return Ok(None);
         };
-        if jobs
-            .add(0, call.entry, args, call.fuel, call.arena)
-            .is_err()
-        {
-            return Ok(None);
+        match jobs.add(0, call.entry, args, call.fuel, call.arena) {
+            Ok(_) => {}
+            Err(_) => return Ok(None),
         }
+    }
+    if jobs.count() > 4096 {
+        return Ok(None);
     }
     Ok(Some(jobs))
 }
