@@ -21,7 +21,28 @@ fn main(rt: HostRuntime) -> ExitCode {
         }
         Err(error) => status_without_words(&error),
     };
+    explain(&rt, status);
     ExitCode::from(exit_number(status))
+}
+
+// Says on standard error, in one line, why the output isn't whole, and nothing where it is. No contract speaks of it;
+// where standard error fails too, nothing is left to say it on.
+fn explain(rt: &HostRuntime, status: Status) {
+    if let Some(reason) = reason(status) {
+        let _ = eprintln!(rt; "sillwaroc: {reason}");
+    }
+}
+
+// Why the output isn't whole.
+fn reason(status: Status) -> Option<&'static str> {
+    match status {
+        Status::Ok | Status::Refused => None,
+        Status::ReadFault => Some("standard input could not be read"),
+        Status::Usage => Some("no such command; there are serve, compile and verify, each alone"),
+        Status::WriteFault => Some("standard output could not be written"),
+        Status::Memory => Some("memory was refused"),
+        Status::TooLong => Some("standard input has more than 8388608 bytes"),
+    }
 }
 
 // The status where the words can't be had. A word that isn't UTF-8 is part of no command.
