@@ -1,0 +1,4 @@
+-- Licences of bundles: what is answered, and that there is one answer.
+pub mod Answering
+pub mod OneVerdict
+pub mod OneLicence

@@ -1,0 +1,3 @@
+-- Licences of bundles.
+pub mod Bundled
+pub mod Refusing

@@ -1,0 +1,2 @@
+-- Bounds as text: what is written piece by piece.
+pub mod Joining

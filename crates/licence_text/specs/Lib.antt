@@ -1,0 +1,2 @@
+-- Bounds as text.
+pub mod Texts
