@@ -4,7 +4,7 @@ ghost use Rattle.std.specs.List.{AllByRecursion};
 ghost use Rattle.job_script.specs.Text.{EntryIsShort};
 ghost use Rattle.job_script.specs.Words.{entry_of};
 ghost use Rattle.script_plans.specs.Programs.{CamelotText, GrailText, IsRefusedFor, text_in};
-ghost use Rattle.script_plans.specs.Rows.{AreLicensed, IsLicenceFor, IsAnswer, IsProgramAdded, IsTaken, row_of};
+ghost use Rattle.script_plans.specs.Rows.{AreLicensed, IsLicenceFor, IsAnswer, IsEntryKept, IsKept, row_of};
 
 use crate::rows::{Known, Row};
 use bundle_licence::{LicenceFault, license_bundle};
@@ -36,7 +36,7 @@ fn accept<'a>(
 ) -> Result<(), AllocError>
     requires is { IsLicenceFor (text_in camelot text.now) licence }
     requires few { length programs.old.licences.items < 4294967295 }
-    ensures { OnOk result (IsProgramAdded name.now (text_in camelot text.now) (map row_of programs.old.rows.items) (map row_of programs.new.rows.items) programs.old.licences.items programs.new.licences.items programs.old.lines.items programs.new.lines.items) }
+    ensures { OnOk result (IsKept name.now (text_in camelot text.now) programs.old programs.new) }
 {
     let known = Known {
         licence: programs.licences.len() as u32,
@@ -64,7 +64,7 @@ fn refuse<'a>(
     cause: Cause,
 ) -> Result<(), AllocError>
     requires { IsRefusedFor (text_in camelot text.now) cause }
-    ensures { OnOk result (IsProgramAdded name.now (text_in camelot text.now) (map row_of programs.old.rows.items) (map row_of programs.new.rows.items) programs.old.licences.items programs.new.licences.items programs.old.lines.items programs.new.lines.items) }
+    ensures { OnOk result (IsKept name.now (text_in camelot text.now) programs.old programs.new) }
 {
     programs.rows.push(Row {
         name,
@@ -127,7 +127,7 @@ fn add_program<'a>(
 ) -> Result<(), AllocError>
     requires short { length text.now < 4294967296 }
     requires few { length programs.old.licences.items < 4294967295 }
-    ensures { OnOk result (IsProgramAdded name.now (text_in camelot text.now) (map row_of programs.old.rows.items) (map row_of programs.new.rows.items) programs.old.licences.items programs.new.licences.items programs.old.lines.items programs.new.lines.items) }
+    ensures { OnOk result (IsKept name.now (text_in camelot text.now) programs.old programs.new) }
 {
     match license_program(alloc, camelot, text)? {
         Ok(licence) => accept(programs, name, camelot, text, licence),
@@ -143,7 +143,7 @@ fn add_entry<'a>(
 ) -> Result<(), AllocError>
     requires short { EntryIsShort 4294967295 (entry_of entry.now) }
     requires few { length programs.old.licences.items < 4294967295 }
-    ensures { OnOk result (IsTaken (entry_of entry.now) (map row_of programs.old.rows.items) (map row_of programs.new.rows.items) programs.old.licences.items programs.new.licences.items programs.old.lines.items programs.new.lines.items) }
+    ensures { OnOk result (IsEntryKept (entry_of entry.now) programs.old programs.new) }
 {
     match entry {
         Entry::Program {
