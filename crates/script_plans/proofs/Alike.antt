@@ -3,14 +3,13 @@ use Rattle.std.proofs.Common.{◌≡◌, ℕ, List, [], ◌∷◌, inl, inr, sym
 use Rattle.std.specs.Prelude.{Option}
 use Rattle.job_script.specs.Scripts.{Job, Entry, AProgram, AJob, Script}
 use Rattle.run_reports.specs.Report.{JobLine, job_text}
-use Rattle.script_plans.specs.Programs.{ProgramText, program_named, IsInCamelot}
+use Rattle.script_plans.specs.Programs.{ProgramText, program_named}
 use Rattle.script_plans.specs.Fates.{Fate, IsFate, line_of}
 use Rattle.script_plans.specs.Lines.{AreFates, lines_of, IsLineOf, TellsOf, Agree}
-use Rattle.script_plans.proofs.OneFate.{found_in_camelot}
 
 -- a job has one fate
 abbrev pub HasOneFate : Type 0
-HasOneFate = (p : Option ProgramText) (entry args : List ℕ) (f g : Fate) → IsInCamelot p → IsFate p entry args f → IsFate p entry args g → f ≡ g
+HasOneFate = (p : Option ProgramText) (entry args : List ℕ) (f g : Fate) → IsFate p entry args f → IsFate p entry args g → f ≡ g
 
 -- the fate that a line is told by
 record ByFate (script : List Entry) (arena : ℕ) (job : Job) (line : JobLine) : Type 0 where
@@ -35,7 +34,7 @@ same_line law one other job first second agree a b =
     let f : ByFate one.items one.arena job first = by_fate one.items one.arena one.items a.fates job first a.are a.is in
     let g : ByFate other.items other.arena job second = by_fate other.items other.arena other.items b.fates job second b.are b.is in
     let there : IsFate (program_named one.items job.program) job.entry job.args g.fate = subst (λ (p : Option ProgramText). IsFate p job.entry job.args g.fate) (sym agree.program) g.is in
-    let same : f.fate ≡ g.fate = law (program_named one.items job.program) job.entry job.args f.fate g.fate (found_in_camelot one.items job.program a.camelot) f.is there in
+    let same : f.fate ≡ g.fate = law (program_named one.items job.program) job.entry job.args f.fate g.fate f.is there in
     sym f.line_is ∙ ap (λ (x : Fate). line_of one.arena job.fuel x) same ∙ ap (λ (n : ℕ). line_of n job.fuel g.fate) agree.arena ∙ g.line_is
 
 pub same_text : HasOneFate → (one other : Script) (job : Job) (first second : JobLine) → Agree one other job → TellsOf one job first → TellsOf other job second → job_text job.name first ≡ job_text job.name second

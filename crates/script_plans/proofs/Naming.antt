@@ -152,7 +152,7 @@ agrees (GrailText text) l m means h = subst (Agrees l) (sym h.means) (code_agree
 -- the code of a licence has a spelling
 pub spelled : (p : ProgramText) (l : Licensed) (m : Meaning) → IsLicenceOf p l m → FitsCode l.code
 spelled (CamelotText text) l m h = h.is.has.spelled
-spelled (GrailText text) l m h = h.accepted.spelled.fits
+spelled (GrailText text) l m h = h.has.accepted.spelled.fits
 
 -- ---- entries
 

@@ -1,7 +1,7 @@
--- What comes of a program and of a job is determined: compiling has one answer, and a text of values one reading.
+-- What comes of a program and of a job is determined: compiling has one answer, a bundle one licence or one cause, and a
+-- text of values one reading.
 use Rattle.std.proofs.Common.{◌≡◌, ℕ, List, [], ◌∷◌, Some, None, refl, sym, ap, ◌∙◌, subst}
-use Rattle.std.specs.Prelude.{Bool, true, false, if◌then◌else◌, slice_get, Option}
-use Rattle.std.specs.Str.{bytes_eq}
+use Rattle.std.specs.Prelude.{slice_get, Option}
 use Rattle.camelot_values.specs.Value.{Value}
 use Rattle.camelot_values.specs.Names.{place_among}
 use Rattle.camelot_values.specs.Kinds.{DataType}
@@ -19,13 +19,14 @@ use Rattle.refusals.specs.declared.cause.Cause.{Cause}
 use Rattle.camelot_compiler.specs.Compiled.{Compiled, IsCompiled}
 use Rattle.camelot_compiler.specs.Compiled as compiler
 use Rattle.camelot_compiler.specs.Licences.{HasLicence}
-use Rattle.job_script.specs.Scripts.{Program, Entry, AProgram, AJob}
+use Rattle.bundle_licence.specs.Bundled as bundle
+use Rattle.job_script.specs.Scripts.{Entry, AProgram, AJob}
 use Rattle.run_reports.specs.declared.outcome.ProgramLine.{ProgramLine}
 use Rattle.run_reports.specs.declared.outcome.ProgramLine.TheVariants as program
 use Rattle.run_reports.specs.declared.outcome.JobCause.TheVariants as job_cause
-use Rattle.script_plans.specs.Programs.{ProgramText, CamelotText, GrailText, Meaning, OfSource, program_of, program_named, function_names, function_params, value_types, IsLicenceOf, IsRefusedFor, IsInCamelot}
+use Rattle.script_plans.specs.Programs.{ProgramText, CamelotText, GrailText, Meaning, OfSource, OfCode, program_of, program_named, function_names, function_params, value_types, IsLicenceOf, IsRefusedFor}
 use Rattle.script_plans.specs.Fates.{Call, Fate, Unfit, Calls, IsProgramLine, IsRefused, HasNoEntry, OfEntry, IsCall, IsFate}
-use Rattle.script_plans.specs.Lines.{AllCamelot, AreProgramLines, AreFates}
+use Rattle.script_plans.specs.Lines.{AreProgramLines, AreFates}
 use Rattle.script_plans.proofs.Naming.{code_named}
 
 -- the laws of texts of values
@@ -50,7 +51,7 @@ pub record OfSources : Type 0 where
   pub apart : (text : List ℕ) (t : Typing) (l : Licensed) (cause : Cause) → HasLicence text t l → IsCompiled text (compiler.Refused cause) → ⊥
   pub well_formed : (t : Typing) → IsTyping t → KeepsRule t → IsWellFormed (compiled t)
 
-pub of_source : OfSources → (text : List ℕ) → OfProgram (CamelotText text)
+of_source : OfSources → (text : List ℕ) → OfProgram (CamelotText text)
 of_source S text = record {
   licence = λ l k m n a b.
       let s = S.licence text a.is.typing b.is.typing l k a.is.has b.is.has in
@@ -66,6 +67,33 @@ of_source S text = record {
     names_of : (t : Typing) (l : Licensed) → l.code ≡ compiled t → FitsCode l.code → AreNamed (types_of t.source)
     names_of t l e fits = subst AreNamed (ap (λ (p : Code). p.types) e) (code_named l.code fits)
 
+-- the laws of licences of bundles
+pub record OfBundles : Type 0 where
+  pub one : (text : List ℕ) (l m : Licensed) → bundle.HasLicence text l → bundle.HasLicence text m → l ≡ m
+  pub cause : (text : List ℕ) (c d : Cause) → bundle.IsRefusedFor text c → bundle.IsRefusedFor text d → c ≡ d
+  pub apart : (text : List ℕ) (l : Licensed) (c : Cause) → bundle.HasLicence text l → bundle.IsRefusedFor text c → ⊥
+
+of_bundle : OfBundles → (text : List ℕ) → OfProgram (GrailText text)
+of_bundle B text = record {
+  licence = λ l k m n a b.
+      let s = B.one text l k a.has b.has in
+      (s, a.means ∙ ap (λ (l : Licensed). OfCode l.code) s ∙ sym b.means);
+  apart = λ l m cause a r. B.apart text l cause a.has r;
+  one = B.cause text;
+  named = λ l m a. subst (λ (m : Meaning). AreNamed (value_types m)) (sym a.means) (code_named l.code a.has.accepted.spelled.fits);
+  distinct = λ l m a. subst (λ (m : Meaning). DistinctNames (value_types m)) (sym a.means) a.has.accepted.well.con_names;
+}
+
+-- the laws of both languages
+pub record Laws : Type 0 where
+  pub texts : OfTexts
+  pub sources : OfSources
+  pub bundles : OfBundles
+
+pub of_program : Laws → (p : ProgramText) → OfProgram p
+of_program L (CamelotText text) = of_source L.sources text
+of_program L (GrailText text) = of_bundle L.bundles text
+
 -- ---- programs
 
 pub one_line : (p : ProgramText) → OfProgram p → (first second : ProgramLine) → IsProgramLine p first → IsProgramLine p second → first ≡ second
@@ -76,19 +104,15 @@ one_line p P (program.Accepted m) (program.Refused d) a b = absurd (P.apart a.li
 one_line p P (program.Refused c) (program.Accepted n) a b = absurd (P.apart b.licence b.meaning c b.is a)
 one_line p P (program.Refused c) (program.Refused d) a b = ap program.Refused (P.one c d a b)
 
--- a program of a script that is in Camelot
-pub in_camelot : OfSources → (q : Program) → q.camelot ≡ true → OfProgram (program_of q)
-in_camelot S q e = subst OfProgram (sym (ap (λ b. if b then CamelotText q.text else GrailText q.text) e)) (of_source S q.text)
-
-pub all_lines : OfSources → (entries : List Entry) (first second : List ProgramLine) → AllCamelot entries → AreProgramLines entries first → AreProgramLines entries second → first ≡ second
-all_lines S [] [] [] all a b = refl
-all_lines S [] (x ∷ xs) second all a b = absurd a
-all_lines S [] [] (y ∷ ys) all a b = absurd b
-all_lines S (AProgram p ∷ entries) [] second all a b = absurd a
-all_lines S (AProgram p ∷ entries) (x ∷ xs) [] all a b = absurd b
-all_lines S (AProgram p ∷ entries) (x ∷ xs) (y ∷ ys) all a b =
-    ap (λ l. l ∷ xs) (one_line (program_of p) (in_camelot S p all.0) x y a.0 b.0) ∙ ap (λ l. y ∷ l) (all_lines S entries xs ys all.1 a.1 b.1)
-all_lines S (AJob j ∷ entries) first second all a b = all_lines S entries first second all.1 a b
+pub all_lines : Laws → (entries : List Entry) (first second : List ProgramLine) → AreProgramLines entries first → AreProgramLines entries second → first ≡ second
+all_lines L [] [] [] a b = refl
+all_lines L [] (x ∷ xs) second a b = absurd a
+all_lines L [] [] (y ∷ ys) a b = absurd b
+all_lines L (AProgram p ∷ entries) [] second a b = absurd a
+all_lines L (AProgram p ∷ entries) (x ∷ xs) [] a b = absurd b
+all_lines L (AProgram p ∷ entries) (x ∷ xs) (y ∷ ys) a b =
+    ap (λ l. l ∷ xs) (one_line (program_of p) (of_program L (program_of p)) x y a.0 b.0) ∙ ap (λ l. y ∷ l) (all_lines L entries xs ys a.1 b.1)
+all_lines L (AJob j ∷ entries) first second a b = all_lines L entries first second a b
 
 -- ---- one entry
 
@@ -197,33 +221,16 @@ no_fate name args (Unfit (job_cause.Argument at)) h = absurd h
 no_fate name args (Unfit (job_cause.Long items)) h = absurd h
 no_fate name args (Calls c) h = absurd h
 
-pub one_fate : OfTexts → OfSources → (p : Option ProgramText) (name args : List ℕ) (f g : Fate) → IsInCamelot p → IsFate p name args f → IsFate p name args g → f ≡ g
-one_fate T S None name args f g c a b = no_fate name args f a ∙ sym (no_fate name args g b)
-one_fate T S (Some (CamelotText text)) name args f g c a b =
-    one_way T (CamelotText text) (of_source S text) name args f g (way_of (CamelotText text) name args f a) (way_of (CamelotText text) name args g b)
-one_fate T S (Some (GrailText text)) name args f g c a b = absurd c
+pub one_fate : Laws → (p : Option ProgramText) (name args : List ℕ) (f g : Fate) → IsFate p name args f → IsFate p name args g → f ≡ g
+one_fate L None name args f g a b = no_fate name args f a ∙ sym (no_fate name args g b)
+one_fate L (Some p) name args f g a b = one_way L.texts p (of_program L p) name args f g (way_of p name args f a) (way_of p name args g b)
 
--- a program that is found by its name is one of the script's
-pub found_in_camelot : (script : List Entry) (name : List ℕ) → AllCamelot script → IsInCamelot (program_named script name)
-found_in_camelot [] name all = tt
-found_in_camelot (AProgram p ∷ entries) name all = by_test (bytes_eq p.name name) (found_in_camelot entries name all.1)
-  where
-    by_language : (camelot : Bool) → camelot ≡ true → IsInCamelot (Some (if camelot then CamelotText p.text else GrailText p.text))
-    by_language true e = tt
-    by_language false e = cc
-
-    by_test : (b : Bool) → IsInCamelot (program_named entries name) → IsInCamelot (if b then Some (program_of p) else program_named entries name)
-    by_test true go = by_language p.camelot all.0
-    by_test false go = go
-found_in_camelot (AJob j ∷ entries) name all = found_in_camelot entries name all.1
-
-pub all_fates : OfTexts → OfSources → (script entries : List Entry) (first second : List Fate) → AllCamelot script → AreFates script entries first → AreFates script entries second → first ≡ second
-all_fates T S script [] [] [] all a b = refl
-all_fates T S script [] (x ∷ xs) second all a b = absurd a
-all_fates T S script [] [] (y ∷ ys) all a b = absurd b
-all_fates T S script (AProgram p ∷ entries) first second all a b = all_fates T S script entries first second all a b
-all_fates T S script (AJob j ∷ entries) [] second all a b = absurd a
-all_fates T S script (AJob j ∷ entries) (x ∷ xs) [] all a b = absurd b
-all_fates T S script (AJob j ∷ entries) (x ∷ xs) (y ∷ ys) all a b =
-    ap (λ f. f ∷ xs) (one_fate T S (program_named script j.program) j.entry j.args x y (found_in_camelot script j.program all) a.0 b.0)
-    ∙ ap (λ fs. y ∷ fs) (all_fates T S script entries xs ys all a.2 b.2)
+pub all_fates : Laws → (script entries : List Entry) (first second : List Fate) → AreFates script entries first → AreFates script entries second → first ≡ second
+all_fates L script [] [] [] a b = refl
+all_fates L script [] (x ∷ xs) second a b = absurd a
+all_fates L script [] [] (y ∷ ys) a b = absurd b
+all_fates L script (AProgram p ∷ entries) first second a b = all_fates L script entries first second a b
+all_fates L script (AJob j ∷ entries) [] second a b = absurd a
+all_fates L script (AJob j ∷ entries) (x ∷ xs) [] a b = absurd b
+all_fates L script (AJob j ∷ entries) (x ∷ xs) (y ∷ ys) a b =
+    ap (λ f. f ∷ xs) (one_fate L (program_named script j.program) j.entry j.args x y a.0 b.0) ∙ ap (λ fs. y ∷ fs) (all_fates L script entries xs ys a.2 b.2)

@@ -7,16 +7,14 @@ use Rattle.licence.specs.Licensed.{Licensed}
 use Rattle.job_script.specs.Scripts.{Program, Entry, AProgram, AJob}
 use Rattle.job_world.specs.PlanLaws.{front_stays, found_behind}
 use Rattle.value_text.specs.Inhabited.{Knows}
-use Rattle.camelot_compiler.specs.Compiled as compiler
-use Rattle.camelot_compiler.specs.Compiled.{IsCompiled}
 use Rattle.camelot_compiler.specs.Licences.{IsLicence}
 use Rattle.refusals.specs.declared.cause.Cause.{Cause}
 use Rattle.run_reports.specs.declared.outcome.ProgramLine.{ProgramLine}
 use Rattle.run_reports.specs.declared.outcome.ProgramLine.TheVariants as program
 use Rattle.script_plans.specs.declared.rows.Known.{Known}
-use Rattle.script_plans.specs.Programs.{ProgramText, CamelotText, GrailText, program_of, program_named, OfSource}
+use Rattle.script_plans.specs.Programs.{ProgramText, CamelotText, program_of, program_named, OfSource, IsRefusedFor}
 use Rattle.script_plans.specs.Lines.{AreProgramLines}
-use Rattle.script_plans.specs.Rows.{Row, row_among, row_program, IsKnown, IsRow, AreRows, IsProgramAdded, IsTaken, AreLicensed}
+use Rattle.script_plans.specs.Rows.{Row, row_among, row_program, IsKnown, IsRow, AreRows, IsLicenceFor, IsProgramAdded, IsTaken, AreLicensed}
 
 -- the row's program, or else this one
 abbrev program_or : Option Row → Option ProgramText → Option ProgramText
@@ -95,18 +93,15 @@ all_licensed script rows licences lines u = record {
 
 -- ---- one program
 
--- a program of the script that is in Camelot
-pub in_camelot : (camelot : Bool) (name text : List ℕ) (rows rows2 : List Row) (licences licences2 : List Licensed) (lines lines2 : List ProgramLine) → camelot ≡ true
-    → IsProgramAdded name (CamelotText text) rows rows2 licences licences2 lines lines2 → IsProgramAdded name (if camelot then CamelotText text else GrailText text) rows rows2 licences licences2 lines lines2
-in_camelot camelot name text rows rows2 licences licences2 lines lines2 e a =
-    subst (λ (p : ProgramText). IsProgramAdded name p rows rows2 licences licences2 lines lines2) (sym (ap (λ b. if b then CamelotText text else GrailText text) e)) a
+pub source_licensed : (text : List ℕ) (l : Licensed) → IsLicence text l → IsLicenceFor (CamelotText text) l
+source_licensed text l h = record { meaning = OfSource h.typing; is = record { is = h; means = refl } }
 
-pub accepted : (name text : List ℕ) (rows rows2 : List Row) (licences licences2 : List Licensed) (lines lines2 : List ProgramLine) (l : Licensed) (k : Known) (unit : ℕ) → IsLicence text l
-    → k.licence ≡ length licences → Knows l.code.types k.inhabited → unit ≡ l.cert.unit → licences2 ≡ licences ++ l ∷ [] → rows2 ≡ rows ++ record { name = name; program = CamelotText text; known = Some k } ∷ []
-    → lines2 ≡ lines ++ program.Accepted unit ∷ [] → IsProgramAdded name (CamelotText text) rows rows2 licences licences2 lines lines2
-accepted name text rows rows2 licences licences2 lines lines2 l k unit is at knows units ls rs lns = record {
+pub accepted : (name : List ℕ) (p : ProgramText) (rows rows2 : List Row) (licences licences2 : List Licensed) (lines lines2 : List ProgramLine) (l : Licensed) (k : Known) (unit : ℕ) → IsLicenceFor p l
+    → k.licence ≡ length licences → Knows l.code.types k.inhabited → unit ≡ l.cert.unit → licences2 ≡ licences ++ l ∷ [] → rows2 ≡ rows ++ record { name = name; program = p; known = Some k } ∷ []
+    → lines2 ≡ lines ++ program.Accepted unit ∷ [] → IsProgramAdded name p rows rows2 licences licences2 lines lines2
+accepted name p rows rows2 licences licences2 lines lines2 l k unit has at knows units ls rs lns = record {
   line = program.Accepted unit;
-  is = record { licence = l; meaning = OfSource is.typing; is = record { is = is; means = refl }; units = units };
+  is = record { licence = l; meaning = has.meaning; is = has.is; units = units };
   new_line = lns;
   known = Some k;
   new_row = rs;
@@ -115,9 +110,9 @@ accepted name text rows rows2 licences licences2 lines lines2 l k unit is at kno
   count = let n : length licences2 ≡ length licences + 1 = ap length ls ∙ length_end licences l in omega (arith, n);
   knows = record {
     licence = l;
-    meaning = OfSource is.typing;
+    meaning = has.meaning;
     at = ap (λ xs. slice_get xs k.licence) ls ∙ ap (slice_get (licences ++ l ∷ [])) at ∙ found_behind licences l [];
-    is = record { is = is; means = refl };
+    is = has.is;
     knows = knows;
   };
 }
@@ -126,9 +121,9 @@ accepted name text rows rows2 licences licences2 lines lines2 l k unit is at kno
     length_end [] x = refl
     length_end (y ∷ xs) x = let go = length_end xs x in omega (arith, go)
 
-pub refused : (name text : List ℕ) (rows rows2 : List Row) (licences : List Licensed) (lines lines2 : List ProgramLine) (cause : Cause) → IsCompiled text (compiler.Refused cause)
-    → rows2 ≡ rows ++ record { name = name; program = CamelotText text; known = None } ∷ [] → lines2 ≡ lines ++ program.Refused cause ∷ [] → IsProgramAdded name (CamelotText text) rows rows2 licences licences lines lines2
-refused name text rows rows2 licences lines lines2 cause is rs lns = record {
+pub refused : (name : List ℕ) (p : ProgramText) (rows rows2 : List Row) (licences : List Licensed) (lines lines2 : List ProgramLine) (cause : Cause) → IsRefusedFor p cause
+    → rows2 ≡ rows ++ record { name = name; program = p; known = None } ∷ [] → lines2 ≡ lines ++ program.Refused cause ∷ [] → IsProgramAdded name p rows rows2 licences licences lines lines2
+refused name p rows rows2 licences lines lines2 cause is rs lns = record {
   line = program.Refused cause;
   is = is;
   new_line = lns;

@@ -1,7 +1,6 @@
 -- Cited by contracts.
 -- All programs and all jobs of a script.
-use Rattle.std.specs.Prelude.{◌≡◌, ◌⊎◌, ℕ, suc, true, List, [], ◌∷◌, ◌++◌, length, map, slice_get, Option, Some, None}
-use Rattle.std.specs.List.{AllByRecursion}
+use Rattle.std.specs.Prelude.{◌≡◌, ◌⊎◌, ℕ, suc, List, [], ◌∷◌, ◌++◌, length, map, slice_get, Option, Some, None}
 use Rattle.camelot_values.specs.Kinds.{DataType}
 use Rattle.cell_span.specs.declared.cell.Cell.{Cell}
 use Rattle.licence.specs.Licensed.{Licensed}
@@ -15,14 +14,6 @@ use Rattle.script_plans.specs.declared.types.JobPlan.{JobPlan}
 use Rattle.script_plans.specs.declared.types.JobPlan.TheVariants as plan
 use Rattle.script_plans.specs.Programs.{program_of, program_named}
 use Rattle.script_plans.specs.Fates.{Fate, IsProgramLine, IsFate, IsWithinBound, line_of, leases_of, cells_left}
-
--- every program is in Camelot
-abbrev pub IsCamelot : Entry → Type 0
-IsCamelot (AProgram p) = p.camelot ≡ true
-IsCamelot (AJob j) = Unit {0}
-
-abbrev pub AllCamelot : List Entry → Type 0
-AllCamelot entries = AllByRecursion IsCamelot entries
 
 -- each program of these entries has its own line
 abbrev pub AreProgramLines : List Entry → List ProgramLine → Type 0
@@ -53,7 +44,6 @@ IsLineOf entries lines job line = ⊥
 
 -- The script has this job and tells this line of it, as its report does: the line by the job's own fate.
 pub record TellsOf (s : Script) (job : Job) (line : JobLine) : Type 0 where
-  pub camelot : AllCamelot s.items
   pub fates : List Fate
   pub are : AreFates s.items s.items fates
   pub is : IsLineOf s.items (lines_of s.arena s.items fates) job line

@@ -1,6 +1,6 @@
 -- Cited by contracts.
 -- What a program is, by its language: its text, its licence, and what its calls mean.
-use Rattle.std.specs.Prelude.{◌≡◌, ℕ, if◌then◌else◌, List, [], ◌∷◌, map, Option, Some, None}
+use Rattle.std.specs.Prelude.{◌≡◌, ℕ, if◌then◌else◌, Bool, true, false, List, [], ◌∷◌, map, Option, Some, None}
 use Rattle.std.specs.Str.{bytes_eq}
 use Rattle.camelot_values.specs.Value.{Value}
 use Rattle.camelot_values.specs.Kinds.{DataType}
@@ -12,12 +12,11 @@ use Rattle.typing_rules.specs.Typed.{Typing}
 use Rattle.grail_code.specs.Code.{Code}
 use Rattle.grail_code.specs.Meaning as code
 use Rattle.licence.specs.Licensed.{Licensed}
-use Rattle.grail_verifier.specs.Accepted.{IsAccepted}
 use Rattle.cell_machine.specs.State.{most_calls}
 use Rattle.refusals.specs.declared.cause.Cause.{Cause}
-use Rattle.grail_bundle.specs.Bundles.{bundle_text}
 use Rattle.camelot_compiler.specs.Compiled.{IsCompiled, Refused}
 use Rattle.camelot_compiler.specs.Licences.{IsLicence}
+use Rattle.bundle_licence.specs.Bundled as bundle
 use Rattle.job_script.specs.Scripts.{Program, Entry, AProgram, AJob}
 
 -- ---- texts
@@ -27,21 +26,20 @@ pub data ProgramText : Type 0 where
   CamelotText : List ℕ → ProgramText
   GrailText : List ℕ → ProgramText
 
--- that of a program of a script, in its language
+-- the text in its language
+abbrev pub text_in : (camelot : Bool) → List ℕ → ProgramText
+text_in true text = CamelotText text
+text_in false text = GrailText text
+
+-- that of a program of a script
 abbrev pub program_of : Program → ProgramText
-program_of p = if p.camelot then CamelotText p.text else GrailText p.text
+program_of p = text_in p.camelot p.text
 
 -- that of the first program of this name among these entries
 abbrev pub program_named : List Entry → (name : List ℕ) → Option ProgramText
 program_named [] name = None
 program_named (AProgram p ∷ entries) name = if bytes_eq p.name name then Some (program_of p) else program_named entries name
 program_named (AJob j ∷ entries) name = program_named entries name
-
--- it is in Camelot, where there is one
-abbrev pub IsInCamelot : Option ProgramText → Type 0
-IsInCamelot None = Unit {0}
-IsInCamelot (Some (CamelotText text)) = Unit {0}
-IsInCamelot (Some (GrailText text)) = ⊥
 
 -- ---- meanings
 
@@ -77,12 +75,10 @@ pub record IsSourceLicence (text : List ℕ) (l : Licensed) (m : Meaning) : Type
   pub is : IsLicence text l
   pub means : m ≡ OfSource is.typing
 
--- Of a bundle: the verifier accepts the bytes of its code and of its certificate, with this licence. Its calls mean what the licence's code means.
+-- Of a bundle: the verifier accepts the bytes of its code and of its certificate, with this licence. Its calls mean
+-- what the licence's code means.
 pub record IsBundleLicence (text : List ℕ) (l : Licensed) (m : Meaning) : Type 0 where
-  pub code : List ℕ
-  pub cert : List ℕ
-  pub bundle : bundle_text code cert ≡ text
-  pub accepted : IsAccepted code cert l
+  pub has : bundle.HasLicence text l
   pub means : m ≡ OfCode l.code
 
 -- The program has this licence, and its calls mean this. This is the one place that says what the licence of a program is.
@@ -90,7 +86,8 @@ abbrev pub IsLicenceOf : ProgramText → Licensed → Meaning → Type 0
 IsLicenceOf (CamelotText text) l m = IsSourceLicence text l m
 IsLicenceOf (GrailText text) l m = IsBundleLicence text l m
 
--- The program is refused for this cause, and so has no licence: a source, for the first cause there is. For what a bundle is refused isn't said, and no script with one is served.
+-- The program is refused for this cause, and so has no licence: a source, for the first cause there is; a bundle, for
+-- the first wrong line of its text, where it is no bundle's, or for the verifier's refusal.
 abbrev pub IsRefusedFor : ProgramText → Cause → Type 0
 IsRefusedFor (CamelotText text) cause = IsCompiled text (Refused cause)
-IsRefusedFor (GrailText text) cause = ⊥
+IsRefusedFor (GrailText text) cause = bundle.IsRefusedFor text cause

@@ -2,7 +2,7 @@
 ghost use Rattle.std.specs.Prelude.{◌≡◌, ◌<◌, ◌≤◌, length, map, slice_get, Some, IfOk};
 ghost use Rattle.licence.specs.Licensed.{Licensed};
 ghost use Rattle.job_world.specs.Asking.{CanPlan};
-ghost use Rattle.script_plans.specs.Programs.{CamelotText};
+ghost use Rattle.script_plans.specs.Programs.{text_in};
 ghost use Rattle.script_plans.specs.Rows.{IsRow, AreRows, row_of, row_among, row_program};
 ghost use Rattle.script_plans.specs.Turns.{CanBePlanned, IsAdded, IsPlanned, IsUsable, IsCalled, Comes, plan_for};
 
@@ -97,7 +97,7 @@ fn plan_row(
     requires fuel { 1 ≤ fuel }
     requires arena { arena ≤ 2147483648 }
     requires few { length jobs.old.plans < 4294967295 }
-    ensures { IfOk result (Comes (Some (CamelotText row.now.text.now)) name.now text.now fuel arena jobs.old jobs.new) }
+    ensures { IfOk result (Comes (Some (text_in row.now.camelot row.now.text.now)) name.now text.now fuel arena jobs.old jobs.new) }
 {
     law_of_compiler();
     match &row.known {

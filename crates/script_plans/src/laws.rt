@@ -5,10 +5,11 @@ ghost use Rattle.job_script.specs.Scripts.{Entry as PlainEntry, Job, Script};
 ghost use Rattle.job_script.specs.Text.{EntryIsShort};
 ghost use Rattle.run_reports.specs.declared.outcome.ProgramLine.{ProgramLine as PlainLine};
 ghost use Rattle.run_reports.specs.Report.{JobLine, job_text};
-ghost use Rattle.script_plans.specs.Programs.{CamelotText, IsInCamelot, ProgramText};
+ghost use Rattle.script_plans.specs.Programs.{ProgramText};
 ghost use Rattle.script_plans.specs.Fates.{Fate, IsFate, IsProgramLine};
-ghost use Rattle.script_plans.specs.Lines.{AllCamelot, AreFates, AreProgramLines, Agree, TellsOf};
+ghost use Rattle.script_plans.specs.Lines.{AreFates, AreProgramLines, Agree, TellsOf};
 
+use bundle_licence::laws::law_of_licences;
 use camelot_compiler::laws::law_of_compiling;
 use code_gen::laws::law_of_compiler;
 use value_text::laws::law_of_reading;
@@ -19,17 +20,22 @@ pub fn law_of_short()
     ensures { (most : ℕ) (entries : List PlainEntry) → most ≤ 4294967295 → AllByRecursion (EntryIsShort most) entries → AllByRecursion (EntryIsShort 4294967295) entries }
 {}
 
-/// What comes of a script whose programs are all in Camelot is determined by its text: each program has one line, and each job one fate, so that each job has one line, whoever
-/// serves the script and whatever else it has.
+/// What comes of a script is determined by its text: each program has one line, and each job one fate, so that each
+/// job has one line, whoever serves the script and whatever else it has.
 pub fn law_of_fates()
-    ensures program { (text : List ℕ) (first second : PlainLine) → IsProgramLine (CamelotText text) first → IsProgramLine (CamelotText text) second → first ≡ second }
-    ensures job { (program : Option ProgramText) (entry args : List ℕ) (first second : Fate) → IsInCamelot program → IsFate program entry args first → IsFate program entry args second → first ≡ second }
-    ensures programs { (entries : List PlainEntry) (first second : List PlainLine) → AllCamelot entries → AreProgramLines entries first → AreProgramLines entries second → first ≡ second }
-    ensures jobs { (script entries : List PlainEntry) (first second : List Fate) → AllCamelot script → AreFates script entries first → AreFates script entries second → first ≡ second }
+    ensures program { (program : ProgramText) (first second : PlainLine)
+        → IsProgramLine program first → IsProgramLine program second → first ≡ second }
+    ensures job { (program : Option ProgramText) (entry args : List ℕ) (first second : Fate)
+        → IsFate program entry args first → IsFate program entry args second → first ≡ second }
+    ensures programs { (entries : List PlainEntry) (first second : List PlainLine)
+        → AreProgramLines entries first → AreProgramLines entries second → first ≡ second }
+    ensures jobs { (script entries : List PlainEntry) (first second : List Fate)
+        → AreFates script entries first → AreFates script entries second → first ≡ second }
 {
     law_of_compiling();
     law_of_reading();
     law_of_compiler();
+    law_of_licences();
 }
 
 /// What is told of a job depends on nothing else that stands in its script. Where two scripts have arenas of the same size and both have a job with this name, program, entry, fuel and

@@ -1,16 +1,13 @@
 //! The licences of all programs of a script.
 ghost use Rattle.std.specs.Prelude.{◌≡◌, ◌+◌, ◌<◌, ◌≤◌, length, map, OnOk, IfOk};
 ghost use Rattle.std.specs.List.{AllByRecursion};
-ghost use Rattle.licence.specs.Licensed.{Licensed};
-ghost use Rattle.camelot_compiler.specs.Compiled.{IsCompiled, Refused};
-ghost use Rattle.camelot_compiler.specs.Licences.{IsLicence};
 ghost use Rattle.job_script.specs.Text.{EntryIsShort};
 ghost use Rattle.job_script.specs.Words.{entry_of};
-ghost use Rattle.script_plans.specs.Lines.{AllCamelot, IsCamelot};
-ghost use Rattle.script_plans.specs.Programs.{CamelotText};
-ghost use Rattle.script_plans.specs.Rows.{AreLicensed, IsProgramAdded, IsTaken, row_of};
+ghost use Rattle.script_plans.specs.Programs.{CamelotText, GrailText, IsRefusedFor, text_in};
+ghost use Rattle.script_plans.specs.Rows.{AreLicensed, IsLicenceFor, IsAnswer, IsEntryKept, IsKept, row_of};
 
 use crate::rows::{Known, Row};
+use bundle_licence::{LicenceFault, license_bundle};
 use camelot_compiler::{CompileFault, license};
 use camelot_values::Word;
 use job_script::Entry;
@@ -28,17 +25,18 @@ pub(crate) struct Programs<'a> {
     pub(crate) lines: Vec<ProgramLine>,
 }
 
-// Adds a Camelot program that has a licence.
+// Adds a program that has a licence.
 #[tactic(auto, using(crate::proofs::Programs::accepted))]
 fn accept<'a>(
     programs: &mut Programs<'a>,
     name: &'a Word,
+    camelot: bool,
     text: &'a [u8],
     licence: Licence,
 ) -> Result<(), AllocError>
-    requires is { IsLicence text.now licence }
+    requires is { IsLicenceFor (text_in camelot text.now) licence }
     requires few { length programs.old.licences.items < 4294967295 }
-    ensures { OnOk result (IsProgramAdded name.now (CamelotText text.now) (map row_of programs.old.rows.items) (map row_of programs.new.rows.items) programs.old.licences.items programs.new.licences.items programs.old.lines.items programs.new.lines.items) }
+    ensures { OnOk result (IsKept name.now (text_in camelot text.now) programs.old programs.new) }
 {
     let known = Known {
         licence: programs.licences.len() as u32,
@@ -48,6 +46,7 @@ fn accept<'a>(
     programs.licences.push(licence)?;
     programs.rows.push(Row {
         name,
+        camelot,
         text,
         known: Some(known),
     })?;
@@ -55,19 +54,21 @@ fn accept<'a>(
     Ok(())
 }
 
-// Adds a Camelot program that is refused.
+// Adds a program that is refused.
 #[tactic(auto, using(crate::proofs::Programs::refused))]
 fn refuse<'a>(
     programs: &mut Programs<'a>,
     name: &'a Word,
+    camelot: bool,
     text: &'a [u8],
     cause: Cause,
 ) -> Result<(), AllocError>
-    requires { IsCompiled text.now (Refused cause) }
-    ensures { OnOk result (IsProgramAdded name.now (CamelotText text.now) (map row_of programs.old.rows.items) (map row_of programs.new.rows.items) programs.old.licences.items programs.new.licences.items programs.old.lines.items programs.new.lines.items) }
+    requires { IsRefusedFor (text_in camelot text.now) cause }
+    ensures { OnOk result (IsKept name.now (text_in camelot text.now) programs.old programs.new) }
 {
     programs.rows.push(Row {
         name,
+        camelot,
         text,
         known: None,
     })?;
@@ -75,21 +76,62 @@ fn refuse<'a>(
     Ok(())
 }
 
-// Adds a Camelot program.
+// The licence of a source, or why it has none.
+#[tactic(auto, using(crate::proofs::Programs::source_licensed))]
+fn license_source(alloc: Global, text: &[u8]) -> Result<Result<Licence, Cause>, AllocError>
+    requires { length text.now < 4294967296 }
+    ensures { IfOk result (IsAnswer (CamelotText text.now)) }
+{
+    match license(alloc, text) {
+        Ok(licence) => Ok(Ok(licence)),
+        Err(CompileFault::Refused(cause)) => Ok(Err(cause)),
+        Err(CompileFault::Memory) => Err(AllocError),
+    }
+}
+
+// The same of a bundle.
+fn license_grail(alloc: Global, text: &[u8]) -> Result<Result<Licence, Cause>, AllocError>
+    requires { length text.now < 4294967296 }
+    ensures { IfOk result (IsAnswer (GrailText text.now)) }
+{
+    match license_bundle(alloc, text) {
+        Ok(licence) => Ok(Ok(licence)),
+        Err(LicenceFault::Refused(cause)) => Ok(Err(cause)),
+        Err(LicenceFault::Memory) => Err(AllocError),
+    }
+}
+
+// The same of a program in its language.
+fn license_program(
+    alloc: Global,
+    camelot: bool,
+    text: &[u8],
+) -> Result<Result<Licence, Cause>, AllocError>
+    requires { length text.now < 4294967296 }
+    ensures { IfOk result (IsAnswer (text_in camelot text.now)) }
+{
+    if camelot {
+        license_source(alloc, text)
+    } else {
+        license_grail(alloc, text)
+    }
+}
+
+// Adds a program.
 fn add_program<'a>(
     alloc: Global,
     programs: &mut Programs<'a>,
     name: &'a Word,
+    camelot: bool,
     text: &'a [u8],
 ) -> Result<(), AllocError>
     requires short { length text.now < 4294967296 }
     requires few { length programs.old.licences.items < 4294967295 }
-    ensures { OnOk result (IsProgramAdded name.now (CamelotText text.now) (map row_of programs.old.rows.items) (map row_of programs.new.rows.items) programs.old.licences.items programs.new.licences.items programs.old.lines.items programs.new.lines.items) }
+    ensures { OnOk result (IsKept name.now (text_in camelot text.now) programs.old programs.new) }
 {
-    match license(alloc, text) {
-        Ok(licence) => accept(programs, name, text, licence),
-        Err(CompileFault::Refused(cause)) => refuse(programs, name, text, cause),
-        Err(CompileFault::Memory) => Err(AllocError),
+    match license_program(alloc, camelot, text)? {
+        Ok(licence) => accept(programs, name, camelot, text, licence),
+        Err(cause) => refuse(programs, name, camelot, text, cause),
     }
 }
 
@@ -99,24 +141,26 @@ fn add_entry<'a>(
     programs: &mut Programs<'a>,
     entry: &'a Entry,
 ) -> Result<(), AllocError>
-    requires camelot { IsCamelot (entry_of entry.now) }
     requires short { EntryIsShort 4294967295 (entry_of entry.now) }
     requires few { length programs.old.licences.items < 4294967295 }
-    ensures { OnOk result (IsTaken (entry_of entry.now) (map row_of programs.old.rows.items) (map row_of programs.new.rows.items) programs.old.licences.items programs.new.licences.items programs.old.lines.items programs.new.lines.items) }
+    ensures { OnOk result (IsEntryKept (entry_of entry.now) programs.old programs.new) }
 {
     match entry {
-        Entry::Program { name, text, .. } => add_program(alloc, programs, name, text),
+        Entry::Program {
+            name,
+            camelot,
+            text,
+        } => add_program(alloc, programs, name, *camelot, text),
         Entry::Job { .. } => Ok(()),
     }
 }
 
-/// All programs of these entries, which are in Camelot.
+/// All programs of these entries.
 #[tactic(auto, using(crate::proofs::Programs::none_licensed, crate::proofs::Programs::licensed_more, crate::proofs::Programs::all_licensed))]
 pub(crate) fn license_all<'a>(
     alloc: Global,
     entries: &'a [Entry],
 ) -> Result<Programs<'a>, AllocError>
-    requires camelot { AllCamelot (map entry_of entries.now) }
     requires short { AllByRecursion (EntryIsShort 4294967295) (map entry_of entries.now) }
     requires few { length entries.now ≤ 4160 }
     ensures { IfOk result (λ p. AreLicensed (map entry_of entries.now) (map row_of p.rows.items) p.licences.items p.lines.items) }

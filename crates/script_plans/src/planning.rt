@@ -7,7 +7,7 @@ ghost use Rattle.job_script.specs.Text.{EntryIsShort};
 ghost use Rattle.job_script.specs.Words.{entry_of, script_of};
 ghost use Rattle.job_world.specs.Plans.{leases_of};
 ghost use Rattle.script_plans.specs.Programs.{program_named};
-ghost use Rattle.script_plans.specs.Lines.{AllCamelot, AreProgramLines, ArePlanned};
+ghost use Rattle.script_plans.specs.Lines.{AreProgramLines, ArePlanned};
 ghost use Rattle.script_plans.specs.Rows.{AreRows, row_of, row_among, row_program};
 ghost use Rattle.script_plans.specs.Turns.{IsEntryTaken, IsJobTaken, places_by};
 
@@ -137,14 +137,14 @@ fn take_all(
     Ok(taken)
 }
 
-/// Plans a script: each program is compiled and its licence asked for, once, and each job is planned on its own, by the text of its program, its entry, its fuel and its arguments. No program is
-/// run. The programs are in Camelot, and each text has fewer than 2^32 bytes, as those of a script that was read have.
+/// Plans a script: each program's licence is asked for, once, of the compiler for a source in Camelot and of the
+/// verifier for a bundle of Grail code. Each job is planned on its own, by the text of its program, its entry, its fuel
+/// and its arguments. No program is run. Each text has fewer than 2^32 bytes, as those of a script that was read have.
 ///
 /// `AllocError` where memory runs out.
 #[tactic(auto, using(crate::proofs::Taking::planned_sizes, crate::proofs::Taking::planned_few))]
 pub fn plan_script(alloc: Global, script: &Script) -> Result<Plans, AllocError>
     requires script { IsScript (script_of script.now) }
-    requires camelot { AllCamelot (script_of script.now).items }
     requires short { AllByRecursion (EntryIsShort 4294967295) (script_of script.now).items }
     // Each program has its own line.
     ensures programs { IfOk result (λ p. AreProgramLines (script_of script.now).items p.programs.items) }

@@ -1,9 +1,8 @@
--- What comes of a script is determined, by the laws of compiling and of texts of values.
-use Rattle.script_plans.specs.Programs.{CamelotText}
-use Rattle.script_plans.proofs.OneFate.{OfTexts, OfSources, of_source, one_line, one_fate, all_lines, all_fates}
+-- What comes of a script is determined, by the laws of compiling, of bundles and of texts of values.
+use Rattle.script_plans.proofs.OneFate.{OfTexts, OfSources, OfBundles, Laws, of_program, one_line, one_fate, all_lines, all_fates}
 use Rattle.script_plans.proofs.laws.law_of_fates.Goals as goal
 
-texts : goal.After-law_of_compiler → OfTexts
+texts : goal.After-law_of_licences → OfTexts
 texts c = record {
   reading = c.law_of_reading.ensures.one;
   long = c.law_of_reading.ensures.long;
@@ -11,7 +10,7 @@ texts c = record {
   never_both = c.law_of_reading.ensures.apart;
 }
 
-sources : goal.After-law_of_compiler → OfSources
+sources : goal.After-law_of_licences → OfSources
 sources c = record {
   one = c.law_of_compiling.ensures.one;
   licence = c.law_of_compiling.ensures.licence;
@@ -19,14 +18,20 @@ sources c = record {
   well_formed = c.law_of_compiler.ensures.well_formed;
 }
 
+bundles : goal.After-law_of_licences → OfBundles
+bundles c = record { one = c.law_of_licences.ensures.one; cause = c.law_of_licences.ensures.cause; apart = c.law_of_licences.ensures.apart }
+
+laws : goal.After-law_of_licences → Laws
+laws c = record { texts = texts c; sources = sources c; bundles = bundles c }
+
 pub returns-clause-program : goal.returns-clause-program
-returns-clause-program c = λ text. one_line (CamelotText text) (of_source (sources c) text)
+returns-clause-program c = λ p. one_line p (of_program (laws c) p)
 
 pub returns-clause-job : goal.returns-clause-job
-returns-clause-job c = one_fate (texts c) (sources c)
+returns-clause-job c = one_fate (laws c)
 
 pub returns-clause-programs : goal.returns-clause-programs
-returns-clause-programs c = all_lines (sources c)
+returns-clause-programs c = all_lines (laws c)
 
 pub returns-clause-jobs : goal.returns-clause-jobs
-returns-clause-jobs c = all_fates (texts c) (sources c)
+returns-clause-jobs c = all_fates (laws c)

@@ -1,7 +1,6 @@
 use Rattle.std.proofs.Common.{map}
 use Rattle.job_script.specs.Text.{EntryIsShort}
 use Rattle.job_script.specs.Words.{entry_of}
-use Rattle.script_plans.specs.Lines.{IsCamelot}
 use Rattle.script_plans.specs.Rows.{row_of}
 use Rattle.script_plans.proofs.Walking.{all_behind, licensed_behind, licensed_end}
 use Rattle.script_plans.proofs.licensing.license_all.Goals as goal
@@ -11,7 +10,6 @@ entries-preserved c = record {
   upto =
       licensed_behind (map entry_of c.args.entries.now) c.entries.rest.now c.entry-item.result (map row_of c.entries.programs.rows.items) (map row_of c.add_entry.new.programs.rows.items) c.entries.programs.licences.items
       c.add_entry.new.programs.licences.items c.entries.programs.lines.items c.add_entry.new.programs.lines.items c.in-len1-up.len_at_least c.entry-item.is c.entries.invariant.upto c.in_ok-add_entry.ensures;
-  camelot = all_behind IsCamelot c.entries.rest.now c.entry-item.result c.in-len1-up.len_at_least c.entry-item.is c.entries.invariant.camelot;
   short = all_behind (EntryIsShort 4294967295) c.entries.rest.now c.entry-item.result c.in-len1-up.len_at_least c.entry-item.is c.entries.invariant.short;
 }
 
