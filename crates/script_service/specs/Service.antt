@@ -28,7 +28,7 @@ pub record Service : Type 0 where
   pub journal : List Event
   pub arena : Range
 
--- a run that comes to something: no run of a typed program on fitting arguments is stuck
+-- a run that comes to something: no run of a typed program or of well-formed code on fitting arguments is stuck
 abbrev pub IsMeant : Outcome Value → Type 0
 IsMeant (Done v calls peak low) = Unit {0}
 IsMeant (Fuel calls peak) = Unit {0}
