@@ -7,7 +7,7 @@ use Rattle.cell_span.specs.Range.{Range, IsWhole}
 use Rattle.host_io.specs.Sink.{Tells}
 use Rattle.host_io.specs.Source.{Took}
 use Rattle.script_service.specs.Service.{IsReportIn}
-use Rattle.camelot_host.specs.Commands.{Command, Serve, Compile, IsCommand}
+use Rattle.camelot_host.specs.Commands.{Command, Serve, Compile, Verify, IsCommand}
 use Rattle.camelot_host.specs.Answers.{input_limit, devices, Broken}
 use Rattle.camelot_host.specs.Served.{Leaves, ArenaBy}
 use Rattle.camelot_host.specs.Replies.{verdict_of, bytes_of, IsReply, KeptBy, Keeps, WholeIn, Writes, Responds, RespondsIn}
@@ -22,6 +22,7 @@ whole_left : (command : Command) (input output : List ℕ) (arena : Option Range
 whole_left Serve input output (Some arena) h = subst IsWhole (sym h.left) h.served.comes.whole
 whole_left Serve input output None h = absurd h
 whole_left Compile input output arena h = subst (λ (o : Option Range). IfSome o IsWhole) (sym h) tt
+whole_left Verify input output arena h = subst (λ (o : Option Range). IfSome o IsWhole) (sym h) tt
 
 pub leaves_whole : (command : Command) (input : List ℕ) (r : Reply) → IsReply command input r → WholeIn r
 leaves_whole command input (reply.Done output arena) h = whole_left command input output.items arena h.leaves

@@ -1,39 +1,36 @@
--- What is served or compiled isn't refused.
+-- What is served, compiled or accepted isn't refused.
 use Rattle.std.specs.Prelude.{codes}
-use Rattle.std.proofs.Common.{◌≡◌, ℕ, true, false, List, [], ◌∷◌, inl, inr, sym, ◌∙◌, subst}
-use Rattle.job_script.specs.Scripts.{Entry, AProgram, AJob, Script}
+use Rattle.std.proofs.Common.{◌≡◌, ℕ, List, sym, subst}
+use Rattle.job_script.specs.Scripts.{Script}
 use Rattle.job_script.specs.Text.{IsScriptText, IsLineFault, IsCountFault, IsRepeatFault}
 use Rattle.job_script.specs.declared.reading.ScriptFault.{ScriptFault}
 use Rattle.job_script.specs.declared.reading.ScriptFault.TheVariants as fault
 use Rattle.lp_constraints.specs.declared.fault.NoCert.TheVariants.{NoBound}
+use Rattle.refusals.specs.declared.cause.Cause.{Cause}
 use Rattle.refusals.specs.declared.cause.Cause.TheVariants.{NoCert}
 use Rattle.camelot_compiler.specs.Compiled.{Compiled, Bundled, IsCompiled, OfCode, NoneGrants}
 use Rattle.camelot_compiler.specs.Licences.{IsCertifiedFor}
 use Rattle.camelot_compiler.specs.Compiled as compiler
-use Rattle.script_plans.specs.Lines.{AllCamelot}
-use Rattle.script_service.specs.Service.{HasGrail, IsScriptFault, NoScript, NotYet}
-use Rattle.camelot_host.specs.Commands.{Command, Serve, Compile}
+use Rattle.licence.specs.Licensed.{Licensed}
+use Rattle.bundle_licence.specs.Bundled.{HasLicence, IsRefusedFor}
+use Rattle.script_service.specs.Service.{IsScriptFault}
+use Rattle.camelot_host.specs.Commands.{Command, Serve, Compile, Verify}
 use Rattle.camelot_host.specs.Due.{Done, Refused, IsDue}
 use Rattle.camelot_host.proofs.Telling.{bound_told}
 
-no_grail : (entries : List Entry) → AllCamelot entries → HasGrail entries → ⊥
-no_grail [] all has = has
-no_grail (AProgram p ∷ entries) all (inl is) = let e : true ≡ false = sym all.0 ∙ is in absurd cc
-no_grail (AProgram p ∷ entries) all (inr has) = no_grail entries all.1 has
-no_grail (AJob j ∷ entries) all has = no_grail entries all.1 has
-
 pub one_verdict : ((text : List ℕ) (s : Script) (n : ℕ) → IsScriptText text s → IsLineFault text n → ⊥) → ((text : List ℕ) (s : Script) (n : ℕ) → IsScriptText text s → IsCountFault text n → ⊥)
     → ((text : List ℕ) (s : Script) (n : ℕ) → IsScriptText text s → IsRepeatFault text n → ⊥) → ((text : List ℕ) (first second : Compiled) → IsCompiled text first → IsCompiled text second → first ≡ second)
+    → ((text : List ℕ) (l : Licensed) (c : Cause) → HasLicence text l → IsRefusedFor text c → ⊥)
     → (command : Command) (input output other : List ℕ) → IsDue command input Done output → IsDue command input Refused other → ⊥
-one_verdict line count repeat one Serve input output other done (NoScript faulty) = by_fault faulty.fault faulty.cause
+one_verdict line count repeat one apart Serve input output other done refused = by_fault refused.fault refused.cause
   where
     by_fault : (x : ScriptFault) → IsScriptFault input x → ⊥
     by_fault (fault.Line n) h = line input done.service.script n done.served.text h
     by_fault (fault.Count n) h = count input done.service.script n done.served.text h
     by_fault (fault.Repeat n) h = repeat input done.service.script n done.served.text h
     by_fault fault.Memory h = h
-one_verdict line count repeat one Serve input output other done (NotYet not_yet is) = no_grail done.service.script.items done.served.comes.camelot (subst (λ s. HasGrail s.items) (done.served.only not_yet.script not_yet.text) not_yet.grail)
-one_verdict line count repeat one Compile input output other done refused = let e : Bundled done.code done.cert ≡ compiler.Refused refused.cause = one input (Bundled done.code done.cert) (compiler.Refused refused.cause) done.compiled refused.compiled in absurd cc
+one_verdict line count repeat one apart Compile input output other done refused = let e : Bundled done.code done.cert ≡ compiler.Refused refused.cause = one input (Bundled done.code done.cert) (compiler.Refused refused.cause) done.compiled refused.compiled in absurd cc
+one_verdict line count repeat one apart Verify input output other done refused = apart input done.licence refused.cause done.has refused.refused
 
 -- ---- what is told of a source
 

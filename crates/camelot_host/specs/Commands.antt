@@ -8,11 +8,14 @@ pub data Command : Type 0 where
   Serve : Command
   -- to compile a Camelot source to a bundle
   Compile : Command
+  -- to verify a bundle
+  Verify : Command
 
 -- the words spell the command
 abbrev pub IsCommand : List (List ℕ) → Command → Type 0
 IsCommand words Serve = words ≡ codes "serve" ∷ []
 IsCommand words Compile = words ≡ codes "compile" ∷ []
+IsCommand words Verify = words ≡ codes "verify" ∷ []
 
 -- the words spell no command
 abbrev pub IsNoCommand : List (List ℕ) → Type 0
@@ -22,6 +25,7 @@ IsNoCommand words = (command : Command) → IsCommand words command → ⊥
 abbrev pub reads : Command → Bool
 reads Serve = true
 reads Compile = true
+reads Verify = true
 
 -- this is the command's input, where the source tells the bytes that it has left
 abbrev pub IsInputBy : Bool → Option (List ℕ) → List ℕ → Type 0

@@ -18,6 +18,7 @@ use Rattle.camelot_host.specs.declared.status.Status.TheVariants as status
 abbrev pub command_named : Command → plain.Command
 command_named command.Serve = plain.Serve
 command_named command.Compile = plain.Compile
+command_named command.Verify = plain.Verify
 
 -- the reply's verdict, and what is written for it
 abbrev pub verdict_of : Reply → due.Verdict

@@ -9,6 +9,8 @@ pub(crate) enum Command {
     Serve,
     /// To compile a Camelot source to a bundle.
     Compile,
+    /// To verify a bundle.
+    Verify,
 }
 
 // Whether the words are this one alone.
@@ -33,6 +35,9 @@ pub(crate) fn command_of(words: &[String]) -> Option<Command>
     }
     if is_word(words, "compile") {
         return Some(Command::Compile);
+    }
+    if is_word(words, "verify") {
+        return Some(Command::Verify);
     }
     None
 }

@@ -1,25 +1,12 @@
-ghost use Rattle.std.specs.Prelude.{◌≡◌, ◌≤◌, IfOk, length};
+ghost use Rattle.std.specs.Prelude.{◌≤◌, IfOk, length};
 ghost use Rattle.camelot_host.specs.Answers.{input_limit};
 ghost use Rattle.camelot_host.specs.Commands.{Compile};
-ghost use Rattle.camelot_host.specs.Due.{refused_line};
 ghost use Rattle.camelot_host.specs.Replies.{IsReply};
 
+use super::refusal::refusal_line;
 use super::reply::Reply;
 use camelot_compiler::{CompileFault, compile, write_bundle};
-use refusals::{Cause, cause_text};
 use std::alloc::{AllocError, Global};
-
-// The line that a cause is told in.
-#[tactic(auto, unfolding(crate::specs::Due::refused_line))]
-fn refusal(alloc: Global, cause: &Cause) -> Result<Vec<u8>, AllocError>
-    ensures { IfOk result (λ line. line.items ≡ refused_line cause.now) }
-{
-    let mut line = Vec::from_slice(alloc, b"refused ")?;
-    let text = cause_text(alloc, cause)?;
-    line.extend_from_slice(&text)?;
-    line.push(b'\n')?;
-    Ok(line)
-}
 
 /// The reply to a source: its bundle, or else the line that tells why it isn't compiled.
 #[tactic(auto, using(crate::proofs::Compiling::is_bundle, crate::proofs::Compiling::is_refusal))]
@@ -36,7 +23,7 @@ pub(crate) fn compile_source(alloc: Global, input: &[u8]) -> Result<Reply, Alloc
             })
         }
         Err(CompileFault::Refused(cause)) => {
-            let line = refusal(alloc, &cause)?;
+            let line = refusal_line(alloc, &cause)?;
             Ok(Reply::Refused { line })
         }
         Err(CompileFault::Memory) => Err(AllocError),

@@ -14,6 +14,7 @@ use super::reply::Reply;
 use super::serve::serve;
 use super::served::Served;
 use super::status::Status;
+use super::verify::verify_bundle;
 use cell_span::Span;
 use host_io::{ReadStop, Sink, Source, read_all, write_all};
 use script_service::{Gate, OpenGate};
@@ -38,6 +39,7 @@ fn work<R: Threads + Wait + Sync, G: Gate + Sync>(
     match command {
         Command::Serve => serve(rt, alloc, input, gate),
         Command::Compile => compile_source(alloc, &input),
+        Command::Verify => verify_bundle(alloc, &input),
     }
 }
 
@@ -201,11 +203,15 @@ pub fn host_gated<R: Threads + Wait + Sync, S: Source, K: Sink, G: Gate + Sync>(
 ///
 /// The commands:
 ///
-/// - `serve` reads a script of Camelot programs and of jobs, and writes its report: each program with its unit or why it is refused; each job with what it
-///   comes to by the meaning of its program's source, its peak and its bound, or why it didn't run; and the journal of the leases of all jobs in one arena. An input
-///   that is no script is refused with its first wrong line, and a script with a Grail program with the line `refused not-yet`.
-/// - `compile` reads a Camelot source and writes its bundle: the code and the least certificate. A source that isn't compiled is refused with a line that
-///   tells the cause.
+/// - `serve` reads a script of Camelot and Grail programs and of jobs, and writes its report. Each program, compiled from
+///   its source or accepted from its bundle's bytes alone, has its unit or the cause of its refusal. Each job has what it
+///   comes to by the meaning of its program, its peak and its bound, or why it didn't run. The journal of the leases of
+///   all jobs in one arena follows. An input that is no script is refused with its first wrong line.
+/// - `compile` reads a Camelot source and writes its bundle: the code and the least certificate. A source that isn't
+///   compiled is refused with a line that tells the cause.
+/// - `verify` reads a bundle and writes what its certificate grants: the units of a cell, and for each function how many
+///   units its runs take at most. A text that is no bundle, and a bundle that the verifier refuses, is refused with a line
+///   that tells the cause.
 ///
 /// The answer is [`Status::Ok`] where the command was done and [`Status::Refused`] where it refused its input, each after
 /// what is written for it; [`Status::Usage`] where the words spell no command; [`Status::ReadFault`] and

@@ -1,13 +1,19 @@
 //! Laws of the definitions that the contract of `host` cites. Each function does nothing: its clause is the law.
 
-ghost use Rattle.std.specs.Prelude.{◌≡◌, ℕ, List, codes};
+ghost use Rattle.std.specs.Prelude.{◌≡◌, ◌≤◌, ℕ, List, codes};
+ghost use Rattle.camelot_values.specs.Value.{Value};
+ghost use Rattle.camelot_values.specs.Outcome.{peak_of};
+ghost use Rattle.grail_code.specs.Meaning.{run_of};
+ghost use Rattle.licence.specs.Bound.{bound};
+ghost use Rattle.licence.specs.Licensed.{FitsEntry};
 ghost use Rattle.lp_constraints.specs.declared.fault.NoCert.TheVariants.{NoBound};
 ghost use Rattle.refusals.specs.declared.cause.Cause.TheVariants.{NoCert};
 ghost use Rattle.camelot_compiler.specs.Compiled.{OfCode, NoneGrants};
 ghost use Rattle.camelot_compiler.specs.Licences.{IsCertifiedFor};
-ghost use Rattle.camelot_host.specs.Commands.{Command, Compile, IsCommand};
+ghost use Rattle.camelot_host.specs.Commands.{Command, Compile, Verify, IsCommand};
 ghost use Rattle.camelot_host.specs.Due.{Done, Refused, IsDue};
 
+use bundle_licence::laws::law_of_licences;
 use camelot_compiler::laws::{law_of_bundles, law_of_compiling};
 use job_script::laws::law_of_scripts;
 
@@ -18,13 +24,14 @@ pub fn one_command()
         → IsCommand words first → IsCommand words second → first ≡ second }
 {}
 
-/// No output is due with one verdict for an input for which another is due with the other: an input is served or
-/// compiled, or it is refused.
+/// No output is due with one verdict for an input for which another is due with the other: an input is served, compiled or
+/// accepted, or it is refused.
 pub fn one_verdict()
     ensures { (command : Command) (input output other : List ℕ) → IsDue command input Done output → IsDue command input Refused other → ⊥ }
 {
     law_of_scripts();
     law_of_compiling();
+    law_of_licences();
 }
 
 /// What `compile` tells of a source, done or refused, in the words of the verifier and of certificates.
@@ -40,3 +47,13 @@ pub fn law_of_compile()
 {
     law_of_bundles();
 }
+
+/// What `verify` tells of a bundle, in the words of runs: its certificate bounds the cells of each. That the verifier
+/// accepts the bundle's bytes is a field of what is due.
+pub fn law_of_verify()
+    // Every run of a function of the bundle's code on arguments of its kinds, with any fuel and any limit of waiting
+    // calls, ended or stopped: its peak is at most the bound by the certificate whose numbers are told, which is what the
+    // function needs and its arguments carry, in whole cells.
+    ensures within { (input output : List ℕ) (due : IsDue Verify input Done output) (limit entry fuel : ℕ) (args : List Value)
+        → FitsEntry due.licence entry args → peak_of (run_of due.licence.code limit entry fuel args) ≤ bound due.licence.code due.licence.cert entry args }
+{}

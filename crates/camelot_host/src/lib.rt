@@ -5,10 +5,12 @@ mod command;
 mod compile;
 mod hosting;
 pub mod laws;
+mod refusal;
 mod reply;
 mod serve;
 mod served;
 mod status;
+mod verify;
 
 pub use hosting::{host, host_gated};
 pub use script_service::{Gate, OpenGate};

@@ -9,11 +9,8 @@ use std::alloc::{AllocError, Global};
 use std::sync::Wait;
 use std::thread::Threads;
 
-// What is written for a script with a Grail program.
-const NOT_YET: &[u8] = b"refused not-yet\n";
-
-/// The reply to a script: its report with the arena that it leaves, or else the line that tells why it isn't served.
-#[tactic(auto, using(crate::proofs::Serving::no_script, crate::proofs::Serving::not_yet))]
+/// The reply to a script: its report with the arena that it leaves, or else the line that tells why it is none.
+#[tactic(auto, using(crate::proofs::Serving::no_script))]
 pub(crate) fn serve<R: Threads + Wait + Sync, G: Gate + Sync>(
     rt: &R,
     alloc: Global,
@@ -30,9 +27,6 @@ pub(crate) fn serve<R: Threads + Wait + Sync, G: Gate + Sync>(
         }),
         Err(ServeFault::NoScript(fault)) => Ok(Reply::Refused {
             line: fault_line(alloc, &fault)?,
-        }),
-        Err(ServeFault::NotYet) => Ok(Reply::Refused {
-            line: Vec::from_slice(alloc, NOT_YET)?,
         }),
         Err(ServeFault::Memory) => Err(AllocError),
     }

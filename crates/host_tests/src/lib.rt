@@ -1,8 +1,11 @@
-//! Tests of what no clause and no text can tell: devices that fail in mid-stream, under the host and under its adapters.
+//! Tests of what no clause and no text can tell: devices that fail in mid-stream, under the host and under its adapters;
+//! and bundles once through the host.
 #![tactic(auto)]
 
 #[cfg(test)]
 mod adapters;
+#[cfg(test)]
+mod bundles;
 #[cfg(test)]
 mod devices;
 #[cfg(test)]

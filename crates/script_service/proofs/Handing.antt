@@ -1,6 +1,5 @@
 -- What is handed out is what comes of the script.
-use Rattle.std.specs.Prelude.{MatchResult}
-use Rattle.std.proofs.Common.{◌≡◌, ℕ, ◌<◌, ◌≤◌, List, length, slice_get, Option, Some, None, Result, Ok, Err, refl, sym, ap, ◌∙◌, subst, arith}
+use Rattle.std.proofs.Common.{◌≡◌, ℕ, ◌<◌, ◌≤◌, List, length, slice_get, Option, Some, None, refl, sym, ap, ◌∙◌, subst, arith}
 use Rattle.std.proofs.lemmas.Option.{slice_get-map}
 use Rattle.std.specs.List.{AllByRecursion}
 use Rattle.std.specs.Option.{option_map}
@@ -18,13 +17,12 @@ use Rattle.job_workers.specs.Served.{all_cells, cells_for}
 use Rattle.lease_desk.specs.declared.event.Event.{Event}
 use Rattle.lease_desk.specs.Filing.{FiledCells, HoldsFiled}
 use Rattle.lease_desk.specs.Journal.{IsLegal}
-use Rattle.script_plans.specs.Lines.{AllCamelot, AreProgramLines, ArePlanned, planned_cells, sizes_of, all_left}
+use Rattle.script_plans.specs.Lines.{AreProgramLines, ArePlanned, planned_cells, sizes_of, all_left}
 use Rattle.script_service.specs.Service.{TellsMeaning, IsReportIn, report_of}
 use Rattle.script_service.specs.Handed.{service_of, IsHanded, IsHandedFor, IsRefused}
-use Rattle.script_service.specs.Steps.{IsOf, IsUnserved, serve_fault}
+use Rattle.script_service.specs.Steps.{IsOf, serve_fault}
 use Rattle.script_service.specs.declared.service.ServedScript.{ServedScript}
 use Rattle.script_service.specs.declared.service.ServeFault.{ServeFault}
-use Rattle.script_service.specs.declared.service.ServeFault.TheVariants as fault
 use Rattle.script_service.proofs.Filing.{all_meant}
 
 -- ---- the arena
@@ -51,11 +49,11 @@ cells_held ps lefts journal arena e h =
 same_legal : (arena : ℕ) (sizes leases : List ℕ) (journal : List Event) → leases ≡ sizes → IsLegal arena leases journal → IsLegal arena sizes journal
 same_legal arena sizes leases journal e h = subst (λ s. IsLegal arena s journal) e h
 
-pub handed : (s : ServedScript) → AllCamelot (script_of s.script).items → AreProgramLines (script_of s.script).items s.plans.programs.items
+pub handed : (s : ServedScript) → AreProgramLines (script_of s.script).items s.plans.programs.items
     → ArePlanned (script_of s.script).arena (script_of s.script).items s.plans.jobs s.plans.plans.items s.plans.asked.items → length s.plans.jobs.plans ≤ 4096 → AllEnded s.plans.jobs s.endings.items
     → IsLegal (script_of s.script).arena (leases_of s.plans.jobs.plans) s.journal.items → IsWhole s.arena → s.arena.arena.cells ≡ (script_of s.script).arena → HoldsFiled (all_cells s.plans.jobs) s.journal.items s.arena
     → IsOf (script_of s.script) s
-handed s camelot programs planned few ended legal whole size cells =
+handed s programs planned few ended legal whole size cells =
     let script = script_of s.script in
     let ps = s.plans.jobs in
     record {
@@ -65,7 +63,6 @@ handed s camelot programs planned few ended legal whole size cells =
         few = few;
         ended = ended;
         comes = record {
-          camelot = camelot;
           are_programs = programs;
           are_fates = planned.are;
           meant = subst (AllByRecursion TellsMeaning) planned.lines (all_meant ps script.arena s.endings.items ended s.plans.plans.items 0 planned.count);
@@ -94,23 +91,13 @@ short_text input s short longer text few = longer (length input) s.items (omega 
 abbrev pub OneScript : Type 0
 OneScript = (s t : Script) → IsFormed s → IsFormed t → script_text s ≡ script_text t → s ≡ t
 
-handed_for : (input : List ℕ) (script : Script) (s : ServedScript) → OneScript → IsScriptText input script → IsOf script s → IsHandedFor input s
+-- what is handed out for a script that was read, for an input that is its text
+pub handed_for : (input : List ℕ) (script : Script) (s : ServedScript) → OneScript → IsScriptText input script → IsOf script s → IsHandedFor input s
 handed_for input script s one text h = record {
   text = subst (IsScriptText input) (sym h.same) text;
   only = λ t is. one t script is.right.formed text.right.formed (is.is ∙ sym text.is) ∙ sym h.same;
   handed = h.handed;
 }
-
-unserved : (input : List ℕ) (s : Script) (x : ServeFault) → IsScriptText input s → IsUnserved s x → IsRefused input x
-unserved input s (fault.NoScript y) text h = absurd h
-unserved input s fault.NotYet text h = record { script = s; text = text; grail = h }
-unserved input s fault.Memory text h = tt
-
--- what comes of a script that was read, for an input that is its text
-pub all_served : (input : List ℕ) (script : Script) → OneScript → IsScriptText input script → (r : Result ServedScript ServeFault) → MatchResult r (IsOf script) (IsUnserved script)
-    → MatchResult r (IsHandedFor input) (IsRefused input)
-all_served input script one text (Ok s) h = handed_for input script s one text h
-all_served input script one text (Err x) h = unserved input script x text h
 
 pub refused : (input : List ℕ) (x : ScriptFault) (y : ServeFault) → y ≡ serve_fault x → IsFault input x → IsRefused input y
 refused input x y e h = subst (IsRefused input) (sym e) (by_fault x h)

@@ -1,5 +1,4 @@
 pub mod Filing
 pub mod SameReports
 pub mod Handing
-pub mod Languages
 pub mod OneReport

@@ -7,7 +7,7 @@ use Rattle.job_script.specs.Words.{script_of}
 use Rattle.job_workers.specs.Ended.{AllEnded}
 use Rattle.script_plans.specs.Fates.{Fate}
 use Rattle.script_plans.specs.Lines.{ArePlanned}
-use Rattle.script_service.specs.Service.{Service, IsService, IsScriptFault, IsNotYet}
+use Rattle.script_service.specs.Service.{Service, IsService, IsScriptFault}
 use Rattle.script_service.specs.declared.service.ServeFault.{ServeFault}
 use Rattle.script_service.specs.declared.service.ServeFault.TheVariants as fault
 use Rattle.script_service.specs.declared.service.ServedScript.{ServedScript}
@@ -32,5 +32,4 @@ pub record IsHandedFor (input : List ℕ) (s : ServedScript) : Type 0 where
 -- why an input is refused; nothing is said of want of memory
 abbrev pub IsRefused : List ℕ → ServeFault → Type 0
 IsRefused input (fault.NoScript x) = IsScriptFault input x
-IsRefused input fault.NotYet = IsNotYet input
 IsRefused input fault.Memory = Unit {0}

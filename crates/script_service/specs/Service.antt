@@ -1,10 +1,10 @@
 -- Cited by contracts.
 -- What comes of an input, and what `serve` writes for it.
-use Rattle.std.specs.Prelude.{◌≡◌, ◌⊎◌, ℕ, ◌++◌, false, List, [], ◌∷◌, slice_get, codes, decimal}
+use Rattle.std.specs.Prelude.{◌≡◌, ℕ, ◌++◌, List, [], slice_get, codes, decimal}
 use Rattle.std.specs.List.{AllByRecursion}
 use Rattle.camelot_values.specs.Value.{Value}
 use Rattle.camelot_values.specs.Outcome.{Outcome, Done, Fuel, Deep, Stuck}
-use Rattle.job_script.specs.Scripts.{Entry, AProgram, AJob, Script}
+use Rattle.job_script.specs.Scripts.{Script}
 use Rattle.job_script.specs.Text.{IsScriptText}
 use Rattle.job_script.specs.Answers.{IsFault}
 use Rattle.job_script.specs.declared.reading.ScriptFault.{ScriptFault}
@@ -16,7 +16,7 @@ use Rattle.cell_span.specs.Range.{Range, IsWhole}
 use Rattle.run_reports.specs.declared.outcome.ProgramLine.{ProgramLine}
 use Rattle.run_reports.specs.Report.{JobLine, Ended, Told, report_text}
 use Rattle.script_plans.specs.Fates.{Fate}
-use Rattle.script_plans.specs.Lines.{AllCamelot, AreProgramLines, AreFates, lines_of, sizes_of, places_of, all_left}
+use Rattle.script_plans.specs.Lines.{AreProgramLines, AreFates, lines_of, sizes_of, places_of, all_left}
 
 -- ---- what comes of a script
 
@@ -28,7 +28,7 @@ pub record Service : Type 0 where
   pub journal : List Event
   pub arena : Range
 
--- a run that comes to something: no run of a typed program on fitting arguments is stuck
+-- a run that comes to something: no run of a typed program or of well-formed code on fitting arguments is stuck
 abbrev pub IsMeant : Outcome Value → Type 0
 IsMeant (Done v calls peak low) = Unit {0}
 IsMeant (Fuel calls peak) = Unit {0}
@@ -44,10 +44,10 @@ TellsMeaning line = Unit {0}
 abbrev pub cells_by : Service → FiledCells
 cells_by s = λ job. slice_get (all_left s.script.arena s.script.items s.fates) job
 
--- The script's programs are all Camelot. Each program has its own line, its licence or its cause, and each job its own fate. The journal is legal for the leases of the jobs that went to the
--- desk. The arena is whole at the end: each cell is the one that the machine left there for the last job whose lease went over it, and a blank one where none did.
+-- Each program has its own line: its unit, where it is compiled from its source or accepted from its bundle's bytes alone, or its cause. Each job has its own fate. The journal is legal for
+-- the leases of the jobs that went to the desk. The arena is whole at the end: each cell is the one that the machine left there for the last job whose lease went over it, and a blank one where
+-- none did.
 pub record IsService (s : Service) : Type 0 where
-  pub camelot : AllCamelot s.script.items
   pub are_programs : AreProgramLines s.script.items s.programs
   pub are_fates : AreFates s.script.items s.script.items s.fates
   pub meant : AllByRecursion TellsMeaning (lines_of s.script.arena s.script.items s.fates)
@@ -91,23 +91,7 @@ pub record IsReportIn (input output : List ℕ) (arena : Range) : Type 0 where
   pub is : output ≡ report_of service
   pub left : arena ≡ service.arena
 
--- it is a report
-abbrev pub report_in : {input output : List ℕ} {arena : Range} → IsReportIn input output arena → IsReport input output
-report_in r = record { service = r.service; served = r.served; is = r.is }
-
 -- ---- inputs that aren't served
-
--- one of these programs is Grail
-abbrev pub HasGrail : List Entry → Type 0
-HasGrail [] = ⊥
-HasGrail (AProgram p ∷ entries) = (p.camelot ≡ false) ⊎ HasGrail entries
-HasGrail (AJob j ∷ entries) = HasGrail entries
-
--- the input is a script that has a Grail program
-pub record IsNotYet (input : List ℕ) : Type 0 where
-  pub script : Script
-  pub text : IsScriptText input script
-  pub grail : HasGrail script.items
 
 -- what is told of the first wrong line of an input that is no script; nothing of want of memory
 unfoldable pub fault_text : ScriptFault → List ℕ
@@ -122,11 +106,7 @@ IsScriptFault input script_fault.Memory = ⊥
 IsScriptFault input fault = IsFault input fault
 
 -- the input is no script, and the output tells its first wrong line and what is wrong with it
-pub record IsFaulty (input output : List ℕ) : Type 0 where
+pub record IsRefusal (input output : List ℕ) : Type 0 where
   pub fault : ScriptFault
   pub cause : IsScriptFault input fault
   pub is : output ≡ fault_text fault
-
-pub data IsRefusal (input output : List ℕ) : Type 0 where
-  NoScript : IsFaulty input output → IsRefusal input output
-  NotYet : IsNotYet input → output ≡ codes "refused not-yet\n" → IsRefusal input output

@@ -2,7 +2,6 @@
 #![tactic(auto)]
 
 mod faults;
-mod grail;
 pub mod laws;
 mod lines;
 mod reporting;

@@ -3,12 +3,10 @@ ghost use Rattle.std.specs.List.{AllByRecursion};
 ghost use Rattle.job_script.specs.Scripts.{IsScript};
 ghost use Rattle.job_script.specs.Text.{EntryIsShort};
 ghost use Rattle.job_script.specs.Words.{script_of};
-ghost use Rattle.script_plans.specs.Lines.{AllCamelot};
 ghost use Rattle.script_service.specs.Service.{IsReportIn};
 ghost use Rattle.script_service.specs.Handed.{IsHandedFor, IsRefused};
-ghost use Rattle.script_service.specs.Steps.{IsOf, IsUnserved, serve_fault};
+ghost use Rattle.script_service.specs.Steps.{IsOf, serve_fault};
 
-use crate::grail::has_grail;
 use crate::reporting::{ReportedScript, report_served};
 use crate::running::run_jobs;
 use cell_machine::Ending;
@@ -44,9 +42,6 @@ pub enum ServeFault {
     /// It is no script: its first wrong line, and what is wrong with it.
     #[error("{0}")]
     NoScript(ScriptFault),
-    /// It has a Grail program.
-    #[error("grail programs aren't served yet")]
-    NotYet,
     /// Memory ran out.
     #[error("out of memory")]
     Memory,
@@ -62,16 +57,15 @@ fn serve_fault(fault: ScriptFault) -> ServeFault
     }
 }
 
-// Serves a script whose programs are all Camelot.
+// Serves a script that was read.
 #[tactic(auto, using(crate::proofs::Handing::some_cells, crate::proofs::Handing::few_cells))]
-fn serve_camelot<R: Threads + Wait + Sync, G: Gate + Sync>(
+fn serve_read<R: Threads + Wait + Sync, G: Gate + Sync>(
     rt: &R,
     alloc: Global,
     script: Script,
     gate: &G,
 ) -> Result<ServedScript, AllocError>
     requires script { IsScript (script_of script) }
-    requires camelot { AllCamelot (script_of script).items }
     requires short { AllByRecursion (EntryIsShort 4294967295) (script_of script).items }
     ensures { IfOk result (IsOf (script_of script)) }
 {
@@ -90,36 +84,15 @@ fn serve_camelot<R: Threads + Wait + Sync, G: Gate + Sync>(
     })
 }
 
-// Serves a script that was read, where its programs are all Camelot.
-#[tactic(auto, using(crate::proofs::Languages::has_grail, crate::proofs::Languages::all_camelot))]
-fn serve_read<R: Threads + Wait + Sync, G: Gate + Sync>(
-    rt: &R,
-    alloc: Global,
-    script: Script,
-    gate: &G,
-) -> Result<ServedScript, ServeFault>
-    requires script { IsScript (script_of script) }
-    requires short { AllByRecursion (EntryIsShort 4294967295) (script_of script).items }
-    ensures { MatchResult result (IsOf (script_of script)) (IsUnserved (script_of script)) }
-{
-    if has_grail(&script.items) {
-        return Err(ServeFault::NotYet);
-    }
-    match serve_camelot(rt, alloc, script, gate) {
-        Ok(served) => Ok(served),
-        Err(_) => Err(ServeFault::Memory),
-    }
-}
-
-/// Serves a script: its programs are compiled and verified, and its jobs run in one arena, by as many workers as it
-/// says, each of which passes the gate. Hands out the script, what was planned of it, the journal of the leases, the
-/// endings of the runs, and the arena as they left it. The input has fewer than 2^32 bytes; it is let go once the script
-/// is read. It may wait for the lock and the desk.
+/// Serves a script. Each of its programs is compiled from its source, or accepted from its bundle's bytes alone. Its jobs
+/// run in one arena, by as many workers as it says, each of which passes the gate. Hands out the script, what was planned
+/// of it, the journal of the leases, the endings of the runs, and the arena as they left it. The input has fewer than 2^32
+/// bytes; it is let go once the script is read. It may wait for the lock and the desk.
 ///
 /// # Errors
 ///
-/// [`ServeFault::NoScript`] exactly where the input is no script, with its first wrong line; [`ServeFault::NotYet`]
-/// exactly where it is one with a Grail program; [`ServeFault::Memory`] where memory runs out: the arena is ended then.
+/// [`ServeFault::NoScript`] exactly where the input is no script, with its first wrong line. [`ServeFault::Memory`] where
+/// memory runs out: the arena is ended then.
 pub fn run_script<R: Threads + Wait + Sync, G: Gate + Sync>(
     rt: &R,
     alloc: Global,
@@ -136,16 +109,19 @@ pub fn run_script<R: Threads + Wait + Sync, G: Gate + Sync>(
     match read_script(alloc, &input) {
         Ok(script) => {
             drop(input);
-            serve_read(rt, alloc, script, gate)
+            match serve_read(rt, alloc, script, gate) {
+                Ok(served) => Ok(served),
+                Err(_) => Err(ServeFault::Memory),
+            }
         }
         Err(fault) => Err(serve_fault(fault)),
     }
 }
 
-/// The report of a script: each of its programs with its unit or why it is refused, each of its jobs with what it comes
-/// to by the meaning of its own program, its peak and its bound, and the journal of the leases that they had in one
-/// arena; and that arena, as the jobs left it. The input has fewer than 2^32 bytes; it is let go once the script is read.
-/// It may wait for the lock and the desk.
+/// The report of a script: each of its programs, compiled from its source or accepted from its bundle's bytes alone, with
+/// its unit or why it is refused; each of its jobs with what it comes to by the meaning of its own program, its peak and
+/// its bound; and the journal of the leases that they had in one arena. With it comes that arena, as the jobs left it. The
+/// input has fewer than 2^32 bytes; it is let go once the script is read. It may wait for the lock and the desk.
 ///
 /// # Errors
 ///

@@ -2,4 +2,4 @@ use Rattle.camelot_host.proofs.Verdicts.{one_verdict}
 use Rattle.camelot_host.proofs.laws.one_verdict.Goals as goal
 
 pub returns : goal.returns
-returns c = one_verdict c.law_of_scripts.ensures.right_line c.law_of_scripts.ensures.right_count c.law_of_scripts.ensures.right_repeat c.law_of_compiling.ensures.one
+returns c = one_verdict c.law_of_scripts.ensures.right_line c.law_of_scripts.ensures.right_count c.law_of_scripts.ensures.right_repeat c.law_of_compiling.ensures.one c.law_of_licences.ensures.apart
