@@ -9,3 +9,6 @@ pub mod Body
 pub mod Answering
 pub mod Placing
 pub mod Judging
+pub mod Joining
+pub mod Counted
+pub mod MadeRight

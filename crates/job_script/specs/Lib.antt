@@ -3,6 +3,7 @@ pub mod Scripts
 pub mod Text
 pub mod Answers
 pub mod Words
+pub mod Made
 pub mod Reading
 pub mod Heads
 pub mod Steps

@@ -6,11 +6,15 @@ mod cutting;
 mod entries;
 mod heads;
 pub mod laws;
+mod making;
 mod names;
 mod numbers;
 mod reading;
 mod stop;
 mod types;
+mod writing;
 
+pub use making::make_script;
 pub use reading::{ScriptFault, read_script};
 pub use types::{Entry, Script};
+pub use writing::write_script;

@@ -1,0 +1,168 @@
+//! The script of the drill.
+ghost use Rattle.std.specs.Prelude.{◌≡◌, ◌≤◌, ◌++◌, codes, map, replicate, IfOk, OnOk};
+ghost use Rattle.std.specs.List.{AllByRecursion};
+ghost use Rattle.certificate.specs.Numbers.{number};
+ghost use Rattle.job_script.specs.Made.{heads, list_text, made_fuel, made_items, made_job, made_jobs, made_name, made_program, made_script};
+ghost use Rattle.job_script.specs.Scripts.{AJob, AProgram, IsScript, IsUpTo};
+ghost use Rattle.job_script.specs.Text.{EntryIsShort};
+ghost use Rattle.job_script.specs.Words.{entry_of, script_of};
+
+use crate::types::{Entry, Script};
+use crate::writing::push_number;
+use camelot_values::Word;
+use std::alloc::{AllocError, Global};
+
+// Lists, and the function that doubles one.
+const SOURCE: &[u8] = b"type ilist = !Nil | Cons of int * ilist\nlet dup l = match l with Nil -> Nil | Cons(h, t)@_ -> let r = dup t in Cons(h, Cons(h, r)) end\n";
+
+// Writes the front of an item.
+#[tactic(auto, using(crate::proofs::Counted::head_written))]
+fn push_head(out: &mut Vec<u8>, item: u32) -> Result<(), AllocError>
+    ensures { OnOk result (out.new.items ≡ out.old.items ++ (codes "Cons(" ++ (number item ++ codes ","))) }
+{
+    out.extend_from_slice(b"Cons(")?;
+    push_number(out, item as u64)?;
+    out.extend_from_slice(b",")
+}
+
+// Writes the fronts of so many items, from 1 on.
+#[tactic(auto, using(crate::proofs::Counted::all_heads))]
+fn push_heads(out: &mut Vec<u8>, count: u32) -> Result<(), AllocError>
+    requires few { count ≤ 999 }
+    ensures { OnOk result (out.new.items ≡ out.old.items ++ heads count 1) }
+{
+    let mut left = count;
+    let mut item = 1;
+    'items: while left > 0 {
+        push_head(out, item)?;
+        left -= 1;
+        item += 1;
+    }
+    Ok(())
+}
+
+// Closes so many items.
+#[tactic(auto, using(crate::proofs::Counted::next_end, crate::proofs::Counted::all_ends))]
+fn push_ends(out: &mut Vec<u8>, count: u32) -> Result<(), AllocError>
+    ensures { OnOk result (out.new.items ≡ out.old.items ++ replicate count 41) }
+{
+    let mut left = count;
+    'ends: while left > 0 {
+        out.push(b')')?;
+        left -= 1;
+    }
+    Ok(())
+}
+
+// The text of the list of the ints from 1 on, so many.
+#[tactic(auto, using(crate::proofs::Counted::list_written))]
+fn list_text(alloc: Global, count: u32) -> Result<Vec<u8>, AllocError>
+    requires few { count ≤ 999 }
+    ensures { IfOk result (λ text. text.items ≡ list_text count) }
+{
+    let mut out = Vec::new(alloc);
+    push_heads(&mut out, count)?;
+    out.extend_from_slice(b"Nil")?;
+    push_ends(&mut out, count)?;
+    Ok(out)
+}
+
+// A name.
+fn word(alloc: Global, name: &[u8]) -> Result<Word, AllocError>
+    ensures { IfOk result (λ word. word ≡ name.now) }
+{
+    Ok(Word::new(Vec::from_slice(alloc, name)?))
+}
+
+// The name of a job.
+#[tactic(auto, using(crate::proofs::Counted::name_written))]
+fn job_name(alloc: Global, number: u32) -> Result<Word, AllocError>
+    ensures { IfOk result (λ word. word ≡ made_name number) }
+{
+    let mut name = Vec::from_slice(alloc, b"j")?;
+    push_number(&mut name, number as u64)?;
+    Ok(Word::new(name))
+}
+
+// The fuel of a job.
+fn job_fuel(number: u32) -> u64
+    ensures { result ≡ made_fuel number }
+{
+    if number % 100 == 0 {
+        5
+    } else {
+        2000
+    }
+}
+
+// The job of a number.
+fn make_job(alloc: Global, number: u32) -> Result<Entry, AllocError>
+    requires few { number ≤ 4096 }
+    ensures { IfOk result (λ entry. entry_of entry ≡ AJob (made_job number)) }
+{
+    let name = job_name(alloc, number)?;
+    let program = word(alloc, b"drill")?;
+    let entry = word(alloc, b"dup")?;
+    let args = list_text(alloc, 37 * number % 1000)?;
+    Ok(Entry::Job {
+        name,
+        program,
+        entry,
+        fuel: job_fuel(number),
+        args,
+    })
+}
+
+// The program.
+#[tactic(auto, unfolding(crate::specs::Made::made_source))]
+fn make_program(alloc: Global) -> Result<Entry, AllocError>
+    ensures { IfOk result (λ entry. entry_of entry ≡ AProgram made_program) }
+{
+    let name = word(alloc, b"drill")?;
+    let text = Vec::from_slice(alloc, SOURCE)?;
+    Ok(Entry::Program {
+        name,
+        camelot: true,
+        text,
+    })
+}
+
+// Adds so many jobs, from the first one on.
+#[tactic(auto, using(crate::proofs::Counted::next_job, crate::proofs::Counted::all_jobs))]
+fn push_jobs(alloc: Global, items: &mut Vec<Entry>, count: u32) -> Result<(), AllocError>
+    requires few { count ≤ 4096 }
+    ensures { OnOk result (map entry_of items.new.items ≡ map entry_of items.old.items ++ made_jobs count 1) }
+{
+    let mut left = count;
+    let mut number = 1;
+    'jobs: while left > 0 {
+        let job = make_job(alloc, number)?;
+        items.push(job)?;
+        left -= 1;
+        number += 1;
+    }
+    Ok(())
+}
+
+/// The script of the drill: an arena of 4,096 cells, so many workers, from 1 to 16, one program, and so many jobs, from 1 to 4,096. Job `i` doubles the list of
+/// the ints from 1 to the remainder of 37 times `i` by 1,000; each hundredth has too little fuel. `AllocError` where memory runs out.
+#[tactic(auto, using(crate::proofs::Counted::script_made, crate::proofs::MadeRight::short))]
+pub fn make_script(alloc: Global, jobs: u32, workers: u32) -> Result<Script, AllocError>
+    requires jobs { IsUpTo 4096 jobs }
+    requires workers { IsUpTo 16 workers }
+    // It is the drill's script.
+    ensures made { IfOk result (λ script. script_of script ≡ made_script jobs workers) }
+    // It is a script, within all limits and with each name once.
+    ensures right { IfOk result (λ script. IsScript (script_of script)) }
+    // Its texts are short.
+    ensures short { IfOk result (λ script. AllByRecursion (EntryIsShort 4294967295) (script_of script).items) }
+{
+    let mut items = Vec::with_capacity(alloc, 1 + jobs as usize)?;
+    items.push(make_program(alloc)?)?;
+    push_jobs(alloc, &mut items, jobs)?;
+    Ok(Script {
+        arena: 4096,
+        workers,
+        items,
+    })
+}
