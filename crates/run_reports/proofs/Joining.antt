@@ -9,3 +9,6 @@ three o p q r a b c e f g = two o q r (a ++ b) c (two o p q a b e f) g
 
 pub four : (o p q r s a b c d : List ℕ) → p ≡ o ++ a → q ≡ p ++ b → r ≡ q ++ c → s ≡ r ++ d → s ≡ o ++ (a ++ b ++ c ++ d)
 four o p q r s a b c d e f g h = two o r s (a ++ b ++ c) d (three o p q r a b c e f g) h
+
+pub five : (o p q r s t a b c d x : List ℕ) → p ≡ o ++ a → q ≡ p ++ b → r ≡ q ++ c → s ≡ r ++ d → t ≡ s ++ x → t ≡ o ++ (a ++ b ++ c ++ d ++ x)
+five o p q r s t a b c d x e f g h k = two o s t (a ++ b ++ c ++ d) x (four o p q r s a b c d e f g h) k

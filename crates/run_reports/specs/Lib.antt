@@ -1,3 +1,5 @@
 -- Reports.
 pub mod Report
 pub mod Told
+pub mod Summary
+pub mod Summing

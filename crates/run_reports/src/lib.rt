@@ -5,6 +5,8 @@ mod lines;
 mod outcome;
 mod pieces;
 mod reporting;
+mod summing;
 
 pub use outcome::{JobCause, JobLine, Outcome, ProgramLine};
 pub use reporting::report;
+pub use summing::summary;

@@ -20,3 +20,10 @@ pub(crate) fn push_number(out: &mut Vec<u8>, label: &[u8], number: u64) -> Resul
 {
     push_text(out, label, Buffer::new().format(number).as_bytes())
 }
+
+// Writes a label and a sum in decimal at the end.
+pub(crate) fn push_wide(out: &mut Vec<u8>, label: &[u8], number: u128) -> Result<(), AllocError>
+    ensures { OnOk result (out.new.items ≡ out.old.items ++ (label.now ++ decimal number)) }
+{
+    push_text(out, label, Buffer::new().format(number).as_bytes())
+}

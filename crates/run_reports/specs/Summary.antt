@@ -1,0 +1,55 @@
+-- Cited by contracts.
+-- The summary of a script in one line: how many of its jobs ended how, and the sums of their calls and peaks.
+use Rattle.std.specs.Prelude.{ℕ, ◌+◌, List, [], ◌∷◌, ◌++◌, length, codes, decimal}
+use Rattle.camelot_values.specs.Value.{Value}
+use Rattle.camelot_values.specs.Outcome.{Outcome, Done, Fuel, Deep, Stuck}
+use Rattle.run_reports.specs.declared.summing.Tally.{Tally}
+use Rattle.run_reports.specs.Report.{JobLine, Ended, TooLarge, Refused, Told}
+
+-- nothing was counted
+abbrev pub none : Tally
+none = record { done = 0; fuel = 0; deep = 0; too_large = 0; refused = 0; calls = 0; peaks = 0 }
+
+-- What a run counts for: the calls of one that came to a value, and each run's peak. Well-formed code is never stuck.
+abbrev pub tally_of_run : Outcome Value → Tally
+tally_of_run (Done v calls peak low) = record { done = 1; fuel = 0; deep = 0; too_large = 0; refused = 0; calls = calls; peaks = peak }
+tally_of_run (Fuel calls peak) = record { done = 0; fuel = 1; deep = 0; too_large = 0; refused = 0; calls = 0; peaks = peak }
+tally_of_run (Deep peak) = record { done = 0; fuel = 0; deep = 1; too_large = 0; refused = 0; calls = 0; peaks = peak }
+tally_of_run Stuck = none
+
+-- what the line of a job counts for
+abbrev pub tally_of : JobLine → Tally
+tally_of (Ended types outcome fuel bound) = tally_of_run outcome
+tally_of (TooLarge needs arena) = record { done = 0; fuel = 0; deep = 0; too_large = 1; refused = 0; calls = 0; peaks = 0 }
+tally_of (Refused cause) = record { done = 0; fuel = 0; deep = 0; too_large = 0; refused = 1; calls = 0; peaks = 0 }
+
+abbrev pub added : Tally → Tally → Tally
+added t u = record {
+  done = t.done + u.done;
+  fuel = t.fuel + u.fuel;
+  deep = t.deep + u.deep;
+  too_large = t.too_large + u.too_large;
+  refused = t.refused + u.refused;
+  calls = t.calls + u.calls;
+  peaks = t.peaks + u.peaks;
+}
+
+-- all lines together
+abbrev pub total : List JobLine → Tally
+total [] = none
+total (line ∷ lines) = added (tally_of line) (total lines)
+
+-- ---- the line
+
+abbrev pub counts_text : Tally → List ℕ
+counts_text t = (codes " done " ++ decimal t.done) ++ (codes " fuel " ++ decimal t.fuel) ++ (codes " deep " ++ decimal t.deep) ++ (codes " too-large " ++ decimal t.too_large)
+
+abbrev pub sums_text : Tally → List ℕ
+sums_text t = (codes " refused " ++ decimal t.refused) ++ (codes " calls " ++ decimal t.calls) ++ (codes " peaks " ++ decimal t.peaks)
+
+-- so many jobs, what was counted of them, and the free cells at the end
+abbrev pub tally_text : (jobs : ℕ) → Tally → (free : ℕ) → List ℕ
+tally_text jobs t free = (codes "drill " ++ decimal jobs) ++ counts_text t ++ sums_text t ++ (codes " free " ++ decimal free) ++ codes "\n"
+
+unfoldable pub summary_text : Told → List ℕ
+summary_text told = tally_text (length told.jobs) (total told.jobs) told.free

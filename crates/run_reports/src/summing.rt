@@ -1,0 +1,154 @@
+//! The summary of a script in one line.
+ghost use Rattle.std.specs.Prelude.{◌≡◌, ◌++◌, ◌^◌, List, map, IfOk, OnOk};
+ghost use Rattle.licence.specs.Licensed.{Licensed};
+ghost use Rattle.run_reports.specs.Summary.{added, counts_text, sums_text, summary_text, tally_of, tally_of_run, tally_text, total};
+ghost use Rattle.run_reports.specs.Summing.{IsUnder};
+ghost use Rattle.run_reports.specs.Told.{line_of, outcome_of, told_of};
+
+use super::outcome::{JobLine, Outcome};
+use super::pieces::push_wide;
+use cell_machine::Ending;
+use std::alloc::{AllocError, Global};
+
+/// How many jobs ended how, and the sums of their calls and peaks.
+#[derive(Clone, Copy, Debug, PartialEq, Eq)]
+pub(crate) struct Tally {
+    pub(crate) done: u128,
+    pub(crate) fuel: u128,
+    pub(crate) deep: u128,
+    pub(crate) too_large: u128,
+    pub(crate) refused: u128,
+    pub(crate) calls: u128,
+    pub(crate) peaks: u128,
+}
+
+/// Nothing was counted.
+const NONE: Tally = Tally {
+    done: 0,
+    fuel: 0,
+    deep: 0,
+    too_large: 0,
+    refused: 0,
+    calls: 0,
+    peaks: 0,
+};
+
+// What a run counts for.
+fn tally_run(ending: &Ending) -> Tally
+    ensures tally { result ≡ tally_of_run (outcome_of ending.now) }
+    ensures small { IsUnder (2 ^ 64) result }
+{
+    match ending {
+        Ending::Done { calls, peak, .. } => Tally {
+            done: 1,
+            calls: u128::from(*calls),
+            peaks: u128::from(*peak),
+            ..NONE
+        },
+        Ending::Fuel { peak } => Tally {
+            fuel: 1,
+            peaks: u128::from(*peak),
+            ..NONE
+        },
+        Ending::Deep { peak } => Tally {
+            deep: 1,
+            peaks: u128::from(*peak),
+            ..NONE
+        },
+    }
+}
+
+// What a job's line counts for, whatever its licence is.
+fn tally_line(line: &JobLine) -> Tally
+    ensures tally { (licences : List Licensed) → result ≡ tally_of (line_of licences line.now) }
+    ensures small { IsUnder (2 ^ 64) result }
+{
+    match line {
+        JobLine::Ended { ending, .. } => tally_run(ending),
+        JobLine::TooLarge { .. } => Tally {
+            too_large: 1,
+            ..NONE
+        },
+        JobLine::Refused { .. } => Tally { refused: 1, ..NONE },
+    }
+}
+
+// Both together.
+fn add(one: Tally, more: Tally) -> Tally
+    requires one { IsUnder (2 ^ 127) one }
+    requires more { IsUnder (2 ^ 64) more }
+    ensures { result ≡ added one more }
+{
+    Tally {
+        done: one.done + more.done,
+        fuel: one.fuel + more.fuel,
+        deep: one.deep + more.deep,
+        too_large: one.too_large + more.too_large,
+        refused: one.refused + more.refused,
+        calls: one.calls + more.calls,
+        peaks: one.peaks + more.peaks,
+    }
+}
+
+// All lines together.
+#[tactic(auto, using(crate::proofs::Tallying::counted_none, crate::proofs::Tallying::one_behind, crate::proofs::Tallying::none_behind, crate::proofs::Tallying::still_small))]
+fn total(lines: &[JobLine]) -> Tally
+    ensures { (licences : List Licensed) → result ≡ total (map (line_of licences) lines.now) }
+{
+    let mut all = NONE;
+    'lines: for line in lines {
+        all = add(all, tally_line(line));
+    }
+    all
+}
+
+// Writes how many jobs ended in which way.
+#[tactic(auto, using(crate::proofs::Joining::four))]
+fn push_counts(out: &mut Vec<u8>, tally: &Tally) -> Result<(), AllocError>
+    ensures { OnOk result (out.new.items ≡ out.old.items ++ counts_text tally.now) }
+{
+    push_wide(out, b" done ", tally.done)?;
+    push_wide(out, b" fuel ", tally.fuel)?;
+    push_wide(out, b" deep ", tally.deep)?;
+    push_wide(out, b" too-large ", tally.too_large)
+}
+
+// Writes how many didn't run, and the sums.
+#[tactic(auto, using(crate::proofs::Joining::three))]
+fn push_sums(out: &mut Vec<u8>, tally: &Tally) -> Result<(), AllocError>
+    ensures { OnOk result (out.new.items ≡ out.old.items ++ sums_text tally.now) }
+{
+    push_wide(out, b" refused ", tally.refused)?;
+    push_wide(out, b" calls ", tally.calls)?;
+    push_wide(out, b" peaks ", tally.peaks)
+}
+
+// Writes the line.
+#[tactic(auto, using(crate::proofs::Joining::five))]
+fn push_tally(
+    out: &mut Vec<u8>,
+    jobs: usize,
+    tally: &Tally,
+    free: u64,
+) -> Result<(), AllocError>
+    ensures { OnOk result (out.new.items ≡ out.old.items ++ tally_text jobs tally.now free) }
+{
+    push_wide(out, b"drill ", jobs as u128)?;
+    push_counts(out, tally)?;
+    push_sums(out, tally)?;
+    push_wide(out, b" free ", u128::from(free))?;
+    out.extend_from_slice(b"\n")
+}
+
+/// The summary of what came of a script, in one line: how many jobs it has, how many of them came to a value, stopped on fuel, went too deep, needed more
+/// cells than the arena has, and were refused; the sum of the calls of those that came to a value; the sum of the peaks of all that ran; and the free cells
+/// at the end. `AllocError` where memory runs out.
+pub fn summary(alloc: Global, outcome: &Outcome) -> Result<Vec<u8>, AllocError>
+    // Whichever licences the lines are told with.
+    ensures { (licences : List Licensed) → IfOk result (λ text. text.items ≡ summary_text (told_of licences outcome.now)) }
+{
+    let tally = total(&outcome.jobs);
+    let mut out = Vec::new(alloc);
+    push_tally(&mut out, outcome.jobs.len(), &tally, outcome.free)?;
+    Ok(out)
+}
