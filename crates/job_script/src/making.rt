@@ -13,7 +13,8 @@ use camelot_values::Word;
 use std::alloc::{AllocError, Global};
 
 // Lists, and the function that doubles one.
-const SOURCE: &[u8] = b"type ilist = !Nil | Cons of int * ilist\nlet dup l = match l with Nil -> Nil | Cons(h, t)@_ -> let r = dup t in Cons(h, Cons(h, r)) end\n";
+const SOURCE: &[u8] =
+    b"type ilist = !Nil | Cons of int * ilist\nlet dup l = match l with Nil -> Nil | Cons(h, t)@_ -> let r = dup t in Cons(h, Cons(h, r)) end\n";
 
 // Writes the front of an item.
 #[tactic(auto, using(crate::proofs::Counted::head_written))]
@@ -88,11 +89,7 @@ fn job_name(alloc: Global, number: u32) -> Result<Word, AllocError>
 fn job_fuel(number: u32) -> u64
     ensures { result ≡ made_fuel number }
 {
-    if number % 100 == 0 {
-        5
-    } else {
-        2000
-    }
+    if number % 100 == 0 { 5 } else { 2000 }
 }
 
 // The job of a number.

@@ -50,11 +50,7 @@ fn push_sized(out: &mut Vec<u8>, word: &[u8], value: u64) -> Result<(), AllocErr
 fn language(camelot: bool) -> &'static [u8]
     ensures { result.now ≡ language camelot }
 {
-    if camelot {
-        b"camelot"
-    } else {
-        b"grail"
-    }
+    if camelot { b"camelot" } else { b"grail" }
 }
 
 // Writes a program: its line, its text, and the line that ends it.

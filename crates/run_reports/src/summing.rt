@@ -125,12 +125,7 @@ fn push_sums(out: &mut Vec<u8>, tally: &Tally) -> Result<(), AllocError>
 
 // Writes the line.
 #[tactic(auto, using(crate::proofs::Joining::five))]
-fn push_tally(
-    out: &mut Vec<u8>,
-    jobs: usize,
-    tally: &Tally,
-    free: u64,
-) -> Result<(), AllocError>
+fn push_tally(out: &mut Vec<u8>, jobs: usize, tally: &Tally, free: u64) -> Result<(), AllocError>
     ensures { OnOk result (out.new.items ≡ out.old.items ++ tally_text jobs tally.now free) }
 {
     push_wide(out, b"drill ", jobs as u128)?;
