@@ -9,4 +9,4 @@ mod summing;
 
 pub use outcome::{JobCause, JobLine, Outcome, ProgramLine};
 pub use reporting::report;
-pub use summing::summary;
+pub use summing::{Tally, summary};

@@ -10,16 +10,23 @@ use super::pieces::push_wide;
 use cell_machine::Ending;
 use std::alloc::{AllocError, Global};
 
-/// How many jobs ended how, and the sums of their calls and peaks.
+/// What jobs count for in a summary.
 #[derive(Clone, Copy, Debug, PartialEq, Eq)]
-pub(crate) struct Tally {
-    pub(crate) done: u128,
-    pub(crate) fuel: u128,
-    pub(crate) deep: u128,
-    pub(crate) too_large: u128,
-    pub(crate) refused: u128,
-    pub(crate) calls: u128,
-    pub(crate) peaks: u128,
+pub struct Tally {
+    /// How many came to a value.
+    pub done: u128,
+    /// How many stopped on fuel.
+    pub fuel: u128,
+    /// How many went too deep.
+    pub deep: u128,
+    /// How many need more cells than the arena has.
+    pub too_large: u128,
+    /// How many didn't run for another cause.
+    pub refused: u128,
+    /// The sum of the calls of those that came to a value.
+    pub calls: u128,
+    /// The sum of the peaks of those that ran.
+    pub peaks: u128,
 }
 
 /// Nothing was counted.
