@@ -7,9 +7,9 @@ use Rattle.std.specs.Io.KnownBytes.{Consumes, IsAtEnd}
 use Rattle.host_io.specs.Counts.{last_count, Rose}
 use Rattle.host_io.specs.Source.{Took, TookExactly}
 use Rattle.camelot_host.specs.Commands.{Command, IsCommand, IsInputBy, IsInput, reads}
-use Rattle.camelot_host.specs.CommandLaws.{one_command, all_read}
+use Rattle.camelot_host.specs.CommandLaws.{one_command}
 use Rattle.camelot_host.specs.Due.{Verdict, Done, Refused, IsDue}
-use Rattle.camelot_host.specs.Answers.{input_limit, Devices, ReadWhole, HasRead, devices, Answers, Quiet, SourceFaults, SinkFaults, Completes}
+use Rattle.camelot_host.specs.Answers.{input_limit, Devices, ReadWhole, ReadNothing, HasRead, devices, Answers, Quiet, SourceFaults, SinkFaults, Completes}
 use Rattle.camelot_host.specs.Replies.{Writes, Responds}
 use Rattle.camelot_host.specs.declared.status.Status.{Status}
 use Rattle.camelot_host.specs.declared.status.Status.TheVariants as status
@@ -45,30 +45,38 @@ written_quiet status.ReadFault v output t t' old new w = absurd w
 written_quiet status.Usage v output t t' old new w = absurd w
 written_quiet status.TooLong v output t t' old new w = absurd w
 
--- what was read whole is the input of any command, since each reads
-pub has_read : (command : Command) (before after : Devices) (input : List ℕ) → ReadWhole before after input → HasRead (reads command) before after input
-has_read command before after input h = subst (λ b. HasRead b before after input) (sym (all_read command)) h
+-- what was read whole is the input of a command that reads
+pub has_read : (command : Command) (before after : Devices) (input : List ℕ) → reads command ≡ true → ReadWhole before after input → HasRead (reads command) before after input
+has_read command before after input e h = subst (λ b. HasRead b before after input) (sym e) h
+
+-- and nothing is that of one that doesn't
+pub has_not_read : (command : Command) (before after : Devices) (input : List ℕ) → reads command ≡ false → ReadNothing before after input → HasRead (reads command) before after input
+has_not_read command before after input e h = subst (λ b. HasRead b before after input) (sym e) h
+
+-- the same words spell a command of the same sort
+also : (words : List (List ℕ)) (own command : Command) (b : Bool) → IsCommand words own → reads own ≡ b → IsCommand words command → reads command ≡ b
+also words own command b spelled e again = subst (λ (c : Command). reads c ≡ b) (one_command words own command spelled again) e
 
 -- where the source tells its input, that is the command's
-pub told_input : (command : Command) (left : Option (List ℕ)) (input : List ℕ) → IsInput command left input → left ≡ Some input
-told_input command left input h = subst (λ b. IsInputBy b left input) (all_read command) h
+told_input : (command : Command) (left : Option (List ℕ)) (input : List ℕ) → reads command ≡ true → IsInput command left input → left ≡ Some input
+told_input command left input e h = subst (λ b. IsInputBy b left input) e h
 
-never_unread : {A : Type 0} (command : Command) → reads command ≡ false → A
-never_unread command h = let e : true ≡ false = sym (all_read command) ∙ h in absurd cc
+no_input : (command : Command) (left : Option (List ℕ)) (input : List ℕ) → reads command ≡ false → IsInput command left input → input ≡ []
+no_input command left input e h = subst (λ b. IsInputBy b left input) e h
 
--- a source of which a command took nothing is as it was
-pub unread : {S : Type 0} (command : Command) (old new : S) → reads command ≡ false → new ≡ old
-unread command old new h = never_unread command h
+-- a source of which a command took nothing is as it was: this one reads
+pub unread : {S : Type 0} (words : List (List ℕ)) (own command : Command) (old new : S) → IsCommand words own → reads own ≡ true → IsCommand words command → reads command ≡ false → new ≡ old
+unread words own command old new spelled e again h = let q : true ≡ false = sym (also words own command true spelled e again) ∙ h in absurd cc
 
-pub answers_of : (s : Status) (words : List (List ℕ)) (command : Command) (input : List ℕ) (l l' t t' : Option (List ℕ)) (n n' : ℕ) → IsCommand words command → Responds s command input t t'
+pub answers_of : (s : Status) (words : List (List ℕ)) (command : Command) (input : List ℕ) (l l' t t' : Option (List ℕ)) (n n' : ℕ) → IsCommand words command → reads command ≡ true → Responds s command input t t'
     → Took l l' n n' input → IsAtEnd l' → length input ≤ input_limit → Answers s words (devices l n t) (devices l' n' t')
-answers_of status.Ok words command input l l' t t' n n' c r k e h = record { command = command; spelled = c; input = input; read = has_read command (devices l n t) (devices l' n' t') input (record { took = k; at_end = e; within = h }); told = r }
-answers_of status.Refused words command input l l' t t' n n' c r k e h = record { command = command; spelled = c; input = input; read = has_read command (devices l n t) (devices l' n' t') input (record { took = k; at_end = e; within = h }); told = r }
-answers_of status.WriteFault words command input l l' t t' n n' c r k e h = record { command = command; spelled = c; input = input; read = has_read command (devices l n t) (devices l' n' t') input (record { took = k; at_end = e; within = h }); told = r }
-answers_of status.Memory words command input l l' t t' n n' c r k e h = record { gone = record { bytes = input; within = h; took = k }; silent = r }
-answers_of status.ReadFault words command input l l' t t' n n' c r k e h = absurd r
-answers_of status.Usage words command input l l' t t' n n' c r k e h = absurd r
-answers_of status.TooLong words command input l l' t t' n n' c r k e h = absurd r
+answers_of status.Ok words command input l l' t t' n n' c q r k e h = record { command = command; spelled = c; input = input; read = has_read command (devices l n t) (devices l' n' t') input q (record { took = k; at_end = e; within = h }); told = r }
+answers_of status.Refused words command input l l' t t' n n' c q r k e h = record { command = command; spelled = c; input = input; read = has_read command (devices l n t) (devices l' n' t') input q (record { took = k; at_end = e; within = h }); told = r }
+answers_of status.WriteFault words command input l l' t t' n n' c q r k e h = record { command = command; spelled = c; input = input; read = has_read command (devices l n t) (devices l' n' t') input q (record { took = k; at_end = e; within = h }); told = r }
+answers_of status.Memory words command input l l' t t' n n' c q r k e h = record { gone = record { bytes = input; within = h; took = k }; silent = r }
+answers_of status.ReadFault words command input l l' t t' n n' c q r k e h = absurd r
+answers_of status.Usage words command input l l' t t' n n' c q r k e h = absurd r
+answers_of status.TooLong words command input l l' t t' n n' c q r k e h = absurd r
 
 -- a count that has room doesn't rise and stay
 pub no_rise : (f f' : ℕ) → Rose f f' → f < last_count → f' ≡ f → ⊥
@@ -87,25 +95,27 @@ same_input None l' input bytes e c h = absurd cc
 same_input (Some xs) None input bytes e c h = absurd c
 same_input (Some xs) (Some ys) input bytes e c h = sym (append-nil bytes) ∙ ap (λ r. bytes ++ r) (sym h) ∙ sym c ∙ some_is xs input e
 
+-- where no sink failed, what was told for a command is whole
+told_whole : (s : Status) (command : Command) (input : List ℕ) (t t' : Option (List ℕ)) (g g' : ℕ) → Responds s command input t t' → SinkFaults s g g' → g < last_count → g' ≡ g → Completes s command input t t'
+told_whole status.Ok command input t t' g g' r f room same = r
+told_whole status.Refused command input t t' g g' r f room same = r
+told_whole status.WriteFault command input t t' g g' r f room same = absurd (no_rise g g' f room same)
+told_whole status.Memory command input t t' g g' r f room same = r
+told_whole status.ReadFault command input t t' g g' r f room same = absurd r
+told_whole status.Usage command input t t' g g' r f room same = absurd r
+told_whole status.TooLong command input t t' g g' r f room same = absurd r
+
 -- what was told for the command that the words spell, and the bytes that were read
-pub completes : (s : Status) (words : List (List ℕ)) (command own : Command) (input bytes : List ℕ) (l l' t t' : Option (List ℕ)) (n n' g g' : ℕ) → IsCommand words own → Responds s own bytes t t'
+pub completes : (s : Status) (words : List (List ℕ)) (command own : Command) (input bytes : List ℕ) (l l' t t' : Option (List ℕ)) (n n' g g' : ℕ) → IsCommand words own → reads own ≡ true → Responds s own bytes t t'
     → Took l l' n n' bytes → IsAtEnd l' → SinkFaults s g g' → IsCommand words command → IsInput command l input → g < last_count → g' ≡ g → Completes s command input t t'
-completes s words command own input bytes l l' t t' n n' g g' spelled r k e f again h room same =
-    let r' = subst (λ b. Responds s own b t t') (same_input l l' input bytes (told_input command l input h) k.gone e) r in
-    told s (subst (λ d. Responds s d input t t') (one_command words own command spelled again) r') f
-  where
-    told : (s : Status) → Responds s command input t t' → SinkFaults s g g' → Completes s command input t t'
-    told status.Ok r f = r
-    told status.Refused r f = r
-    told status.WriteFault r f = absurd (no_rise g g' f room same)
-    told status.Memory r f = r
-    told status.ReadFault r f = absurd r
-    told status.Usage r f = absurd r
-    told status.TooLong r f = absurd r
+completes s words command own input bytes l l' t t' n n' g g' spelled q r k e f again h room same =
+    let r' = subst (λ b. Responds s own b t t') (same_input l l' input bytes (told_input command l input (also words own command true spelled q again) h) k.gone e) r in
+    told_whole s command input t t' g g' (subst (λ d. Responds s d input t t') (one_command words own command spelled again) r') f room same
 
 -- more than the whole input can't be taken
-pub no_more : (command : Command) (input : List ℕ) (l l' : Option (List ℕ)) (n n' limit : ℕ) → TookExactly (limit + 1) l l' n n' → IsInput command l input → length input ≤ limit → ⊥
-no_more command input l l' n n' limit k h within = too_many input k.bytes l l' limit k.number k.took.gone (told_input command l input h) within
+pub no_more : (words : List (List ℕ)) (own command : Command) (input : List ℕ) (l l' : Option (List ℕ)) (n n' limit : ℕ) → IsCommand words own → reads own ≡ true → TookExactly (limit + 1) l l' n n' → IsCommand words command → IsInput command l input → length input ≤ limit → ⊥
+no_more words own command input l l' n n' limit spelled q k again h within =
+    too_many input k.bytes l l' limit k.number k.took.gone (told_input command l input (also words own command true spelled q again) h) within
 
 pub no_usage : (s : Status) (command : Command) (input : List ℕ) (t t' : Option (List ℕ)) → Responds s command input t t' → s ≡ status.Usage → ⊥
 no_usage s command input t t' r e = subst (λ x. Responds x command input t t') e r
@@ -142,3 +152,28 @@ one_word f ws x text v b h k e t q =
       λ yes. all ∙ ap (λ w. w ∷ []) (sym t ∙ same_bytes text v (sym q ∙ yes)),
       λ is. q ∙ ap (λ w. bytes_eq w v) (t ∙ first_is (f x) v (sym all ∙ is)) ∙ bytes_same v,
     )
+
+-- ---- a command that reads nothing
+
+none_taken : (l : Option (List ℕ)) → Consumes l l []
+none_taken None = tt
+none_taken (Some xs) = refl
+
+pub answers_unread : (s : Status) (words : List (List ℕ)) (command : Command) (l t t' : Option (List ℕ)) (n : ℕ) → IsCommand words command → reads command ≡ false → Responds s command [] t t' → Answers s words (devices l n t) (devices l n t')
+answers_unread status.Ok words command l t t' n c q r = record { command = command; spelled = c; input = []; read = has_not_read command (devices l n t) (devices l n t') [] q (record { left = refl; taken = refl; empty = refl }); told = r }
+answers_unread status.Refused words command l t t' n c q r = record { command = command; spelled = c; input = []; read = has_not_read command (devices l n t) (devices l n t') [] q (record { left = refl; taken = refl; empty = refl }); told = r }
+answers_unread status.WriteFault words command l t t' n c q r = record { command = command; spelled = c; input = []; read = has_not_read command (devices l n t) (devices l n t') [] q (record { left = refl; taken = refl; empty = refl }); told = r }
+answers_unread status.Memory words command l t t' n c q r = record { gone = record { bytes = []; within = omega arith; took = record { gone = none_taken l; counted = omega arith } }; silent = r }
+answers_unread status.ReadFault words command l t t' n c q r = absurd r
+answers_unread status.Usage words command l t t' n c q r = absurd r
+answers_unread status.TooLong words command l t t' n c q r = absurd r
+
+pub not_long_unread : (s : Status) (command : Command) (t t' : Option (List ℕ)) (n : ℕ) → Responds s command [] t t' → n + input_limit < last_count → (s ≡ status.TooLong → n ≡ n + (input_limit + 1)) × (n ≡ n + (input_limit + 1) → s ≡ status.TooLong)
+not_long_unread s command t t' n r room = (λ e. absurd (no_long s command [] t t' r e), λ e. absurd (omega (arith, e)))
+
+pub completes_unread : (s : Status) (words : List (List ℕ)) (command own : Command) (input : List ℕ) (l t t' : Option (List ℕ)) (g g' : ℕ) → IsCommand words own → reads own ≡ false → Responds s own [] t t' → SinkFaults s g g'
+    → IsCommand words command → IsInput command l input → g < last_count → g' ≡ g → Completes s command input t t'
+completes_unread s words command own input l t t' g g' spelled q r f again h room same =
+    let empty : input ≡ [] = no_input command l input (also words own command false spelled q again) h in
+    let r' = subst (λ (c : Command). Responds s c [] t t') (one_command words own command spelled again) r in
+    told_whole s command input t t' g g' (subst (λ b. Responds s command b t t') (sym empty) r') f room same

@@ -6,3 +6,4 @@ pub mod Serving
 pub mod Telling
 pub mod Verdicts
 pub mod Verifying
+pub mod Numbers

@@ -14,7 +14,7 @@ use Rattle.camelot_compiler.specs.Compiled as compiler
 use Rattle.licence.specs.Licensed.{Licensed}
 use Rattle.bundle_licence.specs.Bundled.{HasLicence, IsRefusedFor}
 use Rattle.script_service.specs.Service.{IsScriptFault}
-use Rattle.camelot_host.specs.Commands.{Command, Serve, Compile, Verify}
+use Rattle.camelot_host.specs.Commands.{Command, Serve, Compile, Verify, Drill}
 use Rattle.camelot_host.specs.Due.{Done, Refused, IsDue}
 use Rattle.camelot_host.proofs.Telling.{bound_told}
 
@@ -31,6 +31,7 @@ one_verdict line count repeat one apart Serve input output other done refused = 
     by_fault fault.Memory h = h
 one_verdict line count repeat one apart Compile input output other done refused = let e : Bundled done.code done.cert ≡ compiler.Refused refused.cause = one input (Bundled done.code done.cert) (compiler.Refused refused.cause) done.compiled refused.compiled in absurd cc
 one_verdict line count repeat one apart Verify input output other done refused = apart input done.licence refused.cause done.has refused.refused
+one_verdict line count repeat one apart (Drill jobs workers) input output other done refused = refused
 
 -- ---- what is told of a source
 

@@ -1,6 +1,7 @@
 -- Cited by contracts.
 -- The commands, the words that spell them, and which of them read their input.
-use Rattle.std.specs.Prelude.{◌≡◌, ℕ, Bool, true, false, List, [], ◌∷◌, Option, Some, codes}
+use Rattle.std.specs.Prelude.{◌≡◌, ℕ, Bool, true, false, List, [], ◌∷◌, Option, Some, codes, decimal}
+use Rattle.job_script.specs.Scripts.{IsUpTo}
 
 -- what the host is asked to do with its input
 pub data Command : Type 0 where
@@ -10,12 +11,21 @@ pub data Command : Type 0 where
   Compile : Command
   -- to verify a bundle
   Verify : Command
+  -- to serve the drill's script with so many jobs, on so many workers
+  Drill : (jobs workers : ℕ) → Command
+
+-- `drill N W`, in decimal without leading zeros: at most 4,096 jobs and 16 workers, and at least one of each
+pub record IsDrill (words : List (List ℕ)) (jobs workers : ℕ) : Type 0 where
+  pub are : words ≡ codes "drill" ∷ decimal jobs ∷ decimal workers ∷ []
+  pub few_jobs : IsUpTo 4096 jobs
+  pub few_workers : IsUpTo 16 workers
 
 -- the words spell the command
 abbrev pub IsCommand : List (List ℕ) → Command → Type 0
 IsCommand words Serve = words ≡ codes "serve" ∷ []
 IsCommand words Compile = words ≡ codes "compile" ∷ []
 IsCommand words Verify = words ≡ codes "verify" ∷ []
+IsCommand words (Drill jobs workers) = IsDrill words jobs workers
 
 -- the words spell no command
 abbrev pub IsNoCommand : List (List ℕ) → Type 0
@@ -26,6 +36,7 @@ abbrev pub reads : Command → Bool
 reads Serve = true
 reads Compile = true
 reads Verify = true
+reads (Drill jobs workers) = false
 
 -- this is the command's input, where the source tells the bytes that it has left
 abbrev pub IsInputBy : Bool → Option (List ℕ) → List ℕ → Type 0

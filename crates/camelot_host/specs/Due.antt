@@ -9,8 +9,8 @@ use Rattle.camelot_compiler.specs.Compiled.{IsCompiled}
 use Rattle.licence.specs.Licensed.{Licensed}
 use Rattle.bundle_licence.specs.Bundled.{HasLicence, IsRefusedFor}
 use Rattle.licence_text.specs.Texts.{bounds_text}
-use Rattle.script_service.specs.Service.{IsReport, IsRefusal}
-use Rattle.camelot_host.specs.Commands.{Command, Serve, Compile, Verify}
+use Rattle.script_service.specs.Service.{IsReport, IsRefusal, IsSummary}
+use Rattle.camelot_host.specs.Commands.{Command, Serve, Compile, Verify, Drill}
 
 -- whether a command did what it was asked for, or refused its input
 pub data Verdict : Type 0 where
@@ -60,3 +60,5 @@ IsDue Compile input Done output = IsBundleOf input output
 IsDue Compile input Refused output = IsRefusalOf input output
 IsDue Verify input Done output = IsBoundsOf input output
 IsDue Verify input Refused output = IsUnlicensed input output
+IsDue (Drill jobs workers) input Done output = IsSummary jobs workers output
+IsDue (Drill jobs workers) input Refused output = ⊥

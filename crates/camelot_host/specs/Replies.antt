@@ -3,6 +3,7 @@
 use Rattle.std.specs.Prelude.{◌≡◌, ℕ, List, [], Option, None, IfSome}
 use Rattle.cell_span.specs.Range.{Range, IsWhole}
 use Rattle.host_io.specs.Sink.{Tells, TellsFront}
+use Rattle.job_script.specs.Scripts.{IsUpTo}
 use Rattle.camelot_host.specs.Commands as plain
 use Rattle.camelot_host.specs.Due as due
 use Rattle.camelot_host.specs.Due.{IsDue}
@@ -19,6 +20,12 @@ abbrev pub command_named : Command → plain.Command
 command_named command.Serve = plain.Serve
 command_named command.Compile = plain.Compile
 command_named command.Verify = plain.Verify
+command_named (command.Drill jobs workers) = plain.Drill jobs workers
+
+-- what the words of a command keep of its numbers
+abbrev pub IsWithin : Command → Type 0
+IsWithin (command.Drill jobs workers) = IsUpTo 4096 jobs × IsUpTo 16 workers
+IsWithin c = Unit {0}
 
 -- the reply's verdict, and what is written for it
 abbrev pub verdict_of : Reply → due.Verdict

@@ -5,11 +5,12 @@ ghost use Rattle.camelot_host.specs.Commands as plain;
 ghost use Rattle.camelot_host.specs.Commands.{IsCommand, IsNoCommand, IsInput, reads};
 ghost use Rattle.camelot_host.specs.Answers.{input_limit, devices, Answers, Completes, Quiet, SourceFaults, SinkFaults};
 ghost use Rattle.camelot_host.specs.Due.{Done, Refused};
-ghost use Rattle.camelot_host.specs.Replies.{command_named, verdict_of, bytes_of, IsReply, KeptBy, Keeps, WholeIn, Writes, Responds, RespondsIn};
+ghost use Rattle.camelot_host.specs.Replies.{command_named, verdict_of, bytes_of, IsReply, IsWithin, KeptBy, Keeps, WholeIn, Writes, Responds, RespondsIn};
 ghost use Rattle.camelot_host.specs.Served.{ArenaBy};
 
-use super::command::{Command, command_of};
+use super::command::{Command, command_of, reads};
 use super::compile::compile_source;
+use super::drill::drill_jobs;
 use super::reply::Reply;
 use super::serve::serve;
 use super::served::Served;
@@ -25,7 +26,7 @@ use std::thread::Threads;
 /// The most bytes of input.
 const INPUT_LIMIT: usize = 8388608;
 
-// What the command makes of an input that was read whole.
+// What the command makes of its input.
 fn work<R: Threads + Wait + Sync, G: Gate + Sync>(
     rt: &R,
     alloc: Global,
@@ -33,6 +34,7 @@ fn work<R: Threads + Wait + Sync, G: Gate + Sync>(
     input: Vec<u8>,
     gate: &G,
 ) -> Result<Reply, AllocError>
+    requires within { IsWithin command }
     requires few { length input.items ≤ input_limit }
     ensures { IfOk result (IsReply (command_named command) input.items) }
 {
@@ -40,6 +42,7 @@ fn work<R: Threads + Wait + Sync, G: Gate + Sync>(
         Command::Serve => serve(rt, alloc, input, gate),
         Command::Compile => compile_source(alloc, &input),
         Command::Verify => verify_bundle(alloc, &input),
+        Command::Drill { jobs, workers } => drill_jobs(rt, alloc, jobs, workers, gate),
     }
 }
 
@@ -98,7 +101,7 @@ fn write<K: Sink>(sink: &mut K, reply: Reply) -> Served
     }
 }
 
-// Does the command's work on an input that was read whole, and writes what comes of it.
+// Does the command's work on its input, and writes what comes of it.
 #[tactic(auto, using(crate::proofs::Leaving::reply_responds, crate::proofs::Answering::written_quiet, crate::proofs::Leaving::leaves_whole, crate::proofs::Leaving::told_left))]
 fn respond<R: Threads + Wait + Sync, K: Sink, G: Gate + Sync>(
     rt: &R,
@@ -108,6 +111,7 @@ fn respond<R: Threads + Wait + Sync, K: Sink, G: Gate + Sync>(
     sink: &mut K,
     gate: &G,
 ) -> Served
+    requires within { IsWithin command }
     requires few { length input.items ≤ input_limit }
     ensures told { Responds result.status (command_named command) input.items (K.told sink.old) (K.told sink.new) }
     ensures left { RespondsIn result.status (command_named command) input.items (K.told sink.old) (K.told sink.new) result.arena }
@@ -126,7 +130,7 @@ fn respond<R: Threads + Wait + Sync, K: Sink, G: Gate + Sync>(
 /// Runs one command, from the bytes that come in to the bytes that go out, as [`host`] does, whose promises are all made
 /// here too. The workers of `serve` pass this gate, each between the grant of a lease and the run of its job. The arena
 /// of a script that was served is handed out with the status.
-#[tactic(auto, using(crate::proofs::Answering::answers_of, crate::proofs::Answering::no_usage, crate::proofs::Answering::not_long, crate::proofs::Answering::source_steady, crate::proofs::Answering::no_rise, crate::proofs::Answering::no_more, crate::proofs::Answering::unread, crate::proofs::Leaving::arena_by))]
+#[tactic(auto, using(crate::proofs::Answering::answers_of, crate::proofs::Answering::no_usage, crate::proofs::Answering::not_long, crate::proofs::Answering::source_steady, crate::proofs::Answering::no_rise, crate::proofs::Answering::no_more, crate::proofs::Answering::unread, crate::proofs::Leaving::arena_by, crate::proofs::Answering::answers_unread, crate::proofs::Answering::not_long_unread, crate::proofs::Answering::completes_unread, crate::proofs::Leaving::arena_unread))]
 pub fn host_gated<R: Threads + Wait + Sync, S: Source, K: Sink, G: Gate + Sync>(
     rt: &R,
     alloc: Global,
@@ -178,6 +182,9 @@ pub fn host_gated<R: Threads + Wait + Sync, S: Source, K: Sink, G: Gate + Sync>(
             arena: None,
         };
     };
+    if !reads(command) {
+        return respond(rt, alloc, command, Vec::new(alloc), sink, gate);
+    }
     match read_all(alloc, source, INPUT_LIMIT) {
         Ok(input) => respond(rt, alloc, command, input, sink, gate),
         Err(ReadStop::Fault) => Served {
@@ -197,9 +204,9 @@ pub fn host_gated<R: Threads + Wait + Sync, S: Source, K: Sink, G: Gate + Sync>(
 
 /// Runs one command, from the bytes that come in to the bytes that go out.
 ///
-/// The words spell the command, and a command that reads, as each of today does, has its input read to the end. What is
-/// due for an input is the command's own matter; all else is the same for each. The order is: words, reading, work,
-/// writing. The output is built whole before the first byte is written.
+/// The words spell the command, and a command that reads has its input read to the end. What is due for an input is the
+/// command's own matter; all else is the same for each. The order is: words, reading, work, writing. The output is built
+/// whole before the first byte is written.
 ///
 /// The commands:
 ///
@@ -212,6 +219,8 @@ pub fn host_gated<R: Threads + Wait + Sync, S: Source, K: Sink, G: Gate + Sync>(
 /// - `verify` reads a bundle and writes what its certificate grants: the units of a cell, and for each function how many
 ///   units its runs take at most. A text that is no bundle, and a bundle that the verifier refuses, is refused with a line
 ///   that tells the cause.
+/// - `drill N W` reads nothing. It serves a script that it makes, with N jobs, from 1 to 4,096, on W workers, from 1 to 16,
+///   and writes one line: how many jobs ended how, and the sums of their calls and peaks.
 ///
 /// The answer is [`Status::Ok`] where the command was done and [`Status::Refused`] where it refused its input, each after
 /// what is written for it; [`Status::Usage`] where the words spell no command; [`Status::ReadFault`] and

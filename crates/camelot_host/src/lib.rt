@@ -3,6 +3,7 @@
 
 mod command;
 mod compile;
+mod drill;
 mod hosting;
 pub mod laws;
 mod refusal;

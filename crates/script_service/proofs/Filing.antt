@@ -11,7 +11,8 @@ use Rattle.value_text.specs.Text.{value_text}
 use Rattle.cell_machine.specs.Endings.{EndsWith}
 use Rattle.cell_machine.specs.declared.machine.Ending.{Ending}
 use Rattle.cell_machine.specs.declared.machine.Ending.TheVariants as ending
-use Rattle.run_reports.specs.Report.{ended_text, told_text}
+use Rattle.run_reports.specs.Report.{Ended, ended_text, told_text}
+use Rattle.run_reports.specs.Summary.{tally_of_run}
 use Rattle.run_reports.specs.Told.{outcome_of, licence_types}
 use Rattle.job_world.specs.Plans.{Plan, Planned, job_run}
 use Rattle.job_workers.specs.Ended.{AllEnded, HasEnding}
@@ -21,7 +22,7 @@ use Rattle.script_plans.specs.declared.types.JobPlan.TheVariants as plan
 use Rattle.script_plans.specs.Lines.{next_behind, next_job, planned_line, planned_lines, types_at, fuel_at}
 use Rattle.std.specs.List.{AllByRecursion}
 use Rattle.script_service.specs.Service.{IsMeant, TellsMeaning}
-use Rattle.script_service.specs.Filed.{EndedFrom}
+use Rattle.script_service.specs.Filed.{EndedFrom, telling}
 
 same_ended : (types : List DataType) (o : Outcome Value) (e : Ending) (fuel bound : ℕ) → EndsWith o e → ended_text types (outcome_of e) fuel bound ≡ ended_text types o fuel bound
 unfolding ended_text
@@ -39,6 +40,20 @@ same_ended types plain.Stuck (ending.Done w c p) fuel bound h = absurd h
 same_ended types plain.Stuck (ending.Fuel p) fuel bound h = absurd h
 same_ended types plain.Stuck (ending.Deep p) fuel bound h = absurd h
 
+same_tally : (o : Outcome Value) (e : Ending) → EndsWith o e → tally_of_run (outcome_of e) ≡ tally_of_run o
+same_tally (plain.Done v calls peak low) (ending.Done w c p) h = λ i. record { done = 1; fuel = 0; deep = 0; too_large = 0; refused = 0; calls = h.1 i; peaks = h.2 i }
+same_tally (plain.Done v calls peak low) (ending.Fuel p) h = absurd h
+same_tally (plain.Done v calls peak low) (ending.Deep p) h = absurd h
+same_tally (plain.Fuel calls peak) (ending.Done w c p) h = absurd h
+same_tally (plain.Fuel calls peak) (ending.Fuel p) h = λ i. record { done = 0; fuel = 1; deep = 0; too_large = 0; refused = 0; calls = 0; peaks = h i }
+same_tally (plain.Fuel calls peak) (ending.Deep p) h = absurd h
+same_tally (plain.Deep peak) (ending.Done w c p) h = absurd h
+same_tally (plain.Deep peak) (ending.Fuel p) h = absurd h
+same_tally (plain.Deep peak) (ending.Deep p) h = λ i. record { done = 0; fuel = 0; deep = 1; too_large = 0; refused = 0; calls = 0; peaks = h i }
+same_tally plain.Stuck (ending.Done w c p) h = absurd h
+same_tally plain.Stuck (ending.Fuel p) h = absurd h
+same_tally plain.Stuck (ending.Deep p) h = absurd h
+
 -- ---- endings
 
 pub ending_is : (xs : List (Option Ending)) (i : ℕ) (a : Ending) (r d : Option Ending) → slice_get xs i ≡ Some (Some a) → r ≡ get_or xs i d → r ≡ Some a
@@ -51,11 +66,15 @@ pub same_ending : (xs : List (Option Ending)) (i : ℕ) (a b : Ending) (r d : Op
 same_ending xs i a b r d e f n = let g : Some b ≡ Some a = sym n ∙ ending_is xs i a r d e f in cc
 
 -- the line of an ending is that of the plan
-pub same_line : (ps : Planned) (p : Plan) (arena job bound : ℕ) (e : Ending) → slice_get ps.plans job ≡ Some p → EndsAsMeant ps job e
+same_text : (ps : Planned) (p : Plan) (arena job bound : ℕ) (e : Ending) → slice_get ps.plans job ≡ Some p → EndsAsMeant ps job e
     → ended_text (licence_types (slice_get ps.licences p.licence)) (outcome_of e) p.fuel bound ≡ told_text (planned_line ps arena job (plan.Runs bound))
-same_line ps p arena job bound e is meant =
+same_text ps p arena job bound e is meant =
     subst (λ o. ended_text (licence_types (slice_get ps.licences p.licence)) (outcome_of e) p.fuel bound ≡ ended_text (types_at ps.licences o) (job_run ps job) (fuel_at o) bound) (sym is)
     (same_ended (licence_types (slice_get ps.licences p.licence)) (job_run ps job) e p.fuel bound meant)
+
+pub same_line : (ps : Planned) (p : Plan) (arena job bound : ℕ) (e : Ending) → slice_get ps.plans job ≡ Some p → EndsAsMeant ps job e
+    → telling (Ended (licence_types (slice_get ps.licences p.licence)) (outcome_of e) p.fuel bound) ≡ telling (planned_line ps arena job (plan.Runs bound))
+same_line ps p arena job bound e is meant = λ i. record { text = same_text ps p arena job bound e is meant i; tally = same_tally (job_run ps job) e meant i }
 
 -- ---- what is left
 

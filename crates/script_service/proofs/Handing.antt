@@ -7,6 +7,7 @@ use Rattle.cell_span.specs.declared.cell.Cell.{Cell}
 use Rattle.cell_span.specs.Range.{Range, IsWhole}
 use Rattle.job_script.specs.Scripts.{Entry, Script, IsFormed, IsScript}
 use Rattle.job_script.specs.Text.{IsScriptText, EntryIsShort, script_text}
+use Rattle.job_script.specs.Made.{made_script}
 use Rattle.job_script.specs.Words.{script_of}
 use Rattle.job_script.specs.Answers.{IsFault}
 use Rattle.job_script.specs.declared.reading.ScriptFault.{ScriptFault}
@@ -18,7 +19,7 @@ use Rattle.lease_desk.specs.declared.event.Event.{Event}
 use Rattle.lease_desk.specs.Filing.{FiledCells, HoldsFiled}
 use Rattle.lease_desk.specs.Journal.{IsLegal}
 use Rattle.script_plans.specs.Lines.{AreProgramLines, ArePlanned, planned_cells, sizes_of, all_left}
-use Rattle.script_service.specs.Service.{TellsMeaning, IsReportIn, report_of}
+use Rattle.script_service.specs.Service.{TellsMeaning, IsReportIn, IsSummary, report_of, summary_of}
 use Rattle.script_service.specs.Handed.{service_of, IsHanded, IsHandedFor, IsRefused}
 use Rattle.script_service.specs.Steps.{IsOf, serve_fault}
 use Rattle.script_service.specs.declared.service.ServedScript.{ServedScript}
@@ -114,3 +115,10 @@ pub is_report : (input output : List ℕ) (s : ServedScript) (arena : Range) (h 
     → IsReportIn input output arena
 is_report input output s arena h each left =
     record { service = service_of s h.handed.planned.fates; served = record { text = h.text; only = h.only; comes = h.handed.comes }; is = each h.handed; left = left }
+
+-- ---- the summary
+
+pub is_summary : (jobs workers : ℕ) (script : Script) (output : List ℕ) (s : ServedScript) → script ≡ made_script jobs workers → (h : IsOf script s) → ((handed : IsHanded s) → output ≡ summary_of (service_of s handed.planned.fates))
+    → IsSummary jobs workers output
+is_summary jobs workers script output s made h each =
+    record { service = service_of s h.handed.planned.fates; script = h.same ∙ made; comes = h.handed.comes; is = each h.handed }

@@ -6,6 +6,7 @@ use Rattle.camelot_values.specs.Value.{Value}
 use Rattle.camelot_values.specs.Outcome.{Outcome, Done, Fuel, Deep, Stuck}
 use Rattle.job_script.specs.Scripts.{Script}
 use Rattle.job_script.specs.Text.{IsScriptText}
+use Rattle.job_script.specs.Made.{made_script}
 use Rattle.job_script.specs.Answers.{IsFault}
 use Rattle.job_script.specs.declared.reading.ScriptFault.{ScriptFault}
 use Rattle.job_script.specs.declared.reading.ScriptFault.TheVariants as script_fault
@@ -15,6 +16,7 @@ use Rattle.lease_desk.specs.Filing.{FiledCells, HoldsFiled}
 use Rattle.cell_span.specs.Range.{Range, IsWhole}
 use Rattle.run_reports.specs.declared.outcome.ProgramLine.{ProgramLine}
 use Rattle.run_reports.specs.Report.{JobLine, Ended, Told, report_text}
+use Rattle.run_reports.specs.Summary.{summary_text}
 use Rattle.script_plans.specs.Fates.{Fate}
 use Rattle.script_plans.specs.Lines.{AreProgramLines, AreFates, lines_of, sizes_of, places_of, all_left}
 
@@ -28,7 +30,7 @@ pub record Service : Type 0 where
   pub journal : List Event
   pub arena : Range
 
--- a run that comes to something: no run of a typed program or of well-formed code on fitting arguments is stuck
+-- a run that comes to something: no run of a typed program on fitting arguments is stuck
 abbrev pub IsMeant : Outcome Value → Type 0
 IsMeant (Done v calls peak low) = Unit {0}
 IsMeant (Fuel calls peak) = Unit {0}
@@ -90,6 +92,18 @@ pub record IsReportIn (input output : List ℕ) (arena : Range) : Type 0 where
   pub served : IsServiceOf input service
   pub is : output ≡ report_of service
   pub left : arena ≡ service.arena
+
+-- ---- the summary
+
+abbrev pub summary_of : Service → List ℕ
+summary_of s = summary_text (told_of s.script s.programs s.fates s.journal)
+
+-- The output is the summary of what comes of the drill's script with so many jobs, on so many workers.
+pub record IsSummary (jobs workers : ℕ) (output : List ℕ) : Type 0 where
+  pub service : Service
+  pub script : service.script ≡ made_script jobs workers
+  pub comes : IsService service
+  pub is : output ≡ summary_of service
 
 -- ---- inputs that aren't served
 

@@ -10,5 +10,5 @@ mod service;
 
 pub use faults::fault_line;
 pub use job_workers::{Gate, OpenGate};
-pub use reporting::{ReportedScript, report_served};
-pub use service::{ServeFault, ServedScript, run_script, serve_script};
+pub use reporting::{ReportedScript, report_served, summarize_served};
+pub use service::{ServeFault, ServedScript, drill, run_script, serve_script};

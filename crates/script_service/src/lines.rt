@@ -2,11 +2,10 @@
 ghost use Rattle.std.specs.Prelude.{◌≡◌, ◌<◌, ◌≤◌, length, map, slice_get, slice_set, None, IfOk};
 ghost use Rattle.job_workers.specs.Ended.{AllEnded, HasEnding};
 ghost use Rattle.job_workers.specs.Served.{EndsAsMeant};
-ghost use Rattle.run_reports.specs.Report.{told_text};
 ghost use Rattle.run_reports.specs.Told.{line_of};
 ghost use Rattle.script_plans.specs.Lines.{next_behind, next_job, planned_line, planned_lines};
 ghost use Rattle.script_plans.specs.declared.types.JobPlan.TheVariants.{Runs};
-ghost use Rattle.script_service.specs.Filed.{EndedFrom};
+ghost use Rattle.script_service.specs.Filed.{EndedFrom, telling};
 
 use cell_machine::Ending;
 use job_world::Jobs;
@@ -33,7 +32,7 @@ fn take_ending(endings: &mut [Option<Ending>], jobs: &Jobs, job: u32) -> Ending
 fn ended(jobs: &Jobs, arena: u32, job: u32, bound: u64, ending: Ending) -> JobLine
     requires there { job < length jobs.now.plans }
     requires meant { EndsAsMeant jobs.now job ending }
-    ensures { told_text (line_of jobs.now.licences result) ≡ told_text (planned_line jobs.now arena job (Runs bound)) }
+    ensures { telling (line_of jobs.now.licences result) ≡ telling (planned_line jobs.now arena job (Runs bound)) }
 {
     let plan = jobs.plan(job);
     let _ = arena;
@@ -56,7 +55,7 @@ fn planned(
 ) -> JobLine
     requires left { EndedFrom jobs.now job endings.old }
     requires few { next_job plan.now job ≤ length jobs.now.plans }
-    ensures line { told_text (line_of jobs.now.licences result) ≡ told_text (planned_line jobs.now arena job plan.now) }
+    ensures line { telling (line_of jobs.now.licences result) ≡ telling (planned_line jobs.now arena job plan.now) }
     ensures left { EndedFrom jobs.now (next_job plan.now job) endings.new }
 {
     match plan {
@@ -96,7 +95,7 @@ pub(crate) fn job_lines(
     requires ended { AllEnded jobs.now endings.old }
     requires count { next_behind plans.now 0 ≡ length jobs.now.plans }
     requires few { length jobs.now.plans ≤ 4096 }
-    ensures { IfOk result (λ lines. map told_text (map (line_of jobs.now.licences) lines.items) ≡ map told_text (planned_lines jobs.now arena 0 plans.now)) }
+    ensures { IfOk result (λ lines. map telling (map (line_of jobs.now.licences) lines.items) ≡ map telling (planned_lines jobs.now arena 0 plans.now)) }
 {
     let mut lines = Vec::with_capacity(alloc, plans.len())?;
     let mut job = 0;

@@ -1,10 +1,14 @@
 //! The report of a script that was served.
-ghost use Rattle.std.specs.Prelude.{◌≡◌, ◌≤◌, length, IfOk};
+ghost use Rattle.std.specs.Prelude.{◌≡◌, ◌≤◌, List, length, IfOk};
+ghost use Rattle.job_script.specs.Scripts.{Script as PlainScript};
 ghost use Rattle.job_script.specs.Words.{script_of};
 ghost use Rattle.job_workers.specs.Ended.{AllEnded};
+ghost use Rattle.lease_desk.specs.declared.event.Event.{Event as PlainEvent};
+ghost use Rattle.run_reports.specs.declared.outcome.ProgramLine.{ProgramLine as PlainLine};
 ghost use Rattle.run_reports.specs.Report.{report_text};
+ghost use Rattle.run_reports.specs.Summary.{summary_text};
 ghost use Rattle.script_plans.specs.Lines.{ArePlanned, next_behind};
-ghost use Rattle.script_service.specs.Service.{report_of, told_of};
+ghost use Rattle.script_service.specs.Service.{report_of, summary_of, told_of};
 ghost use Rattle.script_service.specs.Handed.{IsHanded, service_of};
 
 use crate::lines::job_lines;
@@ -13,7 +17,7 @@ use cell_machine::Ending;
 use cell_span::Span;
 use job_script::Script;
 use lease_desk::Event;
-use run_reports::{Outcome, report};
+use run_reports::{Outcome, report, summary};
 use script_plans::Plans;
 use std::alloc::{AllocError, Global};
 
@@ -73,4 +77,48 @@ pub fn report_served(alloc: Global, served: ServedScript) -> Result<ReportedScri
             Err(fault)
         }
     }
+}
+
+// The summary of a script, from its plans and the endings of its runs.
+fn summarize_plans(
+    alloc: Global,
+    arena: u32,
+    plans: Plans,
+    endings: Vec<Option<Ending>>,
+) -> Result<Vec<u8>, AllocError>
+    requires count { next_behind plans.plans.items 0 ≡ length plans.jobs.plans }
+    requires few { length plans.jobs.plans ≤ 4096 }
+    requires ended { AllEnded plans.jobs endings.items }
+    ensures { (script : PlainScript) (planned : ArePlanned script.arena script.items plans.jobs plans.plans.items plans.asked.items) (programs : List PlainLine) (journal : List PlainEvent)
+        → arena ≡ script.arena → IfOk result (λ text. text.items ≡ summary_text (told_of script programs planned.fates journal)) }
+{
+    let mut endings = endings;
+    let lines = job_lines(alloc, &plans.jobs, arena, &plans.plans, &mut endings)?;
+    let outcome = Outcome {
+        programs: plans.programs,
+        jobs: lines,
+        asked: plans.asked,
+        journal: Vec::new(alloc),
+        free: arena as u64,
+    };
+    let text = summary(alloc, &outcome)?;
+    Ok(text)
+}
+
+/// The summary of a script that was served, in one line. The arena is ended. `AllocError` where memory runs out: the arena is ended then too.
+pub fn summarize_served(alloc: Global, served: ServedScript) -> Result<Vec<u8>, AllocError>
+    requires { IsHanded served }
+    // It is the summary of what comes of the script, by the fates of its jobs.
+    ensures { (handed : IsHanded served) → IfOk result (λ text. text.items ≡ summary_of (service_of served handed.planned.fates)) }
+{
+    let ServedScript {
+        script,
+        plans,
+        journal,
+        endings,
+        arena,
+    } = served;
+    drop(journal);
+    arena.end();
+    summarize_plans(alloc, script.arena, plans, endings)
 }

@@ -1,18 +1,18 @@
 ghost use Rattle.std.specs.Prelude.{◌≡◌, ◌<◌, length, IfOk, MatchResult};
 ghost use Rattle.std.specs.List.{AllByRecursion};
-ghost use Rattle.job_script.specs.Scripts.{IsScript};
+ghost use Rattle.job_script.specs.Scripts.{IsScript, IsUpTo};
 ghost use Rattle.job_script.specs.Text.{EntryIsShort};
 ghost use Rattle.job_script.specs.Words.{script_of};
-ghost use Rattle.script_service.specs.Service.{IsReportIn};
+ghost use Rattle.script_service.specs.Service.{IsReportIn, IsSummary};
 ghost use Rattle.script_service.specs.Handed.{IsHandedFor, IsRefused};
 ghost use Rattle.script_service.specs.Steps.{IsOf, serve_fault};
 
-use crate::reporting::{ReportedScript, report_served};
+use crate::reporting::{ReportedScript, report_served, summarize_served};
 use crate::running::run_jobs;
 use cell_machine::Ending;
 use cell_span::Span;
 use job_script::laws::{law_of_lengths, law_of_scripts};
-use job_script::{Script, ScriptFault, read_script};
+use job_script::{Script, ScriptFault, make_script, read_script};
 use job_workers::{Gate, ServedJobs};
 use lease_desk::Event;
 use script_plans::laws::law_of_short;
@@ -145,4 +145,25 @@ pub fn serve_script<R: Threads + Wait + Sync, G: Gate + Sync>(
         },
         Err(fault) => Err(fault),
     }
+}
+
+/// Serves the drill's script with so many jobs, from 1 to 4,096, by so many workers, from 1 to 16, each of which passes the
+/// gate, and tells its summary in one line. It may wait for the lock and the desk. `AllocError` where memory runs out. The
+/// arena is ended.
+pub fn drill<R: Threads + Wait + Sync, G: Gate + Sync>(
+    rt: &R,
+    alloc: Global,
+    jobs: u32,
+    workers: u32,
+    gate: &G,
+) -> Result<Vec<u8>, AllocError>
+    requires jobs { IsUpTo 4096 jobs }
+    requires workers { IsUpTo 16 workers }
+    // What is answered is the summary of what comes of the script.
+    ensures { IfOk result (λ text. IsSummary jobs workers text.items) }
+{
+    let script = make_script(alloc, jobs, workers)?;
+    let served = serve_read(rt, alloc, script, gate)?;
+    let text = summarize_served(alloc, served)?;
+    Ok(text)
 }
