@@ -60,7 +60,8 @@ pub found : (xs : List ℕ) (x : ℕ) (r : Result ℕ ℕ) → Ascend xs → IsB
 found xs x (Ok i) h k = let f = searched xs x (Ok i) k (rises xs h) in sym (among_at xs x i f.0 f.1)
 found xs x (Err i) h k = let f = searched xs x (Err i) k (rises xs h) in sym (not_among xs x (λ j l e. by_order j l e f.1 f.2 (cases_lt j i)))
   where
-    by_order : (j : ℕ) → j < length xs → get_or xs j 0 ≡ x → ((k : ℕ) → k < i → get_or xs k 0 < x) → ((k : ℕ) → i ≤ k → k < length xs → x < get_or xs k 0) → (j < i) ⊎ (i ≤ j) → ⊥
+    by_order : (j : ℕ) → j < length xs → get_or xs j 0 ≡ x → ((k : ℕ) → k < i → get_or xs k 0 < x)
+        → ((k : ℕ) → i ≤ k → k < length xs → x < get_or xs k 0) → (j < i) ⊎ (i ≤ j) → ⊥
     by_order j l e below above (inl less) = omega (arith, below j less, e)
     by_order j l e below above (inr more) = omega (arith, above j more l, e)
 
@@ -115,7 +116,8 @@ table_says types Int con = nothing types Int con (λ r. r)
 table_says types Flag con = nothing types Flag con (λ r. r)
 table_says types Dia con = nothing types Dia con (λ r. r)
 
-pub exactly : (types : List DataType) (table : Table) (q : Kind) (con : ℕ) (b : Bool) → b ≡ is_in table q con → table ≡ table_of types → IsTrue b ↔ Reaches types q con
+pub exactly : (types : List DataType) (table : Table) (q : Kind) (con : ℕ) (b : Bool) → b ≡ is_in table q con → table ≡ table_of types → IsTrue b
+    ↔ Reaches types q con
 exactly types table q con b e same =
     let r = reached_is types q con in
     let says : b ≡ is_among (reached types q) con = e ∙ ap (λ t. is_in t q con) same ∙ table_says types q con in
@@ -150,7 +152,8 @@ pub table_reached : (types : List DataType) (table : Table) (q : Kind) (row : Li
 table_reached types table q row e same = e ∙ ap (λ t. row_in t q) same ∙ row_says types q
 
 -- each constructor
-pub each_exactly : (types : List DataType) (table : Table) (q : Kind) (vector : Vector) (b : Bool) → IsTrue b ↔ AreIn table q vector → table ≡ table_of types → IsTrue b ↔ ReachesEach types q vector
+pub each_exactly : (types : List DataType) (table : Table) (q : Kind) (vector : Vector) (b : Bool) → IsTrue b ↔ AreIn table q vector
+    → table ≡ table_of types → IsTrue b ↔ ReachesEach types q vector
 each_exactly types table q vector b h same = (λ k. to vector (h.0 k), λ k. h.1 (from vector k))
   where
     says : (con : ℕ) → IsTrue (is_in table q con) ↔ Reaches types q con
@@ -177,7 +180,8 @@ row_ascends [] t h = tt
 row_ascends (row ∷ table) zero h = h.0
 row_ascends (row ∷ table) (suc t) h = row_ascends table t h.1
 
-pub row_there : {A : Type 0} (f : A → List ℕ) (rows : List A) (t : ℕ) (row : A) → AllByRecursion Ascend (map f rows) → t < length rows → row ≡ get_or rows t row → IsRow (map f rows) t (f row)
+pub row_there : {A : Type 0} (f : A → List ℕ) (rows : List A) (t : ℕ) (row : A) → AllByRecursion Ascend (map f rows) → t < length rows
+    → row ≡ get_or rows t row → IsRow (map f rows) t (f row)
 row_there f rows t row h l e = let is = at_place f rows t row l e in (is, subst Ascend (sym is) (row_ascends (map f rows) t h))
   where
     at_place : {A : Type 0} (f : A → List ℕ) (rows : List A) (t : ℕ) (row : A) → t < length rows → row ≡ get_or rows t row → f row ≡ get_or (map f rows) t []
@@ -193,13 +197,15 @@ no_row f (r ∷ rows) (suc t) e = no_row f rows t e
 -- ---- making the table
 
 -- one row more
-pub one_row : {A : Type 0} (f : A → List ℕ) (types : List DataType) (n : ℕ) (rows more : List A) (row : A) → map f rows ≡ map (reached_from types) (range_with_len 0 n) → f row ≡ reached types (Of n) → more ≡ rows ++ row ∷ []
+pub one_row : {A : Type 0} (f : A → List ℕ) (types : List DataType) (n : ℕ) (rows more : List A) (row : A)
+    → map f rows ≡ map (reached_from types) (range_with_len 0 n) → f row ≡ reached types (Of n) → more ≡ rows ++ row ∷ []
     → map f more ≡ map (reached_from types) (range_with_len 0 (n + 1))
 one_row f types n rows more row h is e =
     ap (map f) e ∙ map-append f rows (row ∷ []) ∙ ap (λ r. map f rows ++ r ∷ []) is ∙ ap (λ xs. xs ++ reached types (Of n) ∷ []) h ∙ sym (map-range_with_len_more (reached_from types) 0 n n (omega arith))
 
 -- all rows
-pub all_rows : (types : List DataType) (table : List (List ℕ)) (n : ℕ) → table ≡ map (reached_from types) (range_with_len 0 n) → n ≡ length types → AllByRecursion Ascend table
+pub all_rows : (types : List DataType) (table : List (List ℕ)) (n : ℕ) → table ≡ map (reached_from types) (range_with_len 0 n) → n ≡ length types
+    → AllByRecursion Ascend table
 all_rows types table n h e = rows_ascend types table (h ∙ ap (λ k. map (reached_from types) (range_with_len 0 k)) e)
 
 -- ---- types of constructors
@@ -221,7 +227,8 @@ owner_from : (number : ℕ) (types : List DataType) (con : ℕ) → slice_get (o
 owner_from number [] con = refl
 owner_from number (t ∷ ts) con = by_test (nat_lt con (length t.cons)) refl (owner_from (number + 1) ts (con - length t.cons))
   where
-    by_test : (b : Bool) → nat_lt con (length t.cons) ≡ b → slice_get (owners_from (number + 1) ts) (con - length t.cons) ≡ type_from (number + 1) ts (con - length t.cons)
+    by_test : (b : Bool) → nat_lt con (length t.cons) ≡ b
+        → slice_get (owners_from (number + 1) ts) (con - length t.cons) ≡ type_from (number + 1) ts (con - length t.cons)
         → slice_get (replicate (length t.cons) number ++ owners_from (number + 1) ts) con ≡ (if b then Some number else type_from (suc number) ts (con - length t.cons))
     by_test true e f = let less : con < length t.cons = grind (arith, nat_tests, e) in front (length t.cons) number con (owners_from (number + 1) ts) less
     by_test false e f =
@@ -229,7 +236,8 @@ owner_from number (t ∷ ts) con = by_test (nat_lt con (length t.cons)) refl (ow
         let behind = slice_get_behind (replicate (length t.cons) number) (owners_from (number + 1) ts) con (omega (arith, more, length-replicate (length t.cons) number)) in
         behind ∙ ap (λ n. slice_get (owners_from (number + 1) ts) (con - n)) (length-replicate (length t.cons) number) ∙ f ∙ ap (λ n. type_from n ts (con - length t.cons)) (add-one number)
 
-pub owner_says : (types : List DataType) (table : Table) (con : ℕ) (o : Option ℕ) → o ≡ slice_get table.owners con → table ≡ table_of types → o ≡ type_of types con
+pub owner_says : (types : List DataType) (table : Table) (con : ℕ) (o : Option ℕ) → o ≡ slice_get table.owners con → table ≡ table_of types
+    → o ≡ type_of types con
 owner_says types table con o e same = e ∙ ap (λ t. slice_get t.owners con) same ∙ owner_from 0 types con
 
 -- ---- heap types
@@ -265,8 +273,10 @@ con_says types table con b e same = e ∙ ap (λ t. is_heap_con_in t con) same �
 -- ---- making these
 
 -- one type more
-pub one_heap : (types : List DataType) (n : ℕ) (heaps more : List Bool) (b : Bool) → heaps ≡ map (is_heap_type types) (range_with_len 0 n) → b ≡ is_heap types (Of n) → more ≡ heaps ++ b ∷ [] → more ≡ map (is_heap_type types) (range_with_len 0 (n + 1))
+pub one_heap : (types : List DataType) (n : ℕ) (heaps more : List Bool) (b : Bool) → heaps ≡ map (is_heap_type types) (range_with_len 0 n)
+    → b ≡ is_heap types (Of n) → more ≡ heaps ++ b ∷ [] → more ≡ map (is_heap_type types) (range_with_len 0 (n + 1))
 one_heap types n heaps more b h is e = e ∙ ap (λ x. heaps ++ x ∷ []) is ∙ ap (λ xs. xs ++ is_heap_type types n ∷ []) h ∙ sym (map-range_with_len_more (is_heap_type types) 0 n n (omega arith))
 
-pub one_type : (t : DataType) (ts : List DataType) (owners more all : List ℕ) (n : ℕ) → owners ++ owners_from n (t ∷ ts) ≡ all → more ≡ owners ++ replicate (length t.cons) n → more ++ owners_from (n + 1) ts ≡ all
+pub one_type : (t : DataType) (ts : List DataType) (owners more all : List ℕ) (n : ℕ) → owners ++ owners_from n (t ∷ ts) ≡ all
+    → more ≡ owners ++ replicate (length t.cons) n → more ++ owners_from (n + 1) ts ≡ all
 one_type t ts owners more all n h e = ap (λ xs. xs ++ owners_from (n + 1) ts) e ∙ append_assoc owners (replicate (length t.cons) n) (owners_from (n + 1) ts) ∙ h

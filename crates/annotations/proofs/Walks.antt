@@ -19,7 +19,8 @@ same_test true b h k = sym (h refl)
 same_test false true h k = k refl
 same_test false false h k = refl
 
-pub is_wanted : (types : List DataType) (q : Kind) (con have need : ℕ) (b : Bool) → have < need → IsTrue b ↔ Reaches types q con → b ≡ (nat_lt have need && wants types q con)
+pub is_wanted : (types : List DataType) (q : Kind) (con have need : ℕ) (b : Bool) → have < need → IsTrue b ↔ Reaches types q con
+    → b ≡ (nat_lt have need && wants types q con)
 is_wanted types q con have need b less h =
     let r = reached_is types q con in
     let e : nat_lt have need ≡ true = grind (arith, nat_tests, less) in
@@ -49,7 +50,8 @@ front_is : (con : ℕ) (ps : Vector) → Ascending ps → in_front con (pairs_fr
 front_is con [] h = refl
 front_is con (p ∷ ps) h = by_test (nat_lt p.0 con) refl (front_is con ps (others_ascend p ps h))
   where
-    by_test : (b : Bool) → nat_lt p.0 con ≡ b → in_front con (pairs_from con ps) ≡ at ps con → in_front con (if b then pairs_from con ps else p ∷ ps) ≡ at (p ∷ ps) con
+    by_test : (b : Bool) → nat_lt p.0 con ≡ b → in_front con (pairs_from con ps) ≡ at ps con
+        → in_front con (if b then pairs_from con ps else p ∷ ps) ≡ at (p ∷ ps) con
     by_test true e f = grind (arith, nat_tests, e, f)
     by_test false e f = grind (arith, nat_tests, e, below_others p ps con h)
 
@@ -79,7 +81,8 @@ module _ (wanted : ℕ → Bool) (left : Vector) (p : ℕ × ℕ) (ps : Vector) 
       by_order (inl less) = grind (arith, nat_tests, from_keeps p.0 left k (omega (arith, less)), h)
       by_order (inr more) = absurd (omega (arith, h, below_others p ps k ordered more))
 
-  past : (o : Option ℕ) → (wanted p.0 ≡ true → p.1 ≤ at left p.0) → IsWalked wanted (at (pairs_from p.0 left)) (at ps) o → IsWalked wanted (at left) (at (p ∷ ps)) o
+  past : (o : Option ℕ) → (wanted p.0 ≡ true → p.1 ≤ at left p.0) → IsWalked wanted (at (pairs_from p.0 left)) (at ps) o
+      → IsWalked wanted (at left) (at (p ∷ ps)) o
   past None here h = λ k w. point k w here (h k w)
   past (Some con) here h = (h.0, there con h.1, λ k l w. point k w here (h.2 k l w))
 
@@ -112,7 +115,8 @@ compared types q left right (Some con) h = record {
   before = λ k l r. h.2 k l ((reached_is types q k).1 r);
 }
 
-pub answer : (types : List DataType) (q : Kind) (left right : Vector) (o : Option ℕ) → IsVector left → IsVector right → o ≡ first_below (wants types q) left right
+pub answer : (types : List DataType) (q : Kind) (left right : Vector) (o : Option ℕ) → IsVector left → IsVector right
+    → o ≡ first_below (wants types q) left right
     → MatchOption o (AtLeast types q (at left) (at right)) (λ con. IsFirstBelow types q (at left) (at right) con)
 answer types q left right o h k e = subst (IsCompared types q (at left) (at right)) (sym e) (compared types q (at left) (at right) _ (walked (wants types q) left right h.ascending k.ascending))
 
@@ -121,7 +125,8 @@ unfolding AtLeast
 none_where types q left right None h = (λ e. h, λ k. refl)
 none_where types q left right (Some con) h = (λ e. absurd cc, λ k. absurd (omega (arith, h.below, k con h.reached)))
 
-pub none_exactly : (types : List DataType) (q : Kind) (left right : Vector) (o : Option ℕ) → IsVector left → IsVector right → o ≡ first_below (wants types q) left right → (o ≡ None) ↔ AtLeast types q (at left) (at right)
+pub none_exactly : (types : List DataType) (q : Kind) (left right : Vector) (o : Option ℕ) → IsVector left → IsVector right
+    → o ≡ first_below (wants types q) left right → (o ≡ None) ↔ AtLeast types q (at left) (at right)
 none_exactly types q left right o h k e = none_where types q (at left) (at right) o (answer types q left right o h k e)
 
 -- ---- one entry on
@@ -134,7 +139,8 @@ one_turn : (wanted : ℕ → Bool) (left : Vector) (p : ℕ × ℕ) (ps : Vector
 unfolding first_below
 one_turn wanted left p ps = refl
 
-entry_more : (wanted : ℕ → Bool) (left right : Vector) (i : ℕ) → i < length right → first_below wanted left (drop i right) ≡ turn wanted left (get_or right i (0, 0)) (drop (i + 1) right)
+entry_more : (wanted : ℕ → Bool) (left right : Vector) (i : ℕ) → i < length right
+    → first_below wanted left (drop i right) ≡ turn wanted left (get_or right i (0, 0)) (drop (i + 1) right)
 entry_more wanted left right i h = ap (first_below wanted left) (drop-cons right i (0, 0) h) ∙ one_turn wanted left (get_or right i (0, 0)) (drop (suc i) right) ∙ ap (λ n. turn wanted left (get_or right i (0, 0)) (drop n right)) (sym (add-one i))
 
 no_entry : (wanted : ℕ → Bool) (left : Vector) → first_below wanted left [] ≡ None
@@ -147,7 +153,8 @@ pub record Looked (wanted : ℕ → Bool) (left : Vector) (p : ℕ × ℕ) (rest
   pub have_is : have ≡ in_front p.0 rest
   pub test : b ≡ (nat_lt have p.1 && wanted p.0)
 
-looked : (wanted : ℕ → Bool) (left : Vector) (p : ℕ × ℕ) (ps rest : Vector) (have : ℕ) (b : Bool) → Looked wanted left p rest have b → turn wanted left p ps ≡ (if b then Some p.0 else first_below wanted rest ps)
+looked : (wanted : ℕ → Bool) (left : Vector) (p : ℕ × ℕ) (ps rest : Vector) (have : ℕ) (b : Bool) → Looked wanted left p rest have b
+    → turn wanted left p ps ≡ (if b then Some p.0 else first_below wanted rest ps)
 looked wanted left p ps rest have b l =
     let e : have ≡ in_front p.0 (pairs_from p.0 left) = l.have_is ∙ ap (in_front p.0) l.rest_is in
     let t : (nat_lt (in_front p.0 (pairs_from p.0 left)) p.1 && wanted p.0) ≡ b = ap (λ n. nat_lt n p.1 && wanted p.0) (sym e) ∙ sym l.test in
@@ -163,17 +170,21 @@ pub goes_on : (wanted : ℕ → Bool) (left right rest : Vector) (i have : ℕ) 
 goes_on wanted left right rest i have b whole h l k e =
     sym (ap (λ x. if x then Some (get_or right i (0, 0)).0 else first_below wanted rest (drop (i + 1) right)) e) ∙ sym (looked wanted left (get_or right i (0, 0)) (drop (i + 1) right) rest have b l) ∙ sym (entry_more wanted left right i h) ∙ k
 
-pub ends : (wanted : ℕ → Bool) (left right : Vector) (i : ℕ) (whole : Option ℕ) → length right ≤ i → first_below wanted left (drop i right) ≡ whole → None ≡ whole
+pub ends : (wanted : ℕ → Bool) (left right : Vector) (i : ℕ) (whole : Option ℕ) → length right ≤ i → first_below wanted left (drop i right) ≡ whole
+    → None ≡ whole
 ends wanted left right i whole h k = sym (ap (first_below wanted left) (drop_of_length-le right {i = i} h) ∙ no_entry wanted left) ∙ k
 
 -- ---- by a table
 
-same_walk : (types : List DataType) (table : Table) (q : Kind) (left right : Vector) (o : Option ℕ) → o ≡ first_below (is_in table q) left right → table ≡ table_of types → o ≡ first_below (wants types q) left right
+same_walk : (types : List DataType) (table : Table) (q : Kind) (left right : Vector) (o : Option ℕ) → o ≡ first_below (is_in table q) left right
+    → table ≡ table_of types → o ≡ first_below (wants types q) left right
 same_walk types table q left right o e same = e ∙ ap (λ t. first_below (is_in t q) left right) same ∙ ap (λ w. first_below w left right) (λ i con. table_says types q con i)
 
-pub table_answer : (types : List DataType) (table : Table) (q : Kind) (left right : Vector) (o : Option ℕ) → IsVector left → IsVector right → o ≡ first_below (is_in table q) left right → table ≡ table_of types
+pub table_answer : (types : List DataType) (table : Table) (q : Kind) (left right : Vector) (o : Option ℕ) → IsVector left → IsVector right
+    → o ≡ first_below (is_in table q) left right → table ≡ table_of types
     → MatchOption o (AtLeast types q (at left) (at right)) (λ con. IsFirstBelow types q (at left) (at right) con)
 table_answer types table q left right o h k e same = answer types q left right o h k (same_walk types table q left right o e same)
 
-pub table_none : (types : List DataType) (table : Table) (q : Kind) (left right : Vector) (o : Option ℕ) → IsVector left → IsVector right → o ≡ first_below (is_in table q) left right → table ≡ table_of types → (o ≡ None) ↔ AtLeast types q (at left) (at right)
+pub table_none : (types : List DataType) (table : Table) (q : Kind) (left right : Vector) (o : Option ℕ) → IsVector left → IsVector right
+    → o ≡ first_below (is_in table q) left right → table ≡ table_of types → (o ≡ None) ↔ AtLeast types q (at left) (at right)
 table_none types table q left right o h k e same = none_exactly types q left right o h k (same_walk types table q left right o e same)

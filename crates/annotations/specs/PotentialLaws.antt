@@ -1,5 +1,6 @@
 -- Laws, for the proofs of this crate and of those above it.
--- Potential: by constructors, of a constructor, of arguments, of kinds that reach nothing, from larger annotations, and its bound.
+-- Potential: by constructors, of a constructor, of arguments, of kinds that reach nothing, from larger annotations, and
+-- its bound.
 use Rattle.std.proofs.Common.{◌≡◌, ◌⊎◌, ℤ, ℕ, zero, suc, ◌+◌, ◌*◌, ◌-◌, ◌<◌, ◌≤◌, Bool, true, false, List, [], ◌∷◌, ◌++◌, length, length-append, map, Option, Some, None, refl, sym, ap, ◌∙◌, subst, inl, inr, arith}
 use Rattle.std.specs.Prelude.{slice_get, cond, not, flat_map, nat_lt, if◌then◌else◌, ◌==◌, ◌||◌, IsSomeAnd}
 use Rattle.std.specs.List.{AllByRecursion, list_any, filter, range_with_len, sum_by}
@@ -26,7 +27,8 @@ unfolding AtLeast
 not_both types q left right con h k = omega (arith, k.below, h con k.reached)
 
 -- There is one first constructor that has fewer.
-pub one_first : (types : List DataType) (q : Kind) (left right : ℕ → ℕ) (a b : ℕ) → IsFirstBelow types q left right a → IsFirstBelow types q left right b → a ≡ b
+pub one_first : (types : List DataType) (q : Kind) (left right : ℕ → ℕ) (a b : ℕ) → IsFirstBelow types q left right a
+    → IsFirstBelow types q left right b → a ≡ b
 one_first types q left right a b h k = by_order (cases_lt a b) (cases_lt b a)
   where
     by_order : (a < b) ⊎ (b ≤ a) → (b < a) ⊎ (a ≤ b) → a ≡ b
@@ -45,7 +47,8 @@ at_least_on types q a b c h k = λ con r. omega (arith, h con r, k con r)
 -- ---- of a constructor
 
 -- What a constructor carries is what its node carries and what its parts do.
-pub potential_of_con : (types : List DataType) (units : ℕ → ℕ) (c : ℕ) (vs : Values) → potential types units (value.Con c vs) ≡ node_units types units c + potential_all types units vs
+pub potential_of_con : (types : List DataType) (units : ℕ → ℕ) (c : ℕ) (vs : Values)
+    → potential types units (value.Con c vs) ≡ node_units types units c + potential_all types units vs
 potential_of_con types units c vs = refl
 
 -- the parts, as a list
@@ -54,7 +57,8 @@ potential_of_parts types units [] = refl
 potential_of_parts types units (v ∷ vs) = ap (λ n. potential types units v + n) (potential_of_parts types units vs) ∙ sym (sum_by-cons (potential types units) v vs)
 
 -- The node of a heap type carries its units, and that of another type nothing.
-pub node_of_heap : (types : List DataType) (units : ℕ → ℕ) (c t : ℕ) → type_of types c ≡ Some t → is_heap_type types t ≡ true → node_units types units c ≡ units c
+pub node_of_heap : (types : List DataType) (units : ℕ → ℕ) (c t : ℕ) → type_of types c ≡ Some t → is_heap_type types t ≡ true
+    → node_units types units c ≡ units c
 node_of_heap types units c t h k = ap (λ o. cond (option_map_or (is_heap_type types) o false) (units c) 0) h ∙ ap (λ b. cond b (units c) 0) k
 
 pub node_of_other : (types : List DataType) (units : ℕ → ℕ) (c t : ℕ) → type_of types c ≡ Some t → is_heap_type types t ≡ false → node_units types units c ≡ 0
@@ -63,14 +67,16 @@ node_of_other types units c t h k = ap (λ o. cond (option_map_or (is_heap_type 
 -- ---- of arguments
 
 -- one after the other, each with its units
-pub potentials_append : (types : List DataType) (us ws : List (ℕ → ℕ)) (xs ys : List Value) → length us ≡ length xs → potentials types (us ++ ws) (xs ++ ys) ≡ potentials types us xs + potentials types ws ys
+pub potentials_append : (types : List DataType) (us ws : List (ℕ → ℕ)) (xs ys : List Value) → length us ≡ length xs
+    → potentials types (us ++ ws) (xs ++ ys) ≡ potentials types us xs + potentials types ws ys
 potentials_append types [] ws [] ys h = omega arith
 potentials_append types [] ws (x ∷ xs) ys h = absurd (omega (arith, h))
 potentials_append types (u ∷ us) ws [] ys h = absurd (omega (arith, h))
 potentials_append types (u ∷ us) ws (x ∷ xs) ys h = omega (arith, potentials_append types us ws xs ys (omega (arith, h)))
 
 -- all with the same units: as the parts of a constructor
-pub potentials_same : (types : List DataType) (units : ℕ → ℕ) (vs : List Value) → potentials types (map (λ v. units) vs) vs ≡ potential_all types units (parts vs)
+pub potentials_same : (types : List DataType) (units : ℕ → ℕ) (vs : List Value)
+    → potentials types (map (λ v. units) vs) vs ≡ potential_all types units (parts vs)
 potentials_same types units [] = refl
 potentials_same types units (v ∷ vs) = ap (λ n. potential types units v + n) (potentials_same types units vs)
 
@@ -96,11 +102,13 @@ mutual
   potential_within types units m h value.Dia = omega arith
   potential_within types units m h (value.Con c vs) = grind (arith, one_node m (is_heap_con types c) (units c) (h c), potential_all_within types units m h vs)
 
-  pub potential_all_within : (types : List DataType) (units : ℕ → ℕ) (m : ℕ) → ((c : ℕ) → units c ≤ m) → (vs : Values) → potential_all types units vs ≤ m * size_all vs
+  pub potential_all_within : (types : List DataType) (units : ℕ → ℕ) (m : ℕ) → ((c : ℕ) → units c ≤ m) → (vs : Values)
+      → potential_all types units vs ≤ m * size_all vs
   potential_all_within types units m h value.End = omega arith
   potential_all_within types units m h (value.And v vs) = grind (arith, potential_within types units m h v, potential_all_within types units m h vs)
 
-pub potentials_within : (types : List DataType) (us : List (ℕ → ℕ)) (m : ℕ) → AllByRecursion (λ units. (c : ℕ) → units c ≤ m) us → (vs : List Value) → potentials types us vs ≤ m * size_all (parts vs)
+pub potentials_within : (types : List DataType) (us : List (ℕ → ℕ)) (m : ℕ) → AllByRecursion (λ units. (c : ℕ) → units c ≤ m) us → (vs : List Value)
+    → potentials types us vs ≤ m * size_all (parts vs)
 potentials_within types [] m h vs = omega arith
 potentials_within types (u ∷ us) m h [] = omega arith
 potentials_within types (u ∷ us) m h (v ∷ vs) = grind (arith, potential_within types u m h.0 v, potentials_within types us m h.1 vs)
@@ -112,7 +120,9 @@ owned_there : (first : ℕ) (types : List DataType) (c t : ℕ) → type_from fi
 owned_there first [] c t h = let e : None ≡ Some t = h in absurd cc
 owned_there first (d ∷ ds) c t h = by_test (λ q. owned_there (suc first) ds (c - length d.cons) t q) (nat_lt c (length d.cons)) refl h
   where
-    by_test : (type_from (suc first) ds (c - length d.cons) ≡ Some t → c - length d.cons < length (constructors ds)) → (b : Bool) → nat_lt c (length d.cons) ≡ b → (if b then Some first else type_from (suc first) ds (c - length d.cons)) ≡ Some t → c < length (d.cons ++ constructors ds)
+    by_test : (type_from (suc first) ds (c - length d.cons) ≡ Some t → c - length d.cons < length (constructors ds)) → (b : Bool)
+        → nat_lt c (length d.cons) ≡ b → (if b then Some first else type_from (suc first) ds (c - length d.cons)) ≡ Some t
+        → c < length (d.cons ++ constructors ds)
     by_test f true e q = let k : c < length d.cons = grind (arith, nat_tests, e) in omega (arith, k, length-append d.cons (constructors ds))
     by_test f false e q = let k : length d.cons ≤ c = grind (arith, nat_tests, e) in omega (arith, k, f q, length-append d.cons (constructors ds))
 
@@ -136,7 +146,8 @@ node_below p units a (suc n) c h = by_test (p a) (node_below p units (a + 1) n c
     other : (c == a) ≡ false
     other = grind (arith, nat_tests, h)
 
-    by_test : (b : Bool) → node_over (filter p (range_with_len (a + 1) n)) units c ≡ 0 → node_over (cond b (a ∷ filter p (range_with_len (a + 1) n)) (filter p (range_with_len (a + 1) n))) units c ≡ 0
+    by_test : (b : Bool) → node_over (filter p (range_with_len (a + 1) n)) units c ≡ 0
+        → node_over (cond b (a ∷ filter p (range_with_len (a + 1) n)) (filter p (range_with_len (a + 1) n))) units c ≡ 0
     by_test true f = ap (λ x. units a * one_where x + node_over (filter p (range_with_len (a + 1) n)) units c) other ∙ grind (arith, f)
     by_test false f = f
 
@@ -157,7 +168,8 @@ node_within p units a (suc n) c h k = by_order (λ g l. node_within p units (a +
     here true f = let e : (a == a) ≡ true = grind (arith, nat_tests) in ap (λ x. units a * one_where x + node_over (filter p (range_with_len (a + 1) n)) units a) e ∙ grind (arith, f)
     here false f = f
 
-    by_order : (a + 1 ≤ c → c < a + 1 + n → node_over (filter p (range_with_len (a + 1) n)) units c ≡ cond (p c) (units c) 0) → (a < c) ⊎ (c ≤ a) → node_over (filter p (range_with_len a (suc n))) units c ≡ cond (p c) (units c) 0
+    by_order : (a + 1 ≤ c → c < a + 1 + n → node_over (filter p (range_with_len (a + 1) n)) units c ≡ cond (p c) (units c) 0) → (a < c) ⊎ (c ≤ a)
+        → node_over (filter p (range_with_len a (suc n))) units c ≡ cond (p c) (units c) 0
     by_order f (inl less) = behind (p a) (grind (arith, nat_tests, less)) (f (omega (arith, less)) (omega (arith, k)))
     by_order f (inr more) = let q : a ≡ c = omega (arith, h, more) in subst (λ x. node_over (filter p (range_with_len a (suc n))) units x ≡ cond (p x) (units x) 0) q (here (p a) (node_below p units (a + 1) n a (omega arith)))
 
@@ -168,7 +180,8 @@ node_beyond p units a (suc n) c h = by_test (p a) (node_beyond p units (a + 1) n
     other : (c == a) ≡ false
     other = grind (arith, nat_tests, h)
 
-    by_test : (b : Bool) → node_over (filter p (range_with_len (a + 1) n)) units c ≡ 0 → node_over (cond b (a ∷ filter p (range_with_len (a + 1) n)) (filter p (range_with_len (a + 1) n))) units c ≡ 0
+    by_test : (b : Bool) → node_over (filter p (range_with_len (a + 1) n)) units c ≡ 0
+        → node_over (cond b (a ∷ filter p (range_with_len (a + 1) n)) (filter p (range_with_len (a + 1) n))) units c ≡ 0
     by_test true f = ap (λ x. units a * one_where x + node_over (filter p (range_with_len (a + 1) n)) units c) other ∙ grind (arith, f)
     by_test false f = f
 
@@ -248,7 +261,8 @@ any_behind p (x ∷ xs) ys h = by_test (p x) (any_behind p xs ys h)
     by_test true e = refl
     by_test false e = e
 
-any_flat : {A B : Type 0} (p : B → Bool) (f : A → List B) (xs : List A) (i : ℕ) (x : A) → slice_get xs i ≡ Some x → list_any p (f x) ≡ true → list_any p (flat_map f xs) ≡ true
+any_flat : {A B : Type 0} (p : B → Bool) (f : A → List B) (xs : List A) (i : ℕ) (x : A) → slice_get xs i ≡ Some x → list_any p (f x) ≡ true
+    → list_any p (flat_map f xs) ≡ true
 any_flat p f [] i x h k = let e : None ≡ Some x = h in absurd cc
 any_flat p f (y ∷ ys) zero x h k = let e : y ≡ x = cc in any_front p (f y) (flat_map f ys) (ap (λ z. list_any p (f z)) e ∙ k)
 any_flat p f (y ∷ ys) (suc i) x h k = any_behind p (f y) (flat_map f ys) (any_flat p f ys i x h k)
@@ -274,7 +288,8 @@ record Built (types : List DataType) (q : Kind) (c : ℕ) (vs : Values) : Type 0
 built : (types : List DataType) (q : Kind) (c : ℕ) (vs : Values) → Fits types q (value.Con c vs) → Built types q c vs
 built types q c vs h = by_both (type_of types c) refl (constructor types c) refl h.0 h.1
   where
-    by_both : (o : Option ℕ) → type_of types c ≡ o → (p : Option Constructor) → constructor types c ≡ p → option_map kind.Of o ≡ Some q → IsSomeAnd p (λ con. FitAll types con.fields vs) → Built types q c vs
+    by_both : (o : Option ℕ) → type_of types c ≡ o → (p : Option Constructor) → constructor types c ≡ p → option_map kind.Of o ≡ Some q
+        → IsSomeAnd p (λ con. FitAll types con.fields vs) → Built types q c vs
     by_both None e p d k f = let x : None ≡ Some q = k in absurd cc
     by_both (Some t) e None d k f = absurd f
     by_both (Some t) e (Some con) d k f = record { t = t; con = con; kind_is = (let x : Some (kind.Of t) ≡ Some q = k in cc); owned = e; con_is = d; parts_fit = f }
@@ -284,7 +299,8 @@ type_there : (types : List DataType) (q : Kind) (c : ℕ) (vs : Values) (b : Bui
 type_there types q c vs b = located 0 types c b.t b.con b.con_is b.owned
 
 -- What a field reaches, the whole does.
-pub field_reaches : (types : List DataType) (c t : ℕ) (con : Constructor) → Located types 0 c t con → (i : ℕ) (q : Kind) → slice_get con.fields i ≡ Some q → (k : ℕ) → Reaches types q k → ReachesFrom types t k
+pub field_reaches : (types : List DataType) (c t : ℕ) (con : Constructor) → Located types 0 c t con → (i : ℕ) (q : Kind)
+    → slice_get con.fields i ≡ Some q → (k : ℕ) → Reaches types q k → ReachesFrom types t k
 field_reaches types c t con l i kind.Int h k r = absurd r
 field_reaches types c t con l i kind.Flag h k r = absurd r
 field_reaches types c t con l i kind.Dia h k r = absurd r
@@ -305,11 +321,13 @@ field_reaches types c t con l i (kind.Of u) h k r = record { last = r.last; lead
 -- ---- larger annotations
 
 -- So the fields have at least as much where the whole has.
-pub fields_at_least : (types : List DataType) (left right : ℕ → ℕ) (c t : ℕ) (con : Constructor) → Located types 0 c t con → AtLeast types (kind.Of t) left right → AllByRecursion (λ q. AtLeast types q left right) con.fields
+pub fields_at_least : (types : List DataType) (left right : ℕ → ℕ) (c t : ℕ) (con : Constructor) → Located types 0 c t con
+    → AtLeast types (kind.Of t) left right → AllByRecursion (λ q. AtLeast types q left right) con.fields
 unfolding AtLeast
 fields_at_least types left right c t con l h = all_of (λ q. AtLeast types q left right) con.fields (λ i q e. λ k r. h k (field_reaches types c t con l i q e k r))
 
-node_at_least : (types : List DataType) (left right : ℕ → ℕ) (c t : ℕ) → type_of types c ≡ Some t → AtLeast types (kind.Of t) left right → node_units types right c ≤ node_units types left c
+node_at_least : (types : List DataType) (left right : ℕ → ℕ) (c t : ℕ) → type_of types c ≡ Some t → AtLeast types (kind.Of t) left right
+    → node_units types right c ≤ node_units types left c
 unfolding AtLeast
 node_at_least types left right c t e h = by_heap (is_heap_type types t) refl
   where
@@ -318,8 +336,10 @@ node_at_least types left right c t e h = by_heap (is_heap_type types t) refl
     by_heap false k = omega (arith, node_of_other types right c t e k, node_of_other types left c t e k)
 
 mutual
-  -- Where each constructor that the kind reaches has at least as many units, a value of the kind carries at least as many.
-  pub potential_at_least : (types : List DataType) (q : Kind) (left right : ℕ → ℕ) → AtLeast types q left right → (v : Value) → Fits types q v → potential types right v ≤ potential types left v
+  -- Where each constructor that the kind reaches has at least as many units, a value of the kind carries at least as
+  -- many.
+  pub potential_at_least : (types : List DataType) (q : Kind) (left right : ℕ → ℕ) → AtLeast types q left right → (v : Value) → Fits types q v
+      → potential types right v ≤ potential types left v
   potential_at_least types q left right h (value.Int z) f = omega arith
   potential_at_least types q left right h (value.Flag b) f = omega arith
   potential_at_least types q left right h value.Dia f = omega arith
@@ -332,14 +352,16 @@ mutual
         all_at_least types b.con.fields left right (fields_at_least types left right c b.t b.con (type_there types q c vs b) g) vs b.parts_fit,
       )
 
-  pub all_at_least : (types : List DataType) (qs : List Kind) (left right : ℕ → ℕ) → AllByRecursion (λ q. AtLeast types q left right) qs → (vs : Values) → FitAll types qs vs → potential_all types right vs ≤ potential_all types left vs
+  pub all_at_least : (types : List DataType) (qs : List Kind) (left right : ℕ → ℕ) → AllByRecursion (λ q. AtLeast types q left right) qs
+      → (vs : Values) → FitAll types qs vs → potential_all types right vs ≤ potential_all types left vs
   all_at_least types [] left right h value.End f = omega arith
   all_at_least types [] left right h (value.And v vs) f = absurd f
   all_at_least types (q ∷ qs) left right h value.End f = absurd f
   all_at_least types (q ∷ qs) left right h (value.And v vs) f = omega (arith, potential_at_least types q left right h.0 v f.0, all_at_least types qs left right h.1 vs f.1)
 
 -- Only the constructors that the kind reaches count.
-pub potential_by_reached : (types : List DataType) (q : Kind) (left right : ℕ → ℕ) → ((c : ℕ) → Reaches types q c → left c ≡ right c) → (v : Value) → Fits types q v → potential types left v ≡ potential types right v
+pub potential_by_reached : (types : List DataType) (q : Kind) (left right : ℕ → ℕ) → ((c : ℕ) → Reaches types q c → left c ≡ right c) → (v : Value)
+    → Fits types q v → potential types left v ≡ potential types right v
 unfolding AtLeast
 potential_by_reached types q left right h v f =
     let a = potential_at_least types q left right (λ c r. omega (arith, h c r)) v f in
@@ -347,7 +369,8 @@ potential_by_reached types q left right h v f =
     omega (arith, a, b)
 
 -- The same of arguments, each with units of its own.
-pub potentials_at_least : (types : List DataType) (qs : List Kind) (lefts rights : List (ℕ → ℕ)) → EachAtLeast types qs lefts rights → (vs : List Value) → FitAll types qs (parts vs) → potentials types rights vs ≤ potentials types lefts vs
+pub potentials_at_least : (types : List DataType) (qs : List Kind) (lefts rights : List (ℕ → ℕ)) → EachAtLeast types qs lefts rights
+    → (vs : List Value) → FitAll types qs (parts vs) → potentials types rights vs ≤ potentials types lefts vs
 potentials_at_least types [] [] [] h [] f = omega arith
 potentials_at_least types [] [] [] h (v ∷ vs) f = absurd f
 potentials_at_least types [] [] (right ∷ rights) h vs f = absurd h
@@ -382,7 +405,8 @@ no_parts types units [] (value.And v vs) e f = absurd f
 no_parts types units (q ∷ qs) vs e f = absurd cc
 
 -- A value of a kind that isn't a heap kind carries nothing.
-pub nothing_of_heap_free : (types : List DataType) → AreTypes types → (units : ℕ → ℕ) (q : Kind) → is_heap types q ≡ false → (v : Value) → Fits types q v → potential types units v ≡ 0
+pub nothing_of_heap_free : (types : List DataType) → AreTypes types → (units : ℕ → ℕ) (q : Kind) → is_heap types q ≡ false → (v : Value)
+    → Fits types q v → potential types units v ≡ 0
 nothing_of_heap_free types w units q h (value.Int z) f = refl
 nothing_of_heap_free types w units q h (value.Flag b) f = refl
 nothing_of_heap_free types w units q h value.Dia f = refl

@@ -24,8 +24,8 @@ abbrev pub in_front : ℕ → Vector → ℕ
 in_front con [] = 0
 in_front con (p ∷ ps) = if p.0 == con then p.1 else 0
 
--- The first constructor on the right that is wanted and has fewer units on the left, both walked once. What stands on the left in front of a
--- constructor of the right isn't looked at again.
+-- The first constructor on the right that is wanted and has fewer units on the left, both walked once. What stands on
+-- the left in front of a constructor of the right isn't looked at again.
 unfoldable pub first_below : (ℕ → Bool) → Vector → Vector → Option ℕ
 first_below wanted left [] = None
 first_below wanted left (p ∷ ps) = if nat_lt (in_front p.0 (pairs_from p.0 left)) p.1 && wanted p.0 then Some p.0 else first_below wanted (pairs_from p.0 left) ps

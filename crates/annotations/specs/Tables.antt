@@ -1,5 +1,6 @@
 -- Cited by contracts.
--- Which constructors each type reaches, at hand: one list for each type, as the comparisons of a whole program ask often.
+-- Which constructors each type reaches, at hand: one list for each type, as the comparisons of a whole program ask
+-- often.
 use Rattle.std.specs.Prelude.{◌≡◌, ℕ, ◌+◌, Bool, true, false, List, [], ◌∷◌, ◌++◌, length, map, get_or, slice_get, replicate, IsTrue}
 use Rattle.std.specs.List.{AllByRecursion, range_with_len}
 use Rattle.std.specs.Option.{option_map_or}
@@ -10,7 +11,8 @@ use Rattle.camelot_values.specs.declared.kinds.Kind.{Kind}
 use Rattle.camelot_values.specs.declared.kinds.Kind.TheVariants.{Int, Flag, Dia, Of}
 use Rattle.annotations.specs.Vectors.{Vector}
 
--- Of each type: whether it's a heap type, and the constructors that it reaches, ascending. Of each constructor: its type.
+-- Of each type: whether it's a heap type, and the constructors that it reaches, ascending. Of each constructor: its
+-- type.
 pub record Table : Type 0 where
   pub heaps : List Bool
   pub owners : List ℕ

@@ -1,6 +1,6 @@
 -- Cited by contracts.
--- Annotations: how many units a node of each constructor carries, and the potential of a value, which is what all its nodes carry
--- together (Hofmann and Jost 2003). One vector covers all occurrences of a constructor inside one value.
+-- Annotations: how many units a node of each constructor carries, and the potential of a value, which is what all its
+-- nodes carry together (Hofmann and Jost 2003). One vector covers all occurrences of a constructor inside one value.
 use Rattle.std.specs.Prelude.{ℕ, ◌+◌, ◌*◌, ◌<◌, ◌≤◌, ◌==◌, if◌then◌else◌, Bool, false, List, [], ◌∷◌, length, map, cond}
 use Rattle.std.specs.List.{AllByRecursion, filter, range_with_len}
 use Rattle.std.specs.Option.{option_map_or}

@@ -36,7 +36,8 @@ fn item_units(types: &Types, vector: &Vector, item: &Item) -> u64
     }
 }
 
-/// What all nodes of the value carry together, in units (Hofmann and Jost 2003). It goes through the nodes once, and takes no memory.
+/// What all nodes of the value carry together, in units (Hofmann and Jost 2003). It goes through the nodes once, and
+/// takes no memory.
 #[tactic(auto, using(crate::proofs::Nodes::node_more))]
 pub fn potential(value: &Flat, types: &Types, vector: &Vector) -> u128
     ensures { result ≡ potential types.now (at vector.now) value.now }

@@ -54,11 +54,16 @@ fn first_below(left: &Vector, right: &Vector, types: &Types, kind: Kind) -> Opti
     None
 }
 
-/// The first constructor that the kind reaches which has fewer units on the left than on the right; None exactly where the left has at
-/// least as many on each. Both are walked once, it takes no memory, and the kind is only looked into where the left has fewer.
+/// The first constructor that the kind reaches which has fewer units on the left than on the right; None exactly where
+/// the left has at least as many on each. Both are walked once, it takes no memory, and the kind is only looked into
+/// where the left has fewer.
 #[tactic(auto, using(crate::proofs::Walks::answer, crate::proofs::Walks::none_exactly))]
 pub fn at_least(left: &Vector, right: &Vector, types: &Types, kind: Kind) -> Option<u32>
-    ensures answer { MatchOption result (AtLeast types.now kind (at left.now) (at right.now)) (λ con. IsFirstBelow types.now kind (at left.now) (at right.now) con) }
+    // None says that the left has at least as many units on each constructor that is reached; a constructor is the
+    // first where it has fewer.
+    ensures answer { MatchOption result (AtLeast types.now kind (at left.now) (at right.now))
+        (λ con. IsFirstBelow types.now kind (at left.now) (at right.now) con) }
+    // None comes exactly where the left has at least as many on each.
     ensures none { (result ≡ None) ↔ AtLeast types.now kind (at left.now) (at right.now) }
 {
     left.limits();

@@ -154,22 +154,24 @@ impl ReachTable {
         }
     }
 
-    /// The number of the type that the constructor of this number belongs to, as `Types::type_of` says it of the types of the table. It takes
-    /// a constant time, and no memory.
+    /// The number of the type that the constructor of this number belongs to, as `Types::type_of` says it of the types
+    /// of the table. It takes a constant time, and no memory.
     pub fn type_of(&self, con: u32) -> Option<u32>
         ensures { (types : List DataType) → self.now ≡ table_of types → result ≡ type_of types con }
     {
         self.owner(con)
     }
 
-    /// Whether values of this kind take cells, as `Types::is_heap` says it of the types of the table. It takes a constant time, and no memory.
+    /// Whether values of this kind take cells, as `Types::is_heap` says it of the types of the table. It takes a
+    /// constant time, and no memory.
     pub fn is_heap(&self, kind: Kind) -> bool
         ensures { (types : List DataType) → self.now ≡ table_of types → result ≡ is_heap types kind }
     {
         self.is_heap_in(kind)
     }
 
-    /// Whether the constructor of this number belongs to a heap type, in the types of the table. It takes a constant time, and no memory.
+    /// Whether the constructor of this number belongs to a heap type, in the types of the table. It takes a constant
+    /// time, and no memory.
     pub fn is_heap_con(&self, con: u32) -> bool
         ensures { (types : List DataType) → self.now ≡ table_of types → result ≡ is_heap_con types con }
     {
@@ -196,8 +198,8 @@ impl ReachTable {
         }
     }
 
-    /// Whether the kind reaches the constructor of this number, as `Types::reaches` says it of the types of the table. It takes a
-    /// logarithmic time, and no memory.
+    /// Whether the kind reaches the constructor of this number, as `Types::reaches` says it of the types of the table.
+    /// It takes a logarithmic time, and no memory.
     pub fn reaches(&self, kind: Kind, con: u32) -> bool
         ensures { (types : List DataType) → self.now ≡ table_of types → (IsTrue result ↔ Reaches types kind con) }
     {
@@ -214,8 +216,8 @@ impl ReachTable {
         }
     }
 
-    /// The constructors that the kind reaches, ascending, as `Types::reached` lists them, in the types of the table. It takes a constant
-    /// time, and no memory.
+    /// The constructors that the kind reaches, ascending, as `Types::reached` lists them, in the types of the table. It
+    /// takes a constant time, and no memory.
     pub fn reached(&self, kind: Kind) -> &[u32]
         ensures { (types : List DataType) → self.now ≡ table_of types → result.now ≡ reached types kind }
     {
@@ -236,8 +238,8 @@ impl ReachTable {
         true
     }
 
-    /// Whether the kind reaches each constructor of the vector, in the types of the table. It takes a logarithmic time for each, and no
-    /// memory.
+    /// Whether the kind reaches each constructor of the vector, in the types of the table. It takes a logarithmic time
+    /// for each, and no memory.
     pub fn reaches_each(&self, kind: Kind, vector: &Vector) -> bool
         ensures { (types : List DataType) → self.now ≡ table_of types → (IsTrue result ↔ ReachesEach types kind vector.now) }
     {
@@ -270,11 +272,16 @@ fn first_fewer(left: &Vector, right: &Vector, table: &ReachTable, kind: Kind) ->
     None
 }
 
-/// The first constructor that the kind reaches which has fewer units on the left than on the right, by a table of the types; None exactly
-/// where the left has at least as many on each. Both are walked once, it takes no memory, and the table is only asked where the left has
-/// fewer.
+/// The first constructor that the kind reaches which has fewer units on the left than on the right, by a table of the
+/// types; None exactly where the left has at least as many on each. Both are walked once, it takes no memory, and the
+/// table is only asked where the left has fewer.
 pub fn first_below(left: &Vector, right: &Vector, table: &ReachTable, kind: Kind) -> Option<u32>
-    ensures answer { (types : List DataType) → table.now ≡ table_of types → MatchOption result (AtLeast types kind (at left.now) (at right.now)) (λ con. IsFirstBelow types kind (at left.now) (at right.now) con) }
+    // None says that the left has at least as many units on each constructor that is reached; a constructor is the
+    // first where it has fewer.
+    ensures answer { (types : List DataType) → table.now ≡ table_of types
+        → MatchOption result (AtLeast types kind (at left.now) (at right.now))
+        (λ con. IsFirstBelow types kind (at left.now) (at right.now) con) }
+    // None comes exactly where the left has at least as many on each.
     ensures none { (types : List DataType) → table.now ≡ table_of types → ((result ≡ None) ↔ AtLeast types kind (at left.now) (at right.now)) }
 {
     left.limits();

@@ -5,8 +5,8 @@ ghost use Rattle.annotations.specs.Steps.{IsFound};
 use std::alloc::Global;
 use std::marker::Model;
 
-/// Annotations: constructors by their numbers, ascending, each with its units, at least 1. A constructor that isn't there has none
-/// (Hofmann and Jost 2003).
+/// Annotations: constructors by their numbers, ascending, each with its units, at least 1. A constructor that isn't
+/// there has none (Hofmann and Jost 2003).
 #[derive(Drop)]
 pub struct Vector {
     pairs: Vec<(u32, u64)>,
@@ -47,8 +47,8 @@ impl Vector {
         &self.pairs
     }
 
-    /// The order of the constructors, and that units are at least 1. It does nothing; its clause is what whoever holds a `Vector` can
-    /// use.
+    /// The order of the constructors, and that units are at least 1. It does nothing; its clause is what whoever holds
+    /// a `Vector` can use.
     pub fn limits(&self)
         ensures { IsVector self.now }
     {

@@ -1,4 +1,3 @@
 -- Licences of bundles: what is answered, and that there is one answer.
 pub mod Answering
-pub mod OneVerdict
 pub mod OneLicence

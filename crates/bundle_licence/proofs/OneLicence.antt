@@ -1,4 +1,4 @@
--- A text has one licence or one cause at most, and not both, by the laws of bundles and of the verifier's stages.
+-- A text has one licence or one cause at most, and not both, by the laws of bundles and of the verifier.
 use Rattle.std.proofs.Common.{◌≡◌, ◌⊎◌, ℕ, List, Result, Ok, Err, refl, sym, ap, ◌∙◌, subst, inl, inr}
 use Rattle.licence.specs.Licensed.{Licensed}
 use Rattle.grail_bundle.specs.Bundles.{Bundle, IsBundle, bundle_text}
@@ -6,17 +6,16 @@ use Rattle.grail_bundle.specs.Faults.{IsFault}
 use Rattle.grail_verifier.specs.AcceptedLaws.{verdict_of}
 use Rattle.grail_verifier.specs.Verdicts.{IsVerdict}
 use Rattle.grail_verifier.specs.declared.refusal.Refusal.{Refusal}
-use Rattle.refusals.specs.declared.cause.Cause.{Cause}
-use Rattle.refusals.specs.declared.cause.Cause.TheVariants as cause
+use Rattle.cause_texts.specs.declared.cause.Cause.{Cause}
+use Rattle.cause_texts.specs.declared.cause.Cause.TheVariants as cause
 use Rattle.bundle_licence.specs.Bundled.{IsTextOf, HasLicence, IsRefusedBy, IsRefusedFor}
-use Rattle.bundle_licence.proofs.OneVerdict.{Stages, one_verdict}
 
--- the laws of bundles, and of the verifier's stages
+-- the laws of bundles, and of the verifier
 pub record Laws : Type 0 where
   pub bundle : (b c : Bundle) → IsBundle b → IsBundle c → bundle_text b.code b.cert ≡ bundle_text c.code c.cert → b ≡ c
   pub line : (text : List ℕ) (m n : ℕ) → IsFault text m → IsFault text n → m ≡ n
   pub bundle_or_line : (text : List ℕ) (n : ℕ) (b : Bundle) → IsFault text n → IsBundle b → text ≡ bundle_text b.code b.cert → ⊥
-  pub stages : Stages
+  pub verdict : (code cert : List ℕ) (v w : Result Licensed Refusal) → IsVerdict code cert v → IsVerdict code cert w → v ≡ w
 
 -- the text is this bundle's, and this is the verifier's verdict on it
 record Judged (text : List ℕ) (v : Result Licensed Refusal) : Type 0 where
@@ -33,7 +32,7 @@ refused text r h = record { bundle = h.bundle; of = h.of; verdict = h.verdict }
 one_judged : Laws → (text : List ℕ) (v w : Result Licensed Refusal) → Judged text v → Judged text w → v ≡ w
 one_judged L text v w h k =
     let same : h.bundle ≡ k.bundle = L.bundle h.bundle k.bundle h.of.right k.of.right (sym h.of.is ∙ k.of.is) in
-    one_verdict L.stages k.bundle.code k.bundle.cert v w (subst (λ (b : Bundle). IsVerdict b.code b.cert v) same h.verdict) k.verdict
+    L.verdict k.bundle.code k.bundle.cert v w (subst (λ (b : Bundle). IsVerdict b.code b.cert v) same h.verdict) k.verdict
 
 no_bundle : Laws → (text : List ℕ) (n : ℕ) (v : Result Licensed Refusal) → IsFault text n → Judged text v → ⊥
 no_bundle L text n v fault h = L.bundle_or_line text n h.bundle fault h.of.right h.of.is

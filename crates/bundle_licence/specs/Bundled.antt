@@ -1,16 +1,16 @@
 -- Cited by contracts.
 -- Which licence a bundle has, from its text alone, and why a text has none.
 use Rattle.std.specs.Prelude.{◌≡◌, ℕ, List, Result, Ok, Err}
+use Rattle.stops.specs.declared.stop.Stop.{Stop}
+use Rattle.stops.specs.Stopping.{FaultIs}
 use Rattle.licence.specs.Licensed.{Licensed}
 use Rattle.grail_bundle.specs.Bundles.{Bundle, IsBundle, bundle_text}
 use Rattle.grail_bundle.specs.Faults.{IsFault}
 use Rattle.grail_verifier.specs.Accepted.{IsAccepted}
 use Rattle.grail_verifier.specs.Verdicts.{IsVerdict}
 use Rattle.grail_verifier.specs.declared.refusal.Refusal.{Refusal}
-use Rattle.refusals.specs.declared.cause.Cause.{Cause}
-use Rattle.refusals.specs.declared.cause.Cause.TheVariants as cause
-use Rattle.bundle_licence.specs.declared.fault.LicenceFault.{LicenceFault}
-use Rattle.bundle_licence.specs.declared.fault.LicenceFault.TheVariants as fault
+use Rattle.cause_texts.specs.declared.cause.Cause.{Cause}
+use Rattle.cause_texts.specs.declared.cause.Cause.TheVariants as cause
 
 -- the text is this bundle's
 pub record IsTextOf (text : List ℕ) (b : Bundle) : Type 0 where
@@ -39,17 +39,6 @@ IsRefusedFor text c = ⊥
 -- ---- answers
 
 -- what is answered is so; nothing is said where memory ran out
-abbrev pub IsLicensedOr : List ℕ → Result Licensed LicenceFault → Type 0
+abbrev pub IsLicensedOr : List ℕ → Result Licensed (Stop Cause) → Type 0
 IsLicensedOr text (Ok l) = HasLicence text l
-IsLicensedOr text (Err (fault.Refused c)) = IsRefusedFor text c
-IsLicensedOr text (Err fault.Memory) = Unit {0}
-
--- memory ran out
-abbrev pub IsMemory : LicenceFault → Type 0
-IsMemory (fault.Refused c) = ⊥
-IsMemory fault.Memory = Unit {0}
-
--- this is the cause, unless memory ran out
-abbrev pub IsRefusedOr : Cause → LicenceFault → Type 0
-IsRefusedOr c (fault.Refused x) = x ≡ c
-IsRefusedOr c fault.Memory = Unit {0}
+IsLicensedOr text (Err stop) = FaultIs (IsRefusedFor text) stop

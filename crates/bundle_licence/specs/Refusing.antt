@@ -1,11 +1,11 @@
 -- Private: words for functions of this crate.
--- The fault that a refusal of the verifier is.
+-- A refusal of the verifier is a cause.
+use Rattle.stops.specs.declared.stop.Stop.{Stop}
+use Rattle.stops.specs.declared.stop.Stop.TheVariants.{Fault, Memory}
 use Rattle.grail_verifier.specs.declared.refusal.Refusal.{Refusal}
-use Rattle.grail_verifier.specs.declared.refusal.Refusal.TheVariants as refusal
-use Rattle.refusals.specs.declared.cause.Cause.TheVariants as cause
-use Rattle.bundle_licence.specs.declared.fault.LicenceFault.{LicenceFault}
-use Rattle.bundle_licence.specs.declared.fault.LicenceFault.TheVariants as fault
+use Rattle.cause_texts.specs.declared.cause.Cause.{Cause}
+use Rattle.cause_texts.specs.declared.cause.Cause.TheVariants as cause
 
-abbrev pub fault_of : Refusal → LicenceFault
-fault_of refusal.Memory = fault.Memory
-fault_of r = fault.Refused (cause.Verify r)
+abbrev pub for_cause : Stop Refusal → Stop Cause
+for_cause (Fault r) = Fault (cause.Verify r)
+for_cause Memory = Memory

@@ -1,35 +1,38 @@
 ghost use Rattle.std.specs.Prelude.{◌≡◌, ◌<◌, ℕ, Ok, Err, Result, length, MatchResult};
+ghost use Rattle.stops.specs.declared.stop.Stop.TheVariants.{Memory};
+ghost use Rattle.stops.specs.Stopping.{IsFault};
 ghost use Rattle.licence.specs.Licensed.{Licensed};
 ghost use Rattle.grail_bundle.specs.Bundles.{Bundle as PlainBundle};
-ghost use Rattle.grail_verifier.specs.Verdicts.{IsVerdict, OrMemory};
+ghost use Rattle.grail_verifier.specs.Verdicts.{IsVerdict, VerdictIs, IsThisVerdict};
 ghost use Rattle.grail_verifier.specs.declared.refusal.Refusal.{Refusal as PlainRefusal};
-ghost use Rattle.refusals.specs.declared.cause.Cause.{Cause as PlainCause};
-ghost use Rattle.bundle_licence.specs.Bundled.{HasLicence, IsRefusedFor, IsLicensedOr, IsRefusedOr, IsMemory};
-ghost use Rattle.bundle_licence.specs.Refusing.{fault_of};
+ghost use Rattle.cause_texts.specs.declared.cause.Cause.{Cause as PlainCause};
+ghost use Rattle.bundle_licence.specs.Bundled.{HasLicence, IsRefusedFor, IsLicensedOr};
+ghost use Rattle.bundle_licence.specs.Refusing.{for_cause};
 
-use crate::fault::LicenceFault;
-use grail_bundle::{Bundle, BundleError, read_bundle};
+use cause_texts::Cause;
+use grail_bundle::{Bundle, read_bundle};
 use grail_verifier::{Refusal, verify};
 use licence::Licence;
-use refusals::Cause;
 use std::alloc::Global;
+use stops::Stop;
 
-// Want of memory is one wherever it is met.
-fn fault_of(refusal: Refusal) -> LicenceFault
-    ensures { result ≡ fault_of refusal }
+// A refusal of the verifier is a cause.
+fn for_cause(stop: Stop<Refusal>) -> Stop<Cause>
+    ensures { result ≡ for_cause stop }
 {
-    match refusal {
-        Refusal::Memory => LicenceFault::Memory,
-        refusal => LicenceFault::Refused(Cause::Verify(refusal)),
+    match stop {
+        Stop::Fault(refusal) => Stop::Fault(Cause::Verify(refusal)),
+        Stop::Memory => Stop::Memory,
     }
 }
 
 // What the verifier answers of a bundle.
-fn verify_bundle(alloc: Global, bundle: &Bundle) -> Result<Licence, Refusal>
+fn verify_bundle(alloc: Global, bundle: &Bundle) -> Result<Licence, Stop<Refusal>>
     requires code { length bundle.now.code < 4294967296 }
     requires cert { length bundle.now.cert < 4294967296 }
-    ensures found { OrMemory result (IsVerdict bundle.now.code bundle.now.cert result) }
-    ensures exact { (verdict : Result Licensed PlainRefusal) → IsVerdict bundle.now.code bundle.now.cert verdict → OrMemory result (result ≡ verdict) }
+    ensures found { VerdictIs (IsVerdict bundle.now.code bundle.now.cert) result }
+    ensures exact { (verdict : Result Licensed PlainRefusal) → IsVerdict bundle.now.code bundle.now.cert verdict
+        → IsThisVerdict verdict result }
 {
     verify(alloc, bundle.code(), bundle.cert())
 }
@@ -39,28 +42,28 @@ fn verify_bundle(alloc: Global, bundle: &Bundle) -> Result<Licence, Refusal>
 ///
 /// # Errors
 ///
-/// [`LicenceFault::Refused`] exactly where the text is no bundle's, with its first wrong line, or the verifier refuses
-/// the bundle, with its first refusal. [`LicenceFault::Memory`] where memory runs out.
-pub fn license_bundle(alloc: Global, text: &[u8]) -> Result<Licence, LicenceFault>
+/// [`Stop::Fault`] exactly where the text is no bundle's, with its first wrong line, or the verifier refuses the
+/// bundle, with its first refusal. [`Stop::Memory`] where memory runs out.
+pub fn license_bundle(alloc: Global, text: &[u8]) -> Result<Licence, Stop<Cause>>
     requires { length text.now < 4294967296 }
     // What is answered is so.
     ensures found { IsLicensedOr text.now result }
     // A bundle that the verifier accepts has its licence, unless memory runs out.
-    ensures accepts { (l : Licensed) → HasLicence text.now l → MatchResult result (λ licence. licence ≡ l) IsMemory }
+    ensures accepts { (l : Licensed) → HasLicence text.now l → MatchResult result (λ licence. licence ≡ l) (λ stop. stop ≡ Memory) }
     // What is refused for a cause is refused for this one, unless memory runs out.
-    ensures refuses { (cause : PlainCause) → IsRefusedFor text.now cause → MatchResult result (λ licence. ⊥) (IsRefusedOr cause) }
+    ensures refuses { (cause : PlainCause) → IsRefusedFor text.now cause → MatchResult result (λ licence. ⊥) (IsFault cause) }
 {
     match read_bundle(alloc, text) {
         Ok(bundle) => {
             bundle.kept();
             match verify_bundle(alloc, &bundle) {
                 Ok(licence) => Ok(licence),
-                Err(refusal) => Err(fault_of(refusal)),
+                Err(stop) => Err(for_cause(stop)),
             }
         }
-        Err(BundleError::Fault(fault)) => Err(LicenceFault::Refused(Cause::Bundle {
+        Err(Stop::Fault(fault)) => Err(Stop::Fault(Cause::Bundle {
             line: fault.line as u64,
         })),
-        Err(BundleError::Memory) => Err(LicenceFault::Memory),
+        Err(Stop::Memory) => Err(Stop::Memory),
     }
 }

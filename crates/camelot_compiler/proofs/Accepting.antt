@@ -1,42 +1,43 @@
 -- The verifier says yes of what the compiler makes.
 use Rattle.std.proofs.Common.{◌≡◌, ℕ, List, Option, Some, None, Result, Ok, Err, refl, sym, ap, ◌∙◌, subst}
 use Rattle.std.specs.Prelude.{IfOk, MatchResult}
+use Rattle.stops.specs.declared.stop.Stop.{Stop}
+use Rattle.stops.specs.declared.stop.Stop.TheVariants.{Fault, Memory}
+use Rattle.stops.specs.Stopping.{IsFault}
 use Rattle.camelot_grammar.specs.Parsing.{HasProgram}
-use Rattle.typing_rules.specs.Typed.{Typing, IsTyping}
-use Rattle.typing_rules.specs.Settled.{IsSettled}
+use Rattle.camelot_typing.specs.Typed.{Typing, IsTyping}
+use Rattle.camelot_typing.specs.Settled.{IsSettled}
 use Rattle.code_gen.specs.Generated.{compiled}
 use Rattle.grail_code.specs.Spelling.{FitsCode, spelling}
 use Rattle.certificate.specs.Text.{text_of}
 use Rattle.licence.specs.Licensed.{Licensed}
 use Rattle.grail_verifier.specs.declared.refusal.Refusal.{Refusal}
-use Rattle.grail_verifier.specs.declared.refusal.Refusal.TheVariants as refusal
-use Rattle.grail_verifier.specs.Verdicts as verdicts
-use Rattle.grail_verifier.specs.Verdicts.{IsVerdict}
+use Rattle.grail_verifier.specs.Verdicts.{IsVerdict, IsThisVerdict}
 use Rattle.grail_verifier.specs.Accepted.{IsAccepted}
 use Rattle.grail_verifier.specs.AcceptedLaws.{verdict_of}
 use Rattle.lp_constraints.specs.Inference as inference
 use Rattle.lp_constraints.specs.Inference.{Infers}
-use Rattle.refusals.specs.declared.cause.Cause.{Cause}
+use Rattle.cause_texts.specs.declared.cause.Cause.{Cause}
 use Rattle.grail_bundle.specs.Bundles.{Bundle}
-use Rattle.camelot_compiler.specs.declared.fault.CompileFault.{CompileFault}
-use Rattle.camelot_compiler.specs.declared.fault.CompileFault.TheVariants as compile_fault
 use Rattle.camelot_compiler.specs.Compiled.{Compiled, Bundled, Refused, compiled_of, IsCompiled, IsSo, Answers, OfCode, HasCertificate}
-use Rattle.camelot_compiler.specs.Licences.{HasLicence, IsLicence, IsLicensedOr, IsRefusedOr}
-use Rattle.camelot_compiler.specs.Accepted.{AreAccepted, IsMemory}
+use Rattle.camelot_compiler.specs.Licences.{HasLicence, IsLicence, IsLicensedOr}
+use Rattle.camelot_compiler.specs.Accepted.{AreAccepted}
 
 -- ---- the verifier's answers
 
-pub is_memory : (code cert : List ℕ) (r : Refusal) → AreAccepted code cert → ((v : Result Licensed Refusal) → IsVerdict code cert v → verdicts.OrMemory (Err r) (Err r ≡ v)) → IsMemory r
-is_memory code cert refusal.Memory verified exact = tt
-is_memory code cert (refusal.Code x) verified exact = let e : Err (refusal.Code x) ≡ Ok verified.licence = exact (Ok verified.licence) (verdict_of code cert verified.licence verified.accepted) in cc
-is_memory code cert (refusal.Kinds x) verified exact = let e : Err (refusal.Kinds x) ≡ Ok verified.licence = exact (Ok verified.licence) (verdict_of code cert verified.licence verified.accepted) in cc
-is_memory code cert (refusal.Cert x) verified exact = let e : Err (refusal.Cert x) ≡ Ok verified.licence = exact (Ok verified.licence) (verdict_of code cert verified.licence verified.accepted) in cc
-is_memory code cert (refusal.Shape f b) verified exact = let e : Err (refusal.Shape f b) ≡ Ok verified.licence = exact (Ok verified.licence) (verdict_of code cert verified.licence verified.accepted) in cc
-is_memory code cert (refusal.Need f b p h n) verified exact = let e : Err (refusal.Need f b p h n) ≡ Ok verified.licence = exact (Ok verified.licence) (verdict_of code cert verified.licence verified.accepted) in cc
-is_memory code cert (refusal.Weak f b p c h n) verified exact = let e : Err (refusal.Weak f b p c h n) ≡ Ok verified.licence = exact (Ok verified.licence) (verdict_of code cert verified.licence verified.accepted) in cc
+abbrev Same : (v w : Result Licensed Refusal) → Type 0
+Same v w = v ≡ w
 
-pub same_licence : (code cert : List ℕ) (m l : Licensed) → ((v : Result Licensed Refusal) → IsVerdict code cert v → verdicts.OrMemory (Ok m) (Ok m ≡ v)) → IsAccepted code cert l → m ≡ l
-same_licence code cert m l exact accepted = let e : Ok m ≡ Ok l = exact (Ok l) (verdict_of code cert l accepted) in cc
+pub is_memory : (code cert : List ℕ) (stop : Stop Refusal) → AreAccepted code cert
+    → ((v : Result Licensed Refusal) → IsVerdict code cert v → IsThisVerdict v (Err stop)) → stop ≡ Memory
+is_memory code cert (Fault r) verified exact =
+    let e : Same (Err r) (Ok verified.licence) = exact (Ok verified.licence) (verdict_of code cert verified.licence verified.accepted) in
+    cc
+is_memory code cert Memory verified exact = refl
+
+pub same_licence : (code cert : List ℕ) (m l : Licensed) → ((v : Result Licensed Refusal) → IsVerdict code cert v → IsThisVerdict v (Ok m))
+    → IsAccepted code cert l → m ≡ l
+same_licence code cert m l exact accepted = let e : Same (Ok m) (Ok l) = exact (Ok l) (verdict_of code cert l accepted) in cc
 
 -- ---- a source's licence
 
@@ -65,17 +66,21 @@ accepted text b is certified = let of : OfBundle text b.code b.cert = of_bundle 
 
 -- what the verifier's answer says, where it is asked about a bundle
 module _ (text : List ℕ) (b : Bundle) (is : IsCompiled text (Bundled b.code b.cert)) (certified : OfCode text (HasCertificate b.code b.cert)) where
-  pub found_so : (r : Result Licensed CompileFault) → ((l : Licensed) → IsAccepted b.code b.cert l → MatchResult r (λ licence. licence ≡ l) (λ x. x ≡ compile_fault.Memory)) → IsLicensedOr text r
+  pub found_so : (r : Result Licensed (Stop Cause))
+      → ((l : Licensed) → IsAccepted b.code b.cert l → MatchResult r (λ licence. licence ≡ l) (λ x. x ≡ Memory)) → IsLicensedOr text r
   found_so (Ok m) says = let of : OfBundle text b.code b.cert = of_bundle text b.code b.cert is certified in subst (IsLicence text) (sym (says of.licence of.accepted)) of.is
-  found_so (Err (compile_fault.Refused x)) says = let of : OfBundle text b.code b.cert = of_bundle text b.code b.cert is certified in let e : compile_fault.Refused x ≡ compile_fault.Memory = says of.licence of.accepted in cc
-  found_so (Err compile_fault.Memory) says = tt
+  found_so (Err (Fault x)) says = let of : OfBundle text b.code b.cert = of_bundle text b.code b.cert is certified in let e : Fault x ≡ Memory = says of.licence of.accepted in cc
+  found_so (Err Memory) says = tt
 
-  pub found_accepts : (r : Result Licensed CompileFault) → ((l : Licensed) → IsAccepted b.code b.cert l → MatchResult r (λ licence. licence ≡ l) (λ x. x ≡ compile_fault.Memory)) → MatchResult r (λ licence. Unit {0}) (λ x. x ≡ compile_fault.Memory)
+  pub found_accepts : (r : Result Licensed (Stop Cause))
+      → ((l : Licensed) → IsAccepted b.code b.cert l → MatchResult r (λ licence. licence ≡ l) (λ x. x ≡ Memory))
+      → MatchResult r (λ licence. Unit {0}) (λ x. x ≡ Memory)
   found_accepts (Ok m) says = tt
   found_accepts (Err x) says = let of : OfBundle text b.code b.cert = of_bundle text b.code b.cert is certified in says of.licence of.accepted
 
 -- a text that is compiled isn't refused
-pub found_refuses : (text code cert : List ℕ) (cause : Cause) (A : Type 0) → ((answer : Compiled) → IsCompiled text answer → Bundled code cert ≡ answer) → IsCompiled text (Refused cause) → A
+pub found_refuses : (text code cert : List ℕ) (cause : Cause) (A : Type 0)
+    → ((answer : Compiled) → IsCompiled text answer → Bundled code cert ≡ answer) → IsCompiled text (Refused cause) → A
 found_refuses text code cert cause A exact h = let e : Bundled code cert ≡ Refused cause = exact (Refused cause) h in cc
 
 -- ---- a source without a licence
@@ -104,14 +109,16 @@ compiled_from text t l has = record {
   };
 }
 
-pub refused_accepts : (text : List ℕ) (x : CompileFault) → ((answer : Compiled) → IsCompiled text answer → Answers (compiled_of (Err x)) answer) → (t : Typing) (l : Licensed) → HasLicence text t l → x ≡ compile_fault.Memory
-refused_accepts text (compile_fault.Refused x) exact t l has = let e : Refused x ≡ Bundled (spelling l.code) (text_of l.cert) = exact (Bundled (spelling l.code) (text_of l.cert)) (compiled_from text t l has) in cc
-refused_accepts text compile_fault.Memory exact t l has = refl
+pub refused_accepts : (text : List ℕ) (x : Stop Cause) → ((answer : Compiled) → IsCompiled text answer → Answers (compiled_of (Err x)) answer)
+    → (t : Typing) (l : Licensed) → HasLicence text t l → x ≡ Memory
+refused_accepts text (Fault x) exact t l has = let e : Refused x ≡ Bundled (spelling l.code) (text_of l.cert) = exact (Bundled (spelling l.code) (text_of l.cert)) (compiled_from text t l has) in cc
+refused_accepts text Memory exact t l has = refl
 
-pub refused_refuses : (text : List ℕ) (x : CompileFault) (cause : Cause) → ((answer : Compiled) → IsCompiled text answer → Answers (compiled_of (Err x)) answer) → IsCompiled text (Refused cause) → IsRefusedOr cause x
-refused_refuses text (compile_fault.Refused x) cause exact h = let e : Refused x ≡ Refused cause = exact (Refused cause) h in cc
-refused_refuses text compile_fault.Memory cause exact h = tt
+pub refused_refuses : (text : List ℕ) (x : Stop Cause) (cause : Cause)
+    → ((answer : Compiled) → IsCompiled text answer → Answers (compiled_of (Err x)) answer) → IsCompiled text (Refused cause) → IsFault cause x
+refused_refuses text (Fault x) cause exact h = let e : Refused x ≡ Refused cause = exact (Refused cause) h in cc
+refused_refuses text Memory cause exact h = tt
 
-pub refused_so : (text : List ℕ) (x : CompileFault) → IsSo (IsCompiled text) (compiled_of (Err x)) → IsLicensedOr text (Err x)
-refused_so text (compile_fault.Refused x) h = h
-refused_so text compile_fault.Memory h = tt
+pub refused_so : (text : List ℕ) (x : Stop Cause) → IsSo (IsCompiled text) (compiled_of (Err x)) → IsLicensedOr text (Err x)
+refused_so text (Fault x) h = h
+refused_so text Memory h = tt

@@ -7,8 +7,8 @@ use Rattle.camelot_tree.specs.Shape.{is_whole}
 use Rattle.camelot_grammar.specs.declared.lexeme.Lexeme.{Lexeme}
 use Rattle.camelot_grammar.specs.Lexemes.{lexemes}
 use Rattle.camelot_grammar.specs.Parsing.{HasProgram, IsProgram}
-use Rattle.typing_rules.specs.Typed.{Typing, IsTyping}
-use Rattle.typing_rules.specs.Settled.{IsSettled}
+use Rattle.camelot_typing.specs.Typed.{Typing, IsTyping}
+use Rattle.camelot_typing.specs.Settled.{IsSettled}
 use Rattle.linear_use.specs.Answers.{KeepsRule}
 use Rattle.normal_form.specs.Answers.{program_fault}
 use Rattle.code_gen.specs.Generated.{compiled}
@@ -24,13 +24,13 @@ use Rattle.dual_simplex.specs.Systems.{Inequalities, IsProper}
 use Rattle.dual_simplex.specs.Run.{Outcome, IsOutcome, Least, Nothing}
 use Rattle.dual_simplex.specs.Feasible.{IsFeasible, IsLeast}
 use Rattle.dual_simplex.specs.Promises.{SaysLeast, SaysNothing}
-use Rattle.bound_system.specs.Unknowns.{unknowns_of}
-use Rattle.bound_system.specs.Forms.{rows_of, system_of}
-use Rattle.bound_system.specs.Found.{certificate_of, IsLeastCertificate}
+use Rattle.lp_system.specs.Unknowns.{unknowns_of}
+use Rattle.lp_system.specs.Forms.{rows_of, system_of}
+use Rattle.lp_system.specs.Found.{certificate_of, IsLeastCertificate}
 use Rattle.lp_constraints.specs.declared.fault.NoCert.TheVariants as no_cert
 use Rattle.lp_constraints.specs.Inference.{IsSmall, IsSolution}
 use Rattle.grail_verifier.specs.Accepted.{IsAccepted}
-use Rattle.refusals.specs.declared.cause.Cause.TheVariants as cause
+use Rattle.cause_texts.specs.declared.cause.Cause.TheVariants as cause
 use Rattle.camelot_compiler.specs.Compiled.{Bundled, Refused, IsBundle, IsCompiled, OfCode, NoneGrants}
 use Rattle.camelot_compiler.specs.Licences.{IsCertifiedFor}
 use Rattle.camelot_compiler.proofs.Named.{fits_named}
@@ -46,8 +46,10 @@ pub record Laws : Type 0 where
   pub size : (p : Code) → IsWellFormed p → IsWithinLimits p → length (unknowns_of p) ≤ 512 → length (rows_of p) ≤ 1536 → IsProper (system_of p)
   pub run_least : (system : Inequalities) (o : Outcome) → IsProper system → IsOutcome system o → SaysLeast system o
   pub run_nothing : (system : Inequalities) (o : Outcome) → IsProper system → IsOutcome system o → SaysNothing system o
-  pub least : (p : Code) (unit : ℕ) (values : List ℕ) → IsWellFormed p → IsWithinLimits p → IsLeast (system_of p) unit values → IsLeastCertificate p (certificate_of p unit values)
-  pub none : (p : Code) → IsWellFormed p → IsWithinLimits p → ((unit : ℕ) (values : List ℕ) → IsFeasible (system_of p) unit values → ⊥) → (c : Cert) → Grants p c → ⊥
+  pub least : (p : Code) (unit : ℕ) (values : List ℕ) → IsWellFormed p → IsWithinLimits p → IsLeast (system_of p) unit values
+      → IsLeastCertificate p (certificate_of p unit values)
+  pub none : (p : Code) → IsWellFormed p → IsWithinLimits p → ((unit : ℕ) (values : List ℕ) → IsFeasible (system_of p) unit values → ⊥) → (c : Cert)
+      → Grants p c → ⊥
   pub formed : (p : Code) (unit : ℕ) (values : List ℕ) → IsWellFormed p → IsWithinLimits p → IsNamed p → 1 ≤ unit → IsFormed (certificate_of p unit values)
 
 -- what is known of the code of a program

@@ -1,5 +1,6 @@
 -- Compiling has one answer, stage by stage, by the laws of the stages.
 use Rattle.std.proofs.Common.{◌≡◌, ◌⊎◌, ◌↔◌, ℕ, ◌≤◌, List, [], length, Option, Some, None, IsTrue, refl, sym, ap, ◌∙◌, subst, inl, inr}
+use Rattle.stops.specs.declared.stop.Stop.TheVariants.{Fault, Memory}
 use Rattle.text_scan.specs.declared.tokens.Token.{Token}
 use Rattle.text_scan.specs.declared.fault.ScanFault.{ScanFault}
 use Rattle.text_scan.specs.Reading.{AreTokensOf, IsFaultOf}
@@ -11,18 +12,15 @@ use Rattle.camelot_grammar.specs.declared.fault.ParseFault.TheVariants as parse
 use Rattle.camelot_grammar.specs.Lexemes.{lexemes}
 use Rattle.camelot_grammar.specs.Parsing as grammar
 use Rattle.camelot_grammar.specs.Parsing.{HasProgram, IsProgram, IsFaultAmong, last_line}
-use Rattle.typing_rules.specs.Typing as rules
-use Rattle.typing_rules.specs.Typing.{Signature, IsWithinLimits}
-use Rattle.typing_rules.specs.Typed.{Typing, IsTyping}
-use Rattle.typing_rules.specs.Settled.{IsSettled}
+use Rattle.camelot_typing.specs.Typing as rules
+use Rattle.camelot_typing.specs.Typing.{Signature, IsWithinLimits}
+use Rattle.camelot_typing.specs.Typed.{Typing, IsTyping}
+use Rattle.camelot_typing.specs.Settled.{IsSettled}
 use Rattle.camelot_types.specs.declared.fault.TypeFault.{TypeFault}
-use Rattle.camelot_types.specs.declared.fault.TypeFault.TheVariants as types
 use Rattle.camelot_types.specs.Walk as walk
 use Rattle.linear_use.specs.declared.fault.UseFault.{UseFault}
-use Rattle.linear_use.specs.declared.fault.UseFault.TheVariants as uses
 use Rattle.linear_use.specs.Answers.{KeepsRule, faults_of, first}
 use Rattle.normal_form.specs.declared.fault.NormalFault.{NormalFault}
-use Rattle.normal_form.specs.declared.fault.NormalFault.TheVariants as normal
 use Rattle.normal_form.specs.Answers.{program_fault}
 use Rattle.code_gen.specs.Generated.{compiled}
 use Rattle.grail_code.specs.Code.{Code}
@@ -34,15 +32,14 @@ use Rattle.certificate.specs.Text.{text_of}
 use Rattle.licence.specs.Licensed.{Licensed}
 use Rattle.dual_simplex.specs.Run.{HasOneRun}
 use Rattle.dual_simplex.specs.Systems.{Inequalities, IsProper}
-use Rattle.bound_system.specs.Unknowns.{unknowns_of}
-use Rattle.bound_system.specs.Forms.{rows_of, system_of}
+use Rattle.lp_system.specs.Unknowns.{unknowns_of}
+use Rattle.lp_system.specs.Forms.{rows_of, system_of}
 use Rattle.lp_constraints.specs.declared.fault.NoCert.TheVariants as no_cert
 use Rattle.lp_constraints.specs.Inference as inference
 use Rattle.lp_constraints.specs.Inference.{Inferred, Infers}
-use Rattle.refusals.specs.declared.cause.Cause.{Cause}
-use Rattle.refusals.specs.declared.cause.Cause.TheVariants as cause
-use Rattle.camelot_compiler.specs.declared.fault.CompileFault.TheVariants as compile_fault
-use Rattle.camelot_compiler.specs.Compiled.{Compiled, Bundled, Refused, IsCertified, IsGenerated, IsLinear, OfTyping, IsTyped, IsParseFault, OfProgram, IsCompiled}
+use Rattle.cause_texts.specs.declared.cause.Cause.{Cause}
+use Rattle.cause_texts.specs.declared.cause.Cause.TheVariants as cause
+use Rattle.camelot_compiler.specs.Compiled.{Compiled, Bundled, Refused, IsCertified, IsGenerated, IsLinear, OfTyping, IsTyped, OfProgram, IsCompiled}
 use Rattle.camelot_compiler.specs.Licences.{HasLicence}
 use Rattle.camelot_compiler.proofs.OneInference.{one_inferred}
 use Rattle.camelot_compiler.proofs.Accepting.{refused_accepts}
@@ -68,19 +65,19 @@ pub record Laws : Type 0 where
 -- ---- a stage
 
 -- a stage stops for a fault, or this is said of the answer
-abbrev IsAnswer : (Fault : Type 0) → (Fault → Compiled) → (Fault → Type 0) → (Compiled → Type 0) → Compiled → Type 0
-IsAnswer Fault wrap Faulty Says a = ((fault : Fault) × (a ≡ wrap fault) × Faulty fault) ⊎ Says a
+abbrev IsAnswer : (Broken : Type 0) → (Broken → Compiled) → (Broken → Type 0) → (Compiled → Type 0) → Compiled → Type 0
+IsAnswer Broken wrap Faulty Says a = ((fault : Broken) × (a ≡ wrap fault) × Faulty fault) ⊎ Says a
 
 -- A stage has one answer where it has one fault, none where it goes on, and one answer there.
-one_of : (Fault : Type 0) (wrap : Fault → Compiled) (Faulty : Fault → Type 0) (Says : Compiled → Type 0)
-    → ((f g : Fault) → Faulty f → Faulty g → f ≡ g)
-    → ((f : Fault) (x : Compiled) → Faulty f → Says x → ⊥)
+one_of : (Broken : Type 0) (wrap : Broken → Compiled) (Faulty : Broken → Type 0) (Says : Compiled → Type 0)
+    → ((f g : Broken) → Faulty f → Faulty g → f ≡ g)
+    → ((f : Broken) (x : Compiled) → Faulty f → Says x → ⊥)
     → ((x y : Compiled) → Says x → Says y → x ≡ y)
-    → (a b : Compiled) → IsAnswer Fault wrap Faulty Says a → IsAnswer Fault wrap Faulty Says b → a ≡ b
-one_of Fault wrap Faulty Says fault apart next a b (inl (f, is, h)) (inl (g, also, k)) = is ∙ ap wrap (fault f g h k) ∙ sym also
-one_of Fault wrap Faulty Says fault apart next a b (inl (f, is, h)) (inr k) = absurd (apart f b h k)
-one_of Fault wrap Faulty Says fault apart next a b (inr h) (inl (g, is, k)) = absurd (apart g a k h)
-one_of Fault wrap Faulty Says fault apart next a b (inr h) (inr k) = next a b h k
+    → (a b : Compiled) → IsAnswer Broken wrap Faulty Says a → IsAnswer Broken wrap Faulty Says b → a ≡ b
+one_of Broken wrap Faulty Says fault apart next a b (inl (f, is, h)) (inl (g, also, k)) = is ∙ ap wrap (fault f g h k) ∙ sym also
+one_of Broken wrap Faulty Says fault apart next a b (inl (f, is, h)) (inr k) = absurd (apart f b h k)
+one_of Broken wrap Faulty Says fault apart next a b (inr h) (inl (g, is, k)) = absurd (apart g a k h)
+one_of Broken wrap Faulty Says fault apart next a b (inr h) (inr k) = next a b h k
 
 same_some : {A : Type 0} (o : Option A) (x y : A) → o ≡ Some x → o ≡ Some y → x ≡ y
 same_some o x y h k = cc
@@ -127,8 +124,8 @@ one_certified p once a b h k =
 abbrev GoesToCode : Typing → Compiled → Type 0
 GoesToCode t a = (program_fault t ≡ None) × IsCertified (compiled t) a
 
-generated_parts : (t : Typing) (a : Compiled) → IsGenerated t a → IsAnswer NormalFault (λ f. Refused (cause.Normal f)) (λ f. program_fault t ≡ Some f) (GoesToCode t) a
-generated_parts t (Refused (cause.Normal normal.Memory)) h = absurd h
+generated_parts : (t : Typing) (a : Compiled) → IsGenerated t a
+    → IsAnswer NormalFault (λ f. Refused (cause.Normal f)) (λ f. program_fault t ≡ Some f) (GoesToCode t) a
 generated_parts t (Refused (cause.Normal fault)) h = inl (fault, refl, h)
 generated_parts t a h = inr h
 
@@ -145,8 +142,8 @@ one_generated t once a b h k =
 abbrev KeepsAndGoes : Typing → Compiled → Type 0
 KeepsAndGoes t a = KeepsRule t × IsGenerated t a
 
-linear_parts : (t : Typing) (a : Compiled) → IsLinear t a → IsAnswer UseFault (λ f. Refused (cause.Uses f)) (λ f. first (faults_of t) ≡ Some f) (KeepsAndGoes t) a
-linear_parts t (Refused (cause.Uses uses.Memory)) h = absurd h
+linear_parts : (t : Typing) (a : Compiled) → IsLinear t a
+    → IsAnswer UseFault (λ f. Refused (cause.Uses f)) (λ f. first (faults_of t) ≡ Some f) (KeepsAndGoes t) a
 linear_parts t (Refused (cause.Uses fault)) h = inl (fault, refl, h)
 linear_parts t a h = inr h
 
@@ -165,7 +162,6 @@ abbrev HasTyping : Source → Compiled → Type 0
 HasTyping p a = OfTyping p (λ t. IsLinear t a)
 
 typed_parts : (p : Source) (a : Compiled) → IsTyped p a → IsAnswer TypeFault (λ f. Refused (cause.Types f)) (walk.HasFault p) (HasTyping p) a
-typed_parts p (Refused (cause.Types types.Memory)) h = absurd h
 typed_parts p (Refused (cause.Types fault)) h = inl (fault, refl, h)
 typed_parts p a h = inr h
 
@@ -192,8 +188,7 @@ one_typed laws p once a b h k =
 abbrev IsReadingFault : List ℕ → ParseFault → Type 0
 IsReadingFault text f = ((fault : ScanFault) × (f ≡ parse.Scan fault) × IsFaultOf text fault) ⊎ grammar.HasFault text f
 
-reading_fault : (text : List ℕ) (f : ParseFault) → IsParseFault text f → IsReadingFault text f
-reading_fault text parse.Memory h = absurd h
+reading_fault : (text : List ℕ) (f : ParseFault) → grammar.HasCause text f → IsReadingFault text f
 reading_fault text (parse.Scan fault) h = inl (fault, refl, h)
 reading_fault text f h = inr h
 
@@ -225,13 +220,14 @@ infers_once laws text t is typing rule none =
 abbrev IsSourceWith : List ℕ → Compiled → Type 0
 IsSourceWith text a = OfProgram text (λ p. IsTyped p a)
 
-compiled_parts : (text : List ℕ) (a : Compiled) → IsCompiled text a → IsAnswer ParseFault (λ f. Refused (cause.Parse f)) (IsParseFault text) (IsSourceWith text) a
+compiled_parts : (text : List ℕ) (a : Compiled) → IsCompiled text a
+    → IsAnswer ParseFault (λ f. Refused (cause.Parse f)) (grammar.HasCause text) (IsSourceWith text) a
 compiled_parts text (Refused (cause.Parse fault)) h = inl (fault, refl, h)
 compiled_parts text a h = inr h
 
 pub one_compiled : Laws → (text : List ℕ) (a b : Compiled) → IsCompiled text a → IsCompiled text b → a ≡ b
 one_compiled laws text a b h k =
-    one_of ParseFault (λ f. Refused (cause.Parse f)) (IsParseFault text) (IsSourceWith text)
+    one_of ParseFault (λ f. Refused (cause.Parse f)) (grammar.HasCause text) (IsSourceWith text)
     (λ f g x y. one_reading_fault laws text f g (reading_fault text f x) (reading_fault text g y))
     (λ f c x y. no_program laws text f y.source (reading_fault text f x) y.program)
     (λ c d x y.
@@ -259,5 +255,5 @@ one_licence laws text t u l m h k =
 -- what has a licence is not refused
 pub not_refused : Laws → (text : List ℕ) (t : Typing) (l : Licensed) (cause : Cause) → HasLicence text t l → IsCompiled text (Refused cause) → ⊥
 not_refused laws text t l cause h refused =
-    let e : compile_fault.Refused cause ≡ compile_fault.Memory = refused_accepts text (compile_fault.Refused cause) (λ answer is. one_compiled laws text (Refused cause) answer refused is) t l h in
+    let e : Fault cause ≡ Memory = refused_accepts text (Fault cause) (λ answer is. one_compiled laws text (Refused cause) answer refused is) t l h in
     cc

@@ -4,9 +4,9 @@ use Rattle.dual_simplex.specs.Run as run
 use Rattle.dual_simplex.specs.Run.{Outcome, IsOutcome, HasOneRun}
 use Rattle.grail_code.specs.Code.{Code}
 use Rattle.certificate.specs.Certificates.{IsWithin}
-use Rattle.bound_system.specs.Unknowns.{unknowns_of}
-use Rattle.bound_system.specs.Forms.{rows_of, system_of}
-use Rattle.bound_system.specs.Found.{certificate_of}
+use Rattle.lp_system.specs.Unknowns.{unknowns_of}
+use Rattle.lp_system.specs.Forms.{rows_of, system_of}
+use Rattle.lp_system.specs.Found.{certificate_of}
 use Rattle.lp_constraints.specs.Inference.{IsSmall, Inferred, Found, TooMany, NoBound, Wide, Spent, Infers}
 
 -- what a run that ends so makes the answer

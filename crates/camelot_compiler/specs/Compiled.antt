@@ -1,23 +1,17 @@
 -- Cited by contracts.
--- What compiling answers of a source, and when: the first of these that is so. The text is no program; the program has no types; it breaks the rule of
--- use; a function is too large for code; no certificate is found for its code. Else the answer is a bundle, of the code's spelling and the certificate's text.
+-- What compiling answers of a source, and when: the first of these that is so. The text is no program; the program has
+-- no types; it breaks the rule of use; a function is too large for code; no certificate is found for its code. Else the
+-- answer is a bundle, of the code's spelling and the certificate's text.
 use Rattle.std.specs.Prelude.{◌≡◌, ℕ, List, Option, Some, None, Result, Ok, Err}
-use Rattle.text_scan.specs.Reading.{IsFaultOf}
+use Rattle.stops.specs.declared.stop.Stop.{Stop}
+use Rattle.stops.specs.declared.stop.Stop.TheVariants.{Fault, Memory}
 use Rattle.camelot_tree.specs.Tree.{Source}
-use Rattle.camelot_grammar.specs.declared.fault.ParseFault.{ParseFault}
-use Rattle.camelot_grammar.specs.declared.fault.ParseFault.TheVariants as parse
 use Rattle.camelot_grammar.specs.Parsing as grammar
 use Rattle.camelot_grammar.specs.Parsing.{HasProgram}
-use Rattle.typing_rules.specs.Typed.{Typing, IsTyping}
-use Rattle.typing_rules.specs.Settled.{IsSettled}
-use Rattle.camelot_types.specs.declared.fault.TypeFault.{TypeFault}
-use Rattle.camelot_types.specs.declared.fault.TypeFault.TheVariants as types
+use Rattle.camelot_typing.specs.Typed.{Typing, IsTyping}
+use Rattle.camelot_typing.specs.Settled.{IsSettled}
 use Rattle.camelot_types.specs.Walk as walk
-use Rattle.linear_use.specs.declared.fault.UseFault.{UseFault}
-use Rattle.linear_use.specs.declared.fault.UseFault.TheVariants as uses
 use Rattle.linear_use.specs.Answers.{KeepsRule, faults_of, first}
-use Rattle.normal_form.specs.declared.fault.NormalFault.{NormalFault}
-use Rattle.normal_form.specs.declared.fault.NormalFault.TheVariants as normal
 use Rattle.normal_form.specs.Answers.{program_fault}
 use Rattle.code_gen.specs.Generated.{compiled}
 use Rattle.grail_code.specs.Code.{Code}
@@ -25,17 +19,15 @@ use Rattle.grail_code.specs.Spelling.{IsSpelling}
 use Rattle.certificate.specs.Certificates.{Cert}
 use Rattle.certificate.specs.Text.{text_of}
 use Rattle.licence.specs.Fitting.{Grants}
-use Rattle.bound_system.specs.Found.{IsLeastCertificate}
+use Rattle.lp_system.specs.Found.{IsLeastCertificate}
 use Rattle.grail_verifier.specs.Accepted.{IsAccepted}
 use Rattle.lp_constraints.specs.declared.fault.NoCert.{NoCert}
 use Rattle.lp_constraints.specs.declared.fault.NoCert.TheVariants as no_cert
 use Rattle.lp_constraints.specs.Inference as inference
 use Rattle.lp_constraints.specs.Inference.{Infers}
-use Rattle.refusals.specs.declared.cause.Cause.{Cause}
-use Rattle.refusals.specs.declared.cause.Cause.TheVariants as cause
+use Rattle.cause_texts.specs.declared.cause.Cause.{Cause}
+use Rattle.cause_texts.specs.declared.cause.Cause.TheVariants as cause
 use Rattle.grail_bundle.specs.Bundles.{Bundle}
-use Rattle.camelot_compiler.specs.declared.fault.CompileFault.{CompileFault}
-use Rattle.camelot_compiler.specs.declared.fault.CompileFault.TheVariants as compile_fault
 
 pub data Compiled : Type 0 where
   -- the bytes of the code and of the certificate
@@ -43,10 +35,10 @@ pub data Compiled : Type 0 where
   Refused : Cause → Compiled
 
 -- what an answer stands for; nothing where memory ran out
-abbrev pub compiled_of : Result Bundle CompileFault → Option Compiled
+abbrev pub compiled_of : Result Bundle (Stop Cause) → Option Compiled
 compiled_of (Ok bundle) = Some (Bundled bundle.code bundle.cert)
-compiled_of (Err (compile_fault.Refused cause)) = Some (Refused cause)
-compiled_of (Err compile_fault.Memory) = None
+compiled_of (Err (Fault cause)) = Some (Refused cause)
+compiled_of (Err Memory) = None
 
 -- ---- of code: a certificate
 
@@ -55,7 +47,6 @@ IsNoCert p (no_cert.TooMany unknowns rows) = Infers p (inference.TooMany unknown
 IsNoCert p no_cert.NoBound = Infers p inference.NoBound
 IsNoCert p no_cert.Wide = Infers p inference.Wide
 IsNoCert p no_cert.Spent = Infers p inference.Spent
-IsNoCert p no_cert.Memory = ⊥
 
 -- the code's spelling, and the text of the certificate that is inferred
 pub record IsBundle (p : Code) (code cert : List ℕ) : Type 0 where
@@ -71,29 +62,17 @@ IsCertified p answer = ⊥
 
 -- ---- of a typed program that keeps the rule of use: code
 
-abbrev pub IsNormalFault : Typing → NormalFault → Type 0
-IsNormalFault t normal.Memory = ⊥
-IsNormalFault t fault = program_fault t ≡ Some fault
-
 abbrev pub IsGenerated : Typing → Compiled → Type 0
-IsGenerated t (Refused (cause.Normal fault)) = IsNormalFault t fault
+IsGenerated t (Refused (cause.Normal fault)) = program_fault t ≡ Some fault
 IsGenerated t answer = (program_fault t ≡ None) × IsCertified (compiled t) answer
 
 -- ---- of a typed program: the rule of use
 
-abbrev pub IsUseFault : Typing → UseFault → Type 0
-IsUseFault t uses.Memory = ⊥
-IsUseFault t fault = first (faults_of t) ≡ Some fault
-
 abbrev pub IsLinear : Typing → Compiled → Type 0
-IsLinear t (Refused (cause.Uses fault)) = IsUseFault t fault
+IsLinear t (Refused (cause.Uses fault)) = first (faults_of t) ≡ Some fault
 IsLinear t answer = KeepsRule t × IsGenerated t answer
 
 -- ---- of a program: its types
-
-abbrev pub IsTypeFault : Source → TypeFault → Type 0
-IsTypeFault p types.Memory = ⊥
-IsTypeFault p fault = walk.HasFault p fault
 
 -- the program is typed so, what nothing fixes being `int`, and this is said of it
 pub record OfTyping (p : Source) (Says : Typing → Type 0) : Type 0 where
@@ -104,15 +83,10 @@ pub record OfTyping (p : Source) (Says : Typing → Type 0) : Type 0 where
   pub says : Says typing
 
 abbrev pub IsTyped : Source → Compiled → Type 0
-IsTyped p (Refused (cause.Types fault)) = IsTypeFault p fault
+IsTyped p (Refused (cause.Types fault)) = walk.HasFault p fault
 IsTyped p answer = OfTyping p (λ t. IsLinear t answer)
 
 -- ---- of a text: its program
-
-abbrev pub IsParseFault : List ℕ → ParseFault → Type 0
-IsParseFault text parse.Memory = ⊥
-IsParseFault text (parse.Scan fault) = IsFaultOf text fault
-IsParseFault text fault = grammar.HasFault text fault
 
 -- the text is this program, of which this is said
 pub record OfProgram (text : List ℕ) (Says : Source → Type 0) : Type 0 where
@@ -121,7 +95,7 @@ pub record OfProgram (text : List ℕ) (Says : Source → Type 0) : Type 0 where
   pub says : Says source
 
 abbrev pub IsCompiled : List ℕ → Compiled → Type 0
-IsCompiled text (Refused (cause.Parse fault)) = IsParseFault text fault
+IsCompiled text (Refused (cause.Parse fault)) = grammar.HasCause text fault
 IsCompiled text answer = OfProgram text (λ p. IsTyped p answer)
 
 -- ---- what is said of answers

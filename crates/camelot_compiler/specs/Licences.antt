@@ -1,9 +1,12 @@
 -- Cited by contracts.
--- The licence of a Camelot source: the code of its program with the certificate that is inferred for it, which the verifier accepts from their bytes alone.
+-- The licence of a Camelot source: the code of its program with the certificate that is inferred for it, which the
+-- verifier accepts from their bytes alone.
 use Rattle.std.specs.Prelude.{◌≡◌, ℕ, List, Option, Some, None, Result, Ok, Err}
+use Rattle.stops.specs.declared.stop.Stop.{Stop}
+use Rattle.stops.specs.Stopping.{FaultIs}
 use Rattle.camelot_grammar.specs.Parsing.{HasProgram}
-use Rattle.typing_rules.specs.Typed.{Typing, IsTyping}
-use Rattle.typing_rules.specs.Settled.{IsSettled}
+use Rattle.camelot_typing.specs.Typed.{Typing, IsTyping}
+use Rattle.camelot_typing.specs.Settled.{IsSettled}
 use Rattle.linear_use.specs.Answers.{KeepsRule}
 use Rattle.normal_form.specs.Answers.{program_fault}
 use Rattle.code_gen.specs.Generated.{compiled}
@@ -11,16 +14,14 @@ use Rattle.grail_code.specs.Spelling.{FitsCode, spelling}
 use Rattle.certificate.specs.Text.{text_of}
 use Rattle.licence.specs.Licensed.{Licensed}
 use Rattle.grail_verifier.specs.Accepted.{IsAccepted}
-use Rattle.bound_system.specs.Found.{IsLeastCertificate}
+use Rattle.lp_system.specs.Found.{IsLeastCertificate}
 use Rattle.lp_constraints.specs.Inference as inference
 use Rattle.lp_constraints.specs.Inference.{Infers}
-use Rattle.refusals.specs.declared.cause.Cause.{Cause}
-use Rattle.camelot_compiler.specs.declared.fault.CompileFault.{CompileFault}
-use Rattle.camelot_compiler.specs.declared.fault.CompileFault.TheVariants as compile_fault
+use Rattle.cause_texts.specs.declared.cause.Cause.{Cause}
 use Rattle.camelot_compiler.specs.Compiled.{IsCompiled, Refused}
 
--- The text is this program, typed so, what nothing fixes being `int`. It keeps the rule of use, and no function is too large. The licence is of its code, which has a spelling, and of
--- the certificate that is inferred for it.
+-- The text is this program, typed so, what nothing fixes being `int`. It keeps the rule of use, and no function is too
+-- large. The licence is of its code, which has a spelling, and of the certificate that is inferred for it.
 pub record HasLicence (text : List ℕ) (t : Typing) (l : Licensed) : Type 0 where
   pub program : HasProgram text t.source
   pub typed : IsTyping t
@@ -37,8 +38,8 @@ pub record IsLicence (text : List ℕ) (l : Licensed) : Type 0 where
   pub has : HasLicence text typing l
   pub accepted : IsAccepted (spelling l.code) (text_of l.cert) l
 
--- What stands behind two texts that a source is compiled to: the verifier accepts them, and its licence is that of the source; no certificate that grants the
--- licence's code, with numbers of any size, costs less than the licence's.
+-- What stands behind two texts that a source is compiled to: the verifier accepts them, and its licence is that of the
+-- source; no certificate that grants the licence's code, with numbers of any size, costs less than the licence's.
 pub record IsCertifiedFor (text code cert : List ℕ) : Type 0 where
   pub licence : Licensed
   pub is : IsLicence text licence
@@ -46,12 +47,6 @@ pub record IsCertifiedFor (text code cert : List ℕ) : Type 0 where
   pub least : IsLeastCertificate licence.code licence.cert
 
 -- what is answered is so; nothing is said where memory ran out
-abbrev pub IsLicensedOr : List ℕ → Result Licensed CompileFault → Type 0
+abbrev pub IsLicensedOr : List ℕ → Result Licensed (Stop Cause) → Type 0
 IsLicensedOr text (Ok l) = IsLicence text l
-IsLicensedOr text (Err (compile_fault.Refused cause)) = IsCompiled text (Refused cause)
-IsLicensedOr text (Err compile_fault.Memory) = Unit {0}
-
--- this is the cause, unless memory ran out
-abbrev pub IsRefusedOr : Cause → CompileFault → Type 0
-IsRefusedOr cause (compile_fault.Refused x) = x ≡ cause
-IsRefusedOr cause compile_fault.Memory = Unit {0}
+IsLicensedOr text (Err stop) = FaultIs (λ cause. IsCompiled text (Refused cause)) stop

@@ -1,29 +1,32 @@
 //! Laws of compiling, as the contracts of functions that do nothing.
 ghost use Rattle.std.specs.Prelude.{◌≡◌, ℕ, List};
-ghost use Rattle.typing_rules.specs.Typed.{Typing};
+ghost use Rattle.camelot_typing.specs.Typed.{Typing};
 ghost use Rattle.licence.specs.Licensed.{Licensed};
 ghost use Rattle.lp_constraints.specs.declared.fault.NoCert.TheVariants.{NoBound};
-ghost use Rattle.refusals.specs.declared.cause.Cause.{Cause};
-ghost use Rattle.refusals.specs.declared.cause.Cause.TheVariants as cause;
+ghost use Rattle.cause_texts.specs.declared.cause.Cause.{Cause};
+ghost use Rattle.cause_texts.specs.declared.cause.Cause.TheVariants as cause;
 ghost use Rattle.camelot_compiler.specs.Compiled.{Compiled, Bundled, Refused, IsCompiled, OfCode, NoneGrants};
 ghost use Rattle.camelot_compiler.specs.Licences.{HasLicence, IsCertifiedFor};
 
-use bound_system::laws::{law_of_form, law_of_least, law_of_size};
 use camelot_grammar::laws::{one_answer, tokens_give_form};
 use camelot_types::laws::one_verdict;
+use camelot_typing::laws::law_of_one_typing;
 use code_gen::laws::{law_of_compiler, law_of_limits};
 use dual_simplex::{law_of_outcomes, one_run};
 use linear_use::laws::rule_by_faults;
+use lp_system::laws::{law_of_form, law_of_least, law_of_size};
 use text_scan::laws::one_reading;
-use typing_rules::laws::law_of_one_typing;
 
 /// A text has one answer: one bundle or one cause, whoever compiles it. It has one licence at most, with one typing
 /// of its program; and where it has a licence, there is no cause for which it is refused. Each stage has one answer:
 /// a text its tokens or a fault, tokens their program or a fault, a program its settled typing or a fault, a typing
 /// its faults of use, and a system of inequalities its run.
 pub fn law_of_compiling()
+    // A text is compiled to one answer at most.
     ensures one { (text : List ℕ) (first second : Compiled) → IsCompiled text first → IsCompiled text second → first ≡ second }
+    // A text has one licence at most, with one typing of its program.
     ensures licence { (text : List ℕ) (t u : Typing) (l m : Licensed) → HasLicence text t l → HasLicence text u m → (t ≡ u) × (l ≡ m) }
+    // A text with a licence isn't refused.
     ensures apart { (text : List ℕ) (t : Typing) (l : Licensed) (cause : Cause) → HasLicence text t l → IsCompiled text (Refused cause) → ⊥ }
 {
     one_reading();

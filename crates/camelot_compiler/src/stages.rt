@@ -2,80 +2,80 @@
 ghost use Rattle.std.specs.Prelude.{◌≡◌, ◌<◌, ◌^◌, length, IfOk, IfErr};
 ghost use Rattle.camelot_tree.specs.Programs.{program_of};
 ghost use Rattle.camelot_grammar.specs.Parsing.{HasProgram};
-ghost use Rattle.typing_rules.specs.Typed.{Typing, IsTyping};
-ghost use Rattle.typing_rules.specs.TypedPrograms.{typing_of};
-ghost use Rattle.typing_rules.specs.Settled.{IsSettled};
+ghost use Rattle.camelot_typing.specs.Typed.{Typing, IsTyping};
+ghost use Rattle.camelot_typing.specs.TypedPrograms.{typing_of};
+ghost use Rattle.camelot_typing.specs.Settled.{IsSettled};
 ghost use Rattle.linear_use.specs.Answers.{KeepsRule};
 ghost use Rattle.code_gen.specs.Generated.{compiled};
 ghost use Rattle.grail_code.specs.Code.{code_of};
 ghost use Rattle.grail_code.specs.Spelling.{FitsCode, spelling};
 ghost use Rattle.grail_code.specs.WellFormed.{IsWellFormed};
 ghost use Rattle.certificate.specs.Text.{text_of};
-ghost use Rattle.camelot_compiler.specs.declared.fault.CompileFault.TheVariants.{Memory};
+ghost use Rattle.stops.specs.declared.stop.Stop.TheVariants.{Memory};
 ghost use Rattle.camelot_compiler.specs.Compiled.{Compiled, compiled_of, IsCertified, IsGenerated, IsLinear, IsTyped, IsCompiled, IsSo, Answers};
 ghost use Rattle.camelot_compiler.specs.Stages.{parse_fault, type_fault, use_fault, normal_fault, inference_fault, Stands};
 
-use crate::fault::CompileFault;
 use camelot_syntax::{ParseFault, Program, parse};
 use camelot_types::{TypeFault, check_program};
+use camelot_typing::Typed;
+use camelot_typing::laws::law_of_one_typing;
+use cause_texts::Cause;
 use certificate::{Cert, write_cert};
 use grail_bundle::Bundle;
 use grail_code::{Code, encode};
 use linear_use::{Linear, UseFault, check_use};
 use lp_constraints::{NoCert, infer};
 use normal_form::NormalFault;
-use refusals::Cause;
 use std::alloc::Global;
-use typing_rules::Typed;
-use typing_rules::laws::law_of_one_typing;
+use stops::Stop;
 
-fn parse_fault(fault: ParseFault) -> CompileFault
-    ensures { result ≡ parse_fault fault }
+fn parse_fault(stop: Stop<ParseFault>) -> Stop<Cause>
+    ensures { result ≡ parse_fault stop }
 {
-    match fault {
-        ParseFault::Memory => CompileFault::Memory,
-        fault => CompileFault::Refused(Cause::Parse(fault)),
+    match stop {
+        Stop::Fault(fault) => Stop::Fault(Cause::Parse(fault)),
+        Stop::Memory => Stop::Memory,
     }
 }
 
-fn type_fault(fault: TypeFault) -> CompileFault
-    ensures { result ≡ type_fault fault }
+fn type_fault(stop: Stop<TypeFault>) -> Stop<Cause>
+    ensures { result ≡ type_fault stop }
 {
-    match fault {
-        TypeFault::Memory => CompileFault::Memory,
-        fault => CompileFault::Refused(Cause::Types(fault)),
+    match stop {
+        Stop::Fault(fault) => Stop::Fault(Cause::Types(fault)),
+        Stop::Memory => Stop::Memory,
     }
 }
 
-fn use_fault(fault: UseFault) -> CompileFault
-    ensures { result ≡ use_fault fault }
+fn use_fault(stop: Stop<UseFault>) -> Stop<Cause>
+    ensures { result ≡ use_fault stop }
 {
-    match fault {
-        UseFault::Memory => CompileFault::Memory,
-        fault => CompileFault::Refused(Cause::Uses(fault)),
+    match stop {
+        Stop::Fault(fault) => Stop::Fault(Cause::Uses(fault)),
+        Stop::Memory => Stop::Memory,
     }
 }
 
-fn normal_fault(fault: NormalFault) -> CompileFault
-    ensures { result ≡ normal_fault fault }
+fn normal_fault(stop: Stop<NormalFault>) -> Stop<Cause>
+    ensures { result ≡ normal_fault stop }
 {
-    match fault {
-        NormalFault::Memory => CompileFault::Memory,
-        fault => CompileFault::Refused(Cause::Normal(fault)),
+    match stop {
+        Stop::Fault(fault) => Stop::Fault(Cause::Normal(fault)),
+        Stop::Memory => Stop::Memory,
     }
 }
 
-fn inference_fault(fault: NoCert) -> CompileFault
-    ensures { result ≡ inference_fault fault }
+fn inference_fault(stop: Stop<NoCert>) -> Stop<Cause>
+    ensures { result ≡ inference_fault stop }
 {
-    match fault {
-        NoCert::Memory => CompileFault::Memory,
-        fault => CompileFault::Refused(Cause::NoCert(fault)),
+    match stop {
+        Stop::Fault(fault) => Stop::Fault(Cause::NoCert(fault)),
+        Stop::Memory => Stop::Memory,
     }
 }
 
 // Code with its certificate, as bytes.
-fn bundle(alloc: Global, code: &Code, cert: &Cert) -> Result<Bundle, CompileFault>
+fn bundle(alloc: Global, code: &Code, cert: &Cert) -> Result<Bundle, Stop<Cause>>
     requires { FitsCode (code_of code.now) }
     ensures code { IfOk result (λ b. b.code ≡ spelling (code_of code.now)) }
     ensures cert { IfOk result (λ b. b.cert ≡ text_of cert.now) }
@@ -88,7 +88,7 @@ fn bundle(alloc: Global, code: &Code, cert: &Cert) -> Result<Bundle, CompileFaul
 
 // The certificate of code, and the bundle of both.
 #[tactic(auto, using(crate::proofs::Named::fits_named))]
-fn certify(alloc: Global, code: &Code) -> Result<Bundle, CompileFault>
+fn certify(alloc: Global, code: &Code) -> Result<Bundle, Stop<Cause>>
     requires well { IsWellFormed (code_of code.now) }
     requires fits { FitsCode (code_of code.now) }
     ensures found { IsSo (IsCertified (code_of code.now)) (compiled_of result) }
@@ -100,12 +100,12 @@ fn certify(alloc: Global, code: &Code) -> Result<Bundle, CompileFault>
             cert.limits();
             bundle(alloc, code, &cert)
         }
-        Err(fault) => Err(inference_fault(fault)),
+        Err(stop) => Err(inference_fault(stop)),
     }
 }
 
 // The code of a program that keeps the rule of use.
-fn compile_linear(alloc: Global, linear: &Linear) -> Result<Bundle, CompileFault>
+fn compile_linear(alloc: Global, linear: &Linear) -> Result<Bundle, Stop<Cause>>
     requires typed { IsTyping (typing_of linear.now.typed) }
     requires rule { KeepsRule (typing_of linear.now.typed) }
     ensures found { IsSo (IsGenerated (typing_of linear.now.typed)) (compiled_of result) }
@@ -114,12 +114,12 @@ fn compile_linear(alloc: Global, linear: &Linear) -> Result<Bundle, CompileFault
 {
     match code_gen::compile(alloc, linear) {
         Ok(code) => certify(alloc, &code),
-        Err(fault) => Err(normal_fault(fault)),
+        Err(stop) => Err(normal_fault(stop)),
     }
 }
 
 // The rule of use of a typed program.
-fn compile_typed(alloc: Global, typed: Typed) -> Result<Bundle, CompileFault>
+fn compile_typed(alloc: Global, typed: Typed) -> Result<Bundle, Stop<Cause>>
     requires { IsTyping (typing_of typed) }
     ensures found { IsSo (IsLinear (typing_of typed)) (compiled_of result) }
     ensures exact { (answer : Compiled) → IsLinear (typing_of typed) answer → Answers (compiled_of result) answer }
@@ -127,12 +127,12 @@ fn compile_typed(alloc: Global, typed: Typed) -> Result<Bundle, CompileFault>
 {
     match check_use(alloc, typed) {
         Ok(linear) => compile_linear(alloc, &linear),
-        Err(fault) => Err(use_fault(fault)),
+        Err(stop) => Err(use_fault(stop)),
     }
 }
 
 // The types of a program.
-fn compile_program(alloc: Global, program: Program) -> Result<Bundle, CompileFault>
+fn compile_program(alloc: Global, program: Program) -> Result<Bundle, Stop<Cause>>
     ensures found { IsSo (IsTyped (program_of program)) (compiled_of result) }
     ensures exact { (answer : Compiled) → IsTyped (program_of program) answer → Answers (compiled_of result) answer }
     ensures stands { (t : Typing) → t.source ≡ program_of program → IsTyping t → IsSettled t → Stands (compiled_of result) (compiled t) }
@@ -140,12 +140,12 @@ fn compile_program(alloc: Global, program: Program) -> Result<Bundle, CompileFau
     law_of_one_typing();
     match check_program(alloc, program) {
         Ok(typed) => compile_typed(alloc, typed),
-        Err(fault) => Err(type_fault(fault)),
+        Err(stop) => Err(type_fault(stop)),
     }
 }
 
 /// The program of a text, and all that comes behind.
-pub(crate) fn compile_text(alloc: Global, text: &[u8]) -> Result<Bundle, CompileFault>
+pub(crate) fn compile_text(alloc: Global, text: &[u8]) -> Result<Bundle, Stop<Cause>>
     requires { length text.now < 2 ^ 32 }
     ensures found { IsSo (IsCompiled text.now) (compiled_of result) }
     ensures exact { (answer : Compiled) → IsCompiled text.now answer → Answers (compiled_of result) answer }
@@ -153,6 +153,6 @@ pub(crate) fn compile_text(alloc: Global, text: &[u8]) -> Result<Bundle, Compile
 {
     match parse(alloc, text) {
         Ok(program) => compile_program(alloc, program),
-        Err(fault) => Err(parse_fault(fault)),
+        Err(stop) => Err(parse_fault(stop)),
     }
 }

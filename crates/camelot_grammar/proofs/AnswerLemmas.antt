@@ -13,7 +13,8 @@ place_is n before rest h = omega (arith, length-append before rest)
 
 -- ---- from an answer of the machine to its meaning
 
-pub fault_among : (ts : List Lexeme) (n last : ℕ) (f : ParseFault) (r : Result) → length ts ≡ n → runs start [] ts ≡ r → fault_of n last r ≡ Some f → IsFaultAmong ts last f
+pub fault_among : (ts : List Lexeme) (n last : ℕ) (f : ParseFault) (r : Result) → length ts ≡ n → runs start [] ts ≡ r → fault_of n last r ≡ Some f
+    → IsFaultAmong ts last f
 fault_among ts n last f (Yes p) c e h = absurd cc
 fault_among ts n last f (Stopped rest) c e h =
     let k = stopped_stops ts rest e in

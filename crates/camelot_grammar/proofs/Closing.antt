@@ -170,11 +170,13 @@ closer : (t : Lexeme) → mc.begins_argument t ≡ false → EndsOr t → EndsOr
 closer t a h = h
 
 -- the body of a `let` ends with what is around it, and so does an `else`
-let_same : (n : Name) (v e : Expression) (st : List Frame) (t : Lexeme) → step (InExpr (mc.Whole e)) t (mc.LetBody n v ∷ st) ≡ step (InExpr (mc.Whole (tree.Let n v e))) t st
+let_same : (n : Name) (v e : Expression) (st : List Frame) (t : Lexeme)
+    → step (InExpr (mc.Whole e)) t (mc.LetBody n v ∷ st) ≡ step (InExpr (mc.Whole (tree.Let n v e))) t st
 unfolding step mc.expr_step mc.close mc.unwind
 let_same n v e st t = refl
 
-else_same : (l : ℕ) (c a e : Expression) (st : List Frame) (t : Lexeme) → step (InExpr (mc.Whole e)) t (mc.IfElse l c a ∷ st) ≡ step (InExpr (mc.Whole (tree.If c a e l))) t st
+else_same : (l : ℕ) (c a e : Expression) (st : List Frame) (t : Lexeme)
+    → step (InExpr (mc.Whole e)) t (mc.IfElse l c a ∷ st) ≡ step (InExpr (mc.Whole (tree.If c a e l))) t st
 unfolding step mc.expr_step mc.close mc.unwind
 else_same l c a e st t = refl
 
@@ -286,7 +288,8 @@ decl_completed (mc.ParamClose d p) = by_ (next {t = Mark mark.Close 0} refl tt (
 decl_completed (mc.ResultKind d) = by_ (next {t = Mark mark.Int 0} refl tt (next {t = Mark mark.Equal 0} refl tt (want_completes 0 (body_goes_on d _))))
 decl_completed (mc.ResultEquals d a) = by_ (next {t = Mark mark.Equal 0} refl tt (want_completes 0 (body_goes_on d (Some a))))
 
-arrow_completes : (m : mc.Matching) (h : mc.ArmHead) (st : co.Stack) → Completes (InExpr (mc.Want m.level)) (mc.ArmBody m h ∷ co.frames st) (zero ∷ Mark mark.End 0 ∷ closing st)
+arrow_completes : (m : mc.Matching) (h : mc.ArmHead) (st : co.Stack)
+    → Completes (InExpr (mc.Want m.level)) (mc.ArmBody m h ∷ co.frames st) (zero ∷ Mark mark.End 0 ∷ closing st)
 unfolding advance step mc.expr_step mc.close mc.unwind mc.close_in
 arrow_completes m h st = want_completes m.level (record { first = ends_or (Mark mark.End 0) refl tt tt tt tt tt tt; each = λ f. next refl tt ((goes_on st).each _) })
 

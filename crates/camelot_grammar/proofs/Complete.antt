@@ -102,7 +102,8 @@ mutual
   bare_gives (gr.AndUpper us n) s f st ts ls z h = units_gives us s f st _ _ z (go (units_upper us s f n st) h)
   bare_gives (gr.BareUpper bs n) s f st ts ls z h = bare_gives bs s f st _ _ z (go (bare_upper bs s f n st) h)
 
-  pub pre_gives : (x : gr.Pre) (q : ExprState) (c : Lefts) (nots : List ℕ) (k : ℕ) (st : List Frame) (ts : List Lexeme) (ls : List ℕ) (z : End) → AsPre q st (slot c nots k)
+  pub pre_gives : (x : gr.Pre) (q : ExprState) (c : Lefts) (nots : List ℕ) (k : ℕ) (st : List Frame) (ts : List Lexeme) (ls : List ℕ) (z : End)
+      → AsPre q st (slot c nots k)
       → Gives (at (reach_pre x c nots k) st) ts ls z → Gives (at q st) (gr.spell_pre x ts) (lv.levels_pre x k ls) z
   pre_gives (gr.Not l x) q c nots k st ts ls z as' h =
       go (as'.on (Mark mark.Not l) refl) (pre_gives x (mc.WantPre c (l ∷ nots) (suc k)) c (l ∷ nots) (suc k) st ts ls z (want_pre_as c (l ∷ nots) (suc k) st) h)

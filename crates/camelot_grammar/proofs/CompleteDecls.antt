@@ -179,11 +179,13 @@ decls_then gr.NoDecls t h = refl
 decls_then (gr.AndType ds l n m cs) t h = type_then cs (pr.source_of ds) n t h
 decls_then (gr.AndFun ds l n ps k m e) t h = fun_then e (sketch (pr.source_of ds) n (pr.params_of ps)) (pr.kind_of k) t h
 
-decls_type : (ds : gr.Decls) (l : ℕ) → advance (reach_decls ds).state (Mark mark.Type l) (reach_decls ds).stack ≡ Goes 0 (InDecl (mc.TypeName (pr.source_of ds))) []
+decls_type : (ds : gr.Decls) (l : ℕ)
+    → advance (reach_decls ds).state (Mark mark.Type l) (reach_decls ds).stack ≡ Goes 0 (InDecl (mc.TypeName (pr.source_of ds))) []
 unfolding advance mc.top_step
 decls_type ds l = decls_then ds (Mark mark.Type l) tt
 
-decls_let : (ds : gr.Decls) (l : ℕ) → advance (reach_decls ds).state (Mark mark.Let l) (reach_decls ds).stack ≡ Goes 0 (InDecl (mc.FunName (pr.source_of ds))) []
+decls_let : (ds : gr.Decls) (l : ℕ)
+    → advance (reach_decls ds).state (Mark mark.Let l) (reach_decls ds).stack ≡ Goes 0 (InDecl (mc.FunName (pr.source_of ds))) []
 unfolding advance mc.top_step
 decls_let ds l = decls_then ds (Mark mark.Let l) tt
 

@@ -73,7 +73,8 @@ meter_front (u ∷ before) t x y s st = later (advance s u st) (λ s2 st2. meter
     later Stuck ih = refl
     later (Goes k s st) ih = ih s st
 
-pub level_of_front : (before : List Lexeme) (t : Lexeme) (x y : List Lexeme) (d e : Decls) → spell_decls d [] ≡ before ++ t ∷ x → spell_decls e [] ≡ before ++ t ∷ y
+pub level_of_front : (before : List Lexeme) (t : Lexeme) (x y : List Lexeme) (d e : Decls) → spell_decls d [] ≡ before ++ t ∷ x
+    → spell_decls e [] ≡ before ++ t ∷ y
     → get_or (levels_decls d []) (length before) 0 ≡ get_or (levels_decls e []) (length before) 0
 level_of_front before t x y d e h k =
     ap (λ ls. get_or ls (length before) 0) (sym (program_gives d).marks ∙ ap (λ ts. meter start [] ts) h)

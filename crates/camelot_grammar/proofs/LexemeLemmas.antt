@@ -72,7 +72,8 @@ number_real : (n l : ℕ) (b : Bool) → (n == 2147483648) ≡ b → n ≤ 21474
 number_real n l true e h = tt
 number_real n l false e h = grind (arith, e, h)
 
-real_of : (k : TokenKind) (bytes : List ℕ) (l : ℕ) → HasForm k bytes → is_long_number k bytes ≡ false → is_long_name k bytes ≡ false → IsReal (lexeme_of k bytes l)
+real_of : (k : TokenKind) (bytes : List ℕ) (l : ℕ) → HasForm k bytes → is_long_number k bytes ≡ false → is_long_name k bytes ≡ false
+    → IsReal (lexeme_of k bytes l)
 unfolding lexeme_of is_long_number is_long_name
 real_of kind.Lower bytes l h i j = (h, grind (arith, j))
 real_of kind.Upper bytes l h i j = (h, grind (arith, j))

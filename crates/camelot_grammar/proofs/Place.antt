@@ -14,13 +14,13 @@ use Rattle.camelot_grammar.specs.Machine.{State, InDecl, InExpr, InArm, Finished
 use Rattle.camelot_grammar.proofs.Behind.{Over, Halts, ran, raw, metered, meter}
 use Rattle.camelot_grammar.proofs.CompleteDecls.{program_gives}
 use Rattle.camelot_grammar.proofs.Concrete.{Config, InDecls, Top, state_of, stack_of, so_far}
-use Rattle.camelot_grammar.proofs.Sound.{Kept, IsEnd, Keeps, step_keeps}
+use Rattle.camelot_grammar.proofs.Sound.{Continued, IsEnd, Keeps, step_keeps}
 use Rattle.camelot_grammar.proofs.Closing.{completed}
 
 -- a token of the text isn't its end
 abbrev Moved : (List Lexeme → List Lexeme) → Lexeme → Step → Type 0
 Moved read t Stuck = Unit {0}
-Moved read t (Goes k s st) = Kept read t s st
+Moved read t (Goes k s st) = Continued read t s st
 
 inside_moved : (read : List Lexeme → List Lexeme) (t : Lexeme) (y : Step) → ¬ (IsEnd t) → Keeps read t y → Moved read t y
 inside_moved read t Stuck h k = tt
@@ -76,7 +76,7 @@ reach_none c = record { config = c; levels = []; raw_on = λ z. refl; meter_on =
 
 -- one token more in front
 reach_more : (c : Config) (t : Lexeme) (ts : List Lexeme) (k : ℕ) (s : State) (st : List Frame)
-    → advance (state_of c) t (stack_of c) ≡ Goes k s st → k ≤ limit → (kept : Kept (so_far c) t s st) → Reach kept.config ts → Reach c (t ∷ ts)
+    → advance (state_of c) t (stack_of c) ≡ Goes k s st → k ≤ limit → (kept : Continued (so_far c) t s st) → Reach kept.config ts → Reach c (t ∷ ts)
 reach_more c t ts k s st e h kept r =
     let is_s = kept.is_state in
     let is_st = kept.is_stack in
@@ -150,7 +150,8 @@ unfolding reach_none
 stays_end c k s st h i e = subst (Tells c []) (sym (ends_nothing (nat_le k limit) s st i))
     (record { before = []; parts = refl; reach = reach_none c; stuck = subst NoEnd (sym e) h })
 
-tells_end : (c : Config) (y : Step) → step (state_of c) (Mark mark.EndOfText 0) (stack_of c) ≡ y → Keeps (so_far c) (Mark mark.EndOfText 0) y → Tells c [] (ending (limited y))
+tells_end : (c : Config) (y : Step) → step (state_of c) (Mark mark.EndOfText 0) (stack_of c) ≡ y → Keeps (so_far c) (Mark mark.EndOfText 0) y
+    → Tells c [] (ending (limited y))
 unfolding reach_none
 tells_end c Stuck e h = record { before = []; parts = refl; reach = reach_none c; stuck = subst NoEnd (sym e) tt }
 tells_end c (Goes k (Finished p) st) e h =
@@ -160,7 +161,7 @@ tells_end c (Goes k (InExpr s) st) e h = stays_end c k (InExpr s) st tt (λ p q.
 tells_end c (Goes k (InArm s) st) e h = stays_end c k (InArm s) st tt (λ p q. absurd cc) e
 
 tells_more : (c : Config) (t : Lexeme) (ts : List Lexeme) (k : ℕ) (s : State) (st : List Frame) (e : advance (state_of c) t (stack_of c) ≡ Goes k s st)
-    → k ≤ limit → (kept : Kept (so_far c) t s st) → (r : Result) → Tells kept.config ts r → Tells c (t ∷ ts) r
+    → k ≤ limit → (kept : Continued (so_far c) t s st) → (r : Result) → Tells kept.config ts r → Tells c (t ∷ ts) r
 unfolding reach_more
 tells_more c t ts k s st e h kept (Yes p) a = record { reach = reach_more c t ts k s st e h kept a.reach; level = a.level; stack = a.stack; ends = a.ends }
 tells_more c t ts k s st e h kept (Stopped rest) a = record {
@@ -184,7 +185,7 @@ tells_more c t ts k s st e h kept (TooDeep rest) a = record {
 }
 
 tells_limited : (c : Config) (t : Lexeme) (ts : List Lexeme) (k : ℕ) (s : State) (st : List Frame) (e : advance (state_of c) t (stack_of c) ≡ Goes k s st)
-    → (kept : Kept (so_far c) t s st) → Tells kept.config ts (runs s st ts) → (b : Bool) → nat_le k limit ≡ b
+    → (kept : Continued (so_far c) t s st) → Tells kept.config ts (runs s st ts) → (b : Bool) → nat_le k limit ≡ b
     → Tells c (t ∷ ts) (onward (if b then mc.Moves s st else mc.Sinks) (λ s2 st2. runs s2 st2 ts) (t ∷ ts))
 unfolding reach_none
 tells_limited c t ts k s st e kept ih true q = tells_more c t ts k s st e (grind (arith, q)) kept (runs s st ts) ih
@@ -222,14 +223,16 @@ pub record Read (c : Config) (ts : List Lexeme) (p : Source) : Type 0 where
   pub is : source_of decls ≡ p
   pub spells : spell_decls decls [] ≡ so_far c ts
 
-read_end : (c : Config) (y : Step) (k : ℕ) (p : Source) (st : List Frame) → Keeps (so_far c) (Mark mark.EndOfText 0) y → y ≡ Goes k (Finished p) st → Read c [] p
+read_end : (c : Config) (y : Step) (k : ℕ) (p : Source) (st : List Frame) → Keeps (so_far c) (Mark mark.EndOfText 0) y → y ≡ Goes k (Finished p) st
+    → Read c [] p
 read_end c Stuck k p st h e = absurd cc
 read_end c (Goes j (Finished q) st2) k p st h e = let pq : q ≡ p = cc in record { decls = h.decls; is = h.is ∙ pq; spells = h.spells [] }
 read_end c (Goes j (InDecl s) st2) k p st h e = absurd cc
 read_end c (Goes j (InExpr s) st2) k p st h e = absurd cc
 read_end c (Goes j (InArm s) st2) k p st h e = absurd cc
 
-read_over : (c : Config) (k : ℕ) (p : Source) (st : List Frame) → Over (step (state_of c) (Mark mark.EndOfText 0) (stack_of c)) ≡ Over (Goes k (Finished p) st) → Read c [] p
+read_over : (c : Config) (k : ℕ) (p : Source) (st : List Frame)
+    → Over (step (state_of c) (Mark mark.EndOfText 0) (stack_of c)) ≡ Over (Goes k (Finished p) st) → Read c [] p
 read_over c k p st e = let e2 : step (state_of c) (Mark mark.EndOfText 0) (stack_of c) ≡ Goes k (Finished p) st = cc in read_end c _ k p st (step_keeps c (Mark mark.EndOfText 0)) e2
 
 read_step : (c : Config) (t : Lexeme) (ts : List Lexeme) (y : Step) (k : ℕ) (p : Source) (st : List Frame) → Moved (so_far c) t y
@@ -240,7 +243,8 @@ read_step c t ts (Goes j s st2) k p st kept ih e =
     let r = ih kept.config (ap (λ s3. raw s3 (stack_of kept.config) ts) kept.is_state ∙ ap (λ st3. raw s st3 ts) kept.is_stack ∙ e) in
     record { decls = r.decls; is = r.is; spells = r.spells ∙ kept.spells ts }
 
-pub read : (ts : List Lexeme) (c : Config) (k : ℕ) (p : Source) (st : List Frame) → raw (state_of c) (stack_of c) ts ≡ Over (Goes k (Finished p) st) → Read c ts p
+pub read : (ts : List Lexeme) (c : Config) (k : ℕ) (p : Source) (st : List Frame) → raw (state_of c) (stack_of c) ts ≡ Over (Goes k (Finished p) st)
+    → Read c ts p
 read [] c k p st e = read_over c k p st e
 read (t ∷ ts) c k p st e = read_step c t ts _ k p st (advance_moved c t) (λ d h. read ts d k p st h) e
 
@@ -279,7 +283,7 @@ stuck_none before (t ∷ rest) r h = λ decls after spells.
     sym (ap (λ y. ran y (λ s2 st2. raw s2 st2 after) (t ∷ after)) h) ∙ sym (r.raw_on (t ∷ after)) ∙ ap (λ ts. raw start [] ts) (sym spells) ∙ (program_gives decls).ends in
     absurd cc
 
-falls_deep : (before : List Lexeme) (token : Lexeme) (r : Reach begin before) (k : ℕ) (s : State) (st : List Frame) (kept : Kept (so_far r.config) token s st)
+falls_deep : (before : List Lexeme) (token : Lexeme) (r : Reach begin before) (k : ℕ) (s : State) (st : List Frame) (kept : Continued (so_far r.config) token s st)
     → advance (state_of r.config) token (stack_of r.config) ≡ Goes k s st → limit < k → GoesTooDeep before token
 falls_deep before token r k s st kept e h =
     let c = completed kept.config in
@@ -317,11 +321,12 @@ stopped_stops ts rest e =
     let a : Stays begin ts rest = subst (Tells begin ts) e (tells ts begin) in
     (a.before, a.parts, reach_begins a.before a.reach, stuck_none a.before rest a.reach a.stuck)
 
-deep_kept : (c : Config) (t : Lexeme) (y : Step) (k : ℕ) (s : State) (st : List Frame) → Moved (so_far c) t y → y ≡ Goes k s st → Kept (so_far c) t s st
+deep_kept : (c : Config) (t : Lexeme) (y : Step) (k : ℕ) (s : State) (st : List Frame) → Moved (so_far c) t y → y ≡ Goes k s st → Continued (so_far c) t s st
 deep_kept c t y k s st h e = subst (Moved (so_far c) t) e h
 
 pub deep_sinks : (ts rest : List Lexeme) → runs start [] ts ≡ TooDeep rest
-    → (before : List Lexeme) × (token : Lexeme) × (after : List Lexeme) × (rest ≡ token ∷ after) × (before ++ token ∷ after ≡ ts) × BeginsProgram before × GoesTooDeep before token
+    → (before : List Lexeme) × (token : Lexeme) × (after : List Lexeme) × (rest ≡ token ∷ after) × (before ++ token ∷ after ≡ ts)
+    × BeginsProgram before × GoesTooDeep before token
 deep_sinks ts rest e =
     let a : Falls begin ts rest = subst (Tells begin ts) e (tells ts begin) in (
       a.before,
@@ -360,7 +365,8 @@ begins_reach before b =
     (subst (λ ls. AreWithin (take (length before) ls)) (sym g.marks ∙ ap (λ ts. meter start [] ts) b.spells) b.within)
 
 -- where no program goes on, the machine stops
-stop_end : (before : List Lexeme) (r : Reach begin before) (y : Step) → Keeps (so_far r.config) (Mark mark.EndOfText 0) y → NoneGoesOn before [] → ending (limited y) ≡ Stopped []
+stop_end : (before : List Lexeme) (r : Reach begin before) (y : Step) → Keeps (so_far r.config) (Mark mark.EndOfText 0) y → NoneGoesOn before []
+    → ending (limited y) ≡ Stopped []
 stop_end before r Stuck k h = refl
 stop_end before r (Goes l (InDecl s) st) k h = ends_nothing (nat_le l limit) (InDecl s) st (λ p q. absurd cc)
 stop_end before r (Goes l (InExpr s) st) k h = ends_nothing (nat_le l limit) (InExpr s) st (λ p q. absurd cc)
@@ -368,7 +374,7 @@ stop_end before r (Goes l (InArm s) st) k h = ends_nothing (nat_le l limit) (InA
 stop_end before r (Goes l (Finished p) st) k h = absurd (h k.decls (k.spells [] ∙ r.spells [] ∙ append-nil before))
 
 goes_program : (before : List Lexeme) (t : Lexeme) (r : Reach begin before) (k : ℕ) (s : State) (st : List Frame)
-    → advance (state_of r.config) t (stack_of r.config) ≡ Goes k s st → Kept (so_far r.config) t s st
+    → advance (state_of r.config) t (stack_of r.config) ≡ Goes k s st → Continued (so_far r.config) t s st
     → (decls : Decls) × (after : List Lexeme) × (spell_decls decls [] ≡ before ++ t ∷ after)
 goes_program before t r k s st e kept =
     let c = completed kept.config in
@@ -409,7 +415,8 @@ sink_step before t rest r (Goes k s st) e h =
     let b : nat_le k limit ≡ false = grind (arith, deep) in
     ap (λ v. onward (if v then mc.Moves s st else mc.Sinks) (λ s2 st2. runs s2 st2 rest) (t ∷ rest)) b
 
-pub sinks_deep : (ts before : List Lexeme) (t : Lexeme) (rest : List Lexeme) → before ++ t ∷ rest ≡ ts → BeginsProgram before → GoesTooDeep before t → runs start [] ts ≡ TooDeep (t ∷ rest)
+pub sinks_deep : (ts before : List Lexeme) (t : Lexeme) (rest : List Lexeme) → before ++ t ∷ rest ≡ ts → BeginsProgram before → GoesTooDeep before t
+    → runs start [] ts ≡ TooDeep (t ∷ rest)
 sinks_deep ts before t rest e b h =
     let r = begins_reach before b in
     ap (λ xs. runs start [] xs) (sym e) ∙ r.runs_on (t ∷ rest) ∙ sink_step before t rest r _ refl h

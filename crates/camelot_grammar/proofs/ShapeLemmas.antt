@@ -41,7 +41,8 @@ arms_have : (bs : List Branch) → list_all (λ b. has_arms b.body) bs ≡ true 
 arms_have [] h = refl
 arms_have (b ∷ bs) h = both (has_arms b.body) _ (and_first (has_arms b.body) _ h) (arms_have bs (and_second (has_arms b.body) _ h))
 
-match_has : (e : Expression) (bs : List Branch) (l : ℕ) → is_nothing bs ≡ false → has_arms e ≡ true → list_all (λ b. has_arms b.body) bs ≡ true → has_arms (tree.Match e (tree.arms bs) l) ≡ true
+match_has : (e : Expression) (bs : List Branch) (l : ℕ) → is_nothing bs ≡ false → has_arms e ≡ true → list_all (λ b. has_arms b.body) bs ≡ true
+    → has_arms (tree.Match e (tree.arms bs) l) ≡ true
 match_has e [] l s h k = absurd cc
 match_has e (b ∷ bs) l s h k = both (has_arms e) _ h (both (has_arms b.body) _ (and_first (has_arms b.body) _ k) (arms_have bs (and_second (has_arms b.body) _ k)))
 

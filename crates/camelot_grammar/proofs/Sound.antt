@@ -14,7 +14,7 @@ use Rattle.camelot_grammar.proofs.Concrete as co
 use Rattle.camelot_grammar.proofs.Concrete.{Config, InDecls, InExprs, InArms, state_of, stack_of, so_far, Chains, MkChains, Stack, frames, stack_before, Call, Firm, FirmCall, NoCall, Behind, BehindBare, slot_of, slot_before, spot_of, spot_before}
 
 -- this state stands for what was read before, and this token behind it
-pub record Kept (read : List Lexeme → List Lexeme) (t : Lexeme) (s : State) (st : List Frame) : Type 0 where
+pub record Continued (read : List Lexeme → List Lexeme) (t : Lexeme) (s : State) (st : List Frame) : Type 0 where
   pub config : Config
   pub is_state : state_of config ≡ s
   pub is_stack : stack_of config ≡ st
@@ -35,9 +35,10 @@ pub record Ended (read : List Lexeme → List Lexeme) (t : Lexeme) (level : ℕ)
 abbrev pub Keeps : (List Lexeme → List Lexeme) → Lexeme → Step → Type 0
 Keeps read t Stuck = Unit {0}
 Keeps read t (Goes k (Finished p) st) = Ended read t k p
-Keeps read t (Goes k s st) = Kept read t s st
+Keeps read t (Goes k s st) = Continued read t s st
 
-keep : {read : List Lexeme → List Lexeme} {t : Lexeme} (c : Config) → ((r : List Lexeme) → so_far c r ≡ read (t ∷ r)) → Kept read t (state_of c) (stack_of c)
+keep : {read : List Lexeme → List Lexeme} {t : Lexeme} (c : Config) → ((r : List Lexeme) → so_far c r ≡ read (t ∷ r))
+    → Continued read t (state_of c) (stack_of c)
 keep c h = record { config = c; is_state = refl; is_stack = refl; spells = h }
 
 -- ---- declarations
@@ -84,7 +85,7 @@ bare_con_keeps ds l x m cs n t = con_keeps ds l x m cs (gr.NoFields' n) t
 -- behind a parameter there is one more
 param_next : (read : List Lexeme → List Lexeme) (ds : gr.Decls) (l : ℕ) (n : Name) (ps : co.SomeParams) (p : gr.WrittenParam) (t : Lexeme)
     → ((r : List Lexeme) → co.fun_before (co.MkFun ds l n ps) (gr.spell_param p r) ≡ read (t ∷ r))
-    → Kept read t (InDecl (mc.NextParam (mc.with_param (co.head_draft (co.MkFun ds l n ps)) (pr.param_of p)))) []
+    → Continued read t (InDecl (mc.NextParam (mc.with_param (co.head_draft (co.MkFun ds l n ps)) (pr.param_of p)))) []
 param_next read ds l n co.NoParams p t h = keep (InDecls (co.NextParam ds l n (gr.OneParam p))) h
 param_next read ds l n (co.HaveParams ps) p t h = keep (InDecls (co.NextParam ds l n (gr.MoreParams ps p))) h
 
@@ -152,19 +153,19 @@ decl_keeps (co.ResultEquals ds l n ps m a) t = tt
 -- a unit in parentheses is read
 paren_kept : (read : List Lexeme → List Lexeme) (t : Lexeme) (c : Chains) (nots : List ℕ) (x : FirmCall) (u : gr.Firm) (st : Stack)
     → ((r : List Lexeme) → stack_before st (spot_before c nots (Firm x) (gr.spell_firm u r)) ≡ read (t ∷ r))
-    → Kept read t (InExpr (mc.unit_done (spot_of c nots (Firm x)) (pr.firm_operand u))) (frames st)
+    → Continued read t (InExpr (mc.unit_done (spot_of c nots (Firm x)) (pr.firm_operand u))) (frames st)
 paren_kept read t c nots NoCall u st h = keep (InExprs (co.Have c nots (gr.Alone u)) st) h
 paren_kept read t c nots (Behind f us) u st h = keep (InExprs (co.Applied c nots f (gr.AndFirm us u)) st) h
 
 args_comma : (read : List Lexeme → List Lexeme) (t : Lexeme) (c : Chains) (nots : List ℕ) (x : Call) (n : Name) (l m : ℕ) (es : co.SomeExprs) (e : gr.Expr) (st : Stack)
     → ((r : List Lexeme) → stack_before st (spot_before c nots x (Upper n ∷ Mark mark.Open l ∷ gr.spell_exprs (co.more_exprs es e) (Mark mark.Comma m ∷ r))) ≡ read (t ∷ r))
-    → Kept read t (InExpr (mc.Want (slot_of c nots).level)) (mc.Args (spot_of c nots x) n (co.some_expressions es ++ pr.expr_tree e ∷ []) ∷ frames st)
+    → Continued read t (InExpr (mc.Want (slot_of c nots).level)) (mc.Args (spot_of c nots x) n (co.some_expressions es ++ pr.expr_tree e ∷ []) ∷ frames st)
 args_comma read t c nots x n l m co.NoExprs e st h = keep (InExprs (co.Want (slot_of c nots).level) (co.Args c nots x n l (co.ExprsComma (gr.OneExpr e) m) st)) h
 args_comma read t c nots x n l m (co.ExprsComma es i) e st h = keep (InExprs (co.Want (slot_of c nots).level) (co.Args c nots x n l (co.ExprsComma (gr.MoreExprs es i e) m) st)) h
 
 args_close : (read : List Lexeme → List Lexeme) (t : Lexeme) (c : Chains) (nots : List ℕ) (x : Call) (n : Name) (l m : ℕ) (es : co.SomeExprs) (e : gr.Expr) (st : Stack)
     → ((r : List Lexeme) → stack_before st (spot_before c nots x (Upper n ∷ Mark mark.Open l ∷ gr.spell_exprs (co.more_exprs es e) (Mark mark.Close m ∷ r))) ≡ read (t ∷ r))
-    → Kept read t (InExpr (mc.Full (spot_of c nots x) n (co.some_expressions es ++ pr.expr_tree e ∷ []))) (frames st)
+    → Continued read t (InExpr (mc.Full (spot_of c nots x) n (co.some_expressions es ++ pr.expr_tree e ∷ []))) (frames st)
 args_close read t c nots x n l m co.NoExprs e st h = keep (InExprs (co.Full c nots x n l (gr.OneExpr e) m) st) h
 args_close read t c nots x n l m (co.ExprsComma es i) e st h = keep (InExprs (co.Full c nots x n l (gr.MoreExprs es i e) m) st) h
 
@@ -280,7 +281,7 @@ operand_keeps c (l ∷ nots) x st t = operand_keeps c nots (gr.Not l x) st t
 
 solid_kept : (read : List Lexeme → List Lexeme) (t : Lexeme) (c : Chains) (nots : List ℕ) (x : Call) (u : gr.Solid) (st : Stack)
     → ((r : List Lexeme) → stack_before st (spot_before c nots x (gr.spell_solid u r)) ≡ read (t ∷ r))
-    → Kept read t (InExpr (mc.unit_done (spot_of c nots x) (pr.solid_operand u))) (frames st)
+    → Continued read t (InExpr (mc.unit_done (spot_of c nots x) (pr.solid_operand u))) (frames st)
 solid_kept read t c nots (Firm NoCall) u st h = keep (InExprs (co.Have c nots (gr.Alone (gr.Is u))) st) h
 solid_kept read t c nots (Firm (Behind f us)) u st h = keep (InExprs (co.Applied c nots f (gr.AndFirm us (gr.Is u))) st) h
 solid_kept read t c nots (BehindBare f bs) u st h = keep (InExprs (co.Applied c nots f (gr.BareSolid bs u)) st) h

@@ -1,5 +1,6 @@
--- The names of a program of real tokens have their forms, and its literals 32 bits. Each lemma goes over the tokens that a tree
--- spells before a rest: they are real, so what the tree stands for is as its tokens give it, and the rest is real.
+-- The names of a program of real tokens have their forms, and its literals 32 bits. Each lemma goes over the tokens
+-- that a tree spells before a rest: they are real, so what the tree stands for is as its tokens give it, and the rest
+-- is real.
 use Rattle.std.proofs.Common.{◌≡◌, ℕ, zero, suc, pos, ◌-ℤ◌, ◌<◌, ◌≤◌, ◌==◌, nat_le, Bool, true, false, ◌&&◌, ◌||◌, List, [], ◌∷◌, ◌++◌, length, Option, Some, None, refl, sym, subst, arith}
 use Rattle.std.specs.List.{list_all, AllByRecursion}
 use Rattle.std.specs.Char.{is_ascii_lowercase, is_ascii_uppercase, is_ascii_digit}
@@ -112,7 +113,8 @@ arms_ints (b ∷ bs) h = both (branch_ints b) _ (and_first (branch_ints b) _ h) 
 good_var : (n : Name) → is_lower n ≡ true → Good (tree.Var n)
 good_var n h = record { named = h; ints = refl }
 
-good_build : (c : Name) (es : List Expression) (p : Option Name) → is_upper c ≡ true → AllGood es → is_lower_or_none p ≡ true → Good (tree.Build c (tree.expressions es) p)
+good_build : (c : Name) (es : List Expression) (p : Option Name) → is_upper c ≡ true → AllGood es → is_lower_or_none p ≡ true
+    → Good (tree.Build c (tree.expressions es) p)
 good_build c es p h k i = record { named = both _ _ h (both _ _ (expressions_named es k.named) i); ints = expressions_ints es k.ints }
 
 good_applied : (f : Name) (es : List Expression) → is_lower f ≡ true → AllGood es → Good (pr.applied f es)

@@ -1,7 +1,7 @@
--- Cited by contracts. The grammar of Camelot, in the manner of the grammars of ML languages (Leroy 1997): trees of its productions, and
--- what they spell. One data type is one production, and one constructor one of its alternatives, with the line of each
--- word and sign (a plain number). What a tree spells stands before a rest, so that no lists are joined. The parser has no
--- such trees: it reads token by token.
+-- Cited by contracts. The grammar of Camelot, in the manner of the grammars of ML languages (Leroy 1997): trees of its
+-- productions, and what they spell. One data type is one production, and one constructor one of its alternatives, with
+-- the line of each word and sign (a plain number). What a tree spells stands before a rest, so that no lists are
+-- joined. The parser has no such trees: it reads token by token.
 use Rattle.std.specs.Prelude.{ℕ, List, ◌∷◌}
 use Rattle.camelot_tree.specs.declared.tree.Name.{Name}
 use Rattle.camelot_grammar.specs.declared.lexeme.Mark.TheVariants as mark

@@ -1,6 +1,7 @@
--- Cited by contracts. The level of each token of a program: the number of unfinished `expr` and `pre` in which it stands, and the operators
--- that were read before it in the unfinished chains in which it stands. The levels of a tree's tokens stand before a
--- rest; `k` is the level around the tree. The parser keeps the level of what it is in the middle of.
+-- Cited by contracts. The level of each token of a program: the number of unfinished `expr` and `pre` in which it
+-- stands, and the operators that were read before it in the unfinished chains in which it stands. The levels of a
+-- tree's tokens stand before a rest; `k` is the level around the tree. The parser keeps the level of what it is in the
+-- middle of.
 use Rattle.std.specs.Prelude.{ℕ, suc, List, ◌∷◌}
 use Rattle.camelot_grammar.specs.Grammar.{Place, NoPlace, At, FirstBar, NoBar, Bar, FieldList, OneField, MoreFields, Fields, NoFields, InParens, Cell, NoCell, AtField, Solid, Literal, True, False, Full, Placed, Firm, Is, Paren, Units, NoUnits, AndLower, AndFirm, BareLower, BareSolid, Bare, AndUpper, BareUpper, Pre, Not, Negative, Least, Apply, ApplyBare, Con, Alone, Prod, OnePre, Times, Sum, OneProd, Adds, Cmp, OneSum, Compares, And, OneCmp, Both, Or, OneAnd, Either, Expr, Let, If, Match, Chain, Exprs, OneExpr, MoreExprs, Arms, OneArm, MoreArms, Arm, Case, AtomList, OneAtom, MoreAtoms, ConDecl, Inline, NoFields', WithFields, Cons, OneCon, MoreCons, Kind, NoKind, OfKind, ReadMark, NoRead, Read, WrittenParam, Simple, Marked, Params, OneParam, MoreParams, Decls, NoDecls, AndType, AndFun}
 

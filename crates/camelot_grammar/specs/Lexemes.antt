@@ -1,5 +1,5 @@
--- Cited by contracts. The tokens of a text as the grammar sees them: words and signs by their texts, numbers by their values, names with
--- their bytes. The code looks a word up in a table.
+-- Cited by contracts. The tokens of a text as the grammar sees them: words and signs by their texts, numbers by their
+-- values, names with their bytes. The code looks a word up in a table.
 use Rattle.std.specs.Prelude.{ℕ, ◌≤◌, ◌<◌, ◌==◌, List, [], ◌∷◌, ◌++◌, map, length, slice_range, if◌then◌else◌, codes}
 use Rattle.std.specs.Str.{bytes_eq}
 use Rattle.text_scan.specs.Forms.{HasForm, number_value}

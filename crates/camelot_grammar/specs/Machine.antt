@@ -1,5 +1,6 @@
--- Cited by contracts: of the law `answers_of_the_machine`, and of the parser's private functions. A machine that reads token by
--- token, with a stack of what is unfinished. The grammar says what the answers mean, and knows nothing of this.
+-- Cited by contracts: of the law `answers_of_the_machine`, and of the parser's private functions. A machine that reads
+-- token by token, with a stack of what is unfinished. The grammar says what the answers mean, and knows nothing of
+-- this.
 use Rattle.std.specs.Prelude.{ℕ, suc, length, pos, ◌-◌, ◌-ℤ◌, nat_le, if◌then◌else◌, Bool, true, false, List, [], ◌∷◌, ◌++◌, Option, Some, None}
 use Rattle.camelot_values.specs.Operator as operator
 use Rattle.camelot_tree.specs.declared.tree.Name.{Name}

@@ -1,6 +1,6 @@
--- Cited by contracts. Which tokens are a program, and where tokens stop being one: the first token that no program goes on with, or whose
--- level is above the limit. A program goes on behind some tokens where these and some more are what a tree of the
--- grammar spells.
+-- Cited by contracts. Which tokens are a program, and where tokens stop being one: the first token that no program goes
+-- on with, or whose level is above the limit. A program goes on behind some tokens where these and some more are what a
+-- tree of the grammar spells.
 use Rattle.std.specs.Prelude.{◌≡◌, ℕ, ◌-◌, ◌<◌, ◌≤◌, ◌⊎◌, List, [], ◌∷◌, ◌++◌, length, take, get_or}
 use Rattle.std.specs.List.{AllByRecursion}
 use Rattle.text_scan.specs.declared.tokens.Token.{Token}
@@ -9,7 +9,7 @@ use Rattle.camelot_grammar.specs.declared.lexeme.Mark.TheVariants as mark
 use Rattle.camelot_grammar.specs.declared.lexeme.Lexeme.{Lexeme}
 use Rattle.camelot_grammar.specs.declared.lexeme.Lexeme.TheVariants as lexeme
 use Rattle.camelot_grammar.specs.declared.fault.ParseFault.{ParseFault}
-use Rattle.camelot_grammar.specs.declared.fault.ParseFault.TheVariants.{Scan, Unexpected, TooDeep, TypeParameter, Division, Memory}
+use Rattle.camelot_grammar.specs.declared.fault.ParseFault.TheVariants.{Scan, Unexpected, TooDeep, TypeParameter, Division}
 use Rattle.camelot_grammar.specs.Lexemes.{lexemes, IsReal}
 use Rattle.camelot_tree.specs.Tree.{Source}
 use Rattle.camelot_grammar.specs.Grammar.{Decls, spell_decls}
@@ -110,10 +110,9 @@ pub record HasProgram (text : List ℕ) (source : Source) : Type 0 where
   pub are : AreTokensOf text tokens
   pub program : IsProgram (lexemes text tokens) source
 
--- the cause of an answer that isn't Ok: want of memory has none in the text
+-- why a text has a fault: its reading stops for it, or its tokens have it
 abbrev pub HasCause : List ℕ → ParseFault → Type 0
 HasCause text (Scan fault) = IsFaultOf text fault
-HasCause text Memory = Unit {0}
 HasCause text fault = HasFault text fault
 
 -- the place of a fault among the tokens
@@ -123,4 +122,3 @@ place_of (Unexpected token line) = token
 place_of (TooDeep token line) = token
 place_of (TypeParameter token line) = token
 place_of (Division token line) = token
-place_of Memory = 0

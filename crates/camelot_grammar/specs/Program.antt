@@ -1,5 +1,5 @@
--- Cited by contracts. The program that a tree of the grammar stands for: what `&&`, `||`, `not` and a minus sign stand for, and the line of
--- each expression, which is that of its first token, parentheses around it left out.
+-- Cited by contracts. The program that a tree of the grammar stands for: what `&&`, `||`, `not` and a minus sign stand
+-- for, and the line of each expression, which is that of its first token, parentheses around it left out.
 use Rattle.std.specs.Prelude.{ℕ, pos, ◌-ℤ◌, Bool, true, false, List, [], ◌∷◌, ◌++◌, Option, Some, None}
 use Rattle.camelot_values.specs.Operator as operator
 use Rattle.camelot_values.specs.Operator.{Operator}

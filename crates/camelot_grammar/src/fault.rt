@@ -1,7 +1,3 @@
-ghost use Rattle.std.specs.Prelude.{◌≡◌};
-ghost use Rattle.camelot_grammar.specs.declared.fault.ParseFault.TheVariants.{Memory};
-
-use std::alloc::{AllocError, AllocFailed};
 use text_scan::ScanFault;
 use thiserror::Error;
 
@@ -24,23 +20,4 @@ pub enum ParseFault {
     /// No program goes on with this `/` or `mod`.
     #[error("division token {token} line {line}")]
     Division { token: u64, line: u64 },
-    /// Memory ran out.
-    #[error("out of memory")]
-    Memory,
-}
-
-impl<T: Drop> From<AllocFailed<T>> for ParseFault {
-    ghost from_gives = { λ _ fault. fault ≡ Memory };
-
-    fn from(_failed: AllocFailed<T>) -> ParseFault {
-        ParseFault::Memory
-    }
-}
-
-impl From<AllocError> for ParseFault {
-    ghost from_gives = { λ _ fault. fault ≡ Memory };
-
-    fn from(_failed: AllocError) -> ParseFault {
-        ParseFault::Memory
-    }
 }

@@ -24,7 +24,8 @@ some_is : {A : Type 0} (x y : A) → Some x ≡ Some y → x ≡ y
 some_is x y h = cc
 
 -- what is due was told by the status of its verdict, or a front of it
-pub responds : (s : Status) (v : Verdict) (command : Command) (input output : List ℕ) (t t' : Option (List ℕ)) → IsDue command input v output → Writes s v output t t' → Responds s command input t t'
+pub responds : (s : Status) (v : Verdict) (command : Command) (input output : List ℕ) (t t' : Option (List ℕ)) → IsDue command input v output
+    → Writes s v output t t' → Responds s command input t t'
 responds status.Ok Done command input output t t' due w = record { output = output; due = due; whole = w }
 responds status.Ok Refused command input output t t' due w = absurd w
 responds status.Refused Done command input output t t' due w = absurd w
@@ -46,11 +47,13 @@ written_quiet status.Usage v output t t' old new w = absurd w
 written_quiet status.TooLong v output t t' old new w = absurd w
 
 -- what was read whole is the input of a command that reads
-pub has_read : (command : Command) (before after : Devices) (input : List ℕ) → reads command ≡ true → ReadWhole before after input → HasRead (reads command) before after input
+pub has_read : (command : Command) (before after : Devices) (input : List ℕ) → reads command ≡ true → ReadWhole before after input
+    → HasRead (reads command) before after input
 has_read command before after input e h = subst (λ b. HasRead b before after input) (sym e) h
 
 -- and nothing is that of one that doesn't
-pub has_not_read : (command : Command) (before after : Devices) (input : List ℕ) → reads command ≡ false → ReadNothing before after input → HasRead (reads command) before after input
+pub has_not_read : (command : Command) (before after : Devices) (input : List ℕ) → reads command ≡ false → ReadNothing before after input
+    → HasRead (reads command) before after input
 has_not_read command before after input e h = subst (λ b. HasRead b before after input) (sym e) h
 
 -- the same words spell a command of the same sort
@@ -65,10 +68,12 @@ no_input : (command : Command) (left : Option (List ℕ)) (input : List ℕ) →
 no_input command left input e h = subst (λ b. IsInputBy b left input) e h
 
 -- a source of which a command took nothing is as it was: this one reads
-pub unread : {S : Type 0} (words : List (List ℕ)) (own command : Command) (old new : S) → IsCommand words own → reads own ≡ true → IsCommand words command → reads command ≡ false → new ≡ old
+pub unread : {S : Type 0} (words : List (List ℕ)) (own command : Command) (old new : S) → IsCommand words own → reads own ≡ true
+    → IsCommand words command → reads command ≡ false → new ≡ old
 unread words own command old new spelled e again h = let q : true ≡ false = sym (also words own command true spelled e again) ∙ h in absurd cc
 
-pub answers_of : (s : Status) (words : List (List ℕ)) (command : Command) (input : List ℕ) (l l' t t' : Option (List ℕ)) (n n' : ℕ) → IsCommand words command → reads command ≡ true → Responds s command input t t'
+pub answers_of : (s : Status) (words : List (List ℕ)) (command : Command) (input : List ℕ) (l l' t t' : Option (List ℕ)) (n n' : ℕ)
+    → IsCommand words command → reads command ≡ true → Responds s command input t t'
     → Took l l' n n' input → IsAtEnd l' → length input ≤ input_limit → Answers s words (devices l n t) (devices l' n' t')
 answers_of status.Ok words command input l l' t t' n n' c q r k e h = record { command = command; spelled = c; input = input; read = has_read command (devices l n t) (devices l' n' t') input q (record { took = k; at_end = e; within = h }); told = r }
 answers_of status.Refused words command input l l' t t' n n' c q r k e h = record { command = command; spelled = c; input = input; read = has_read command (devices l n t) (devices l' n' t') input q (record { took = k; at_end = e; within = h }); told = r }
@@ -82,7 +87,8 @@ answers_of status.TooLong words command input l l' t t' n n' c q r k e h = absur
 pub no_rise : (f f' : ℕ) → Rose f f' → f < last_count → f' ≡ f → ⊥
 no_rise f f' r room same = omega (arith, r, room, same)
 
-too_many : (input bytes : List ℕ) (l l' : Option (List ℕ)) (limit : ℕ) → length bytes ≡ limit + 1 → Consumes l l' bytes → l ≡ Some input → length input ≤ limit → ⊥
+too_many : (input bytes : List ℕ) (l l' : Option (List ℕ)) (limit : ℕ) → length bytes ≡ limit + 1 → Consumes l l' bytes → l ≡ Some input
+    → length input ≤ limit → ⊥
 too_many input bytes None l' limit size c h within = absurd cc
 too_many input bytes (Some xs) None limit size c h within = absurd c
 too_many input bytes (Some xs) (Some ys) limit size c h within =
@@ -96,7 +102,8 @@ same_input (Some xs) None input bytes e c h = absurd c
 same_input (Some xs) (Some ys) input bytes e c h = sym (append-nil bytes) ∙ ap (λ r. bytes ++ r) (sym h) ∙ sym c ∙ some_is xs input e
 
 -- where no sink failed, what was told for a command is whole
-told_whole : (s : Status) (command : Command) (input : List ℕ) (t t' : Option (List ℕ)) (g g' : ℕ) → Responds s command input t t' → SinkFaults s g g' → g < last_count → g' ≡ g → Completes s command input t t'
+told_whole : (s : Status) (command : Command) (input : List ℕ) (t t' : Option (List ℕ)) (g g' : ℕ) → Responds s command input t t'
+    → SinkFaults s g g' → g < last_count → g' ≡ g → Completes s command input t t'
 told_whole status.Ok command input t t' g g' r f room same = r
 told_whole status.Refused command input t t' g g' r f room same = r
 told_whole status.WriteFault command input t t' g g' r f room same = absurd (no_rise g g' f room same)
@@ -106,14 +113,16 @@ told_whole status.Usage command input t t' g g' r f room same = absurd r
 told_whole status.TooLong command input t t' g g' r f room same = absurd r
 
 -- what was told for the command that the words spell, and the bytes that were read
-pub completes : (s : Status) (words : List (List ℕ)) (command own : Command) (input bytes : List ℕ) (l l' t t' : Option (List ℕ)) (n n' g g' : ℕ) → IsCommand words own → reads own ≡ true → Responds s own bytes t t'
+pub completes : (s : Status) (words : List (List ℕ)) (command own : Command) (input bytes : List ℕ) (l l' t t' : Option (List ℕ)) (n n' g g' : ℕ)
+    → IsCommand words own → reads own ≡ true → Responds s own bytes t t'
     → Took l l' n n' bytes → IsAtEnd l' → SinkFaults s g g' → IsCommand words command → IsInput command l input → g < last_count → g' ≡ g → Completes s command input t t'
 completes s words command own input bytes l l' t t' n n' g g' spelled q r k e f again h room same =
     let r' = subst (λ b. Responds s own b t t') (same_input l l' input bytes (told_input command l input (also words own command true spelled q again) h) k.gone e) r in
     told_whole s command input t t' g g' (subst (λ d. Responds s d input t t') (one_command words own command spelled again) r') f room same
 
 -- more than the whole input can't be taken
-pub no_more : (words : List (List ℕ)) (own command : Command) (input : List ℕ) (l l' : Option (List ℕ)) (n n' limit : ℕ) → IsCommand words own → reads own ≡ true → TookExactly (limit + 1) l l' n n' → IsCommand words command → IsInput command l input → length input ≤ limit → ⊥
+pub no_more : (words : List (List ℕ)) (own command : Command) (input : List ℕ) (l l' : Option (List ℕ)) (n n' limit : ℕ) → IsCommand words own
+    → reads own ≡ true → TookExactly (limit + 1) l l' n n' → IsCommand words command → IsInput command l input → length input ≤ limit → ⊥
 no_more words own command input l l' n n' limit spelled q k again h within =
     too_many input k.bytes l l' limit k.number k.took.gone (told_input command l input (also words own command true spelled q again) h) within
 
@@ -123,11 +132,13 @@ no_usage s command input t t' r e = subst (λ x. Responds x command input t t') 
 no_long : (s : Status) (command : Command) (input : List ℕ) (t t' : Option (List ℕ)) → Responds s command input t t' → s ≡ status.TooLong → ⊥
 no_long s command input t t' r e = subst (λ x. Responds x command input t t') e r
 
-pub not_long : (s : Status) (command : Command) (input : List ℕ) (l l' t t' : Option (List ℕ)) (n n' : ℕ) → Responds s command input t t' → Took l l' n n' input → length input ≤ input_limit → n + input_limit < last_count
+pub not_long : (s : Status) (command : Command) (input : List ℕ) (l l' t t' : Option (List ℕ)) (n n' : ℕ) → Responds s command input t t'
+    → Took l l' n n' input → length input ≤ input_limit → n + input_limit < last_count
     → (s ≡ status.TooLong → n' ≡ n + (input_limit + 1)) × (n' ≡ n + (input_limit + 1) → s ≡ status.TooLong)
 not_long s command input l l' t t' n n' r k h room = let c = k.counted in (λ e. absurd (no_long s command input t t' r e), λ e. absurd (omega arith))
 
-pub source_steady : (s : Status) (command : Command) (input : List ℕ) (t t' : Option (List ℕ)) (f f' : ℕ) → Responds s command input t t' → f' ≡ f → SourceFaults s f f'
+pub source_steady : (s : Status) (command : Command) (input : List ℕ) (t t' : Option (List ℕ)) (f f' : ℕ) → Responds s command input t t' → f' ≡ f
+    → SourceFaults s f f'
 source_steady status.Ok command input t t' f f' r e = e
 source_steady status.Refused command input t t' f f' r e = e
 source_steady status.WriteFault command input t t' f f' r e = e
@@ -145,7 +156,8 @@ first_is : (v w : List ℕ) → v ∷ [] ≡ w ∷ [] → v ≡ w
 first_is v w h = cc
 
 -- there is one word, and the test of it says whether it is this one
-pub one_word : {X : Type 0} (f : X → List ℕ) (ws : List X) (x : X) (text v : List ℕ) (b : Bool) → 1 ≤ length ws → length ws < 2 → x ≡ get_or ws 0 x → text ≡ f x → b ≡ bytes_eq text v
+pub one_word : {X : Type 0} (f : X → List ℕ) (ws : List X) (x : X) (text v : List ℕ) (b : Bool) → 1 ≤ length ws → length ws < 2 → x ≡ get_or ws 0 x
+    → text ≡ f x → b ≡ bytes_eq text v
     → (b ≡ true → map f ws ≡ v ∷ []) × (map f ws ≡ v ∷ [] → b ≡ true)
 one_word f ws x text v b h k e t q =
     let all = only_word f ws x h k e in (
@@ -159,7 +171,8 @@ none_taken : (l : Option (List ℕ)) → Consumes l l []
 none_taken None = tt
 none_taken (Some xs) = refl
 
-pub answers_unread : (s : Status) (words : List (List ℕ)) (command : Command) (l t t' : Option (List ℕ)) (n : ℕ) → IsCommand words command → reads command ≡ false → Responds s command [] t t' → Answers s words (devices l n t) (devices l n t')
+pub answers_unread : (s : Status) (words : List (List ℕ)) (command : Command) (l t t' : Option (List ℕ)) (n : ℕ) → IsCommand words command
+    → reads command ≡ false → Responds s command [] t t' → Answers s words (devices l n t) (devices l n t')
 answers_unread status.Ok words command l t t' n c q r = record { command = command; spelled = c; input = []; read = has_not_read command (devices l n t) (devices l n t') [] q (record { left = refl; taken = refl; empty = refl }); told = r }
 answers_unread status.Refused words command l t t' n c q r = record { command = command; spelled = c; input = []; read = has_not_read command (devices l n t) (devices l n t') [] q (record { left = refl; taken = refl; empty = refl }); told = r }
 answers_unread status.WriteFault words command l t t' n c q r = record { command = command; spelled = c; input = []; read = has_not_read command (devices l n t) (devices l n t') [] q (record { left = refl; taken = refl; empty = refl }); told = r }
@@ -168,10 +181,12 @@ answers_unread status.ReadFault words command l t t' n c q r = absurd r
 answers_unread status.Usage words command l t t' n c q r = absurd r
 answers_unread status.TooLong words command l t t' n c q r = absurd r
 
-pub not_long_unread : (s : Status) (command : Command) (t t' : Option (List ℕ)) (n : ℕ) → Responds s command [] t t' → n + input_limit < last_count → (s ≡ status.TooLong → n ≡ n + (input_limit + 1)) × (n ≡ n + (input_limit + 1) → s ≡ status.TooLong)
+pub not_long_unread : (s : Status) (command : Command) (t t' : Option (List ℕ)) (n : ℕ) → Responds s command [] t t' → n + input_limit < last_count
+    → (s ≡ status.TooLong → n ≡ n + (input_limit + 1)) × (n ≡ n + (input_limit + 1) → s ≡ status.TooLong)
 not_long_unread s command t t' n r room = (λ e. absurd (no_long s command [] t t' r e), λ e. absurd (omega (arith, e)))
 
-pub completes_unread : (s : Status) (words : List (List ℕ)) (command own : Command) (input : List ℕ) (l t t' : Option (List ℕ)) (g g' : ℕ) → IsCommand words own → reads own ≡ false → Responds s own [] t t' → SinkFaults s g g'
+pub completes_unread : (s : Status) (words : List (List ℕ)) (command own : Command) (input : List ℕ) (l t t' : Option (List ℕ)) (g g' : ℕ)
+    → IsCommand words own → reads own ≡ false → Responds s own [] t t' → SinkFaults s g g'
     → IsCommand words command → IsInput command l input → g < last_count → g' ≡ g → Completes s command input t t'
 completes_unread s words command own input l t t' g g' spelled q r f again h room same =
     let empty : input ≡ [] = no_input command l input (also words own command false spelled q again) h in

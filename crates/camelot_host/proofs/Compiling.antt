@@ -1,6 +1,6 @@
 -- What is due for a source.
 use Rattle.std.proofs.Common.{◌≡◌, ℕ, List}
-use Rattle.refusals.specs.declared.cause.Cause.{Cause}
+use Rattle.cause_texts.specs.declared.cause.Cause.{Cause}
 use Rattle.camelot_compiler.specs.Compiled as compiler
 use Rattle.camelot_compiler.specs.Compiled.{IsCompiled}
 use Rattle.grail_bundle.specs.Bundles.{bundle_text}

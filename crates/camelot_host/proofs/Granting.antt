@@ -47,7 +47,8 @@ of_entry : (P : Type 0) (fits : Func → Type 0) (o : Option Func) → IsSomeAnd
 of_entry P fits None h each = absurd h
 of_entry P fits (Some f) h each = each f refl h
 
-peak_within : (code cert : List ℕ) (l : Licensed) → IsAccepted code cert l → (limit entry fuel : ℕ) (args : List Value) → FitsEntry l entry args → peak_of (run_of l.code limit entry fuel args) ≤ bound l.code l.cert entry args
+peak_within : (code cert : List ℕ) (l : Licensed) → IsAccepted code cert l → (limit entry fuel : ℕ) (args : List Value) → FitsEntry l entry args
+    → peak_of (run_of l.code limit entry fuel args) ≤ bound l.code l.cert entry args
 peak_within code cert l h limit entry fuel args fit =
     of_entry (peak_of (run_of l.code limit entry fuel args) ≤ bound l.code l.cert entry args) (λ f. ArgumentsFit l.code.types f.params args) (slice_get l.code.funcs entry) fit
     (λ f is fits. peak_bound l.code l.cert h.well (have_blocks l.code h.spelled.fits) (are_types l.code h.spelled.fits) h.granted.pays limit entry fuel args f is fits)

@@ -31,11 +31,13 @@ leaves_whole command input (reply.Done output arena) h = whole_left command inpu
 leaves_whole command input (reply.Refused line) h = tt
 
 -- what was told of a reply is what is due for the input
-pub reply_responds : (s : Status) (command : Command) (input : List ℕ) (r : Reply) (t t' : Option (List ℕ)) → IsReply command input r → Writes s (verdict_of r) (bytes_of r) t t' → Responds s command input t t'
+pub reply_responds : (s : Status) (command : Command) (input : List ℕ) (r : Reply) (t t' : Option (List ℕ)) → IsReply command input r
+    → Writes s (verdict_of r) (bytes_of r) t t' → Responds s command input t t'
 reply_responds s command input r t t' h w = responds s (verdict_of r) command input (bytes_of r) t t' h.due w
 
 -- what was told of a reply leaves its arena
-pub told_left : (s : Status) (command : Command) (input : List ℕ) (r : Reply) (kept : Option Range) (t t' : Option (List ℕ)) → IsReply command input r → Writes s (verdict_of r) (bytes_of r) t t' → Keeps s r kept
+pub told_left : (s : Status) (command : Command) (input : List ℕ) (r : Reply) (kept : Option Range) (t t' : Option (List ℕ))
+    → IsReply command input r → Writes s (verdict_of r) (bytes_of r) t t' → Keeps s r kept
     → RespondsIn s command input t t' kept
 told_left status.Ok command input (reply.Done output arena) kept t t' h w k = record { output = output.items; whole = w; leaves = subst (Leaves command input output.items) (sym k) h.leaves }
 told_left status.Ok command input (reply.Refused line) kept t t' h w k = absurd w
@@ -72,7 +74,8 @@ arena_by status.Usage words command input l l' t t' n n' arena c q r k e h = r
 arena_by status.TooLong words command input l l' t t' n n' arena c q r k e h = r
 
 -- the same where the command reads nothing
-pub arena_unread : (s : Status) (words : List (List ℕ)) (command : Command) (l t t' : Option (List ℕ)) (n : ℕ) (arena : Option Range) → IsCommand words command → reads command ≡ false → RespondsIn s command [] t t' arena
+pub arena_unread : (s : Status) (words : List (List ℕ)) (command : Command) (l t t' : Option (List ℕ)) (n : ℕ) (arena : Option Range)
+    → IsCommand words command → reads command ≡ false → RespondsIn s command [] t t' arena
     → ArenaBy s words (devices l n t) (devices l n t') arena
 arena_unread status.Ok words command l t t' n arena c q r = record {
   command = command;

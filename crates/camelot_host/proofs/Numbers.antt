@@ -25,12 +25,14 @@ too_small word number most few only h n w fits = omega (arith, only n (omega (ar
 pub too_large : (word : List ℕ) (number most : ℕ) → most < 2 ^ 32 → Only word number → most < number → (n : ℕ) → word ≡ decimal n → IsUpTo most n → ⊥
 too_large word number most few only h n w fits = omega (arith, only n (omega (arith, few, fits.most)) w, h, fits.most)
 
-pub other_text : (word text : List ℕ) (number most : ℕ) → most < 2 ^ 32 → Only word number → text ≡ decimal number → bytes_eq text word ≡ false → (n : ℕ) → word ≡ decimal n → IsUpTo most n → ⊥
+pub other_text : (word text : List ℕ) (number most : ℕ) → most < 2 ^ 32 → Only word number → text ≡ decimal number → bytes_eq text word ≡ false
+    → (n : ℕ) → word ≡ decimal n → IsUpTo most n → ⊥
 other_text word text number most few only t h n w fits =
     let is : n ≡ number = only n (omega (arith, few, fits.most)) w in
     apart text word h (t ∙ sym (ap decimal is) ∙ sym w)
 
-pub this_text : (word text : List ℕ) (number most : ℕ) → text ≡ decimal number → bytes_eq text word ≡ true → 1 ≤ number → number ≤ most → (word ≡ decimal number) × IsUpTo most number
+pub this_text : (word text : List ℕ) (number most : ℕ) → text ≡ decimal number → bytes_eq text word ≡ true → 1 ≤ number → number ≤ most
+    → (word ≡ decimal number) × IsUpTo most number
 this_text word text number most t h least few = (sym (same text word h) ∙ t, record { least = least; most = few })
 
 -- a text that is parsed spells no other number
@@ -38,7 +40,8 @@ pub parsed : {E : Type 0} (word : List ℕ) (r : Result ℕ E) (number : ℕ) �
 parsed word r number p e n few w = let same : Ok number ≡ Ok n = sym e ∙ parse-decimal 32 n word r few (omega (arith, few)) w p in cc
 
 -- one that isn't spells none that is so small
-pub no_number : {E : Type 0} (word : List ℕ) (r : Result ℕ E) (error : E) (most : ℕ) → most < 2 ^ 32 → ParsesUnsigned 32 10 word r → r ≡ Err error → (n : ℕ) → word ≡ decimal n → IsUpTo most n → ⊥
+pub no_number : {E : Type 0} (word : List ℕ) (r : Result ℕ E) (error : E) (most : ℕ) → most < 2 ^ 32 → ParsesUnsigned 32 10 word r → r ≡ Err error
+    → (n : ℕ) → word ≡ decimal n → IsUpTo most n → ⊥
 no_number word r error most few p e n w fits =
     let same : Err error ≡ Ok n = sym e ∙ parse-decimal 32 n word r (omega (arith, few, fits.most)) (omega (arith, few, fits.most)) w p in
     absurd cc
@@ -58,7 +61,8 @@ third_is a b c d e f h = cc
 first_is : (a b c d e f : List ℕ) → a ∷ b ∷ c ∷ [] ≡ d ∷ e ∷ f ∷ [] → a ≡ d
 first_is a b c d e f h = cc
 
-pub other_word : (first second third : List ℕ) → bytes_eq first (codes "drill") ≡ false → (jobs workers : ℕ) → IsDrill (first ∷ second ∷ third ∷ []) jobs workers → ⊥
+pub other_word : (first second third : List ℕ) → bytes_eq first (codes "drill") ≡ false → (jobs workers : ℕ)
+    → IsDrill (first ∷ second ∷ third ∷ []) jobs workers → ⊥
 other_word first second third h jobs workers d = apart first (codes "drill") h (first_is first second third (codes "drill") (decimal jobs) (decimal workers) d.are)
 
 pub other_jobs : (first second third : List ℕ) → NoNumber second 4096 → (jobs workers : ℕ) → IsDrill (first ∷ second ∷ third ∷ []) jobs workers → ⊥
@@ -67,7 +71,8 @@ other_jobs first second third h jobs workers d = h jobs (second_is first second 
 pub other_workers : (first second third : List ℕ) → NoNumber third 16 → (jobs workers : ℕ) → IsDrill (first ∷ second ∷ third ∷ []) jobs workers → ⊥
 other_workers first second third h jobs workers d = h workers (third_is first second third (codes "drill") (decimal jobs) (decimal workers) d.are) d.few_workers
 
-pub drill_is : (first second third : List ℕ) (jobs workers : ℕ) → bytes_eq first (codes "drill") ≡ true → (second ≡ decimal jobs) × IsUpTo 4096 jobs → (third ≡ decimal workers) × IsUpTo 16 workers → IsDrill (first ∷ second ∷ third ∷ []) jobs workers
+pub drill_is : (first second third : List ℕ) (jobs workers : ℕ) → bytes_eq first (codes "drill") ≡ true → (second ≡ decimal jobs) × IsUpTo 4096 jobs
+    → (third ≡ decimal workers) × IsUpTo 16 workers → IsDrill (first ∷ second ∷ third ∷ []) jobs workers
 drill_is first second third jobs workers h j w = record {
   are = ap (λ l. l ∷ second ∷ third ∷ []) (same first (codes "drill") h) ∙ ap (λ l. codes "drill" ∷ l ∷ third ∷ []) j.0 ∙ ap (λ l. codes "drill" ∷ decimal jobs ∷ l ∷ []) w.0;
   few_jobs = j.1;
@@ -76,7 +81,8 @@ drill_is first second third jobs workers h j w = record {
 
 -- ---- all words
 
-three : {X : Type 0} (f : X → List ℕ) (ws : List X) (x y z : X) → 3 ≤ length ws → length ws < 4 → x ≡ get_or ws 0 x → y ≡ get_or ws 1 y → z ≡ get_or ws 2 z → map f ws ≡ f x ∷ f y ∷ f z ∷ []
+three : {X : Type 0} (f : X → List ℕ) (ws : List X) (x y z : X) → 3 ≤ length ws → length ws < 4 → x ≡ get_or ws 0 x → y ≡ get_or ws 1 y
+    → z ≡ get_or ws 2 z → map f ws ≡ f x ∷ f y ∷ f z ∷ []
 three f [] x y z h k a b c = absurd (omega (arith, h))
 three f (u ∷ []) x y z h k a b c = absurd (omega (arith, h))
 three f (u ∷ v ∷ []) x y z h k a b c = absurd (omega (arith, h))
@@ -91,7 +97,8 @@ not_three f ws other jobs workers d = other (sym (length-map ws f) ∙ ap length
 abbrev pub Drills : List (List ℕ) → Option (ℕ × ℕ) → Type 0
 Drills words o = MatchOption o ((jobs workers : ℕ) → IsDrill words jobs workers → ⊥) (λ p. IsDrill words p.0 p.1)
 
-pub of_three : {X : Type 0} (f : X → List ℕ) (ws : List X) (x y z : X) (a b c : List ℕ) (o : Option (ℕ × ℕ)) → 3 ≤ length ws → length ws < 4 → x ≡ get_or ws 0 x → y ≡ get_or ws 1 y → z ≡ get_or ws 2 z → a ≡ f x → b ≡ f y → c ≡ f z
+pub of_three : {X : Type 0} (f : X → List ℕ) (ws : List X) (x y z : X) (a b c : List ℕ) (o : Option (ℕ × ℕ)) → 3 ≤ length ws → length ws < 4
+    → x ≡ get_or ws 0 x → y ≡ get_or ws 1 y → z ≡ get_or ws 2 z → a ≡ f x → b ≡ f y → c ≡ f z
     → Drills (a ∷ b ∷ c ∷ []) o → Drills (map f ws) o
 of_three f ws x y z a b c o h k ex ey ez ea eb ec d =
     let all : map f ws ≡ a ∷ b ∷ c ∷ [] = three f ws x y z h k ex ey ez ∙ (λ i. sym ea i ∷ sym eb i ∷ sym ec i ∷ []) in

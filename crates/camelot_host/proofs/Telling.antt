@@ -10,9 +10,9 @@ use Rattle.lp_constraints.specs.declared.fault.NoCert.TheVariants as no_cert
 use Rattle.grail_code.specs.declared.fault.DecodeFault.TheVariants as code_fault
 use Rattle.certificate.specs.declared.reading.CertFault.TheVariants as cert_fault
 use Rattle.grail_verifier.specs.declared.refusal.Refusal.TheVariants as refusal
-use Rattle.refusals.specs.declared.cause.Cause.{Cause}
-use Rattle.refusals.specs.declared.cause.Cause.TheVariants as cause
-use Rattle.refusals.specs.Texts.{scan_text, parse_text, type_text, use_text, normal_text, inference_text, decode_text, code_text, cert_text, refusal_text, cause_text}
+use Rattle.cause_texts.specs.declared.cause.Cause.{Cause}
+use Rattle.cause_texts.specs.declared.cause.Cause.TheVariants as cause
+use Rattle.cause_texts.specs.Texts.{scan_text, parse_text, type_text, use_text, normal_text, inference_text, decode_text, code_text, cert_text, refusal_text, cause_text}
 use Rattle.camelot_host.specs.Due.{refused_line}
 
 -- the first byte behind "refused ", and the one behind it
@@ -28,12 +28,10 @@ bound_told (cause.Parse (parse.Scan (scan.BadCharacter at))) h = let e : 98 ≡ 
 bound_told (cause.Parse (parse.Scan (scan.OpenComment at))) h = let e : 111 ≡ 110 = ap first h in absurd (omega (arith, e))
 bound_told (cause.Parse (parse.Scan (scan.LongNumber at))) h = let e : 108 ≡ 110 = ap first h in absurd (omega (arith, e))
 bound_told (cause.Parse (parse.Scan (scan.LongName at))) h = let e : 108 ≡ 110 = ap first h in absurd (omega (arith, e))
-bound_told (cause.Parse (parse.Scan scan.Memory)) h = let e : 10 ≡ 110 = ap first h in absurd (omega (arith, e))
 bound_told (cause.Parse (parse.Unexpected token line)) h = let e : 117 ≡ 110 = ap first h in absurd (omega (arith, e))
 bound_told (cause.Parse (parse.TooDeep token line)) h = let e : 116 ≡ 110 = ap first h in absurd (omega (arith, e))
 bound_told (cause.Parse (parse.TypeParameter token line)) h = let e : 116 ≡ 110 = ap first h in absurd (omega (arith, e))
 bound_told (cause.Parse (parse.Division token line)) h = let e : 100 ≡ 110 = ap first h in absurd (omega (arith, e))
-bound_told (cause.Parse parse.Memory) h = let e : 10 ≡ 110 = ap first h in absurd (omega (arith, e))
 bound_told (cause.Types (types.UnknownName name line)) h = let e : 117 ≡ 110 = ap first h in absurd (omega (arith, e))
 bound_told (cause.Types (types.UnknownType name line)) h = let e : 117 ≡ 110 = ap first h in absurd (omega (arith, e))
 bound_told (cause.Types (types.Duplicate name line)) h = let e : 100 ≡ 110 = ap first h in absurd (omega (arith, e))
@@ -44,27 +42,20 @@ bound_told (cause.Types (types.RepeatedArm con line)) h = let e : 114 ≡ 110 = 
 bound_told (cause.Types (types.TooManyFields con have line)) h = let e : 116 ≡ 110 = ap first h in absurd (omega (arith, e))
 bound_told (cause.Types (types.PlaceOnInline con line)) h = let e : 112 ≡ 110 = ap first h in absurd (omega (arith, e))
 bound_told (cause.Types (types.TooMany what have line)) h = let e : 116 ≡ 110 = ap first h in absurd (omega (arith, e))
-bound_told (cause.Types types.Memory) h = let e : 10 ≡ 110 = ap first h in absurd (omega (arith, e))
 bound_told (cause.Uses (uses.Twice name line)) h = let e : 116 ≡ 110 = ap first h in absurd (omega (arith, e))
 bound_told (cause.Uses (uses.ReadMatch name line)) h = let e : 114 ≡ 110 = ap first h in absurd (omega (arith, e))
-bound_told (cause.Uses uses.Memory) h = let e : 10 ≡ 110 = ap first h in absurd (omega (arith, e))
 bound_told (cause.Normal (normal.TooManyLocals name have)) h = let e : 116 ≡ 110 = ap first h in absurd (omega (arith, e))
 bound_told (cause.Normal (normal.TooManyBlocks name have)) h = let e : 116 ≡ 110 = ap first h in absurd (omega (arith, e))
-bound_told (cause.Normal normal.Memory) h = let e : 10 ≡ 110 = ap first h in absurd (omega (arith, e))
 bound_told (cause.NoCert (no_cert.TooMany unknowns rows)) h = let e : 116 ≡ 110 = ap first h in absurd (omega (arith, e))
 bound_told (cause.NoCert no_cert.NoBound) h = refl
 bound_told (cause.NoCert no_cert.Wide) h = let e : 119 ≡ 110 = ap first h in absurd (omega (arith, e))
 bound_told (cause.NoCert no_cert.Spent) h = let e : 115 ≡ 110 = ap first h in absurd (omega (arith, e))
-bound_told (cause.NoCert no_cert.Memory) h = let e : 10 ≡ 110 = ap first h in absurd (omega (arith, e))
 bound_told (cause.Bundle line) h = let e : 98 ≡ 110 = ap first h in absurd (omega (arith, e))
 bound_told (cause.Verify (refusal.Code code_fault.Short)) h = let e : 99 ≡ 110 = ap first h in absurd (omega (arith, e))
 bound_told (cause.Verify (refusal.Code (code_fault.Bad at))) h = let e : 99 ≡ 110 = ap first h in absurd (omega (arith, e))
-bound_told (cause.Verify (refusal.Code code_fault.Memory)) h = let e : 10 ≡ 110 = ap first h in absurd (omega (arith, e))
 bound_told (cause.Verify (refusal.Kinds fault)) h = let e : 99 ≡ 110 = ap first h in absurd (omega (arith, e))
 bound_told (cause.Verify (refusal.Cert (cert_fault.Line number))) h = let e : 99 ≡ 110 = ap first h in absurd (omega (arith, e))
 bound_told (cause.Verify (refusal.Cert (cert_fault.Number line))) h = let e : 99 ≡ 110 = ap first h in absurd (omega (arith, e))
-bound_told (cause.Verify (refusal.Cert cert_fault.Memory)) h = let e : 10 ≡ 110 = ap first h in absurd (omega (arith, e))
 bound_told (cause.Verify (refusal.Shape func block)) h = let e : 115 ≡ 110 = ap first h in absurd (omega (arith, e))
 bound_told (cause.Verify (refusal.Need func block place have need)) h = let e : 101 ≡ 111 = ap second h in absurd (omega (arith, e))
 bound_told (cause.Verify (refusal.Weak func block place con have need)) h = let e : 119 ≡ 110 = ap first h in absurd (omega (arith, e))
-bound_told (cause.Verify refusal.Memory) h = let e : 10 ≡ 110 = ap first h in absurd (omega (arith, e))

@@ -6,8 +6,8 @@ use Rattle.job_script.specs.Text.{IsScriptText, IsLineFault, IsCountFault, IsRep
 use Rattle.job_script.specs.declared.reading.ScriptFault.{ScriptFault}
 use Rattle.job_script.specs.declared.reading.ScriptFault.TheVariants as fault
 use Rattle.lp_constraints.specs.declared.fault.NoCert.TheVariants.{NoBound}
-use Rattle.refusals.specs.declared.cause.Cause.{Cause}
-use Rattle.refusals.specs.declared.cause.Cause.TheVariants.{NoCert}
+use Rattle.cause_texts.specs.declared.cause.Cause.{Cause}
+use Rattle.cause_texts.specs.declared.cause.Cause.TheVariants.{NoCert}
 use Rattle.camelot_compiler.specs.Compiled.{Compiled, Bundled, IsCompiled, OfCode, NoneGrants}
 use Rattle.camelot_compiler.specs.Licences.{IsCertifiedFor}
 use Rattle.camelot_compiler.specs.Compiled as compiler
@@ -18,8 +18,10 @@ use Rattle.camelot_host.specs.Commands.{Command, Serve, Compile, Verify, Drill}
 use Rattle.camelot_host.specs.Due.{Done, Refused, IsDue}
 use Rattle.camelot_host.proofs.Telling.{bound_told}
 
-pub one_verdict : ((text : List ℕ) (s : Script) (n : ℕ) → IsScriptText text s → IsLineFault text n → ⊥) → ((text : List ℕ) (s : Script) (n : ℕ) → IsScriptText text s → IsCountFault text n → ⊥)
-    → ((text : List ℕ) (s : Script) (n : ℕ) → IsScriptText text s → IsRepeatFault text n → ⊥) → ((text : List ℕ) (first second : Compiled) → IsCompiled text first → IsCompiled text second → first ≡ second)
+pub one_verdict : ((text : List ℕ) (s : Script) (n : ℕ) → IsScriptText text s → IsLineFault text n → ⊥)
+    → ((text : List ℕ) (s : Script) (n : ℕ) → IsScriptText text s → IsCountFault text n → ⊥)
+    → ((text : List ℕ) (s : Script) (n : ℕ) → IsScriptText text s → IsRepeatFault text n → ⊥)
+    → ((text : List ℕ) (first second : Compiled) → IsCompiled text first → IsCompiled text second → first ≡ second)
     → ((text : List ℕ) (l : Licensed) (c : Cause) → HasLicence text l → IsRefusedFor text c → ⊥)
     → (command : Command) (input output other : List ℕ) → IsDue command input Done output → IsDue command input Refused other → ⊥
 one_verdict line count repeat one apart Serve input output other done refused = by_fault refused.fault refused.cause
@@ -28,18 +30,20 @@ one_verdict line count repeat one apart Serve input output other done refused = 
     by_fault (fault.Line n) h = line input done.service.script n done.served.text h
     by_fault (fault.Count n) h = count input done.service.script n done.served.text h
     by_fault (fault.Repeat n) h = repeat input done.service.script n done.served.text h
-    by_fault fault.Memory h = h
 one_verdict line count repeat one apart Compile input output other done refused = let e : Bundled done.code done.cert ≡ compiler.Refused refused.cause = one input (Bundled done.code done.cert) (compiler.Refused refused.cause) done.compiled refused.compiled in absurd cc
 one_verdict line count repeat one apart Verify input output other done refused = apart input done.licence refused.cause done.has refused.refused
 one_verdict line count repeat one apart (Drill jobs workers) input output other done refused = refused
 
 -- ---- what is told of a source
 
-pub done_certified : ((text code cert : List ℕ) → IsCompiled text (Bundled code cert) → IsCertifiedFor text code cert) → (input output : List ℕ) (due : IsDue Compile input Done output) → IsCertifiedFor input due.code due.cert
+pub done_certified : ((text code cert : List ℕ) → IsCompiled text (Bundled code cert) → IsCertifiedFor text code cert)
+    → (input output : List ℕ) (due : IsDue Compile input Done output) → IsCertifiedFor input due.code due.cert
 done_certified law input output due = law input due.code due.cert due.compiled
 
-pub refused_none : ((text : List ℕ) → IsCompiled text (compiler.Refused (NoCert NoBound)) → OfCode text NoneGrants) → (input output : List ℕ) (due : IsDue Compile input Refused output) → due.cause ≡ NoCert NoBound → OfCode input NoneGrants
+pub refused_none : ((text : List ℕ) → IsCompiled text (compiler.Refused (NoCert NoBound)) → OfCode text NoneGrants)
+    → (input output : List ℕ) (due : IsDue Compile input Refused output) → due.cause ≡ NoCert NoBound → OfCode input NoneGrants
 refused_none law input output due e = law input (subst (λ x. IsCompiled input (compiler.Refused x)) e due.compiled)
 
-pub told_none : ((text : List ℕ) → IsCompiled text (compiler.Refused (NoCert NoBound)) → OfCode text NoneGrants) → (input : List ℕ) → IsDue Compile input Refused (codes "refused no-bound\n") → OfCode input NoneGrants
+pub told_none : ((text : List ℕ) → IsCompiled text (compiler.Refused (NoCert NoBound)) → OfCode text NoneGrants) → (input : List ℕ)
+    → IsDue Compile input Refused (codes "refused no-bound\n") → OfCode input NoneGrants
 told_none law input due = law input (subst (λ x. IsCompiled input (compiler.Refused x)) (bound_told due.cause (sym due.is)) due.compiled)

@@ -1,6 +1,6 @@
 -- What is due for a bundle.
 use Rattle.std.proofs.Common.{◌≡◌, ℕ, List}
-use Rattle.refusals.specs.declared.cause.Cause.{Cause}
+use Rattle.cause_texts.specs.declared.cause.Cause.{Cause}
 use Rattle.licence.specs.Licensed.{Licensed}
 use Rattle.bundle_licence.specs.Bundled.{HasLicence, IsRefusedFor}
 use Rattle.licence_text.specs.Texts.{bounds_text}

@@ -62,7 +62,8 @@ one_command words (Drill m v) Compile h k = absurd (omega (arith, other words (D
 one_command words (Drill m v) Verify h k = absurd (omega (arith, other words (Drill m v) Verify h k))
 one_command words (Drill m v) (Drill n w) h k = one_drill words m n v w h k
 
-pub no_command : (words : List (List ℕ)) → (IsCommand words Serve → ⊥) → (IsCommand words Compile → ⊥) → (IsCommand words Verify → ⊥) → ((jobs workers : ℕ) → IsDrill words jobs workers → ⊥) → IsNoCommand words
+pub no_command : (words : List (List ℕ)) → (IsCommand words Serve → ⊥) → (IsCommand words Compile → ⊥) → (IsCommand words Verify → ⊥)
+    → ((jobs workers : ℕ) → IsDrill words jobs workers → ⊥) → IsNoCommand words
 no_command words serve compile verify drill Serve h = serve h
 no_command words serve compile verify drill Compile h = compile h
 no_command words serve compile verify drill Verify h = verify h

@@ -1,8 +1,8 @@
 -- Cited by contracts.
 -- What is due for an input, by the command.
 use Rattle.std.specs.Prelude.{◌≡◌, ℕ, ◌++◌, List, [], ◌∷◌, codes}
-use Rattle.refusals.specs.declared.cause.Cause.{Cause}
-use Rattle.refusals.specs.Texts.{cause_text}
+use Rattle.cause_texts.specs.declared.cause.Cause.{Cause}
+use Rattle.cause_texts.specs.Texts.{cause_text}
 use Rattle.grail_bundle.specs.Bundles.{bundle_text}
 use Rattle.camelot_compiler.specs.Compiled as compiler
 use Rattle.camelot_compiler.specs.Compiled.{IsCompiled}
@@ -44,7 +44,8 @@ pub record IsBoundsOf (input output : List ℕ) : Type 0 where
   pub has : HasLicence input licence
   pub is : output ≡ bounds_text licence
 
--- the input has no licence, and the output tells the cause: its first wrong line, where it is no bundle, or the verifier's refusal
+-- the input has no licence, and the output tells the cause: its first wrong line, where it is no bundle, or the
+-- verifier's refusal
 pub record IsUnlicensed (input output : List ℕ) : Type 0 where
   pub cause : Cause
   pub refused : IsRefusedFor input cause
@@ -52,7 +53,8 @@ pub record IsUnlicensed (input output : List ℕ) : Type 0 where
 
 -- ---- all commands
 
--- with this verdict, the output is due for the input. It is a relation, since an output may depend on more than the input.
+-- with this verdict, the output is due for the input. It is a relation, since an output may depend on more than the
+-- input.
 abbrev pub IsDue : Command → List ℕ → Verdict → List ℕ → Type 0
 IsDue Serve input Done output = IsReport input output
 IsDue Serve input Refused output = IsRefusal input output

@@ -1,5 +1,5 @@
--- Commands, what is due for an input by the command, and what the host answers: Commands, Due, Answers and Served. CommandLaws is a theorem. Replies says what
--- private functions do, and nobody has to believe it.
+-- Commands, what is due for an input by the command, and what the host answers: Commands, Due, Answers and Served.
+-- CommandLaws is a theorem. Replies says what private functions do, and nobody has to believe it.
 pub mod Commands
 pub mod Due
 pub mod Answers

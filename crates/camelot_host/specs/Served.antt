@@ -14,9 +14,9 @@ pub record ServedView : Type 0 where
   pub status : Status
   pub arena : Option Range
 
--- The arena that a command leaves beside its output. A report leaves the whole arena of its script: each cell is the one
--- that the machine left there for the last job whose lease went over it, by the journal that is printed, and a blank one
--- where none did. No other command has an arena.
+-- The arena that a command leaves beside its output. A report leaves the whole arena of its script: each cell is the
+-- one that the machine left there for the last job whose lease went over it, by the journal that is printed, and a
+-- blank one where none did. No other command has an arena.
 abbrev pub Leaves : Command → (input output : List ℕ) → Option Range → Type 0
 Leaves Serve input output (Some arena) = IsReportIn input output arena
 Leaves Serve input output None = ⊥

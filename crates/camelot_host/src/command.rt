@@ -72,7 +72,8 @@ fn number_in(word: &str, most: u32) -> Option<u32>
 // The numbers of jobs and of workers, where these words are those of a drill.
 #[tactic(auto, using(crate::proofs::Numbers::drill_is, crate::proofs::Numbers::other_word, crate::proofs::Numbers::other_jobs, crate::proofs::Numbers::other_workers))]
 fn drill_with(first: &str, second: &str, third: &str) -> Option<(u32, u32)>
-    ensures { MatchOption result ((jobs workers : ℕ) → IsDrill (first.now ∷ second.now ∷ third.now ∷ []) jobs workers → ⊥) (λ p. IsDrill (first.now ∷ second.now ∷ third.now ∷ []) p.0 p.1) }
+    ensures { MatchOption result ((jobs workers : ℕ) → IsDrill (first.now ∷ second.now ∷ third.now ∷ []) jobs workers
+        → ⊥) (λ p. IsDrill (first.now ∷ second.now ∷ third.now ∷ []) p.0 p.1) }
 {
     if first != "drill" {
         return None;
@@ -89,7 +90,8 @@ fn drill_with(first: &str, second: &str, third: &str) -> Option<(u32, u32)>
 // The same of all words.
 #[tactic(auto, using(crate::proofs::Numbers::of_three, crate::proofs::Numbers::not_three))]
 fn drill_of(words: &[String]) -> Option<(u32, u32)>
-    ensures { MatchOption result ((jobs workers : ℕ) → IsDrill (map string_bytes words.now) jobs workers → ⊥) (λ p. IsDrill (map string_bytes words.now) p.0 p.1) }
+    ensures { MatchOption result ((jobs workers : ℕ) → IsDrill (map string_bytes words.now) jobs workers → ⊥)
+        (λ p. IsDrill (map string_bytes words.now) p.0 p.1) }
 {
     match words {
         [first, second, third] => drill_with(first.as_str(), second.as_str(), third.as_str()),

@@ -9,11 +9,11 @@ ghost use Rattle.camelot_host.specs.Replies.{command_named, verdict_of, bytes_of
 ghost use Rattle.camelot_host.specs.Served.{ArenaBy};
 
 use super::command::{Command, command_of, reads};
-use super::compile::compile_source;
 use super::drill::drill_jobs;
 use super::reply::Reply;
 use super::serve::serve;
 use super::served::Served;
+use super::sources::compile_source;
 use super::status::Status;
 use super::verify::verify_bundle;
 use cell_span::Span;
@@ -127,9 +127,9 @@ fn respond<R: Threads + Wait + Sync, K: Sink, G: Gate + Sync>(
     }
 }
 
-/// Runs one command, from the bytes that come in to the bytes that go out, as [`host`] does, whose promises are all made
-/// here too. The workers of `serve` pass this gate, each between the grant of a lease and the run of its job. The arena
-/// of a script that was served is handed out with the status.
+/// Runs one command, from the bytes that come in to the bytes that go out, as [`host`] does, whose promises are all
+/// made here too. The workers of `serve` pass this gate, each between the grant of a lease and the run of its job. The
+/// arena of a script that was served is handed out with the status.
 #[tactic(auto, using(crate::proofs::Answering::answers_of, crate::proofs::Answering::no_usage, crate::proofs::Answering::not_long, crate::proofs::Answering::source_steady, crate::proofs::Answering::no_rise, crate::proofs::Answering::no_more, crate::proofs::Answering::unread, crate::proofs::Leaving::arena_by, crate::proofs::Answering::answers_unread, crate::proofs::Answering::not_long_unread, crate::proofs::Answering::completes_unread, crate::proofs::Leaving::arena_unread))]
 pub fn host_gated<R: Threads + Wait + Sync, S: Source, K: Sink, G: Gate + Sync>(
     rt: &R,
@@ -146,6 +146,7 @@ pub fn host_gated<R: Threads + Wait + Sync, S: Source, K: Sink, G: Gate + Sync>(
 
     // Words that spell no command are refused before anything is read.
     ensures usage { (result.status ≡ Status.Usage) ↔ IsNoCommand (map string_bytes words.now) }
+    // At status 2 neither source nor sink is touched.
     ensures untouched { result.status ≡ Status.Usage → (source.new ≡ source.old) × (sink.new ≡ sink.old) }
 
     // A command that doesn't read leaves the source as it was.
@@ -156,6 +157,7 @@ pub fn host_gated<R: Threads + Wait + Sync, S: Source, K: Sink, G: Gate + Sync>(
 
     // A fault is answered where a device failed, and nowhere else while its count has room.
     ensures source_faults { SourceFaults result.status (S.faults source.old) (S.faults source.new) }
+    // The sink's count of faults rises at status 4 and at no other.
     ensures sink_faults { SinkFaults result.status (K.faults sink.old) (K.faults sink.new) }
 
     // The count of bytes taken tells whether the input was too long, as long as the count has room.
@@ -170,8 +172,9 @@ pub fn host_gated<R: Threads + Wait + Sync, S: Source, K: Sink, G: Gate + Sync>(
         → K.faults sink.old < last_count → K.faults sink.new ≡ K.faults sink.old
         → Completes result.status command input (K.told sink.old) (K.told sink.new) }
 
-    // The arena is there exactly where the words are `serve` and the status is `Ok`. It is the script's whole arena, and
-    // each of its cells is the machine's final cell of the last job whose lease went over it, by the printed journal.
+    // The arena is there exactly where the words are `serve` and the status is `Ok`. It is the script's whole arena,
+    // and each of its cells is the machine's final cell of the last job whose lease went over it, by the printed
+    // journal.
     ensures arena { let before = devices (S.left source.old) (S.taken source.old) (K.told sink.old) in
         let after = devices (S.left source.new) (S.taken source.new) (K.told sink.new) in
         ArenaBy result.status (map string_bytes words.now) before after result.arena }
@@ -205,27 +208,27 @@ pub fn host_gated<R: Threads + Wait + Sync, S: Source, K: Sink, G: Gate + Sync>(
 /// Runs one command, from the bytes that come in to the bytes that go out.
 ///
 /// The words spell the command, and a command that reads has its input read to the end. What is due for an input is the
-/// command's own matter; all else is the same for each. The order is: words, reading, work, writing. The output is built
-/// whole before the first byte is written.
+/// command's own matter; all else is the same for each. The order is: words, reading, work, writing. The output is
+/// built whole before the first byte is written.
 ///
 /// The commands:
 ///
-/// - `serve` reads a script of Camelot and Grail programs and of jobs, and writes its report. Each program, compiled from
-///   its source or accepted from its bundle's bytes alone, has its unit or the cause of its refusal. Each job has what it
-///   comes to by the meaning of its program, its peak and its bound, or why it didn't run. The journal of the leases of
-///   all jobs in one arena follows. An input that is no script is refused with its first wrong line.
+/// - `serve` reads a script of Camelot and Grail programs and of jobs, and writes its report. Each program, compiled
+///   from its source or accepted from its bundle's bytes alone, has its unit or the cause of its refusal. Each job has
+///   what it comes to by the meaning of its program, its peak and its bound, or why it didn't run. The journal of the
+///   leases of all jobs in one arena follows. An input that is no script is refused with its first wrong line.
 /// - `compile` reads a Camelot source and writes its bundle: the code and the least certificate. A source that isn't
 ///   compiled is refused with a line that tells the cause.
-/// - `verify` reads a bundle and writes what its certificate grants: the units of a cell, and for each function how many
-///   units its runs take at most. A text that is no bundle, and a bundle that the verifier refuses, is refused with a line
-///   that tells the cause.
-/// - `drill N W` reads nothing. It serves a script that it makes, with N jobs, from 1 to 4,096, on W workers, from 1 to 16,
-///   and writes one line: how many jobs ended how, and the sums of their calls and peaks.
+/// - `verify` reads a bundle and writes what its certificate grants: the units of a cell, and for each function how
+///   many units its runs take at most. A text that is no bundle, and a bundle that the verifier refuses, is refused
+///   with a line that tells the cause.
+/// - `drill N W` reads nothing. It serves a script that it makes, with N jobs, from 1 to 4,096, on W workers, from 1 to
+///   16, and writes one line: how many jobs ended how, and the sums of their calls and peaks.
 ///
-/// The answer is [`Status::Ok`] where the command was done and [`Status::Refused`] where it refused its input, each after
-/// what is written for it; [`Status::Usage`] where the words spell no command; [`Status::ReadFault`] and
-/// [`Status::WriteFault`] where a device failed; [`Status::TooLong`] where there are more than 8,388,608 bytes of input; and
-/// [`Status::Memory`] where memory ran out.
+/// The answer is [`Status::Ok`] where the command was done and [`Status::Refused`] where it refused its input, each
+/// after what is written for it; [`Status::Usage`] where the words spell no command; [`Status::ReadFault`] and
+/// [`Status::WriteFault`] where a device failed; [`Status::TooLong`] where there are more than 8,388,608 bytes of
+/// input; and [`Status::Memory`] where memory ran out.
 pub fn host<R: Threads + Wait + Sync, S: Source, K: Sink>(
     rt: &R,
     alloc: Global,
@@ -240,6 +243,7 @@ pub fn host<R: Threads + Wait + Sync, S: Source, K: Sink>(
 
     // Words that spell no command are refused before anything is read.
     ensures usage { (result ≡ Status.Usage) ↔ IsNoCommand (map string_bytes words.now) }
+    // At status 2 neither source nor sink is touched.
     ensures untouched { result ≡ Status.Usage → (source.new ≡ source.old) × (sink.new ≡ sink.old) }
 
     // A command that doesn't read leaves the source as it was.
@@ -250,6 +254,7 @@ pub fn host<R: Threads + Wait + Sync, S: Source, K: Sink>(
 
     // A fault is answered where a device failed, and nowhere else while its count has room.
     ensures source_faults { SourceFaults result (S.faults source.old) (S.faults source.new) }
+    // The sink's count of faults rises at status 4 and at no other.
     ensures sink_faults { SinkFaults result (K.faults sink.old) (K.faults sink.new) }
 
     // The count of bytes taken tells whether the input was too long, as long as the count has room.

@@ -7,7 +7,7 @@ ghost use Rattle.grail_code.specs.Meaning.{run_of};
 ghost use Rattle.licence.specs.Bound.{bound};
 ghost use Rattle.licence.specs.Licensed.{FitsEntry};
 ghost use Rattle.lp_constraints.specs.declared.fault.NoCert.TheVariants.{NoBound};
-ghost use Rattle.refusals.specs.declared.cause.Cause.TheVariants.{NoCert};
+ghost use Rattle.cause_texts.specs.declared.cause.Cause.TheVariants.{NoCert};
 ghost use Rattle.camelot_compiler.specs.Compiled.{OfCode, NoneGrants};
 ghost use Rattle.camelot_compiler.specs.Licences.{IsCertifiedFor};
 ghost use Rattle.camelot_host.specs.Commands.{Command, Compile, Verify, IsCommand};
@@ -24,8 +24,8 @@ pub fn one_command()
         → IsCommand words first → IsCommand words second → first ≡ second }
 {}
 
-/// No output is due with one verdict for an input for which another is due with the other: an input is served, compiled or
-/// accepted, or it is refused.
+/// No output is due with one verdict for an input for which another is due with the other: an input is served, compiled
+/// or accepted, or it is refused.
 pub fn one_verdict()
     ensures { (command : Command) (input output other : List ℕ) → IsDue command input Done output → IsDue command input Refused other → ⊥ }
 {
@@ -52,8 +52,8 @@ pub fn law_of_compile()
 /// accepts the bundle's bytes is a field of what is due.
 pub fn law_of_verify()
     // Every run of a function of the bundle's code on arguments of its kinds, with any fuel and any limit of waiting
-    // calls, ended or stopped: its peak is at most the bound by the certificate whose numbers are told, which is what the
-    // function needs and its arguments carry, in whole cells.
+    // calls, ended or stopped: its peak is at most the bound by the certificate whose numbers are told, which is what
+    // the function needs and its arguments carry, in whole cells.
     ensures within { (input output : List ℕ) (due : IsDue Verify input Done output) (limit entry fuel : ℕ) (args : List Value)
         → FitsEntry due.licence entry args → peak_of (run_of due.licence.code limit entry fuel args) ≤ bound due.licence.code due.licence.cert entry args }
 {}

@@ -2,7 +2,6 @@
 #![tactic(auto)]
 
 mod command;
-mod compile;
 mod drill;
 mod hosting;
 pub mod laws;
@@ -10,9 +9,12 @@ mod refusal;
 mod reply;
 mod serve;
 mod served;
+mod sources;
 mod status;
 mod verify;
 
+pub use camelot_compiler::compile;
+pub use grail_bundle::{Bundle, BundleFault, read_bundle, write_bundle};
 pub use hosting::{host, host_gated};
 pub use script_service::{Gate, OpenGate};
 pub use served::Served;

@@ -1,7 +1,7 @@
 ghost use Rattle.std.specs.Prelude.{◌≡◌, IfOk};
 ghost use Rattle.camelot_host.specs.Due.{refused_line};
 
-use refusals::{Cause, cause_text};
+use cause_texts::{Cause, cause_text};
 use std::alloc::{AllocError, Global};
 
 /// The line that a cause is told in.

@@ -5,9 +5,10 @@ ghost use Rattle.camelot_host.specs.Replies.{IsReply};
 
 use super::refusal::refusal_line;
 use super::reply::Reply;
-use bundle_licence::{LicenceFault, license_bundle};
+use bundle_licence::license_bundle;
 use licence_text::bounds_text;
 use std::alloc::{AllocError, Global};
+use stops::Stop;
 
 /// The reply to a bundle: what its licence grants, or else the line that tells why it has none.
 #[tactic(auto, using(crate::proofs::Verifying::is_bounds, crate::proofs::Verifying::is_unlicensed))]
@@ -23,10 +24,10 @@ pub(crate) fn verify_bundle(alloc: Global, input: &[u8]) -> Result<Reply, AllocE
                 arena: None,
             })
         }
-        Err(LicenceFault::Refused(cause)) => {
+        Err(Stop::Fault(cause)) => {
             let line = refusal_line(alloc, &cause)?;
             Ok(Reply::Refused { line })
         }
-        Err(LicenceFault::Memory) => Err(AllocError),
+        Err(Stop::Memory) => Err(AllocError),
     }
 }

@@ -24,16 +24,20 @@ stands_placed (w ∷ ws) name = by (bytes_eq w name) (bytes_eq name w) (nat_list
     by false false e None c h = h
     by false false e (Some i) c h = h
 
-pub stands_is : (b : Bool) (places : BTreeMap (Bor (List ℕ)) ℕ) (ws : List (List ℕ)) (name : List ℕ) → ArePlaces places ws → b ≡ is_some (at_name places name) → b ≡ stands ws name
+pub stands_is : (b : Bool) (places : BTreeMap (Bor (List ℕ)) ℕ) (ws : List (List ℕ)) (name : List ℕ) → ArePlaces places ws
+    → b ≡ is_some (at_name places name) → b ≡ stands ws name
 stands_is b places ws name kept h = h ∙ ap is_some (kept name) ∙ stands_placed ws name
 
-pub not_new : (b : Bool) (places : BTreeMap (Bor (List ℕ)) ℕ) (ws : List (List ℕ)) (name : List ℕ) → ArePlaces places ws → b ≡ is_some (at_name places name) → b ≡ true → false ≡ not (stands ws name)
+pub not_new : (b : Bool) (places : BTreeMap (Bor (List ℕ)) ℕ) (ws : List (List ℕ)) (name : List ℕ) → ArePlaces places ws
+    → b ≡ is_some (at_name places name) → b ≡ true → false ≡ not (stands ws name)
 not_new b places ws name kept h t = sym (ap not (sym (stands_is b places ws name kept h) ∙ t))
 
-pub is_new : (b : Bool) (places : BTreeMap (Bor (List ℕ)) ℕ) (ws : List (List ℕ)) (name : List ℕ) → ArePlaces places ws → b ≡ is_some (at_name places name) → b ≡ false → true ≡ not (stands ws name)
+pub is_new : (b : Bool) (places : BTreeMap (Bor (List ℕ)) ℕ) (ws : List (List ℕ)) (name : List ℕ) → ArePlaces places ws
+    → b ≡ is_some (at_name places name) → b ≡ false → true ≡ not (stands ws name)
 is_new b places ws name kept h t = sym (ap not (sym (stands_is b places ws name kept h) ∙ t))
 
-pub refused_new : {A E : Type 0} (r : Result A E) (b : Bool) (places : BTreeMap (Bor (List ℕ)) ℕ) (ws : List (List ℕ)) (name : List ℕ) → ArePlaces places ws → b ≡ is_some (at_name places name) → b ≡ false
+pub refused_new : {A E : Type 0} (r : Result A E) (b : Bool) (places : BTreeMap (Bor (List ℕ)) ℕ) (ws : List (List ℕ)) (name : List ℕ)
+    → ArePlaces places ws → b ≡ is_some (at_name places name) → b ≡ false
     → OnErr r (IsTrue (not (stands ws name)))
 refused_new (Ok x) b places ws name kept h t = tt
 refused_new (Err e) b places ws name kept h t = sym (is_new b places ws name kept h t)
@@ -47,7 +51,8 @@ unplaced ws name h = by (place_among ws name) (stands_placed ws name ∙ h)
     by None e = refl
     by (Some i) e = absurd cc
 
-places_added : (ws : List (List ℕ)) (w name : List ℕ) → place_among ws w ≡ None → place_among (ws ++ w ∷ []) name ≡ cond (bytes_eq w name) (Some (length ws)) (place_among ws name)
+places_added : (ws : List (List ℕ)) (w name : List ℕ) → place_among ws w ≡ None
+    → place_among (ws ++ w ∷ []) name ≡ cond (bytes_eq w name) (Some (length ws)) (place_among ws name)
 places_added [] w name h = by (bytes_eq w name) (Some 0) None
   where
     by : (b : Bool) (first none : Option ℕ) → (if b then first else none) ≡ cond b first none
@@ -62,7 +67,8 @@ places_added (v ∷ ws) w name h =
     split false None e = (refl, refl)
     split false (Some i) e = absurd cc
 
-    by : (a : Bool) → bytes_eq v name ≡ a → (b : Bool) → bytes_eq w name ≡ b → (o : Option ℕ) → bytes_eq v w ≡ false → o ≡ cond b (Some (length ws)) (place_among ws name)
+    by : (a : Bool) → bytes_eq v name ≡ a → (b : Bool) → bytes_eq w name ≡ b → (o : Option ℕ) → bytes_eq v w ≡ false
+        → o ≡ cond b (Some (length ws)) (place_among ws name)
         → (if a then Some 0 else option_map suc o) ≡ cond b (Some (suc (length ws))) (if a then Some 0 else option_map suc (place_among ws name))
     by true e true f o apart r =
         let same : bytes_eq v w ≡ true = ap (bytes_eq v) ((bytes_decides w name).0 f) ∙ e in

@@ -72,7 +72,8 @@ means_something words old new o b kept e h =
     subst IsSome (sym (k.means b.name.now ∙ ap (λ t. if t then Some b.value else find (map bound (reverse new)) b.name.now) (name_itself b.name.now))) refl
 
 -- a value put back at a name that is there, which takes no memory
-pub restored : {T A E : Type 0} (words more : BTreeMap (Bor (List ℕ)) T) (word : List ℕ) (hidden : Option T) (value : T) (r : Result A E) → hidden ≡ Some value → IsSome (at_name words word)
+pub restored : {T A E : Type 0} (words more : BTreeMap (Bor (List ℕ)) T) (word : List ℕ) (hidden : Option T) (value : T) (r : Result A E)
+    → hidden ≡ Some value → IsSome (at_name words word)
     → OnErr r (at_name words word ≡ None) → OnOk r (UpdatesBy (λ x y. slice_cmp nat_cmp x.now y.now) (λ k. slice_cmp nat_cmp word k.now) words more (Some value))
     → (name : List ℕ) → at_name more name ≡ update bytes_eq (at_name words) word hidden name
 restored {T = T} words more word hidden value (Ok x) h there none updates name = btree_map_updates_str word words more (Some value) updates name ∙ ap (λ o. update bytes_eq (at_name words) word o name) (sym h)

@@ -49,7 +49,9 @@ impl<'a, T: Copy> Scope<'a, T> {
 
     /// Binds a name, which hides what it meant before. It fails for want of memory alone.
     pub fn bind(&mut self, name: &'a [u8], value: T) -> Result<(), AllocError>
+        // At Ok the name stands for this value, in front of what it meant before.
         ensures bound { OnOk result (self.new ≡ record { name = name.now; is = value } ∷ self.old) }
+        // Where memory runs out the scope is as it was.
         ensures kept { OnErr result (self.new ≡ self.old) }
     {
         // Room first, so that nothing has changed where memory runs out.

@@ -35,10 +35,14 @@ impl<'a> Names<'a> {
         }
     }
 
-    /// Adds a name unless it stands already, and answers whether it is new; a new one gets the next number. It fails for want of memory alone.
+    /// Adds a name unless it stands already, and answers whether it is new; a new one gets the next number. It fails
+    /// for want of memory alone.
     pub fn add(&mut self, name: &'a [u8]) -> Result<bool, AllocError>
+        // A name is new exactly where it didn't stand.
         ensures new { IfOk result (λ new. new ≡ not (stands self.old name.now)) }
+        // A new name is the last one now; else all names are as they were.
         ensures names { IfOk result (λ new. self.new ≡ (if new then self.old ++ name.now ∷ [] else self.old)) }
+        // Where memory runs out the names are as they were.
         ensures kept { OnErr result (self.new ≡ self.old) }
 
         // A name that stands is never refused.
@@ -57,7 +61,9 @@ impl<'a> Names<'a> {
 
     /// The number of a name, if it stands.
     pub fn number(&self, name: &[u8]) -> Option<usize>
+        // It is the place of the name among the names, and None exactly where it doesn't stand.
         ensures number { result ≡ place_among self.now name.now }
+        // A number is below the number of names.
         ensures within { IfSome result (λ i. i < length self.now) }
     {
         self.places.get(name).copied()

@@ -21,7 +21,8 @@ slot_too_deep s (Mark mark.False l) st h i = sinks _ _ _ i
 slot_too_deep s (Mark mark.Open l) st h i = sinks _ _ _ i
 slot_too_deep s t st h i = absurd cc
 
-pub pre_too_deep : (c : Lefts) (nots : List ℕ) (k : ℕ) (t : Lexeme) (st : List Frame) → mc.begins_pre t ≡ true → 200 < suc k → limited (mc.pre_step c nots k t st) ≡ Sinks
+pub pre_too_deep : (c : Lefts) (nots : List ℕ) (k : ℕ) (t : Lexeme) (st : List Frame) → mc.begins_pre t ≡ true → 200 < suc k
+    → limited (mc.pre_step c nots k t st) ≡ Sinks
 unfolding mc.pre_step
 pre_too_deep c nots k t st h i =
     ap (λ b. limited (if b then mc.slot_step (record { lefts = c; nots = nots; level = suc k }) t st else Stuck)) h

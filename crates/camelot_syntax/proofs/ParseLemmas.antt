@@ -3,12 +3,13 @@ use Rattle.std.proofs.Common.{◌≡◌, ℕ, suc, ◌⊎◌, inl, inr, List, []
 use Rattle.std.specs.List.{All, AllByRecursion}
 use Rattle.text_scan.specs.declared.tokens.Token.{Token}
 use Rattle.text_scan.specs.declared.fault.ScanFault.{ScanFault}
-use Rattle.text_scan.specs.declared.fault.ScanFault.TheVariants as scan
 use Rattle.text_scan.specs.Reading.{AreTokensOf, IsFaultOf, IsSliceOf}
-use Rattle.text_scan.specs.Reading as reading
 use Rattle.camelot_tree.specs.declared.program.Program.{Program}
 use Rattle.camelot_grammar.specs.declared.fault.ParseFault.{ParseFault}
 use Rattle.camelot_grammar.specs.declared.fault.ParseFault.TheVariants as fault
+use Rattle.stops.specs.declared.stop.Stop.{Stop}
+use Rattle.stops.specs.declared.stop.Stop.TheVariants as stop
+use Rattle.stops.specs.Stopping.{FaultIs}
 use Rattle.camelot_grammar.specs.declared.lexeme.Mark.TheVariants as mark
 use Rattle.camelot_grammar.specs.declared.lexeme.Lexeme.{Lexeme}
 use Rattle.camelot_grammar.specs.declared.lexeme.Lexeme.TheVariants.{Variable, Mark}
@@ -18,23 +19,24 @@ use Rattle.camelot_tree.specs.Programs.{program_of}
 use Rattle.camelot_grammar.specs.Parsing.{IsProgram, IsFaultAmong, HasCause, stop_fault, last_line}
 use Rattle.camelot_grammar.specs.Machine.{runs, start, Yes, fault_of}
 use Rattle.camelot_syntax.specs.States.{FailsWith}
-use Rattle.camelot_syntax.specs.Answers.{scanned_fault, Runs, Parses}
+use Rattle.camelot_syntax.specs.Answers.{Runs, Parses}
 
 -- what the machine's answers mean: the law `answers_of_the_machine`
 pub record Meaning : Type 0 where
   pub program : (tokens : List Lexeme) (source : Source) → runs start [] tokens ≡ Yes source → IsProgram tokens source
   pub takes : (tokens : List Lexeme) (source : Source) → IsProgram tokens source → runs start [] tokens ≡ Yes source
-  pub fault : (tokens : List Lexeme) (last : ℕ) (fault : ParseFault) → fault_of (length tokens) last (runs start [] tokens) ≡ Some fault → IsFaultAmong tokens last fault
-  pub refuses : (tokens : List Lexeme) (last : ℕ) (fault : ParseFault) → IsFaultAmong tokens last fault → fault_of (length tokens) last (runs start [] tokens) ≡ Some fault
+  pub fault : (tokens : List Lexeme) (last : ℕ) (fault : ParseFault) → fault_of (length tokens) last (runs start [] tokens) ≡ Some fault
+      → IsFaultAmong tokens last fault
+  pub refuses : (tokens : List Lexeme) (last : ℕ) (fault : ParseFault) → IsFaultAmong tokens last fault
+      → fault_of (length tokens) last (runs start [] tokens) ≡ Some fault
 
 lexemes_length : (text : List ℕ) (tokens : List Token) → length (lexemes text tokens) ≡ length tokens
 lexemes_length text [] = refl
 lexemes_length text (t ∷ ts) = ap (λ n. suc n) (lexemes_length text ts)
 
--- a fault at a token is none of the scanner, or of memory
+-- a fault at a token is none of the scanner
 IsOrdinary : ParseFault → Type 0
 IsOrdinary (fault.Scan g) = ⊥
-IsOrdinary fault.Memory = ⊥
 IsOrdinary f = Unit {0}
 
 stop_ordinary : (rest : List Lexeme) (k l : ℕ) → IsOrdinary (stop_fault rest k l)
@@ -54,13 +56,13 @@ cause_of : (text : List ℕ) (tokens : List Token) (f : ParseFault) → AreToken
     → (IsFaultAmong (lexemes text tokens) (last_line text) f) → IsOrdinary f → HasCause text f
 unfolding IsOrdinary
 cause_of text tokens (fault.Scan g) a h i = absurd i
-cause_of text tokens fault.Memory a h i = tt
 cause_of text tokens (fault.Unexpected k l) a h i = record { tokens = tokens; are = a; among = h }
 cause_of text tokens (fault.TooDeep k l) a h i = record { tokens = tokens; are = a; among = h }
 cause_of text tokens (fault.TypeParameter k l) a h i = record { tokens = tokens; are = a; among = h }
 cause_of text tokens (fault.Division k l) a h i = record { tokens = tokens; are = a; among = h }
 
-told : (text : List ℕ) (tokens : List Token) (f : ParseFault) → AreTokensOf text tokens → IsFaultAmong (lexemes text tokens) (last_line text) f → HasCause text f
+told : (text : List ℕ) (tokens : List Token) (f : ParseFault) → AreTokensOf text tokens → IsFaultAmong (lexemes text tokens) (last_line text) f
+    → HasCause text f
 told text tokens f a h = cause_of text tokens f a h (among_ordinary (lexemes text tokens) (last_line text) f h)
 
 counted : (text : List ℕ) (tokens : List Token) (last : ℕ) (f : ParseFault)
@@ -71,14 +73,10 @@ fault_told : Meaning → (text : List ℕ) (tokens : List Token) (f : ParseFault
     → fault_of (length tokens) (last_line text) (runs start [] (lexemes text tokens)) ≡ Some f → HasCause text f
 fault_told law text tokens f a h = told text tokens f a (law.fault (lexemes text tokens) (last_line text) f (counted text tokens (last_line text) f h))
 
-fails_cause : Meaning → (text : List ℕ) (tokens : List Token) (f : ParseFault) → AreTokensOf text tokens
-    → FailsWith f (fault_of (length tokens) (last_line text) (runs start [] (lexemes text tokens))) → HasCause text f
-fails_cause law text tokens fault.Memory a h = tt
-fails_cause law text tokens (fault.Scan g) a h = fault_told law text tokens (fault.Scan g) a h
-fails_cause law text tokens (fault.Unexpected k l) a h = fault_told law text tokens (fault.Unexpected k l) a h
-fails_cause law text tokens (fault.TooDeep k l) a h = fault_told law text tokens (fault.TooDeep k l) a h
-fails_cause law text tokens (fault.TypeParameter k l) a h = fault_told law text tokens (fault.TypeParameter k l) a h
-fails_cause law text tokens (fault.Division k l) a h = fault_told law text tokens (fault.Division k l) a h
+fails_cause : Meaning → (text : List ℕ) (tokens : List Token) (s : Stop ParseFault) → AreTokensOf text tokens
+    → FailsWith s (fault_of (length tokens) (last_line text) (runs start [] (lexemes text tokens))) → FaultIs (HasCause text) s
+fails_cause law text tokens (stop.Fault f) a h = fault_told law text tokens f a h
+fails_cause law text tokens stop.Memory a h = tt
 
 -- ---- from a meaning to the answer
 
@@ -87,21 +85,13 @@ among_fault : Meaning → (text : List ℕ) (tokens : List Token) (last : ℕ) (
 among_fault law text tokens last f h =
     ap (λ n. fault_of n last (runs start [] (lexemes text tokens))) (sym (lexemes_length text tokens)) ∙ law.refuses (lexemes text tokens) last f h
 
-fails_none : (f : ParseFault) → FailsWith f None → f ≡ fault.Memory
-fails_none fault.Memory h = refl
-fails_none (fault.Scan g) h = absurd cc
-fails_none (fault.Unexpected k l) h = absurd cc
-fails_none (fault.TooDeep k l) h = absurd cc
-fails_none (fault.TypeParameter k l) h = absurd cc
-fails_none (fault.Division k l) h = absurd cc
+fails_none : (s : Stop ParseFault) → FailsWith s None → s ≡ stop.Memory
+fails_none (stop.Fault f) h = absurd cc
+fails_none stop.Memory h = refl
 
-fails_some : (f g : ParseFault) → FailsWith f (Some g) → (f ≡ g) ⊎ (f ≡ fault.Memory)
-fails_some fault.Memory g h = inr refl
-fails_some (fault.Scan i) g h = let e : fault.Scan i ≡ g = cc in inl e
-fails_some (fault.Unexpected k l) g h = let e : fault.Unexpected k l ≡ g = cc in inl e
-fails_some (fault.TooDeep k l) g h = let e : fault.TooDeep k l ≡ g = cc in inl e
-fails_some (fault.TypeParameter k l) g h = let e : fault.TypeParameter k l ≡ g = cc in inl e
-fails_some (fault.Division k l) g h = let e : fault.Division k l ≡ g = cc in inl e
+fails_some : (s : Stop ParseFault) (g : ParseFault) → FailsWith s (Some g) → (s ≡ stop.Fault g) ⊎ (s ≡ stop.Memory)
+fails_some (stop.Fault f) g h = let e : f ≡ g = cc in inl (ap stop.Fault e)
+fails_some stop.Memory g h = inr refl
 
 -- ---- the tokens of a text are real
 
@@ -119,7 +109,7 @@ no_fault : (n last : ℕ) (f : ParseFault) (p : Source) → {o : Option ParseFau
 no_fault n last f p e h = absurd cc
 
 -- the tokens of the text were read
-pub parses_tokens : Meaning → (text : List ℕ) (tokens : List Token) (r : Rattle.std.proofs.Common.Result Program ParseFault) → AreTokensOf text tokens
+pub parses_tokens : Meaning → (text : List ℕ) (tokens : List Token) (r : Rattle.std.proofs.Common.Result Program (Stop ParseFault)) → AreTokensOf text tokens
     → ((others : List Token) → AreTokensOf text others → tokens ≡ others) → ((f : ScanFault) → IsFaultOf text f → ⊥) → Runs text tokens r → Parses text r
 parses_tokens law text tokens (Ok p) a one none h = record {
   program = record { tokens = tokens; are = a; program = law.program (lexemes text tokens) (program_of p) h.runs };
@@ -144,30 +134,27 @@ parses_tokens law text tokens (Err g) a one none h = record {
 }
 
 -- the text has no tokens
-fault_as : (g f : ScanFault) → ¬ (g ≡ scan.Memory) → (g ≡ f) ⊎ (g ≡ scan.Memory) → (fault.Scan g ≡ fault.Scan f) ⊎ (fault.Scan g ≡ fault.Memory)
-fault_as g f h (inl e) = inl (ap fault.Scan e)
-fault_as g f h (inr e) = absurd (h e)
+scans_for : (g f : ScanFault) → (stop.Fault g ≡ stop.Fault f) ⊎ (stop.Fault g ≡ stop.Memory)
+    → (stop.Fault (fault.Scan g) ≡ stop.Fault (fault.Scan f)) ⊎ (stop.Fault (fault.Scan g) ≡ stop.Memory)
+scans_for g f (inl e) = let same : g ≡ f = cc in inl (ap (λ x. stop.Fault (fault.Scan x)) same)
+scans_for g f (inr e) = absurd cc
 
-parses_fault : (text : List ℕ) (g : ScanFault) → ¬ (g ≡ scan.Memory) → IsFaultOf text g → ((tokens : List Token) → AreTokensOf text tokens → g ≡ scan.Memory)
-    → ((f : ScanFault) → IsFaultOf text f → (g ≡ f) ⊎ (g ≡ scan.Memory)) → Parses text (Err (fault.Scan g))
-parses_fault text g h c one other = record {
+no_memory : (g : ScanFault) → stop.Fault g ≡ stop.Memory → ⊥
+no_memory g e = absurd cc
+
+parses_fault : (text : List ℕ) (g : ScanFault) → IsFaultOf text g → ((tokens : List Token) → AreTokensOf text tokens → stop.Fault g ≡ stop.Memory)
+    → ((f : ScanFault) → IsFaultOf text f → (stop.Fault g ≡ stop.Fault f) ⊎ (stop.Fault g ≡ stop.Memory)) → Parses text (Err (stop.Fault (fault.Scan g)))
+parses_fault text g c one other = record {
   program = tt;
   cause = c;
-  takes = λ tokens source b q. absurd (h (one tokens b));
-  refuses = λ tokens f b q. absurd (h (one tokens b));
-  scans = λ f q. fault_as g f h (other f q);
+  takes = λ tokens source b q. absurd (no_memory g (one tokens b));
+  refuses = λ tokens f b q. absurd (no_memory g (one tokens b));
+  scans = λ f q. scans_for g f (other f q);
 }
 
-pub parses_nothing : (text : List ℕ) (g : ScanFault) → reading.HasCause text g → ((tokens : List Token) → AreTokensOf text tokens → g ≡ scan.Memory)
-    → ((f : ScanFault) → IsFaultOf text f → (g ≡ f) ⊎ (g ≡ scan.Memory)) → Parses text (Err (scanned_fault g))
-parses_nothing text scan.Memory c one other = record {
-  program = tt;
-  cause = tt;
-  takes = λ tokens source b q. refl;
-  refuses = λ tokens f b q. inr refl;
-  scans = λ f q. inr refl;
-}
-parses_nothing text (scan.BadCharacter at) c one other = parses_fault text (scan.BadCharacter at) (λ e. absurd cc) c one other
-parses_nothing text (scan.OpenComment at) c one other = parses_fault text (scan.OpenComment at) (λ e. absurd cc) c one other
-parses_nothing text (scan.LongNumber at) c one other = parses_fault text (scan.LongNumber at) (λ e. absurd cc) c one other
-parses_nothing text (scan.LongName at) c one other = parses_fault text (scan.LongName at) (λ e. absurd cc) c one other
+pub parses_nothing : (text : List ℕ) (s : Stop ScanFault) (g : ScanFault) → s ≡ stop.Fault g → FaultIs (IsFaultOf text) s
+    → ((tokens : List Token) → AreTokensOf text tokens → s ≡ stop.Memory)
+    → ((f : ScanFault) → IsFaultOf text f → (s ≡ stop.Fault f) ⊎ (s ≡ stop.Memory)) → Parses text (Err (stop.Fault (fault.Scan g)))
+parses_nothing text s g e c one other =
+    parses_fault text g (subst (FaultIs (IsFaultOf text)) e c) (λ tokens b. subst (λ t. t ≡ stop.Memory) e (one tokens b))
+    (λ f q. subst (λ t. (t ≡ stop.Fault f) ⊎ (t ≡ stop.Memory)) e (other f q))

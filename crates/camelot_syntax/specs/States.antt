@@ -37,6 +37,8 @@ use Rattle.camelot_syntax.specs.declared.state.Halt.TheVariants.{Stuck, Deep, Me
 use Rattle.camelot_tree.specs.Tree.{Expression, Source, operator_of, expression_of, branch_of, constructor_of, data_type_of, function_of}
 use Rattle.camelot_grammar.specs.declared.fault.ParseFault.{ParseFault}
 use Rattle.camelot_grammar.specs.declared.fault.ParseFault.TheVariants as fault
+use Rattle.stops.specs.declared.stop.Stop.{Stop}
+use Rattle.stops.specs.declared.stop.Stop.TheVariants as stop
 use Rattle.camelot_grammar.specs.Parsing.{stop_fault, line_of}
 use Rattle.camelot_grammar.specs.Program as pr
 use Rattle.camelot_grammar.specs.Machine as mc
@@ -216,22 +218,22 @@ IsSmall t = Unit {0}
 
 -- ---- what a run of the code answers: its fault is that of the machine's run, over so many tokens
 
-abbrev pub FailsWith : ParseFault → Option ParseFault → Type 0
-FailsWith fault.Memory o = Unit {0}
-FailsWith f o = o ≡ Some f
+abbrev pub FailsWith : Stop ParseFault → Option ParseFault → Type 0
+FailsWith (stop.Fault f) o = o ≡ Some f
+FailsWith stop.Memory o = Unit {0}
 
 -- the code's answer to tokens is the machine's, unless memory runs out
-pub record Answers (count last : ℕ) (run : mc.Result) (result : Result Decls ParseFault) : Type 0 where
-  pub answers : MatchResult result (λ d. run ≡ mc.Yes (decls_of d)) (λ f. FailsWith f (fault_of count last run))
+pub record Answers (count last : ℕ) (run : mc.Result) (result : Result Decls (Stop ParseFault)) : Type 0 where
+  pub answers : MatchResult result (λ d. run ≡ mc.Yes (decls_of d)) (λ s. FailsWith s (fault_of count last run))
 
 -- the code's answer to one token at this place
-abbrev pub FailsAt : Lexeme → ℕ → ParseFault → Move → Type 0
-FailsAt t at fault.Memory m = Unit {0}
-FailsAt t at (fault.TooDeep token line) m = (m ≡ Sinks) × (token ≡ at) × (line ≡ line_of t)
-FailsAt t at f m = (m ≡ Stops) × ((rest : List Lexeme) → f ≡ stop_fault (t ∷ rest) at (line_of t))
+abbrev pub FailsAt : Lexeme → ℕ → Stop ParseFault → Move → Type 0
+FailsAt t at stop.Memory m = Unit {0}
+FailsAt t at (stop.Fault (fault.TooDeep token line)) m = (m ≡ Sinks) × (token ≡ at) × (line ≡ line_of t)
+FailsAt t at (stop.Fault f) m = (m ≡ Stops) × ((rest : List Lexeme) → f ≡ stop_fault (t ∷ rest) at (line_of t))
 
-pub record Reads (step : Step) (t : Lexeme) (at : ℕ) (parser : Parser) (result : Result (Unit {0}) ParseFault) : Type 0 where
-  pub reads : MatchResult result (λ u. limited step ≡ Moves (state_of parser.state) (stack_of parser.stack.items)) (λ f. FailsAt t at f (limited step))
+pub record Reads (step : Step) (t : Lexeme) (at : ℕ) (parser : Parser) (result : Result (Unit {0}) (Stop ParseFault)) : Type 0 where
+  pub reads : MatchResult result (λ u. limited step ≡ Moves (state_of parser.state) (stack_of parser.stack.items)) (λ s. FailsAt t at s (limited step))
 
 -- the text can't end in this state
 abbrev pub IsUnfinished : mc.State → Type 0

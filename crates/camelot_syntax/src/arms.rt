@@ -12,7 +12,7 @@ use camelot_grammar::Mark;
 use camelot_tree::ArmCell;
 
 impl Parser {
-    /// Where a field is wanted.
+    // Where a field is wanted.
     #[tactic(auto, unfolding(camelot_grammar::specs::Machine::arm_name_step))]
     fn field(
         &mut self,
@@ -20,7 +20,8 @@ impl Parser {
         mut head: Box<ArmHead>,
         lexeme: &TokenView<'_>,
     ) -> Result<(), Halt>
-        ensures { Does (arm_name_step (matching_of matching.value) head.value.con head.value.fields.items (seen lexeme.now) (stack_of self.old.stack.items)) self.new result }
+        ensures { Does (arm_name_step (matching_of matching.value) head.value.con head.value.fields.items
+            (seen lexeme.now) (stack_of self.old.stack.items)) self.new result }
     {
         let level = matching.level;
         match *lexeme {
@@ -37,7 +38,7 @@ impl Parser {
         self.go(level, State::InArm(ArmState::HaveName(matching, head)))
     }
 
-    /// Where the arrow of an arm is wanted.
+    // Where the arrow of an arm is wanted.
     #[tactic(auto, unfolding(camelot_grammar::specs::Machine::arrow_step), using(crate::proofs::StackLemmas::stack_push))]
     fn arrow(
         &mut self,
@@ -60,7 +61,7 @@ impl Parser {
         }
     }
 
-    /// Behind the fields of an arm.
+    // Behind the fields of an arm.
     #[tactic(auto, unfolding(camelot_grammar::specs::Machine::arm_end_step))]
     fn fields_end(
         &mut self,
@@ -68,7 +69,8 @@ impl Parser {
         mut head: Box<ArmHead>,
         lexeme: &TokenView<'_>,
     ) -> Result<(), Halt>
-        ensures { Does (arm_end_step (matching_of matching.value) head.value.con head.value.fields.items (seen lexeme.now) (stack_of self.old.stack.items)) self.new result }
+        ensures { Does (arm_end_step (matching_of matching.value) head.value.con head.value.fields.items
+            (seen lexeme.now) (stack_of self.old.stack.items)) self.new result }
     {
         let level = matching.level;
         match *lexeme {
@@ -82,9 +84,11 @@ impl Parser {
         }
     }
 
-    /// At the constructor of an arm.
+    // At the constructor of an arm.
     fn con_name(&mut self, matching: Box<Matching>, word: &[u8], line: u32) -> Result<(), Halt>
-        ensures { Does (Goes matching.value.level (InArm (ArmCon (matching_of matching.value) (record { word = word.now; line = line }))) (stack_of self.old.stack.items)) self.new result }
+        ensures { Does (Goes matching.value.level (InArm
+            (ArmCon (matching_of matching.value) (record { word = word.now; line = line })))
+            (stack_of self.old.stack.items)) self.new result }
     {
         let level = matching.level;
         let head = ArmHead {
@@ -96,7 +100,7 @@ impl Parser {
         self.go(level, State::InArm(ArmState::ArmCon(matching, head)))
     }
 
-    /// Where the first arm of a match may begin.
+    // Where the first arm of a match may begin.
     #[tactic(auto, unfolding(camelot_grammar::specs::Machine::arm_step))]
     fn first_arm(&mut self, matching: Box<Matching>, lexeme: &TokenView<'_>) -> Result<(), Halt>
         ensures { Does (arm_step (FirstArm (matching_of matching.value)) (seen lexeme.now) (stack_of self.old.stack.items)) self.new result }
@@ -112,7 +116,7 @@ impl Parser {
         }
     }
 
-    /// Behind the bar before an arm.
+    // Behind the bar before an arm.
     #[tactic(auto, unfolding(camelot_grammar::specs::Machine::arm_step))]
     fn want_arm(&mut self, matching: Box<Matching>, lexeme: &TokenView<'_>) -> Result<(), Halt>
         ensures { Does (arm_step (WantArm (matching_of matching.value)) (seen lexeme.now) (stack_of self.old.stack.items)) self.new result }
@@ -123,7 +127,7 @@ impl Parser {
         }
     }
 
-    /// Behind the constructor of an arm.
+    // Behind the constructor of an arm.
     #[tactic(auto, unfolding(camelot_grammar::specs::Machine::arm_step))]
     fn arm_con(
         &mut self,
@@ -144,7 +148,7 @@ impl Parser {
         }
     }
 
-    /// Behind a field.
+    // Behind a field.
     #[tactic(auto, unfolding(camelot_grammar::specs::Machine::arm_step))]
     fn have_field_name(
         &mut self,
@@ -152,7 +156,8 @@ impl Parser {
         head: Box<ArmHead>,
         lexeme: &TokenView<'_>,
     ) -> Result<(), Halt>
-        ensures { Does (arm_step (HaveName (matching_of matching.value) head.value.con head.value.fields.items) (seen lexeme.now) (stack_of self.old.stack.items)) self.new result }
+        ensures { Does (arm_step (HaveName (matching_of matching.value) head.value.con head.value.fields.items)
+            (seen lexeme.now) (stack_of self.old.stack.items)) self.new result }
     {
         let level = matching.level;
         match *lexeme {
@@ -168,7 +173,7 @@ impl Parser {
         }
     }
 
-    /// Behind the `@` of an arm.
+    // Behind the `@` of an arm.
     #[tactic(auto, unfolding(camelot_grammar::specs::Machine::arm_step))]
     fn want_cell(
         &mut self,
@@ -176,7 +181,8 @@ impl Parser {
         mut head: Box<ArmHead>,
         lexeme: &TokenView<'_>,
     ) -> Result<(), Halt>
-        ensures { Does (arm_step (WantCell (matching_of matching.value) head.value.con head.value.fields.items) (seen lexeme.now) (stack_of self.old.stack.items)) self.new result }
+        ensures { Does (arm_step (WantCell (matching_of matching.value) head.value.con head.value.fields.items)
+            (seen lexeme.now) (stack_of self.old.stack.items)) self.new result }
     {
         let level = matching.level;
         head.cell = match *lexeme {

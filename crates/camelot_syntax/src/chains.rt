@@ -13,7 +13,7 @@ use crate::words::TokenView;
 use camelot_grammar::Mark;
 use camelot_tree::PrimOp;
 
-/// The level of the next sign in a sum.
+// The level of the next sign in a sum.
 #[inline]
 fn sum_level(lefts: &Lefts) -> u32
     ensures { result ≡ sum_level lefts.now.around (some_left lefts.now.ors) (some_left lefts.now.ands) (some_left lefts.now.cmp) (some_left lefts.now.sum) }
@@ -23,7 +23,7 @@ fn sum_level(lefts: &Lefts) -> u32
 }
 
 impl Parser {
-    /// Behind an operator of this level, whose operand is wanted within that one.
+    // Behind an operator of this level, whose operand is wanted within that one.
     fn next_operand(&mut self, mut spot: Box<Spot>, level: u32, within: u32) -> Result<(), Halt>
         ensures { Does (Goes level (InExpr (WantPre (lefts_of spot.value.lefts) [] within)) (stack_of self.old.stack.items)) self.new result }
     {
@@ -33,7 +33,7 @@ impl Parser {
         self.go(level, State::InExpr(ExprState::Open(spot)))
     }
 
-    /// Behind the last operand of a chain of `&&`.
+    // Behind the last operand of a chain of `&&`.
     #[tactic(auto, unfolding(camelot_grammar::specs::Machine::after_and))]
     fn after_and(
         &mut self,
@@ -41,7 +41,8 @@ impl Parser {
         operand: Operand,
         lexeme: &TokenView<'_>,
     ) -> Result<(), Halt>
-        ensures { Does (after_and spot.value.lefts.around (some_left spot.value.lefts.ors) (operand_of operand) (seen lexeme.now) (stack_of self.old.stack.items)) self.new result }
+        ensures { Does (after_and spot.value.lefts.around (some_left spot.value.lefts.ors) (operand_of operand)
+            (seen lexeme.now) (stack_of self.old.stack.items)) self.new result }
     {
         let level = within(&spot.lefts.ors, spot.lefts.around);
         let operand = finish(self.alloc, spot.lefts.ors.take(), operand)?;
@@ -71,7 +72,7 @@ impl Parser {
         }
     }
 
-    /// Behind the last operand of a comparison.
+    // Behind the last operand of a comparison.
     #[tactic(auto, unfolding(camelot_grammar::specs::Machine::after_cmp))]
     fn after_cmp(
         &mut self,
@@ -79,7 +80,9 @@ impl Parser {
         operand: Operand,
         lexeme: &TokenView<'_>,
     ) -> Result<(), Halt>
-        ensures { Does (after_cmp spot.value.lefts.around (some_left spot.value.lefts.ors) (some_left spot.value.lefts.ands) (operand_of operand) (seen lexeme.now) (stack_of self.old.stack.items)) self.new result }
+        ensures { Does (after_cmp spot.value.lefts.around (some_left spot.value.lefts.ors)
+            (some_left spot.value.lefts.ands) (operand_of operand) (seen lexeme.now)
+            (stack_of self.old.stack.items)) self.new result }
     {
         let level = within(&spot.lefts.ands, within(&spot.lefts.ors, spot.lefts.around));
         let operand = finish(self.alloc, spot.lefts.ands.take(), operand)?;
@@ -104,7 +107,7 @@ impl Parser {
         }
     }
 
-    /// At a comparison, behind its first operand.
+    // At a comparison, behind its first operand.
     fn compare(
         &mut self,
         mut spot: Box<Spot>,
@@ -131,7 +134,7 @@ impl Parser {
         self.next_operand(spot, level, within)
     }
 
-    /// Behind the last operand of a sum.
+    // Behind the last operand of a sum.
     #[tactic(auto, unfolding(camelot_grammar::specs::Machine::after_sum))]
     fn after_sum(
         &mut self,
@@ -174,7 +177,7 @@ impl Parser {
         }
     }
 
-    /// At a sign, behind the first operand of a sum.
+    // At a sign, behind the first operand of a sum.
     fn add(
         &mut self,
         mut spot: Box<Spot>,
@@ -182,7 +185,8 @@ impl Parser {
         op: PrimOp,
         line: u32,
     ) -> Result<(), Halt>
-        ensures { Does (adds spot.value.lefts.around (some_left spot.value.lefts.ors) (some_left spot.value.lefts.ands) (some_left spot.value.lefts.cmp) (some_left spot.value.lefts.sum)
+        ensures { Does (adds spot.value.lefts.around (some_left spot.value.lefts.ors)
+            (some_left spot.value.lefts.ands) (some_left spot.value.lefts.cmp) (some_left spot.value.lefts.sum)
             (operand_of operand) (Prim (operator_of op)) line (stack_of self.old.stack.items)) self.new result }
     {
         let level = sum_level(&spot.lefts);
@@ -198,7 +202,7 @@ impl Parser {
         self.next_operand(spot, level, within)
     }
 
-    /// Behind the last operand of a product.
+    // Behind the last operand of a product.
     #[tactic(auto, unfolding(camelot_grammar::specs::Machine::after_prod))]
     fn after_prod(
         &mut self,
@@ -206,7 +210,8 @@ impl Parser {
         operand: Operand,
         lexeme: &TokenView<'_>,
     ) -> Result<(), Halt>
-        ensures { Does (after_prod spot.value.lefts.around (some_left spot.value.lefts.ors) (some_left spot.value.lefts.ands) (some_left spot.value.lefts.cmp) (some_left spot.value.lefts.sum)
+        ensures { Does (after_prod spot.value.lefts.around (some_left spot.value.lefts.ors)
+            (some_left spot.value.lefts.ands) (some_left spot.value.lefts.cmp) (some_left spot.value.lefts.sum)
             (operand_of operand) (seen lexeme.now) (stack_of self.old.stack.items)) self.new result }
     {
         match *lexeme {
@@ -225,7 +230,7 @@ impl Parser {
         }
     }
 
-    /// At a `*`, behind its first operand.
+    // At a `*`, behind its first operand.
     fn multiply(&mut self, mut spot: Box<Spot>, operand: Operand, line: u32) -> Result<(), Halt>
         ensures { Does (multiplies (lefts_of spot.value.lefts) (operand_of operand) line (stack_of self.old.stack.items)) self.new result }
     {
@@ -241,7 +246,7 @@ impl Parser {
         self.next_operand(spot, level, within)
     }
 
-    /// Behind an operand, its `not`s included.
+    // Behind an operand, its `not`s included.
     #[tactic(auto, unfolding(camelot_grammar::specs::Machine::after_pre))]
     fn after_pre(
         &mut self,

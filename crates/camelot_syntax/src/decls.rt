@@ -34,7 +34,7 @@ pub fn atom(alloc: Global, lexeme: &TokenView<'_>) -> Result<Option<Atom>, Halt>
     }
 }
 
-/// The declaration with one more constructor.
+// The declaration with one more constructor.
 #[tactic(auto, using(std::proofs::lemmas::List::map_push))]
 fn with_con(
     mut draft: Box<TypeDraft>,
@@ -76,7 +76,7 @@ impl Parser {
         }
     }
 
-    /// Behind a constructor of a type's declaration.
+    // Behind a constructor of a type's declaration.
     #[tactic(auto, unfolding(camelot_grammar::specs::Machine::con_step), using(std::proofs::lemmas::List::map_push))]
     fn have_con(&mut self, draft: Box<TypeDraft>, lexeme: &TokenView<'_>) -> Result<(), Halt>
         ensures { Does (con_step (type_draft_of draft.value) (seen lexeme.now) (stack_of self.old.stack.items)) self.new result }
@@ -196,7 +196,8 @@ impl Parser {
         mut con: Box<ConDraft>,
         lexeme: &TokenView<'_>,
     ) -> Result<(), Halt>
-        ensures { Does (type_step (WantField (type_draft_of draft.value) con.value.name con.value.fields.items) (seen lexeme.now) (stack_of self.old.stack.items)) self.new result }
+        ensures { Does (type_step (WantField (type_draft_of draft.value) con.value.name con.value.fields.items)
+            (seen lexeme.now) (stack_of self.old.stack.items)) self.new result }
     {
         match atom(self.alloc, lexeme)? {
             Some(field) => {
@@ -214,7 +215,8 @@ impl Parser {
         con: Box<ConDraft>,
         lexeme: &TokenView<'_>,
     ) -> Result<(), Halt>
-        ensures { Does (type_step (HaveField (type_draft_of draft.value) con.value.name con.value.fields.items) (seen lexeme.now) (stack_of self.old.stack.items)) self.new result }
+        ensures { Does (type_step (HaveField (type_draft_of draft.value) con.value.name con.value.fields.items)
+            (seen lexeme.now) (stack_of self.old.stack.items)) self.new result }
     {
         match *lexeme {
             TokenView::Mark {
@@ -257,7 +259,7 @@ impl Parser {
         }
     }
 
-    /// Behind an inline constructor.
+    // Behind an inline constructor.
     #[tactic(auto, unfolding(camelot_grammar::specs::Machine::type_step))]
     fn end_con(&mut self, draft: Box<TypeDraft>, lexeme: &TokenView<'_>) -> Result<(), Halt>
         ensures { Does (type_step (HaveCon (type_draft_of draft.value)) (seen lexeme.now) (stack_of self.old.stack.items)) self.new result }

@@ -18,7 +18,7 @@ use camelot_grammar::Mark;
 use camelot_tree::{Arm, Build, Expr, FunDecl, Name};
 use std::alloc::Global;
 
-/// The match with one more arm.
+// The match with one more arm.
 #[tactic(auto, using(std::proofs::lemmas::List::map_push))]
 fn with_arm(
     mut matching: Box<Matching>,
@@ -39,10 +39,12 @@ fn with_arm(
     Ok(matching)
 }
 
-/// The whole match.
+// The whole match.
 fn whole_match(alloc: Global, matching: Box<Matching>) -> Result<Box<Expr>, Halt>
     ensures { MatchResult result
-        (λ tree. expression_of tree.value ≡ Match (matching_of matching.value).on (arms (matching_of matching.value).arms) matching.value.line) (λ halt. halt ≡ Memory) }
+        (λ tree. expression_of tree.value
+        ≡ Match (matching_of matching.value).on (arms (matching_of matching.value).arms) matching.value.line)
+        (λ halt. halt ≡ Memory) }
 {
     let Matching {
         level: _,
@@ -54,7 +56,7 @@ fn whole_match(alloc: Global, matching: Box<Matching>) -> Result<Box<Expr>, Halt
     Ok(Box::new(alloc, Expr::Match { line, on, arms })?)
 }
 
-/// The `let` or `if` that ends with this expression, or else the frame that goes on behind it.
+// The `let` or `if` that ends with this expression, or else the frame that goes on behind it.
 #[tactic(auto, using(crate::proofs::StackLemmas::stack_push))]
 fn enclose(alloc: Global, frame: Frame, tree: Box<Expr>) -> Result<Enclosed, Halt>
     ensures { MatchResult result (λ found. Encloses (frame_of frame) (expression_of tree.value) found) (λ halt. halt ≡ Memory) }
@@ -71,7 +73,7 @@ fn enclose(alloc: Global, frame: Frame, tree: Box<Expr>) -> Result<Enclosed, Hal
 }
 
 impl Parser {
-    /// Behind the body of a function.
+    // Behind the body of a function.
     #[tactic(auto, unfolding(camelot_grammar::specs::Machine::close_in), using(std::proofs::lemmas::List::map_push))]
     fn close_body(
         &mut self,
@@ -79,7 +81,8 @@ impl Parser {
         tree: Box<Expr>,
         lexeme: &TokenView<'_>,
     ) -> Result<(), Halt>
-        ensures { Does (close_in (Body (fun_draft_of draft.value) draft.value.result) (expression_of tree.value) (seen lexeme.now) (stack_of self.old.stack.items)) self.new result }
+        ensures { Does (close_in (Body (fun_draft_of draft.value) draft.value.result) (expression_of tree.value)
+            (seen lexeme.now) (stack_of self.old.stack.items)) self.new result }
     {
         let FunDraft {
             before: mut decls,
@@ -98,7 +101,7 @@ impl Parser {
         self.top(decls, lexeme)
     }
 
-    /// Behind an expression in parentheses.
+    // Behind an expression in parentheses.
     #[tactic(auto, unfolding(camelot_grammar::specs::Machine::close_in))]
     fn close_paren(
         &mut self,
@@ -107,7 +110,8 @@ impl Parser {
         tree: Box<Expr>,
         lexeme: &TokenView<'_>,
     ) -> Result<(), Halt>
-        ensures { Does (close_in (Paren (spot_of spot.value) line) (expression_of tree.value) (seen lexeme.now) (stack_of self.old.stack.items)) self.new result }
+        ensures { Does (close_in (Paren (spot_of spot.value) line) (expression_of tree.value) (seen lexeme.now)
+            (stack_of self.old.stack.items)) self.new result }
     {
         match *lexeme {
             TokenView::Mark {
@@ -118,7 +122,7 @@ impl Parser {
         }
     }
 
-    /// Behind an argument of a constructor.
+    // Behind an argument of a constructor.
     #[tactic(auto, unfolding(camelot_grammar::specs::Machine::close_in), using(crate::proofs::StackLemmas::stack_push))]
     fn close_args(
         &mut self,
@@ -127,7 +131,8 @@ impl Parser {
         tree: Box<Expr>,
         lexeme: &TokenView<'_>,
     ) -> Result<(), Halt>
-        ensures { Does (close_in (Args (spot_of spot.value) build.value.con (expressions_of build.value.args.items)) (expression_of tree.value) (seen lexeme.now) (stack_of self.old.stack.items)) self.new result }
+        ensures { Does (close_in (Args (spot_of spot.value) build.value.con (expressions_of build.value.args.items))
+            (expression_of tree.value) (seen lexeme.now) (stack_of self.old.stack.items)) self.new result }
     {
         let level = spot.level;
         push_tree(&mut build.args, tree)?;
@@ -147,7 +152,7 @@ impl Parser {
         }
     }
 
-    /// Behind the value of a `let`.
+    // Behind the value of a `let`.
     #[tactic(auto, unfolding(camelot_grammar::specs::Machine::close_in), using(crate::proofs::StackLemmas::stack_push))]
     fn close_value(
         &mut self,
@@ -167,7 +172,7 @@ impl Parser {
         }
     }
 
-    /// Behind the condition of an `if`.
+    // Behind the condition of an `if`.
     #[tactic(auto, unfolding(camelot_grammar::specs::Machine::close_in), using(crate::proofs::StackLemmas::stack_push))]
     fn close_cond(
         &mut self,
@@ -190,7 +195,7 @@ impl Parser {
         }
     }
 
-    /// Behind the first branch of an `if`.
+    // Behind the first branch of an `if`.
     #[tactic(auto, unfolding(camelot_grammar::specs::Machine::close_in), using(crate::proofs::StackLemmas::stack_push))]
     fn close_then(
         &mut self,
@@ -200,7 +205,8 @@ impl Parser {
         yes: Box<Expr>,
         lexeme: &TokenView<'_>,
     ) -> Result<(), Halt>
-        ensures { Does (close_in (IfThen level line (expression_of cond.value)) (expression_of yes.value) (seen lexeme.now) (stack_of self.old.stack.items)) self.new result }
+        ensures { Does (close_in (IfThen level line (expression_of cond.value)) (expression_of yes.value)
+            (seen lexeme.now) (stack_of self.old.stack.items)) self.new result }
     {
         match *lexeme {
             TokenView::Mark {
@@ -214,7 +220,7 @@ impl Parser {
         }
     }
 
-    /// Behind what is matched.
+    // Behind what is matched.
     #[tactic(auto, unfolding(camelot_grammar::specs::Machine::close_in))]
     fn close_scrutinee(
         &mut self,
@@ -243,7 +249,7 @@ impl Parser {
         }
     }
 
-    /// Behind the body of an arm.
+    // Behind the body of an arm.
     #[tactic(auto, unfolding(camelot_grammar::specs::Machine::close_in))]
     fn close_arm(
         &mut self,
@@ -252,7 +258,8 @@ impl Parser {
         body: Box<Expr>,
         lexeme: &TokenView<'_>,
     ) -> Result<(), Halt>
-        ensures { Does (close_in (ArmBody (matching_of matching.value) (arm_head_of head.value)) (expression_of body.value) (seen lexeme.now) (stack_of self.old.stack.items)) self.new result }
+        ensures { Does (close_in (ArmBody (matching_of matching.value) (arm_head_of head.value))
+            (expression_of body.value) (seen lexeme.now) (stack_of self.old.stack.items)) self.new result }
     {
         let level = matching.level;
         match *lexeme {
@@ -275,7 +282,7 @@ impl Parser {
         }
     }
 
-    /// Behind an expression that this frame goes on with.
+    // Behind an expression that this frame goes on with.
     #[tactic(auto, using(crate::proofs::StackLemmas::let_stuck, crate::proofs::StackLemmas::else_stuck))]
     fn close_in(&mut self, outer: Outer, lexeme: &TokenView<'_>) -> Result<(), Halt>
         ensures { Does (close_in (frame_of outer.frame) (expression_of outer.tree.value) (seen lexeme.now) (stack_of self.old.stack.items)) self.new result }
@@ -297,11 +304,12 @@ impl Parser {
         }
     }
 
-    /// Ends each `let` and `if` that ends with this expression, up to what goes on behind it.
+    // Ends each `let` and `if` that ends with this expression, up to what goes on behind it.
     #[tactic(auto, unfolding(camelot_grammar::specs::Machine::unwind), using(crate::proofs::StackLemmas::stack_push, crate::proofs::StackLemmas::unwind_none))]
     fn unwind(&mut self, mut tree: Box<Expr>) -> Result<Option<Outer>, Halt>
         ensures { MatchResult result
-            (λ outer. unwind (stack_of self.old.stack.items) (expression_of tree.value) ≡ unwound_of outer (stack_of self.new.stack.items)) (λ halt. halt ≡ Memory) }
+            (λ outer. unwind (stack_of self.old.stack.items) (expression_of tree.value)
+            ≡ unwound_of outer (stack_of self.new.stack.items)) (λ halt. halt ≡ Memory) }
     {
         'frames: while let Some(frame) = self.stack.pop() {
             match enclose(self.alloc, frame, tree)? {

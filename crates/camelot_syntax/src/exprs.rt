@@ -13,7 +13,7 @@ use crate::words::{TokenView, to_name};
 use camelot_grammar::Mark;
 use camelot_tree::Name;
 
-/// Whether an operand begins with this token.
+// Whether an operand begins with this token.
 fn begins_pre(lexeme: &TokenView<'_>) -> bool
     ensures { result ≡ begins_pre (seen lexeme.now) }
 {
@@ -27,7 +27,7 @@ fn begins_pre(lexeme: &TokenView<'_>) -> bool
 }
 
 impl Parser {
-    /// The place of the first operand of an expression whose tokens have this level.
+    // The place of the first operand of an expression whose tokens have this level.
     fn fresh_spot(&mut self, around: u32) -> Result<Box<Spot>, Halt>
         ensures spot { MatchResult result
             (λ spot. slot_of spot.value ≡ record { lefts = lefts around None None None None None; nots = []; level = around }) (λ halt. halt ≡ Memory) }
@@ -67,7 +67,7 @@ impl Parser {
         }
     }
 
-    /// At a `not` before an operand.
+    // At a `not` before an operand.
     #[tactic(auto, using(crate::proofs::StackLemmas::nots_push))]
     fn not(&mut self, mut spot: Box<Spot>, line: u32) -> Result<(), Halt>
         ensures { Does (Goes spot.value.level (InExpr (WantPre (lefts_of spot.value.lefts) (line ∷ nots_of spot.value.nots.items) spot.value.level))
@@ -79,7 +79,7 @@ impl Parser {
         self.go(level, State::InExpr(ExprState::Open(spot)))
     }
 
-    /// At the first token of an operand.
+    // At the first token of an operand.
     #[tactic(auto, unfolding(camelot_grammar::specs::Machine::slot_step))]
     fn slot(&mut self, mut spot: Box<Spot>, lexeme: &TokenView<'_>) -> Result<(), Halt>
         requires { IsSmall (seen lexeme.now) }
@@ -108,11 +108,12 @@ impl Parser {
         }
     }
 
-    /// Where an operand begins, within the level of the place.
+    // Where an operand begins, within the level of the place.
     #[tactic(auto, unfolding(camelot_grammar::specs::Machine::pre_step), using(crate::proofs::LevelLemmas::pre_too_deep))]
     fn want_pre(&mut self, mut spot: Box<Spot>, lexeme: &TokenView<'_>) -> Result<(), Halt>
         requires { IsSmall (seen lexeme.now) }
-        ensures { Does (pre_step (lefts_of spot.value.lefts) (nots_of spot.value.nots.items) spot.value.level (seen lexeme.now) (stack_of self.old.stack.items)) self.new result }
+        ensures { Does (pre_step (lefts_of spot.value.lefts) (nots_of spot.value.nots.items) spot.value.level
+            (seen lexeme.now) (stack_of self.old.stack.items)) self.new result }
     {
         if !begins_pre(lexeme) {
             return Err(Halt::Stuck);
@@ -126,11 +127,12 @@ impl Parser {
         }
     }
 
-    /// Where an expression begins with an operand.
+    // Where an expression begins with an operand.
     #[tactic(auto, unfolding(camelot_grammar::specs::Machine::pre_step), using(crate::proofs::LevelLemmas::begin_too_deep))]
     fn begin(&mut self, around: u32, lexeme: &TokenView<'_>) -> Result<(), Halt>
         requires { IsSmall (seen lexeme.now) }
-        ensures { Does (pre_step (lefts (suc around) None None None None None) [] (suc around) (seen lexeme.now) (stack_of self.old.stack.items)) self.new result }
+        ensures { Does (pre_step (lefts (suc around) None None None None None) [] (suc around) (seen lexeme.now)
+            (stack_of self.old.stack.items)) self.new result }
     {
         if !begins_pre(lexeme) {
             return Err(Halt::Stuck);
@@ -140,7 +142,7 @@ impl Parser {
         self.want_pre(spot, lexeme)
     }
 
-    /// Where an operand is wanted, or behind a name and the units behind it so far.
+    // Where an operand is wanted, or behind a name and the units behind it so far.
     #[tactic(auto, unfolding(camelot_grammar::specs::Machine::expr_step))]
     fn open(&mut self, mut spot: Box<Spot>, lexeme: &TokenView<'_>) -> Result<(), Halt>
         requires { IsSmall (seen lexeme.now) }
@@ -152,7 +154,7 @@ impl Parser {
         }
     }
 
-    /// Where an expression begins.
+    // Where an expression begins.
     #[tactic(auto, unfolding(camelot_grammar::specs::Machine::want_step), using(crate::proofs::StackLemmas::stack_push))]
     fn want(&mut self, around: u32, lexeme: &TokenView<'_>) -> Result<(), Halt>
         requires { IsSmall (seen lexeme.now) }
@@ -186,7 +188,7 @@ impl Parser {
         }
     }
 
-    /// Behind a minus sign before a number.
+    // Behind a minus sign before a number.
     #[tactic(auto, unfolding(camelot_grammar::specs::Machine::negative_step))]
     fn minus(&mut self, spot: Box<Spot>, line: u32, lexeme: &TokenView<'_>) -> Result<(), Halt>
         requires { IsSmall (seen lexeme.now) }
@@ -202,7 +204,7 @@ impl Parser {
         self.go(level, State::InExpr(ExprState::Have(spot, operand)))
     }
 
-    /// Behind the `let` of an expression.
+    // Behind the `let` of an expression.
     #[tactic(auto, unfolding(camelot_grammar::specs::Machine::let_step))]
     fn let_name(&mut self, level: u32, lexeme: &TokenView<'_>) -> Result<(), Halt>
         ensures { Does (let_step (LetName level) (seen lexeme.now) (stack_of self.old.stack.items)) self.new result }
@@ -217,7 +219,7 @@ impl Parser {
         }
     }
 
-    /// Behind the name that a `let` binds.
+    // Behind the name that a `let` binds.
     #[tactic(auto, unfolding(camelot_grammar::specs::Machine::let_step), using(crate::proofs::StackLemmas::stack_push))]
     fn let_equals(
         &mut self,

@@ -12,7 +12,7 @@ use crate::words::{TokenView, to_name};
 use camelot_grammar::Mark;
 use camelot_tree::{Atom, Name, Param};
 
-/// The declaration with one more parameter.
+// The declaration with one more parameter.
 fn with_param(mut draft: Box<FunDraft>, param: Param) -> Result<Box<FunDraft>, Halt>
     ensures { MatchResult result (λ more. fun_draft_of more.value ≡ with_param (fun_draft_of draft.value) param) (λ halt. halt ≡ Memory) }
 {
@@ -71,7 +71,7 @@ impl Parser {
         }
     }
 
-    /// The body of a function comes next, whose result has this type, if one is written.
+    // The body of a function comes next, whose result has this type, if one is written.
     #[tactic(auto, using(crate::proofs::StackLemmas::stack_push))]
     fn body(&mut self, mut draft: Box<FunDraft>, result_kind: Option<Atom>) -> Result<(), Halt>
         ensures { Does (Goes 0 (InExpr (Want 0)) (Body (fun_draft_of draft.value) result_kind ∷ stack_of self.old.stack.items)) self.new result }

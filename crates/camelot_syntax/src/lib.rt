@@ -1,7 +1,7 @@
 //! The parser of Camelot.
 //!
-//! A text is scanned into tokens (`text_scan`), and these are read by [`parse`]. Which tokens are a program, and where tokens
-//! stop being one, is said in `camelot_grammar`. The tree of a program is that of `camelot_tree`.
+//! A text is scanned into tokens (`text_scan`), and these are read by [`parse`]. Which tokens are a program, and where
+//! tokens stop being one, is said in `camelot_grammar`. The tree of a program is that of `camelot_tree`.
 #![tactic(auto)]
 
 mod arms;

@@ -54,7 +54,8 @@ pub fn prim(
     right: Box<Expr>,
     line: u32,
 ) -> Result<Box<Expr>, Halt>
-    ensures { MatchResult result (λ tree. expression_of tree.value ≡ Prim (operator_of op) (expression_of left.value) (expression_of right.value) line) (λ halt. halt ≡ Memory) }
+    ensures { MatchResult result (λ tree. expression_of tree.value ≡ Prim (operator_of op) (expression_of left.value)
+        (expression_of right.value) line) (λ halt. halt ≡ Memory) }
 {
     Ok(Box::new(
         alloc,
@@ -74,7 +75,8 @@ pub fn if_tree(
     no: Box<Expr>,
     line: u32,
 ) -> Result<Box<Expr>, Halt>
-    ensures { MatchResult result (λ tree. expression_of tree.value ≡ If (expression_of cond.value) (expression_of yes.value) (expression_of no.value) line) (λ halt. halt ≡ Memory) }
+    ensures { MatchResult result (λ tree. expression_of tree.value ≡ If (expression_of cond.value)
+        (expression_of yes.value) (expression_of no.value) line) (λ halt. halt ≡ Memory) }
 {
     Ok(Box::new(
         alloc,
@@ -93,12 +95,13 @@ pub fn let_tree(
     value: Box<Expr>,
     body: Box<Expr>,
 ) -> Result<Box<Expr>, Halt>
-    ensures { MatchResult result (λ tree. expression_of tree.value ≡ Let name.value (expression_of value.value) (expression_of body.value)) (λ halt. halt ≡ Memory) }
+    ensures { MatchResult result (λ tree. expression_of tree.value ≡ Let name.value (expression_of value.value)
+        (expression_of body.value)) (λ halt. halt ≡ Memory) }
 {
     Ok(Box::new(alloc, Expr::Let { name, value, body })?)
 }
 
-/// A truth value in this line.
+// A truth value in this line.
 fn truth(alloc: Global, value: bool, line: u32) -> Result<Box<Expr>, Halt>
     ensures { MatchResult result (λ tree. expression_of tree.value ≡ Truth value line) (λ halt. halt ≡ Memory) }
 {
@@ -114,7 +117,7 @@ pub fn leaf(alloc: Global, tree: Expr, line: u32) -> Result<Operand, Halt>
 }
 
 impl Left {
-    /// The operator with its second operand.
+    // The operator with its second operand.
     fn join(self, alloc: Global, right: Operand) -> Result<Operand, Halt>
         ensures { MatchResult result
             (λ whole. operand_of whole ≡ join (joint_of self.joint) self.line (operand_of self.operand) (operand_of right)) (λ halt. halt ≡ Memory) }
@@ -152,7 +155,7 @@ pub fn finish(alloc: Global, left: Option<Left>, right: Operand) -> Result<Opera
     }
 }
 
-/// `not` of an operand, where the `not` stands in this line.
+// `not` of an operand, where the `not` stands in this line.
 fn negation(alloc: Global, line: u32, operand: Operand) -> Result<Operand, Halt>
     ensures { MatchResult result (λ whole. operand_of whole ≡ negated line (operand_of operand)) (λ halt. halt ≡ Memory) }
 {

@@ -16,6 +16,7 @@ use camelot_grammar::laws::tokens_of_a_text;
 use camelot_grammar::{Mark, ParseFault};
 use std::alloc::Global;
 use std::mem;
+use stops::Stop;
 use text_scan::Token;
 
 /// The parser between two tokens: where it stands, and the expressions that are unfinished, the innermost last.
@@ -28,7 +29,7 @@ pub struct Parser {
     pub spares: Vec<Box<Spot>>,
 }
 
-/// The line of a token.
+// The line of a token.
 fn line_of(lexeme: &TokenView<'_>) -> u32
     ensures { result ≡ line_of (seen lexeme.now) }
 {
@@ -39,7 +40,7 @@ fn line_of(lexeme: &TokenView<'_>) -> u32
     }
 }
 
-/// The fault at a token with which no program goes on, at this place.
+// The fault at a token with which no program goes on, at this place.
 fn stop_fault(lexeme: &TokenView<'_>, token: u64) -> ParseFault
     ensures { (rest : List Lexeme) → result ≡ stop_fault (seen lexeme.now ∷ rest) token (line_of (seen lexeme.now)) }
 {
@@ -69,7 +70,7 @@ fn stop_fault(lexeme: &TokenView<'_>, token: u64) -> ParseFault
     }
 }
 
-/// The line of the last byte of a text.
+// The line of the last byte of a text.
 #[tactic(auto, unfolding(text_scan::specs::Reading::line_feeds))]
 fn last_line(text: &[u8]) -> u64
     ensures { result ≡ last_line text.now }
@@ -80,7 +81,7 @@ fn last_line(text: &[u8]) -> u64
 }
 
 impl State {
-    /// The declarations, where the text ends in this state; else this fault.
+    // The declarations, where the text ends in this state; else this fault.
     fn whole(self, fault: ParseFault) -> Result<Decls, ParseFault>
         ensures { MatchResult result (λ decls. state_of self ≡ Finished (decls_of decls)) (λ found. (found ≡ fault) × IsUnfinished (state_of self)) }
     {
@@ -106,7 +107,7 @@ impl Parser {
         Ok(())
     }
 
-    /// Where the parser stands, to go on from there.
+    // Where the parser stands, to go on from there.
     #[inline]
     fn take_state(&mut self) -> State
         ensures state { result ≡ self.old.state }
@@ -115,7 +116,7 @@ impl Parser {
         mem::replace(&mut self.state, State::InExpr(ExprState::Want(0)))
     }
 
-    /// One token.
+    // One token.
     #[tactic(auto, unfolding(camelot_grammar::specs::Machine::step))]
     fn step(&mut self, lexeme: &TokenView<'_>) -> Result<(), Halt>
         requires { IsSmall (seen lexeme.now) }
@@ -129,25 +130,25 @@ impl Parser {
         }
     }
 
-    /// One token of the text, whose place among the tokens is `at`.
+    // One token of the text, whose place among the tokens is `at`.
     #[tactic(auto, using(crate::proofs::RunLemmas::small_real, crate::proofs::RunLemmas::advance_real, crate::proofs::RunLemmas::fails_stop))]
-    fn read_token(&mut self, lexeme: &TokenView<'_>, at: u64) -> Result<(), ParseFault>
+    fn read_token(&mut self, lexeme: &TokenView<'_>, at: u64) -> Result<(), Stop<ParseFault>>
         requires real { IsReal (seen lexeme.now) }
         ensures { Reads (advance (state_of self.old.state) (seen lexeme.now) (stack_of self.old.stack.items)) (seen lexeme.now) at self.new result }
     {
         match self.step(lexeme) {
             Ok(()) => Ok(()),
-            Err(Halt::Stuck) => Err(stop_fault(lexeme, at)),
-            Err(Halt::Deep) => Err(ParseFault::TooDeep {
+            Err(Halt::Stuck) => Err(Stop::Fault(stop_fault(lexeme, at))),
+            Err(Halt::Deep) => Err(Stop::Fault(ParseFault::TooDeep {
                 token: at,
                 line: u64::from(line_of(lexeme)),
-            }),
-            Err(Halt::Memory) => Err(ParseFault::Memory),
+            })),
+            Err(Halt::Memory) => Err(Stop::Memory),
         }
     }
 
-    /// The token of the text at this place.
-    fn read(&mut self, text: &[u8], token: Token, at: u64) -> Result<(), ParseFault>
+    // The token of the text at this place.
+    fn read(&mut self, text: &[u8], token: Token, at: u64) -> Result<(), Stop<ParseFault>>
         requires { IsSliceOf text.now token }
         ensures { Reads (advance (state_of self.old.state) (lexeme_at text.now token) (stack_of self.old.stack.items)) (lexeme_at text.now token) at
             self.new result }
@@ -157,10 +158,12 @@ impl Parser {
         self.read_token(&lexeme, at)
     }
 
-    /// The end of a text of so many tokens.
+    // The end of a text of so many tokens.
     #[tactic(auto, using(crate::proofs::RunLemmas::ends_whole, crate::proofs::RunLemmas::ends_early, crate::proofs::RunLemmas::ends_stuck, crate::proofs::RunLemmas::ends_deep))]
-    fn finish(&mut self, text: &[u8], count: usize) -> Result<Decls, ParseFault>
-        ensures { Answers count (last_line text.now) (ending (limited (step (state_of self.old.state) (Lexeme.Mark Mark.EndOfText 0) (stack_of self.old.stack.items)))) result }
+    fn finish(&mut self, text: &[u8], count: usize) -> Result<Decls, Stop<ParseFault>>
+        ensures { Answers count (last_line text.now)
+            (ending (limited (step (state_of self.old.state) (Lexeme.Mark Mark.EndOfText 0)
+            (stack_of self.old.stack.items)))) result }
     {
         let fault = ParseFault::Unexpected {
             token: count as u64,
@@ -171,17 +174,17 @@ impl Parser {
             line: 0,
         };
         match self.step(&end) {
-            Ok(()) => self.take_state().whole(fault),
-            Err(Halt::Memory) => Err(ParseFault::Memory),
-            Err(Halt::Stuck) => Err(fault),
-            Err(Halt::Deep) => Err(fault),
+            Ok(()) => self.take_state().whole(fault).map_err(Stop::Fault),
+            Err(Halt::Memory) => Err(Stop::Memory),
+            Err(Halt::Stuck) => Err(Stop::Fault(fault)),
+            Err(Halt::Deep) => Err(Stop::Fault(fault)),
         }
     }
 }
 
 /// The declarations that these tokens of the text are.
 #[tactic(auto, using(crate::proofs::RunLemmas::run_first, crate::proofs::RunLemmas::run_more, crate::proofs::RunLemmas::run_fails, crate::proofs::RunLemmas::run_ends, crate::proofs::RunLemmas::slice_at))]
-pub fn run(alloc: Global, text: &[u8], tokens: &[Token]) -> Result<Decls, ParseFault>
+pub fn run(alloc: Global, text: &[u8], tokens: &[Token]) -> Result<Decls, Stop<ParseFault>>
     requires { All (IsSliceOf text.now) tokens.now }
     ensures { Answers (length tokens.now) (last_line text.now) (runs start [] (lexemes text.now tokens.now)) result }
 {
@@ -199,7 +202,7 @@ pub fn run(alloc: Global, text: &[u8], tokens: &[Token]) -> Result<Decls, ParseF
     'tokens: for (at, token) in tokens.iter().enumerate() {
         match parser.read(text, *token, at as u64) {
             Ok(()) => {}
-            Err(fault) => return Err(fault),
+            Err(stop) => return Err(stop),
         }
     }
     parser.finish(text, tokens.len())

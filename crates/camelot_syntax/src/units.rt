@@ -14,7 +14,7 @@ use camelot_grammar::Mark;
 use camelot_tree::{Build, Call, Expr, Name};
 use std::alloc::Global;
 
-/// Whether a unit that isn't a name begins with this token.
+// Whether a unit that isn't a name begins with this token.
 fn begins_unit(lexeme: &TokenView<'_>) -> bool
     ensures { result ≡ begins_unit (seen lexeme.now) }
 {
@@ -35,7 +35,7 @@ pub fn begins_argument(lexeme: &TokenView<'_>) -> bool
     }
 }
 
-/// The literal of a number token.
+// The literal of a number token.
 fn number(value: u32, line: u32) -> Expr
     requires { value < 2147483648 }
     ensures { expression_of result ≡ Num (pos value) line }
@@ -58,7 +58,7 @@ pub fn negative(value: u32, line: u32) -> Expr
     }
 }
 
-/// The build, in the cell of the diamond `place` where one is named.
+// The build, in the cell of the diamond `place` where one is named.
 fn with_place(mut build: Box<Build>, place: Option<Name>) -> Box<Build>
     ensures con { result.value.con ≡ build.value.con }
     ensures args { result.value.args.items ≡ build.value.args.items }
@@ -69,7 +69,7 @@ fn with_place(mut build: Box<Build>, place: Option<Name>) -> Box<Build>
     build
 }
 
-/// The constructor with its arguments, in the cell of the diamond `place` where one is named.
+// The constructor with its arguments, in the cell of the diamond `place` where one is named.
 #[tactic(auto, using(crate::proofs::StackLemmas::build_is))]
 fn built(alloc: Global, build: Box<Build>, place: Option<Name>) -> Result<Operand, Halt>
     ensures { MatchResult result (λ operand. operand_of operand ≡ built build.value.con (expressions_of build.value.args.items) place) (λ halt. halt ≡ Memory) }
@@ -94,7 +94,7 @@ pub fn push_tree(args: &mut Vec<Expr>, tree: Box<Expr>) -> Result<(), Halt>
 }
 
 impl Callee {
-    /// The name with one more unit behind it.
+    // The name with one more unit behind it.
     fn with(mut self, arg: Box<Expr>) -> Result<Callee, Halt>
         ensures name { IfOk result (λ callee. callee.fun ≡ self.fun) }
         ensures units { IfOk result (λ callee. expressions_of callee.args.items ≡ expressions_of self.args.items ++ expression_of arg.value ∷ []) }
@@ -104,7 +104,7 @@ impl Callee {
         Ok(self)
     }
 
-    /// A name alone is a variable; with units behind it, it is a call.
+    // A name alone is a variable; with units behind it, it is a call.
     fn applied(mut self, alloc: Global) -> Result<Operand, Halt>
         ensures { MatchResult result (λ operand. operand_of operand ≡ applied_operand self.fun (expressions_of self.args.items)) (λ halt. halt ≡ Memory) }
     {
@@ -137,9 +137,11 @@ impl Parser {
         }
     }
 
-    /// The unit here is this expression of one token.
+    // The unit here is this expression of one token.
     fn take_leaf(&mut self, spot: Box<Spot>, tree: Expr, line: u32) -> Result<(), Halt>
-        ensures { Does (Goes spot.value.level (InExpr (unit_done (spot_of spot.value) (record { expression = expression_of tree; line = line }))) (stack_of self.old.stack.items)) self.new result }
+        ensures { Does (Goes spot.value.level (InExpr
+            (unit_done (spot_of spot.value) (record { expression = expression_of tree; line = line })))
+            (stack_of self.old.stack.items)) self.new result }
     {
         let operand = leaf(self.alloc, tree, line)?;
         self.take_unit(spot, operand)
@@ -177,7 +179,7 @@ impl Parser {
         }
     }
 
-    /// At one more unit behind a name.
+    // At one more unit behind a name.
     #[tactic(auto, unfolding(camelot_grammar::specs::Machine::argument_step))]
     fn argument(
         &mut self,
@@ -186,7 +188,8 @@ impl Parser {
         lexeme: &TokenView<'_>,
     ) -> Result<(), Halt>
         requires { IsSmall (seen lexeme.now) }
-        ensures { Does (argument_step (slot_of spot.value) callee.fun (expressions_of callee.args.items) (seen lexeme.now) (stack_of self.old.stack.items)) self.new result }
+        ensures { Does (argument_step (slot_of spot.value) callee.fun (expressions_of callee.args.items)
+            (seen lexeme.now) (stack_of self.old.stack.items)) self.new result }
     {
         spot.call = Some(callee);
         match *lexeme {
@@ -207,7 +210,8 @@ impl Parser {
         lexeme: &TokenView<'_>,
     ) -> Result<(), Halt>
         requires { IsSmall (seen lexeme.now) }
-        ensures { Does (applied_step (slot_of spot.value) callee.fun (expressions_of callee.args.items) (seen lexeme.now) (stack_of self.old.stack.items)) self.new result }
+        ensures { Does (applied_step (slot_of spot.value) callee.fun (expressions_of callee.args.items)
+            (seen lexeme.now) (stack_of self.old.stack.items)) self.new result }
     {
         if begins_argument(&lexeme) {
             self.argument(spot, callee, lexeme)
@@ -217,7 +221,7 @@ impl Parser {
         }
     }
 
-    /// Behind a unit.
+    // Behind a unit.
     #[tactic(auto, unfolding(camelot_grammar::specs::Machine::after_unit))]
     fn after_unit(
         &mut self,
@@ -277,7 +281,8 @@ impl Parser {
         lexeme: &TokenView<'_>,
     ) -> Result<(), Halt>
         requires { IsSmall (seen lexeme.now) }
-        ensures { Does (full_step (spot_of spot.value) build.value.con (expressions_of build.value.args.items) (seen lexeme.now) (stack_of self.old.stack.items)) self.new result }
+        ensures { Does (full_step (spot_of spot.value) build.value.con (expressions_of build.value.args.items)
+            (seen lexeme.now) (stack_of self.old.stack.items)) self.new result }
     {
         match *lexeme {
             TokenView::Mark { mark: Mark::At, .. } => {
@@ -299,7 +304,8 @@ impl Parser {
         build: Box<Build>,
         lexeme: &TokenView<'_>,
     ) -> Result<(), Halt>
-        ensures { Does (placed_step (spot_of spot.value) build.value.con (expressions_of build.value.args.items) (seen lexeme.now) (stack_of self.old.stack.items)) self.new result }
+        ensures { Does (placed_step (spot_of spot.value) build.value.con (expressions_of build.value.args.items)
+            (seen lexeme.now) (stack_of self.old.stack.items)) self.new result }
     {
         match *lexeme {
             TokenView::Lower { word, line } => {

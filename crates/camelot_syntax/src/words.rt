@@ -69,7 +69,7 @@ const MARKS: [(&[u8], Mark); 38] = [
     (b"->", Mark::Arrow),
 ];
 
-/// The word or sign of this text, among these.
+// The word or sign of this text, among these.
 fn lookup_in(marks: &[(&[u8], Mark)], text: &[u8]) -> Mark
     ensures { result ≡ mark_in (map (λ e. record { text = e.0.now; mark = e.1 }) marks.now) text.now }
 {
@@ -81,7 +81,7 @@ fn lookup_in(marks: &[(&[u8], Mark)], text: &[u8]) -> Mark
     Mark::EndOfText
 }
 
-/// The sign of one byte: most tokens are such.
+// The sign of one byte: most tokens are such.
 #[tactic(auto, unfolding(camelot_grammar::specs::Lexemes::mark_of, camelot_grammar::specs::Lexemes::marks), using(crate::proofs::WordLemmas::entries_is))]
 fn sign(byte: u8) -> Mark
     ensures { result ≡ mark_of (byte ∷ []) }
@@ -106,7 +106,7 @@ fn sign(byte: u8) -> Mark
     }
 }
 
-/// The sign of two bytes.
+// The sign of two bytes.
 #[tactic(auto, unfolding(camelot_grammar::specs::Lexemes::mark_of, camelot_grammar::specs::Lexemes::marks), using(crate::proofs::WordLemmas::entries_is))]
 fn pair(first: u8, second: u8) -> Mark
     ensures { result ≡ mark_of (first ∷ second ∷ []) }
@@ -121,7 +121,7 @@ fn pair(first: u8, second: u8) -> Mark
     }
 }
 
-/// The word or sign of this text.
+// The word or sign of this text.
 #[tactic(auto, using(crate::proofs::WordLemmas::entries_is))]
 fn lookup(text: &[u8]) -> Mark
     ensures { result ≡ mark_of text.now }
@@ -133,7 +133,7 @@ fn lookup(text: &[u8]) -> Mark
     }
 }
 
-/// The token of these digits.
+// The token of these digits.
 #[tactic(auto, unfolding(camelot_grammar::specs::Lexemes::lexeme_of))]
 fn number(digits: &[u8], line: u32) -> TokenView<'static>
     requires form { IsTrue (is_number_token digits.now) }

@@ -1,5 +1,5 @@
--- The definitions on worked programs: `dup` of a list, `both` whose first argument takes a cell and whose second runs out
--- of fuel, and `rev`, which builds in the cells that it takes apart.
+-- The definitions on worked programs: `dup` of a list, `both` whose first argument takes a cell and whose second runs
+-- out of fuel, and `rev`, which builds in the cells that it takes apart.
 use Rattle.std.proofs.Common.{◌≡◌, ℕ, List, [], ◌∷◌, Some, None, false, true, pos, refl}
 use Rattle.std.specs.Prelude.{codes, negsuc}
 use Rattle.camelot_values.specs.Operator as operator

@@ -1,8 +1,10 @@
 -- Cited by contracts.
--- What a program means: a big-step evaluation, from left to right, with counters in place of a heap (Hofmann and Jost 2003). Outcomes, operators, calls with their
--- fuel and depth, and the steps of cells are those of the meaning of code. A program is Stuck where a name is unknown, an operator works on what isn't an int, a
--- conditional asks what isn't a truth value, a match has no arm that fits, a build stands in what isn't a diamond, or a call has another number of arguments than the function has
--- parameters; how many parts a build has isn't asked. A typed program is never Stuck. The meaning knows no cells, frames or ranges, and the code evaluates nothing.
+-- What a program means: a big-step evaluation, from left to right, with counters in place of a heap (Hofmann and Jost
+-- 2003). Outcomes, operators, calls with their fuel and depth, and the steps of cells are those of the meaning of code.
+-- A program is Stuck where a name is unknown, an operator works on what isn't an int, a conditional asks what isn't a
+-- truth value, a match has no arm that fits, a build stands in what isn't a diamond, or a call has another number of
+-- arguments than the function has parameters; how many parts a build has isn't asked. A typed program is never Stuck.
+-- The meaning knows no cells, frames or ranges, and the code evaluates nothing.
 use Rattle.std.specs.Prelude.{ℕ, Bool, true, false, ◌==◌, if◌then◌else◌, List, [], ◌∷◌, map, flat_map, slice_get, Option, Some, None}
 use Rattle.std.specs.Str.{bytes_eq}
 use Rattle.camelot_values.specs.Value as value

@@ -1,6 +1,6 @@
 -- Laws, for the proofs of this crate and of those above it.
--- What bodies mean respects every relation between runs that basic steps have and sequence keeps: so the laws of clock and fuel hold of
--- programs.
+-- What bodies mean respects every relation between runs that basic steps have and sequence keeps: so the laws of clock
+-- and fuel hold of programs.
 use Rattle.std.proofs.Common.{ℕ, ◌-◌, Bool, true, false, List, [], ◌∷◌, Option, Some, None}
 use Rattle.std.specs.Prelude.{slice_get, if◌then◌else◌}
 use Rattle.camelot_values.specs.Value as value
@@ -15,7 +15,8 @@ use Rattle.camelot_tree.specs.declared.tree.ArmCell.TheVariants as cell
 use Rattle.camelot_tree.specs.Tree.{Expression, Num, Truth, Var, Prim, If, Let, Match, Build, Call, Expressions, NoExpressions, AndExpression, Arms, NoArms, AndArm, Constructor, Function, Source}
 use Rattle.camelot_tree.specs.Meaning.{Environment, put, declared_constructors, constructor_number, function_number, in_cell, placed, put_fields, cell_run, is_that, on_constructor, eval, eval_all, arms_run, put_params, body_run, bodies}
 
-in_cell_related : (Fine : ℕ → ℕ → Type 0) (R : Relation) → Closed Fine R → (o : Option Constructor) (v : Value) (j k : ℕ) → R Value j k (in_cell o v) (in_cell o v)
+in_cell_related : (Fine : ℕ → ℕ → Type 0) (R : Relation) → Closed Fine R → (o : Option Constructor) (v : Value) (j k : ℕ)
+    → R Value j k (in_cell o v) (in_cell o v)
 in_cell_related Fine R closed None v j k = closed.stuck Value j k
 in_cell_related Fine R closed (Some c) v j k = by_test c.inline
   where
@@ -23,7 +24,8 @@ in_cell_related Fine R closed (Some c) v j k = by_test c.inline
     by_test true = closed.free Value j k v 0 0
     by_test false = closed.free Value j k v 1 0
 
-placed_related : (Fine : ℕ → ℕ → Type 0) (R : Relation) → Closed Fine R → (p : Source) (place : Option Name) (env : Environment) (con : ℕ) (vs : List Value) (j k : ℕ)
+placed_related : (Fine : ℕ → ℕ → Type 0) (R : Relation) → Closed Fine R
+    → (p : Source) (place : Option Name) (env : Environment) (con : ℕ) (vs : List Value) (j k : ℕ)
     → R Value j k (placed p place env con vs) (placed p place env con vs)
 placed_related Fine R closed p None env con vs j k = in_cell_related Fine R closed (slice_get (declared_constructors p) con) (value.Con con (parts vs)) j k
 placed_related Fine R closed p (Some d) env con vs j k =
@@ -43,12 +45,14 @@ matched_related Fine R closed (value.Int z) j k next next' h = closed.stuck Valu
 matched_related Fine R closed (value.Flag b) j k next next' h = closed.stuck Value j k
 matched_related Fine R closed value.Dia j k next next' h = closed.stuck Value j k
 
-pick_related : (R : Relation) (j k : ℕ) (t : Bool) (a b a' b' : Outcome Value) → R Value j k a a' → R Value j k b b' → R Value j k (if t then a else b) (if t then a' else b')
+pick_related : (R : Relation) (j k : ℕ) (t : Bool) (a b a' b' : Outcome Value) → R Value j k a a' → R Value j k b b'
+    → R Value j k (if t then a else b) (if t then a' else b')
 pick_related R j k true a b a' b' h g = h
 pick_related R j k false a b a' b' h g = g
 
 mutual
-  eval_related : (Fine : ℕ → ℕ → Type 0) (R : Relation) → Closed Fine R → (p : Source) (enter enter' : Enter) → Related Fine R enter enter' → (e : Expression) (j k w : ℕ) (t : Bool) (env : Environment) → Fine j k
+  eval_related : (Fine : ℕ → ℕ → Type 0) (R : Relation) → Closed Fine R → (p : Source) (enter enter' : Enter) → Related Fine R enter enter'
+      → (e : Expression) (j k w : ℕ) (t : Bool) (env : Environment) → Fine j k
       → R Value j k (eval p enter e j w t env) (eval p enter' e k w t env)
   eval_related Fine R closed p enter enter' r (Num z l) j k w t env f = closed.free Value j k (value.Int z) 0 0
   eval_related Fine R closed p enter enter' r (Truth b l) j k w t env f = closed.free Value j k (value.Flag b) 0 0
@@ -91,7 +95,8 @@ mutual
       (λ d vs. given_related Fine R closed (function_number p g) (j - d) (k - d) (λ func. enter (j - d) w t func vs) (λ func. enter' (k - d) w t func vs)
       (λ func. r (j - d) (k - d) w t func vs (closed.less j k d f)))
 
-  all_related : (Fine : ℕ → ℕ → Type 0) (R : Relation) → Closed Fine R → (p : Source) (enter enter' : Enter) → Related Fine R enter enter' → (es : Expressions) (j k w : ℕ) (env : Environment) → Fine j k
+  all_related : (Fine : ℕ → ℕ → Type 0) (R : Relation) → Closed Fine R → (p : Source) (enter enter' : Enter) → Related Fine R enter enter'
+      → (es : Expressions) (j k w : ℕ) (env : Environment) → Fine j k
       → R (List Value) j k (eval_all p enter es j w env) (eval_all p enter' es k w env)
   all_related Fine R closed p enter enter' r NoExpressions j k w env f = closed.free (List Value) j k [] 0 0
   all_related Fine R closed p enter enter' r (AndExpression e es) j k w env f =
@@ -102,7 +107,8 @@ mutual
       (all_related Fine R closed p enter enter' r es (j - c) (k - c) w env (closed.less j k c f))
       (λ d vs. closed.free (List Value) (j - c - d) (k - c - d) (v ∷ vs) 0 0))
 
-  arms_related : (Fine : ℕ → ℕ → Type 0) (R : Relation) → Closed Fine R → (p : Source) (enter enter' : Enter) → Related Fine R enter enter' → (as' : Arms) (con : ℕ) (vs : Values) (j k w : ℕ) (t : Bool) (env : Environment) → Fine j k
+  arms_related : (Fine : ℕ → ℕ → Type 0) (R : Relation) → Closed Fine R → (p : Source) (enter enter' : Enter) → Related Fine R enter enter'
+      → (as' : Arms) (con : ℕ) (vs : Values) (j k w : ℕ) (t : Bool) (env : Environment) → Fine j k
       → R Value j k (arms_run p enter as' con vs j w t env) (arms_run p enter' as' con vs k w t env)
   arms_related Fine R closed p enter enter' r NoArms con vs j k w t env f = closed.stuck Value j k
   arms_related Fine R closed p enter enter' r (AndArm c fs x b as') con vs j k w t env f =
@@ -111,7 +117,8 @@ mutual
       (λ bound. cell_related Fine R closed x bound j k (λ last. eval p enter b j w t last) (λ last. eval p enter' b k w t last) (λ last. eval_related Fine R closed p enter enter' r b j k w t last f)))
       (arms_related Fine R closed p enter enter' r as' con vs j k w t env f)
 
-body_related : (Fine : ℕ → ℕ → Type 0) (R : Relation) → Closed Fine R → (p : Source) (enter enter' : Enter) → Related Fine R enter enter' → (o : Option Function) (j k w : ℕ) (args : List Value) → Fine j k
+body_related : (Fine : ℕ → ℕ → Type 0) (R : Relation) → Closed Fine R → (p : Source) (enter enter' : Enter) → Related Fine R enter enter'
+    → (o : Option Function) (j k w : ℕ) (args : List Value) → Fine j k
     → R Value j k (body_run p enter o j w args) (body_run p enter' o k w args)
 body_related Fine R closed p enter enter' r None j k w args f = closed.stuck Value j k
 body_related Fine R closed p enter enter' r (Some g) j k w args f =

@@ -69,15 +69,18 @@ map_last f (y ∷ xs) x = ap (λ l. f y ∷ l) (map_last f xs x)
 pub around_begun : (ps : List Expression) (leaf e : Expression) → ps ≡ spine_of e → leaf ≡ leaf_of e → around ps leaf ≡ e
 around_begun ps leaf e h k = ap (λ l. around l leaf) h ∙ ap (around (spine_of e)) k ∙ around_spine e
 
-pub around_popped : {A : Type 0} (f : A → Expression) (before after : List A) (p : A) (e whole next : Expression) → before ≡ after ++ p ∷ [] → around (map f before) e ≡ whole
+pub around_popped : {A : Type 0} (f : A → Expression) (before after : List A) (p : A) (e whole next : Expression) → before ≡ after ++ p ∷ []
+    → around (map f before) e ≡ whole
     → next ≡ with_first (f p) e → around (map f after) next ≡ whole
 around_popped f before after p e whole next h k n =
     ap (around (map f after)) n ∙ sym (around_last (map f after) (f p) e) ∙ ap (λ l. around l e) (sym (map_last f after p)) ∙ ap (λ l. around (map f l) e) (sym h) ∙ k
 
-pub front_popped : {A : Type 0} (f : A → Expression) (n : ℕ) (before after : List A) (p : A) → before ≡ after ++ p ∷ [] → NoLarger n (map f before) → NoLarger n (map f after)
+pub front_popped : {A : Type 0} (f : A → Expression) (n : ℕ) (before after : List A) (p : A) → before ≡ after ++ p ∷ [] → NoLarger n (map f before)
+    → NoLarger n (map f after)
 front_popped f n before after p h k = no_larger_front n (map f after) (f p) (subst (NoLarger n) (ap (map f) h ∙ map_last f after p) k)
 
-pub last_popped : {A : Type 0} (f : A → Expression) (n : ℕ) (before after : List A) (p : A) → before ≡ after ++ p ∷ [] → NoLarger n (map f before) → size (f p) ≤ n
+pub last_popped : {A : Type 0} (f : A → Expression) (n : ℕ) (before after : List A) (p : A) → before ≡ after ++ p ∷ [] → NoLarger n (map f before)
+    → size (f p) ≤ n
 last_popped f n before after p h k = no_larger_last n (map f after) (f p) (subst (NoLarger n) (ap (map f) h ∙ map_last f after p) k)
 
 pub none_larger : (ps : List Expression) (e : Expression) → ps ≡ spine_of e → NoLarger (size e) ps
@@ -88,7 +91,8 @@ leaf_smaller leaf e h = subst (λ x. size x ≤ size e) (sym h) (leaf_no_larger 
 
 -- ---- parts in a list
 
-pub argument_smaller : {A : Type 0} (f : A → Expression) (xs : List A) (i : ℕ) (d : A) → i < length xs → size (f (get_or xs i d)) ≤ expressions_size (expressions (map f xs))
+pub argument_smaller : {A : Type 0} (f : A → Expression) (xs : List A) (i : ℕ) (d : A) → i < length xs
+    → size (f (get_or xs i d)) ≤ expressions_size (expressions (map f xs))
 argument_smaller f [] i d h = absurd (omega (arith, h))
 argument_smaller f (x ∷ xs) zero d h = omega arith
 argument_smaller f (x ∷ xs) (suc i) d h = let k = argument_smaller f xs i d (omega arith) in omega (arith, k)

@@ -1,6 +1,6 @@
 -- Cited by contracts.
--- What the tokens of a text give of a program's names and numbers: types, functions, parameters, variables, fields and diamonds have
--- lower names and constructors upper ones, each of at most 64 bytes, and a literal has 32 bits.
+-- What the tokens of a text give of a program's names and numbers: types, functions, parameters, variables, fields and
+-- diamonds have lower names and constructors upper ones, each of at most 64 bytes, and a literal has 32 bits.
 use Rattle.std.specs.Prelude.{Bool, true, ◌&&◌, Option, Some, None}
 use Rattle.std.specs.List.{list_all}
 use Rattle.camelot_values.specs.Value.{is_int32}

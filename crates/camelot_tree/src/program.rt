@@ -8,8 +8,8 @@ use crate::tree::{FunDecl, TypeDecl};
 /// A program as it is written: its types and functions in text order.
 ///
 /// Each type has at least one constructor, each function at least one parameter and each match at least one arm, and an
-/// inline constructor has no fields. Names have the forms of their tokens: types, functions, variables and diamonds have lower names
-/// and constructors upper ones, of at most 64 bytes.
+/// inline constructor has no fields. Names have the forms of their tokens: types, functions, variables and diamonds
+/// have lower names and constructors upper ones, of at most 64 bytes.
 #[derive(Debug, Drop)]
 pub struct Program {
     pub types: Vec<TypeDecl>,

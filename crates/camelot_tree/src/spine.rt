@@ -8,13 +8,15 @@ use std::alloc::{AllocError, Global};
 /// The left end of an expression, along which trees may be as deep as their text is long.
 #[derive(Drop)]
 pub struct Spine<'a> {
-    /// Operators and conditionals from the outermost inwards, each in the left operand or the condition of the one before.
+    /// Operators and conditionals from the outermost inwards, each in the left operand or the condition of the one
+    /// before.
     pub parents: Vec<&'a Expr>,
     /// The left operand or condition of the innermost one; the expression itself where it is neither.
     pub leaf: &'a Expr,
 }
 
-/// The left end of an expression, with its parents in this vector in place of what stood there; `AllocError` where memory runs out.
+// The left end of an expression, with its parents in this vector in place of what stood there; `AllocError` where
+// memory runs out.
 fn left_spine_in<'a>(mut parents: Vec<&'a Expr>, expr: &'a Expr) -> Result<Spine<'a>, AllocError>
     ensures parents { IfOk result (λ spine. map (λ parent. expression_of parent.now) spine.parents.items ≡ spine_of (expression_of expr.now)) }
     ensures leaf { IfOk result (λ spine. expression_of spine.leaf.now ≡ leaf_of (expression_of expr.now)) }
@@ -54,8 +56,11 @@ fn depth(expr: &Expr) -> usize {
 /// The left end of an expression; `AllocError` where memory runs out.
 #[inline(always)]
 pub fn left_spine(alloc: Global, expr: &Expr) -> Result<Spine<'_>, AllocError>
+    // The parents are those of the left end, from the expression down.
     ensures parents { IfOk result (λ spine. map (λ parent. expression_of parent.now) spine.parents.items ≡ spine_of (expression_of expr.now)) }
+    // The leaf is the one at the left end.
     ensures leaf { IfOk result (λ spine. expression_of spine.leaf.now ≡ leaf_of (expression_of expr.now)) }
+    // The leaf has no part at its own left end.
     ensures is_leaf { IfOk result (λ spine. IsLeaf (expression_of spine.leaf.now)) }
 {
     match expr {
@@ -88,8 +93,11 @@ impl<'a> Rooms<'a> {
     /// The left end of an expression, as [`left_spine`] has it.
     #[inline(always)]
     pub fn left_spine(&mut self, expr: &'a Expr) -> Result<Spine<'a>, AllocError>
+        // The parents are those of the left end, from the expression down.
         ensures parents { IfOk result (λ spine. map (λ parent. expression_of parent.now) spine.parents.items ≡ spine_of (expression_of expr.now)) }
+        // The leaf is the one at the left end.
         ensures leaf { IfOk result (λ spine. expression_of spine.leaf.now ≡ leaf_of (expression_of expr.now)) }
+        // The leaf has no part at its own left end.
         ensures is_leaf { IfOk result (λ spine. IsLeaf (expression_of spine.leaf.now)) }
     {
         match expr {

@@ -143,7 +143,8 @@ pub struct Arm {
     pub body: Expr,
 }
 
-// Chains nest to the left, far deeper than expressions nest otherwise: so a tree is let go from its left end on, in a loop.
+// Chains nest to the left, far deeper than expressions nest otherwise: so a tree is let go from its left end on, in a
+// loop.
 impl Drop for Expr {
     #[cycle(tree)]
     fn drop(mut self) {

@@ -6,19 +6,20 @@ use Rattle.camelot_values.specs.Kinds.{DataType}
 use Rattle.camelot_values.specs.declared.kinds.Kind.{Kind}
 use Rattle.camelot_tree.specs.Tree.{Function, Source}
 use Rattle.camelot_tree.specs.Tokens.{has_ints}
-use Rattle.typing_rules.specs.Kinds.{Head, Globals, Scope, atoms_of, types_of}
-use Rattle.typing_rules.specs.Typing.{Signature, IsDeclared, params_scope, globals_of, IsTyped, IsWithinLimits}
-use Rattle.typing_rules.specs.Typed.{FunctionKinds, signatures_of, functions_kinds, typing, typing_kinds, IsTyping}
+use Rattle.camelot_typing.specs.Kinds.{Head, Globals, Scope, atoms_of, types_of}
+use Rattle.camelot_typing.specs.Typing.{Signature, IsDeclared, params_scope, globals_of, IsTyped, IsWithinLimits}
+use Rattle.camelot_typing.specs.Typed.{FunctionKinds, signatures_of, functions_kinds, typing, typing_kinds, IsTyping}
 use Rattle.camelot_types.specs.declared.fault.TypeFault.{TypeFault}
-use Rattle.camelot_types.specs.declared.fault.TypeFault.TheVariants.{UnknownName, UnknownType, Duplicate, Arity, Clash, MissingArm, RepeatedArm, TooManyFields, PlaceOnInline, TooMany, Memory}
+use Rattle.stops.specs.declared.stop.Stop.{Stop}
+use Rattle.stops.specs.declared.stop.Stop.TheVariants.{Fault, Memory}
+use Rattle.stops.specs.Stopping.{FaultIs}
 use Rattle.camelot_types.specs.declared.guess.Guess.{Guess}
 use Rattle.camelot_types.specs.declared.guess.Guess.TheVariants.{Known, Unknown}
 use Rattle.camelot_types.specs.Walk.{Step, Same, Choice, under, HasFault, few, types_steps, headers_steps, head_guess, head_guesses, guesses_of, line_of, guess, body_steps, bodies_steps, program_steps}
 use Rattle.camelot_types.specs.Solving.{Walked, Goes, Stops, and_then, looked_up, made_same, run, Work, body_walked, Bodies, bodies_on, closed, settled, settled_funs, fresh, unknowns}
 use Rattle.camelot_types.specs.Declaring.{types_checked, headers_checked}
-use Rattle.typing_rules.specs.Settled.{KindsSettled}
+use Rattle.camelot_typing.specs.Settled.{KindsSettled}
 use Rattle.camelot_types.specs.Checked.{bodies_walked, program_walked, KindsLeft}
-use Rattle.camelot_types.specs.Walk.{HasCause}
 use Rattle.camelot_types.specs.Doing.{StopsWith}
 use Rattle.camelot_types.proofs.Unifying.{IsWithin, Respects, Ran, run_ran, run_finds, fault_runs, runs_on, choice_of, choice_respects, choice_forced, IsFresh, append_run, get_past, AllWithin}
 use Rattle.camelot_types.proofs.Choosing.{head_under}
@@ -27,6 +28,7 @@ use Rattle.camelot_types.proofs.Starting.{program_within, is_fresh, length_fresh
 use Rattle.camelot_types.proofs.Answering.{answered, answered_is, answers_agree}
 use Rattle.camelot_types.proofs.Walking.{giving, behind, along, part, walk_is}
 use Rattle.camelot_types.proofs.Declared.{checked_run, headers_run}
+use Rattle.camelot_types.proofs.Looping.{stops_along}
 
 -- ---- bodies
 
@@ -41,7 +43,8 @@ bodies_atoms g fs hs = []
 abbrev body_work : Globals Guess → Function → Head Guess → List Guess → Work
 body_work g f h t = record { table = t; atoms = body_atoms g f h }
 
-body_is : (g : Globals Guess) (f : Function) (h : Head Guess) (table : List Guess) → body_walked g f h table ≡ giving (body_work g f h) (run g.types table (body_steps g f h))
+body_is : (g : Globals Guess) (f : Function) (h : Head Guess) (table : List Guess)
+    → body_walked g f h table ≡ giving (body_work g f h) (run g.types table (body_steps g f h))
 unfolding body_walked
 body_is g f h table =
     let s : Scope Guess = params_scope f.params h.params in
@@ -137,31 +140,24 @@ stops_same f g h = cc
 one_fault : (p : Source) (fault found : TypeFault) → program_walked p ≡ Stops found → HasFault p fault → found ≡ fault
 one_fault p fault found h k = stops_same found fault (sym (run_stops p found h) ∙ fault_runs (types_of p) (start p) (program_steps p) fault (fresh_start p) (within p) k)
 
--- what a fault tells of a program
-pub record Refused (p : Source) (found : TypeFault) : Type 0 where
-  pub cause : HasCause p found
+-- what an answer that isn't Ok tells of a program
+pub record Refused (p : Source) (found : Stop TypeFault) : Type 0 where
+  pub cause : FaultIs (HasFault p) found
   pub typed : (sigs : List Signature) → IsTyped p sigs → IsWithinLimits p → found ≡ Memory
-  pub fault : (fault : TypeFault) → HasFault p fault → (found ≡ fault) ⊎ (found ≡ Memory)
+  pub fault : (fault : TypeFault) → HasFault p fault → (found ≡ Fault fault) ⊎ (found ≡ Memory)
 
-stops_refused : (p : Source) (found : TypeFault) → program_walked p ≡ Stops found → HasFault p found × ((sigs : List Signature) → IsTyped p sigs → IsWithinLimits p → ⊥) × ((fault : TypeFault) → HasFault p fault → found ≡ fault)
+stops_refused : (p : Source) (found : TypeFault) → program_walked p ≡ Stops found
+    → HasFault p found × ((sigs : List Signature) → IsTyped p sigs → IsWithinLimits p → ⊥) × ((fault : TypeFault) → HasFault p fault → found ≡ fault)
 stops_refused p found h = (has_fault p found h, (λ sigs t l. not_typed p found sigs h t l), (λ fault k. one_fault p fault found h k))
 
-pub refused : (p : Source) (found : TypeFault) → StopsWith (program_walked p) found → Refused p found
+pub refused : (p : Source) (found : Stop TypeFault) → StopsWith (program_walked p) found → Refused p found
+refused p (Fault f) h = let s = stops_refused p f h in record { cause = s.0; typed = λ sigs t k. absurd (s.1 sigs t k); fault = λ fault k. inl (ap Fault (s.2 fault k)) }
 refused p Memory h = record { cause = tt; typed = λ sigs t l. refl; fault = λ fault k. inr refl }
-refused p (UnknownName n l) h = let s = stops_refused p (UnknownName n l) h in record { cause = s.0; typed = λ sigs t k. absurd (s.1 sigs t k); fault = λ fault k. inl (s.2 fault k) }
-refused p (UnknownType n l) h = let s = stops_refused p (UnknownType n l) h in record { cause = s.0; typed = λ sigs t k. absurd (s.1 sigs t k); fault = λ fault k. inl (s.2 fault k) }
-refused p (Duplicate n l) h = let s = stops_refused p (Duplicate n l) h in record { cause = s.0; typed = λ sigs t k. absurd (s.1 sigs t k); fault = λ fault k. inl (s.2 fault k) }
-refused p (Arity n a b l) h = let s = stops_refused p (Arity n a b l) h in record { cause = s.0; typed = λ sigs t k. absurd (s.1 sigs t k); fault = λ fault k. inl (s.2 fault k) }
-refused p (Clash a b l) h = let s = stops_refused p (Clash a b l) h in record { cause = s.0; typed = λ sigs t k. absurd (s.1 sigs t k); fault = λ fault k. inl (s.2 fault k) }
-refused p (MissingArm n l) h = let s = stops_refused p (MissingArm n l) h in record { cause = s.0; typed = λ sigs t k. absurd (s.1 sigs t k); fault = λ fault k. inl (s.2 fault k) }
-refused p (RepeatedArm n l) h = let s = stops_refused p (RepeatedArm n l) h in record { cause = s.0; typed = λ sigs t k. absurd (s.1 sigs t k); fault = λ fault k. inl (s.2 fault k) }
-refused p (TooManyFields n a l) h = let s = stops_refused p (TooManyFields n a l) h in record { cause = s.0; typed = λ sigs t k. absurd (s.1 sigs t k); fault = λ fault k. inl (s.2 fault k) }
-refused p (PlaceOnInline n l) h = let s = stops_refused p (PlaceOnInline n l) h in record { cause = s.0; typed = λ sigs t k. absurd (s.1 sigs t k); fault = λ fault k. inl (s.2 fault k) }
-refused p (TooMany n a l) h = let s = stops_refused p (TooMany n a l) h in record { cause = s.0; typed = λ sigs t k. absurd (s.1 sigs t k); fault = λ fault k. inl (s.2 fault k) }
 
 -- ---- a program through which the check comes
 
-given_goes : {A : Type 0} (answer : List Guess → A) (o : Walked (List Guess)) (a : A) → giving answer o ≡ Goes a → (t : List Guess) × (o ≡ Goes t) × (a ≡ answer t)
+given_goes : {A : Type 0} (answer : List Guess → A) (o : Walked (List Guess)) (a : A) → giving answer o ≡ Goes a
+    → (t : List Guess) × (o ≡ Goes t) × (a ≡ answer t)
 given_goes answer (Goes t) a h = (t, refl, sym (goes_is (answer t) a h))
   where
     goes_is : {B : Type 0} (a b : B) → Goes a ≡ Goes b → a ≡ b
@@ -177,7 +173,8 @@ one_settled : (table : List Guess) (a : Guess) → settled table a ≡ under (ch
 one_settled table (Known k) = refl
 one_settled table (Unknown x) = refl
 
-funs_settled : (table : List Guess) (g : Globals Guess) (fs : List Function) (hs : List (Head Guess)) → settled_funs table hs (bodies_atoms g fs hs) ≡ answered (choice_of table) g fs hs
+funs_settled : (table : List Guess) (g : Globals Guess) (fs : List Function) (hs : List (Head Guess))
+    → settled_funs table hs (bodies_atoms g fs hs) ≡ answered (choice_of table) g fs hs
 unfolding settled_funs
 funs_settled table g [] [] = refl
 funs_settled table g [] (h ∷ hs) = refl
@@ -190,12 +187,14 @@ funs_settled table g (f ∷ fs) (h ∷ hs) =
         → (let k : FunctionKinds = record { params = ps; result = r; exprs = es } in k ∷ ks) ≡ record { params = qs; result = s; exprs = gs } ∷ ls
     same_kinds ps qs es gs r s ks ls a b c d = cc
 
-heads_answered : (choice : Choice) (p : Source) (g : Globals Guess) (number : ℕ) (fs : List Function) → signatures_of fs (answered choice g fs (head_guesses p number fs)) ≡ map (head_under choice) (head_guesses p number fs)
+heads_answered : (choice : Choice) (p : Source) (g : Globals Guess) (number : ℕ) (fs : List Function)
+    → signatures_of fs (answered choice g fs (head_guesses p number fs)) ≡ map (head_under choice) (head_guesses p number fs)
 heads_answered choice p g number [] = refl
 heads_answered choice p g number (f ∷ fs) = ap (λ l. head_under choice (head_guess p number f) ∷ l) (heads_answered choice p g (suc (number + length f.params)) fs)
 
 -- the choice that is left gives kinds of declared types
-kept_declared : (types : List DataType) (table : List Guess) → ((x : ℕ) → x < length table → IsWithin types (length table) (looked_up table (Unknown x))) → (x : ℕ) → IsDeclared types (choice_of table x)
+kept_declared : (types : List DataType) (table : List Guess)
+    → ((x : ℕ) → x < length table → IsWithin types (length table) (looked_up table (Unknown x))) → (x : ℕ) → IsDeclared types (choice_of table x)
 kept_declared types table h x = by_place (nat_lt x (length table)) refl
   where
     by_guess : (a : Guess) → IsWithin types (length table) a → IsDeclared types (closed a)
@@ -215,7 +214,8 @@ pub record Taken (p : Source) (kinds : List FunctionKinds) : Type 0 where
   pub settled : (sigs : List Signature) → IsTyped p sigs → KindsSettled (typing_kinds (typing p kinds)) (functions_kinds (globals_of p sigs) p.funs sigs)
   pub sound : (fault : TypeFault) → HasFault p fault → ⊥
 
-taken_with : (p : Source) (kinds : List FunctionKinds) (table : List Guess) → IsTrue (has_ints p) → program_run p ≡ Goes table → kinds ≡ answered (choice_of table) (guesses_of p) p.funs (head_guesses p 0 p.funs) → Taken p kinds
+taken_with : (p : Source) (kinds : List FunctionKinds) (table : List Guess) → IsTrue (has_ints p) → program_run p ≡ Goes table
+    → kinds ≡ answered (choice_of table) (guesses_of p) p.funs (head_guesses p 0 p.funs) → Taken p kinds
 taken_with p kinds table ints h e =
     let choice : Choice = choice_of table in
     let ran : Ran (types_of p) (start p) table (program_steps p) = run_ran (types_of p) (start p) table (program_steps p) (fresh_start p).sound (within p) h in
@@ -237,26 +237,13 @@ taken_with p kinds table ints h e =
     apart : (t : List Guess) (fault : TypeFault) → (let o : Walked (List Guess) = Goes t in o) ≡ Stops fault → ⊥
     apart t fault h = absurd cc
 
-taken : (p : Source) (kinds : List FunctionKinds) (work : Bodies) → IsTrue (has_ints p) → program_walked p ≡ Goes work → kinds ≡ settled_funs work.table (head_guesses p 0 p.funs) work.atoms → Taken p kinds
+taken : (p : Source) (kinds : List FunctionKinds) (work : Bodies) → IsTrue (has_ints p) → program_walked p ≡ Goes work
+    → kinds ≡ settled_funs work.table (head_guesses p 0 p.funs) work.atoms → Taken p kinds
 taken p kinds work ints h e =
     let g = given_goes (all_work (program_atoms p)) (program_run p) work (sym (walked_is p) ∙ h) in
     taken_with p kinds g.0 ints g.1 (e ∙ ap (λ w. settled_funs w.table (head_guesses p 0 p.funs) w.atoms) g.2 ∙ funs_settled g.0 (guesses_of p) p.funs (head_guesses p 0 p.funs))
 
--- ---- how the whole walk goes on
-
--- a fault at one part is that of the whole
-stops_along : {A B : Type 0} (o : Walked A) (q : Walked B) (fault : TypeFault) → ((f : TypeFault) → o ≡ Stops f → q ≡ Stops f) → StopsWith o fault → StopsWith q fault
-stops_along o q Memory f h = tt
-stops_along o q (UnknownName n l) f h = f (UnknownName n l) h
-stops_along o q (UnknownType n l) f h = f (UnknownType n l) h
-stops_along o q (Duplicate n l) f h = f (Duplicate n l) h
-stops_along o q (Arity n a b l) f h = f (Arity n a b l) h
-stops_along o q (Clash a b l) f h = f (Clash a b l) h
-stops_along o q (MissingArm n l) f h = f (MissingArm n l) h
-stops_along o q (RepeatedArm n l) f h = f (RepeatedArm n l) h
-stops_along o q (TooManyFields n a l) f h = f (TooManyFields n a l) h
-stops_along o q (PlaceOnInline n l) f h = f (PlaceOnInline n l) h
-stops_along o q (TooMany n a l) f h = f (TooMany n a l) h
+-- ---- how the whole walk goes on; a fault at one part is that of the whole
 
 walked_on : (p : Source) (o : Walked Bodies) → types_checked p ≡ Goes tt → headers_checked p ≡ Goes tt → bodies_walked p ≡ o → program_walked p ≡ o
 walked_on p o h k e = ap (λ q. and_then q (λ u. and_then (headers_checked p) (λ v. bodies_walked p))) h ∙ ap (λ q. and_then q (λ v. bodies_walked p)) k ∙ e
@@ -267,16 +254,18 @@ types_stop p fault h = ap (λ q. and_then q (λ u. and_then (headers_checked p) 
 headers_stop : (p : Source) (fault : TypeFault) → types_checked p ≡ Goes tt → headers_checked p ≡ Stops fault → program_walked p ≡ Stops fault
 headers_stop p fault h k = ap (λ q. and_then q (λ u. and_then (headers_checked p) (λ v. bodies_walked p))) h ∙ ap (λ q. and_then q (λ v. bodies_walked p)) k
 
-pub stops_at_types : (p : Source) (fault : TypeFault) → StopsWith (types_checked p) fault → StopsWith (program_walked p) fault
-stops_at_types p fault h = stops_along (types_checked p) (program_walked p) fault (λ f k. types_stop p f k) h
+pub stops_at_types : (p : Source) (stop : Stop TypeFault) → StopsWith (types_checked p) stop → StopsWith (program_walked p) stop
+stops_at_types p stop h = stops_along (types_checked p) (program_walked p) stop (λ f k. types_stop p f k) h
 
-pub stops_at_headers : (p : Source) (fault : TypeFault) → types_checked p ≡ Goes tt → StopsWith (headers_checked p) fault → StopsWith (program_walked p) fault
-stops_at_headers p fault e h = stops_along (headers_checked p) (program_walked p) fault (λ f k. headers_stop p f e k) h
+pub stops_at_headers : (p : Source) (stop : Stop TypeFault) → types_checked p ≡ Goes tt → StopsWith (headers_checked p) stop → StopsWith (program_walked p) stop
+stops_at_headers p stop e h = stops_along (headers_checked p) (program_walked p) stop (λ f k. headers_stop p f e k) h
 
-pub stops_at_bodies : (p : Source) (fault : TypeFault) → types_checked p ≡ Goes tt → headers_checked p ≡ Goes tt → StopsWith (bodies_walked p) fault → StopsWith (program_walked p) fault
-stops_at_bodies p fault e g h = stops_along (bodies_walked p) (program_walked p) fault (λ f k. walked_on p (Stops f) e g k) h
+pub stops_at_bodies : (p : Source) (stop : Stop TypeFault) → types_checked p ≡ Goes tt → headers_checked p ≡ Goes tt
+    → StopsWith (bodies_walked p) stop → StopsWith (program_walked p) stop
+stops_at_bodies p stop e g h = stops_along (bodies_walked p) (program_walked p) stop (λ f k. walked_on p (Stops f) e g k) h
 
-pub left_of_all : (p : Source) (kinds : List FunctionKinds) → types_checked p ≡ Goes tt → headers_checked p ≡ Goes tt → KindsLeft p (bodies_walked p) kinds → KindsLeft p (program_walked p) kinds
+pub left_of_all : (p : Source) (kinds : List FunctionKinds) → types_checked p ≡ Goes tt → headers_checked p ≡ Goes tt
+    → KindsLeft p (bodies_walked p) kinds → KindsLeft p (program_walked p) kinds
 left_of_all p kinds e g h = record { work = h.work; walked = walked_on p (Goes h.work) e g h.walked; kinds_are = h.kinds_are }
 
 pub taken_of : (p : Source) (kinds : List FunctionKinds) → IsTrue (has_ints p) → KindsLeft p (program_walked p) kinds → Taken p kinds

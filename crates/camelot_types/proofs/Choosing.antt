@@ -12,8 +12,8 @@ use Rattle.camelot_tree.specs.declared.tree.Param.{Param}
 use Rattle.camelot_tree.specs.declared.tree.ArmCell.{ArmCell}
 use Rattle.camelot_tree.specs.declared.tree.ArmCell.TheVariants as cell
 use Rattle.camelot_tree.specs.Tree.{Expression, Num, Truth, Var, Prim, If, Let, Match, Build, Call, Expressions, NoExpressions, AndExpression, Arms, NoArms, AndArm}
-use Rattle.typing_rules.specs.Kinds.{Head, Globals, Scope, bind, or_else, constructor_number, fields_of, head_of, bind_fields, bind_cell, arm_scope, atom_of, arms_atom, atoms_of, all_atoms, arms_atoms}
-use Rattle.typing_rules.specs.Typing.{Signature, known_kind, params_scope}
+use Rattle.camelot_typing.specs.Kinds.{Head, Globals, Scope, bind, or_else, constructor_number, fields_of, head_of, bind_fields, bind_cell, arm_scope, atom_of, arms_atom, atoms_of, all_atoms, arms_atoms}
+use Rattle.camelot_typing.specs.Typing.{Signature, known_kind, params_scope}
 use Rattle.camelot_types.specs.declared.guess.Guess.{Guess}
 use Rattle.camelot_types.specs.declared.guess.Guess.TheVariants.{Known}
 use Rattle.camelot_types.specs.Walk.{Choice, under}
@@ -39,7 +39,8 @@ find_under choice (b ∷ bs) n = by_test (find_under choice bs n) (bytes_eq b.na
     by_test h true = refl
     by_test h false = h
 
-pub head_of_under : (choice : Choice) (hs : List (Head Guess)) (n : List ℕ) → head_of (map (head_under choice) hs) n ≡ option_map (head_under choice) (head_of hs n)
+pub head_of_under : (choice : Choice) (hs : List (Head Guess)) (n : List ℕ)
+    → head_of (map (head_under choice) hs) n ≡ option_map (head_under choice) (head_of hs n)
 head_of_under choice [] n = refl
 head_of_under choice (h ∷ hs) n = by_test (head_of_under choice hs n) (bytes_eq h.name n)
   where
@@ -48,7 +49,8 @@ head_of_under choice (h ∷ hs) n = by_test (head_of_under choice hs n) (bytes_e
     by_test e true = refl
     by_test e false = e
 
-fields_under : (choice : Choice) (fs : List (Option Name)) (ks : List Kind) (s : Scope Guess) → scope_under choice (bind_fields Known fs ks s) ≡ bind_fields known_kind fs ks (scope_under choice s)
+fields_under : (choice : Choice) (fs : List (Option Name)) (ks : List Kind) (s : Scope Guess)
+    → scope_under choice (bind_fields Known fs ks s) ≡ bind_fields known_kind fs ks (scope_under choice s)
 fields_under choice [] ks s = refl
 fields_under choice (None ∷ fs) [] s = refl
 fields_under choice (None ∷ fs) (k ∷ ks) s = fields_under choice fs ks s
@@ -75,12 +77,14 @@ or_else_under : (choice : Choice) (o : Option Guess) (a : Guess) → under choic
 or_else_under choice None a = refl
 or_else_under choice (Some b) a = refl
 
-result_under : (choice : Choice) (o : Option (Head Guess)) → under choice (option_map_or (λ h. h.result) o (Known kind.Int)) ≡ option_map_or (λ h. h.result) (option_map (head_under choice) o) kind.Int
+result_under : (choice : Choice) (o : Option (Head Guess))
+    → under choice (option_map_or (λ h. h.result) o (Known kind.Int)) ≡ option_map_or (λ h. h.result) (option_map (head_under choice) o) kind.Int
 result_under choice None = refl
 result_under choice (Some h) = refl
 
 mutual
-  pub atom_under : (choice : Choice) (g : Globals Guess) (s : Scope Guess) (e : Expression) → under choice (atom_of Known g s e) ≡ atom_of known_kind (globals_under choice g) (scope_under choice s) e
+  pub atom_under : (choice : Choice) (g : Globals Guess) (s : Scope Guess) (e : Expression)
+      → under choice (atom_of Known g s e) ≡ atom_of known_kind (globals_under choice g) (scope_under choice s) e
   atom_under choice g s (Num z l) = refl
   atom_under choice g s (Truth b l) = refl
   atom_under choice g s (Var n) = or_else_under choice (find s n.word) (Known kind.Int) ∙ ap (λ o. or_else o kind.Int) (sym (find_under choice s n.word))
@@ -93,7 +97,8 @@ mutual
   atom_under choice g s (Build c es place) = refl
   atom_under choice g s (Call f es) = result_under choice (head_of g.heads f.word) ∙ ap (λ o. option_map_or (λ h. h.result) o kind.Int) (sym (head_of_under choice g.heads f.word))
 
-  pub arms_under : (choice : Choice) (g : Globals Guess) (s : Scope Guess) (as' : Arms) → under choice (arms_atom Known g s as') ≡ arms_atom known_kind (globals_under choice g) (scope_under choice s) as'
+  pub arms_under : (choice : Choice) (g : Globals Guess) (s : Scope Guess) (as' : Arms)
+      → under choice (arms_atom Known g s as') ≡ arms_atom known_kind (globals_under choice g) (scope_under choice s) as'
   arms_under choice g s NoArms = refl
   arms_under choice g s (AndArm c fs x b as') =
       atom_under choice g (arm_scope Known g.types c fs x s) b ∙ ap (λ inner. atom_of known_kind (globals_under choice g) inner b) (arm_under choice g.types c fs x s)
@@ -102,14 +107,17 @@ map_append : (choice : Choice) (xs ys : List Guess) → map (under choice) (xs +
 map_append choice [] ys = refl
 map_append choice (x ∷ xs) ys = ap (λ l. under choice x ∷ l) (map_append choice xs ys)
 
-both_under : (choice : Choice) (xs ys : List Guess) (ks qs : List Kind) → map (under choice) xs ≡ ks → map (under choice) ys ≡ qs → map (under choice) (xs ++ ys) ≡ ks ++ qs
+both_under : (choice : Choice) (xs ys : List Guess) (ks qs : List Kind) → map (under choice) xs ≡ ks → map (under choice) ys ≡ qs
+    → map (under choice) (xs ++ ys) ≡ ks ++ qs
 both_under choice xs ys ks qs h k = map_append choice xs ys ∙ ap (λ l. l ++ map (under choice) ys) h ∙ ap (λ l. ks ++ l) k
 
-own_under : (choice : Choice) (g : Globals Guess) (s : Scope Guess) (e : Expression) → map (under choice) (atom_of Known g s e ∷ []) ≡ atom_of known_kind (globals_under choice g) (scope_under choice s) e ∷ []
+own_under : (choice : Choice) (g : Globals Guess) (s : Scope Guess) (e : Expression)
+    → map (under choice) (atom_of Known g s e ∷ []) ≡ atom_of known_kind (globals_under choice g) (scope_under choice s) e ∷ []
 own_under choice g s e = ap (λ x. x ∷ []) (atom_under choice g s e)
 
 mutual
-  pub atoms_under : (choice : Choice) (g : Globals Guess) (s : Scope Guess) (e : Expression) → map (under choice) (atoms_of Known g s e) ≡ atoms_of known_kind (globals_under choice g) (scope_under choice s) e
+  pub atoms_under : (choice : Choice) (g : Globals Guess) (s : Scope Guess) (e : Expression)
+      → map (under choice) (atoms_of Known g s e) ≡ atoms_of known_kind (globals_under choice g) (scope_under choice s) e
   atoms_under choice g s (Num z l) = refl
   atoms_under choice g s (Truth b l) = refl
   atoms_under choice g s (Var n) = own_under choice g s (Var n)
@@ -128,11 +136,13 @@ mutual
   atoms_under choice g s (Build c es place) = both_under choice _ _ _ _ (all_atoms_under choice g s es) (own_under choice g s (Build c es place))
   atoms_under choice g s (Call f es) = both_under choice _ _ _ _ (all_atoms_under choice g s es) (own_under choice g s (Call f es))
 
-  pub all_atoms_under : (choice : Choice) (g : Globals Guess) (s : Scope Guess) (es : Expressions) → map (under choice) (all_atoms Known g s es) ≡ all_atoms known_kind (globals_under choice g) (scope_under choice s) es
+  pub all_atoms_under : (choice : Choice) (g : Globals Guess) (s : Scope Guess) (es : Expressions)
+      → map (under choice) (all_atoms Known g s es) ≡ all_atoms known_kind (globals_under choice g) (scope_under choice s) es
   all_atoms_under choice g s NoExpressions = refl
   all_atoms_under choice g s (AndExpression e es) = both_under choice _ _ _ _ (atoms_under choice g s e) (all_atoms_under choice g s es)
 
-  pub arms_atoms_under : (choice : Choice) (g : Globals Guess) (s : Scope Guess) (as' : Arms) → map (under choice) (arms_atoms Known g s as') ≡ arms_atoms known_kind (globals_under choice g) (scope_under choice s) as'
+  pub arms_atoms_under : (choice : Choice) (g : Globals Guess) (s : Scope Guess) (as' : Arms)
+      → map (under choice) (arms_atoms Known g s as') ≡ arms_atoms known_kind (globals_under choice g) (scope_under choice s) as'
   arms_atoms_under choice g s NoArms = refl
   arms_atoms_under choice g s (AndArm c fs x b as') =
       both_under choice _ _ _ _

@@ -13,7 +13,7 @@ use Rattle.camelot_tree.specs.declared.tree.Atom.TheVariants as atom
 use Rattle.camelot_tree.specs.declared.tree.Param.{Param}
 use Rattle.camelot_tree.specs.Tree.{Constructor, DataType, Function, Source}
 use Rattle.camelot_tree.specs.Shape.{is_nothing, con_is_whole, type_is_whole, fun_is_whole, is_whole}
-use Rattle.typing_rules.specs.Kinds.{kind_of_atom, field_kind, constructor_kinds, data_kinds, types_of}
+use Rattle.camelot_typing.specs.Kinds.{kind_of_atom, field_kind, constructor_kinds, data_kinds, types_of}
 use Rattle.camelot_tree.specs.Meaning.{declared_constructors}
 use Rattle.camelot_types.specs.declared.fault.TypeFault.{TypeFault}
 use Rattle.camelot_types.specs.declared.fault.TypeFault.TheVariants.{UnknownType, TooManyFields, TooMany}
@@ -47,10 +47,12 @@ few_runs : (types : List values.DataType) (table : List Guess) (what : List ℕ)
 unfolding few_checked
 few_runs types table what most names q ys k = one_runs types table (nat_le (length names) most) (TooMany what (length names) (line_above most names)) q ys k
 
-names_run : (types : List values.DataType) (table : List Guess) (earlier : List (List ℕ)) (ns : List Name) → run types table (new_names earlier ns) ≡ and_then (names_checked earlier ns) (λ u. Goes table)
+names_run : (types : List values.DataType) (table : List Guess) (earlier : List (List ℕ)) (ns : List Name)
+    → run types table (new_names earlier ns) ≡ and_then (names_checked earlier ns) (λ u. Goes table)
 names_run types table earlier ns = sym (names_is types table earlier ns)
 
-atom_runs : (types : List values.DataType) (table : List Guess) (p : Source) (a : Atom) → run types table (atom_step p a) ≡ and_then (atom_checked p a) (λ u. Goes table)
+atom_runs : (types : List values.DataType) (table : List Guess) (p : Source) (a : Atom)
+    → run types table (atom_step p a) ≡ and_then (atom_checked p a) (λ u. Goes table)
 unfolding atom_checked kind_checked
 atom_runs types table p atom.Int = refl
 atom_runs types table p atom.Bool = refl
@@ -61,12 +63,14 @@ atom_runs types table p (atom.Named n) = by_kind (kind_of_atom p (atom.Named n))
     by_kind None = refl
     by_kind (Some k) = refl
 
-atoms_run : (types : List values.DataType) (table : List Guess) (p : Source) (as' : List Atom) → run types table (flat_map (atom_step p) as') ≡ and_then (atoms_checked p as') (λ u. Goes table)
+atoms_run : (types : List values.DataType) (table : List Guess) (p : Source) (as' : List Atom)
+    → run types table (flat_map (atom_step p) as') ≡ and_then (atoms_checked p as') (λ u. Goes table)
 unfolding atoms_checked
 atoms_run types table p [] = refl
 atoms_run types table p (a ∷ as') = both_run types table (atom_checked p a) (λ u. atoms_checked p as') (atom_step p a) (flat_map (atom_step p) as') (atom_runs types table p a) (atoms_run types table p as')
 
-fields_run : (types : List values.DataType) (table : List Guess) (cs : List Constructor) → run types table (map fields_step cs) ≡ and_then (fields_checked cs) (λ u. Goes table)
+fields_run : (types : List values.DataType) (table : List Guess) (cs : List Constructor)
+    → run types table (map fields_step cs) ≡ and_then (fields_checked cs) (λ u. Goes table)
 unfolding fields_checked
 fields_run types table [] = refl
 fields_run types table (c ∷ cs) = by_test (nat_le (length c.fields) 4) (fields_run types table cs)
@@ -82,12 +86,14 @@ fields_run types table (c ∷ cs) = by_test (nat_le (length c.fields) 4) (fields
 abbrev cons_steps : Source → List Constructor → List Step
 cons_steps p cs = flat_map (λ c. flat_map (atom_step p) c.fields) cs
 
-cons_run : (types : List values.DataType) (table : List Guess) (p : Source) (cs : List Constructor) → run types table (cons_steps p cs) ≡ and_then (cons_checked p cs) (λ u. Goes table)
+cons_run : (types : List values.DataType) (table : List Guess) (p : Source) (cs : List Constructor)
+    → run types table (cons_steps p cs) ≡ and_then (cons_checked p cs) (λ u. Goes table)
 unfolding cons_checked
 cons_run types table p [] = refl
 cons_run types table p (c ∷ cs) = both_run types table (atoms_checked p c.fields) (λ u. cons_checked p cs) (flat_map (atom_step p) c.fields) (cons_steps p cs) (atoms_run types table p c.fields) (cons_run types table p cs)
 
-type_runs : (types : List values.DataType) (table : List Guess) (p : Source) (earlier cons : List (List ℕ)) (t : DataType) → run types table (type_steps p earlier cons t) ≡ and_then (type_checked p earlier cons t) (λ u. Goes table)
+type_runs : (types : List values.DataType) (table : List Guess) (p : Source) (earlier cons : List (List ℕ)) (t : DataType)
+    → run types table (type_steps p earlier cons t) ≡ and_then (type_checked p earlier cons t) (λ u. Goes table)
 unfolding type_checked
 type_runs types table p earlier cons t =
     let last : List Step = map fields_step t.cons ++ cons_steps p t.cons in
@@ -98,20 +104,23 @@ type_runs types table p earlier cons t =
     (few_runs types table (codes "constructors") 64 (con_names t) (λ w. and_then (fields_checked t.cons) (λ x. cons_checked p t.cons)) last
     (both_run types table (fields_checked t.cons) (λ x. cons_checked p t.cons) (map fields_step t.cons) (cons_steps p t.cons) (fields_run types table t.cons) (cons_run types table p t.cons))))
 
-types_run : (types : List values.DataType) (table : List Guess) (p : Source) (earlier cons : List (List ℕ)) (ts : List DataType) → run types table (types_steps p earlier cons ts) ≡ and_then (each_type_checked p earlier cons ts) (λ u. Goes table)
+types_run : (types : List values.DataType) (table : List Guess) (p : Source) (earlier cons : List (List ℕ)) (ts : List DataType)
+    → run types table (types_steps p earlier cons ts) ≡ and_then (each_type_checked p earlier cons ts) (λ u. Goes table)
 unfolding each_type_checked
 types_run types table p earlier cons [] = refl
 types_run types table p earlier cons (t ∷ ts) =
     both_run types table (type_checked p earlier cons t) (λ u. each_type_checked p (earlier ++ t.name.word ∷ []) (cons ++ words (con_names t)) ts) (type_steps p earlier cons t) (types_steps p (earlier ++ t.name.word ∷ []) (cons ++ words (con_names t)) ts)
     (type_runs types table p earlier cons t) (types_run types table p (earlier ++ t.name.word ∷ []) (cons ++ words (con_names t)) ts)
 
-pub checked_run : (types : List values.DataType) (table : List Guess) (p : Source) → run types table (few (codes "types") 64 (map (λ t. t.name) p.types) ∷ types_steps p [] [] p.types) ≡ and_then (types_checked p) (λ u. Goes table)
+pub checked_run : (types : List values.DataType) (table : List Guess) (p : Source)
+    → run types table (few (codes "types") 64 (map (λ t. t.name) p.types) ∷ types_steps p [] [] p.types) ≡ and_then (types_checked p) (λ u. Goes table)
 unfolding types_checked
 checked_run types table p = few_runs types table (codes "types") 64 (map (λ t. t.name) p.types) (λ u. each_type_checked p [] [] p.types) (types_steps p [] [] p.types) (types_run types table p [] [] p.types)
 
 -- ---- the same of headers
 
-kind_runs : (types : List values.DataType) (table : List Guess) (p : Source) (o : Option Atom) → run types table (kind_step p o) ≡ and_then (kind_written p o) (λ u. Goes table)
+kind_runs : (types : List values.DataType) (table : List Guess) (p : Source) (o : Option Atom)
+    → run types table (kind_step p o) ≡ and_then (kind_written p o) (λ u. Goes table)
 unfolding kind_written
 kind_runs types table p None = refl
 kind_runs types table p (Some a) = atom_runs types table p a
@@ -119,12 +128,14 @@ kind_runs types table p (Some a) = atom_runs types table p a
 abbrev params_steps : Source → List Param → List Step
 params_steps p xs = flat_map (λ x. kind_step p x.kind) xs
 
-params_run : (types : List values.DataType) (table : List Guess) (p : Source) (xs : List Param) → run types table (params_steps p xs) ≡ and_then (params_checked p xs) (λ u. Goes table)
+params_run : (types : List values.DataType) (table : List Guess) (p : Source) (xs : List Param)
+    → run types table (params_steps p xs) ≡ and_then (params_checked p xs) (λ u. Goes table)
 unfolding params_checked
 params_run types table p [] = refl
 params_run types table p (x ∷ xs) = both_run types table (kind_written p x.kind) (λ u. params_checked p xs) (kind_step p x.kind) (params_steps p xs) (kind_runs types table p x.kind) (params_run types table p xs)
 
-header_runs : (types : List values.DataType) (table : List Guess) (p : Source) (earlier : List (List ℕ)) (f : Function) → run types table (header_steps p earlier f) ≡ and_then (header_checked p earlier f) (λ u. Goes table)
+header_runs : (types : List values.DataType) (table : List Guess) (p : Source) (earlier : List (List ℕ)) (f : Function)
+    → run types table (header_steps p earlier f) ≡ and_then (header_checked p earlier f) (λ u. Goes table)
 unfolding header_checked
 header_runs types table p earlier f =
     let last : List Step = params_steps p f.params ++ kind_step p f.result in
@@ -134,14 +145,16 @@ header_runs types table p earlier f =
     (both_run types table (names_checked [] (param_names f)) (λ w. and_then (params_checked p f.params) (λ x. kind_written p f.result)) (new_names [] (param_names f)) last (names_run types table [] (param_names f))
     (both_run types table (params_checked p f.params) (λ x. kind_written p f.result) (params_steps p f.params) (kind_step p f.result) (params_run types table p f.params) (kind_runs types table p f.result))))
 
-each_header_runs : (types : List values.DataType) (table : List Guess) (p : Source) (earlier : List (List ℕ)) (fs : List Function) → run types table (headers_steps p earlier fs) ≡ and_then (each_header_checked p earlier fs) (λ u. Goes table)
+each_header_runs : (types : List values.DataType) (table : List Guess) (p : Source) (earlier : List (List ℕ)) (fs : List Function)
+    → run types table (headers_steps p earlier fs) ≡ and_then (each_header_checked p earlier fs) (λ u. Goes table)
 unfolding each_header_checked
 each_header_runs types table p earlier [] = refl
 each_header_runs types table p earlier (f ∷ fs) =
     both_run types table (header_checked p earlier f) (λ u. each_header_checked p (earlier ++ f.name.word ∷ []) fs) (header_steps p earlier f) (headers_steps p (earlier ++ f.name.word ∷ []) fs)
     (header_runs types table p earlier f) (each_header_runs types table p (earlier ++ f.name.word ∷ []) fs)
 
-pub headers_run : (types : List values.DataType) (table : List Guess) (p : Source) → run types table (few (codes "functions") 64 (map (λ f. f.name) p.funs) ∷ headers_steps p [] p.funs) ≡ and_then (headers_checked p) (λ u. Goes table)
+pub headers_run : (types : List values.DataType) (table : List Guess) (p : Source)
+    → run types table (few (codes "functions") 64 (map (λ f. f.name) p.funs) ∷ headers_steps p [] p.funs) ≡ and_then (headers_checked p) (λ u. Goes table)
 unfolding headers_checked
 headers_run types table p = few_runs types table (codes "functions") 64 (map (λ f. f.name) p.funs) (λ u. each_header_checked p [] p.funs) (headers_steps p [] p.funs) (each_header_runs types table p [] p.funs)
 
@@ -177,7 +190,8 @@ bare f inline [] h e = refl
 bare f true (x ∷ xs) h e = cc
 bare f false (x ∷ xs) h e = cc
 
-cons_are : (p : Source) (cs : List Constructor) → fields_checked cs ≡ Goes tt → IsTrue (list_all con_is_whole cs) → AllByRecursion IsConstructor (map (constructor_kinds p) cs)
+cons_are : (p : Source) (cs : List Constructor) → fields_checked cs ≡ Goes tt → IsTrue (list_all con_is_whole cs)
+    → AllByRecursion IsConstructor (map (constructor_kinds p) cs)
 unfolding fields_checked
 cons_are p [] h w = tt
 cons_are p (c ∷ cs) h w =
@@ -194,7 +208,8 @@ some_there : {A : Type 0} (xs : List A) → IsTrue (not (is_nothing xs)) → 1 �
 some_there [] h = cc
 some_there (x ∷ xs) h = omega arith
 
-type_is : (p : Source) (earlier cons : List (List ℕ)) (t : DataType) → type_checked p earlier cons t ≡ Goes tt → IsTrue (type_is_whole t) → IsDataType (data_kinds p t)
+type_is : (p : Source) (earlier cons : List (List ℕ)) (t : DataType) → type_checked p earlier cons t ≡ Goes tt → IsTrue (type_is_whole t)
+    → IsDataType (data_kinds p t)
 unfolding type_checked
 type_is p earlier cons t h w =
     let whole = both_true (not (is_nothing t.cons)) (list_all con_is_whole t.cons) w in
@@ -209,7 +224,8 @@ type_is p earlier cons t h w =
       each = cons_are p t.cons (goes_first (fields_checked t.cons) (λ x. cons_checked p t.cons) behind_few) whole.1;
     }
 
-each_is : (p : Source) (earlier cons : List (List ℕ)) (ts : List DataType) → each_type_checked p earlier cons ts ≡ Goes tt → IsTrue (list_all type_is_whole ts) → AllByRecursion IsDataType (map (data_kinds p) ts)
+each_is : (p : Source) (earlier cons : List (List ℕ)) (ts : List DataType) → each_type_checked p earlier cons ts ≡ Goes tt
+    → IsTrue (list_all type_is_whole ts) → AllByRecursion IsDataType (map (data_kinds p) ts)
 unfolding each_type_checked
 each_is p earlier cons [] h w = tt
 each_is p earlier cons (t ∷ ts) h w =
@@ -234,7 +250,8 @@ params_few p earlier f h =
     let behind_name = goes_next (names_checked earlier (f.name ∷ [])) (λ u. and_then (few_checked (codes "parameters") 16 (param_names f)) behind_few) h in
     few_goes (λ x. x.name) (codes "parameters") 16 f.params (goes_first (few_checked (codes "parameters") 16 (param_names f)) behind_few behind_name)
 
-each_few : (p : Source) (earlier : List (List ℕ)) (fs : List Function) → each_header_checked p earlier fs ≡ Goes tt → AllByRecursion (λ f. length f.params ≤ 16) fs
+each_few : (p : Source) (earlier : List (List ℕ)) (fs : List Function) → each_header_checked p earlier fs ≡ Goes tt
+    → AllByRecursion (λ f. length f.params ≤ 16) fs
 unfolding each_header_checked
 each_few p earlier [] h = tt
 each_few p earlier (f ∷ fs) h =
@@ -252,7 +269,8 @@ headers_few p h =
 
 -- ---- names of constructors
 
-names_of_types : (p : Source) (ts : List DataType) → map (λ c. c.name) (constructors (map (data_kinds p) ts)) ≡ map (λ c. c.name.word) (flat_map (λ t. t.cons) ts)
+names_of_types : (p : Source) (ts : List DataType)
+    → map (λ c. c.name) (constructors (map (data_kinds p) ts)) ≡ map (λ c. c.name.word) (flat_map (λ t. t.cons) ts)
 names_of_types p [] = refl
 names_of_types p (t ∷ ts) =
     map-append {B = List ℕ} (λ c. c.name) (map (constructor_kinds p) t.cons) (constructors (map (data_kinds p) ts))

@@ -10,7 +10,7 @@ use Rattle.camelot_tree.specs.declared.tree.Atom.{Atom}
 use Rattle.camelot_tree.specs.declared.tree.Atom.TheVariants as atom
 use Rattle.camelot_tree.specs.declared.tree.Param.{Param}
 use Rattle.camelot_tree.specs.Tree.{Constructor, DataType, Function, Source}
-use Rattle.typing_rules.specs.Typing.{IsDeclaredAtom, ConstructorFits}
+use Rattle.camelot_typing.specs.Typing.{IsDeclaredAtom, ConstructorFits}
 use Rattle.camelot_types.specs.Walk.{Step, Choice, AllHold, new_names, words, few, atom_step, fields_step, con_names, types_steps, param_names, kind_step, headers_steps}
 use Rattle.camelot_types.proofs.Unifying.{all_both, all_front, all_back}
 use Rattle.camelot_types.proofs.Judging.{new_hold, hold_new}
@@ -33,7 +33,8 @@ words_of name [] = refl
 words_of name (x ∷ xs) = ap (λ l. (name x).word ∷ l) (words_of name xs)
 
 -- names that are new, one behind the other
-new_both : {A : Type 0} (word : A → List ℕ) (earlier : List (List ℕ)) (xs ys : List A) → AreNew earlier (map word xs) → AreNew (earlier ++ map word xs) (map word ys) → AreNew earlier (map word (xs ++ ys))
+new_both : {A : Type 0} (word : A → List ℕ) (earlier : List (List ℕ)) (xs ys : List A) → AreNew earlier (map word xs)
+    → AreNew (earlier ++ map word xs) (map word ys) → AreNew earlier (map word (xs ++ ys))
 new_both word earlier [] ys h k = subst (λ l. AreNew l (map word ys)) (append-nil earlier) k
 new_both word earlier (x ∷ xs) ys h k = (
   h.0,
@@ -44,7 +45,8 @@ new_front : {A : Type 0} (word : A → List ℕ) (earlier : List (List ℕ)) (xs
 new_front word earlier [] ys h = tt
 new_front word earlier (x ∷ xs) ys h = (h.0, new_front word (earlier ++ word x ∷ []) xs ys h.1)
 
-new_back : {A : Type 0} (word : A → List ℕ) (earlier : List (List ℕ)) (xs ys : List A) → AreNew earlier (map word (xs ++ ys)) → AreNew (earlier ++ map word xs) (map word ys)
+new_back : {A : Type 0} (word : A → List ℕ) (earlier : List (List ℕ)) (xs ys : List A) → AreNew earlier (map word (xs ++ ys))
+    → AreNew (earlier ++ map word xs) (map word ys)
 new_back word earlier [] ys h = subst (λ l. AreNew l (map word ys)) (sym (append-nil earlier)) h
 new_back word earlier (x ∷ xs) ys h = subst (λ l. AreNew l (map word ys)) (append_assoc earlier (word x ∷ []) (map word xs)) (new_back word (earlier ++ word x ∷ []) xs ys h.1)
 
@@ -90,7 +92,8 @@ hold_atoms choice p (a ∷ as') h = all_both choice (atom_step p a) (flat_map (a
 abbrev cons_steps : Source → List Constructor → List Step
 cons_steps p cs = flat_map (λ c. flat_map (atom_step p) c.fields) cs
 
-cons_hold : (choice : Choice) (p : Source) (cs : List Constructor) → AllHold choice (map fields_step cs) → AllHold choice (cons_steps p cs) → AllByRecursion (ConstructorFits p) cs
+cons_hold : (choice : Choice) (p : Source) (cs : List Constructor) → AllHold choice (map fields_step cs) → AllHold choice (cons_steps p cs)
+    → AllByRecursion (ConstructorFits p) cs
 cons_hold choice p [] h k = tt
 cons_hold choice p (c ∷ cs) h k =
     let own : List Step = flat_map (atom_step p) c.fields in (
@@ -125,7 +128,8 @@ pub record TypesFit (p : Source) (types cons : List (List ℕ)) (ts : List DataT
 abbrev inner_steps : Source → List (List ℕ) → DataType → List Step
 inner_steps p cons t = new_names cons (con_names t) ++ (few (codes "constructors") 64 (con_names t) ∷ (map fields_step t.cons ++ cons_steps p t.cons))
 
-pub types_hold : (choice : Choice) (p : Source) (types cons : List (List ℕ)) (ts : List DataType) → AllHold choice (types_steps p types cons ts) → TypesFit p types cons ts
+pub types_hold : (choice : Choice) (p : Source) (types cons : List (List ℕ)) (ts : List DataType) → AllHold choice (types_steps p types cons ts)
+    → TypesFit p types cons ts
 types_hold choice p types cons [] h = record { names = tt; con_names = tt; few = tt; fit = tt }
 types_hold choice p types cons (t ∷ ts) h =
     let rest : List Step = types_steps p (types ++ t.name.word ∷ []) (cons ++ words (con_names t)) ts in
@@ -143,7 +147,8 @@ types_hold choice p types cons (t ∷ ts) h =
           (cons_hold choice p t.cons (all_front choice (map fields_step t.cons) (cons_steps p t.cons) behind.1) (all_back choice (map fields_step t.cons) (cons_steps p t.cons) behind.1)) more.fit;
     }
 
-pub hold_types : (choice : Choice) (p : Source) (types cons : List (List ℕ)) (ts : List DataType) → TypesFit p types cons ts → AllHold choice (types_steps p types cons ts)
+pub hold_types : (choice : Choice) (p : Source) (types cons : List (List ℕ)) (ts : List DataType) → TypesFit p types cons ts
+    → AllHold choice (types_steps p types cons ts)
 hold_types choice p types cons [] f = tt
 hold_types choice p types cons (t ∷ ts) f =
     let rest : List Step = types_steps p (types ++ t.name.word ∷ []) (cons ++ words (con_names t)) ts in
@@ -231,14 +236,16 @@ holds_header choice p f h =
           (all_both choice (params_steps p f.params) (kind_step p f.result) (hold_params choice p f.params h.params) (holds_kind choice p f.result h.result)),
     )
 
-pub headers_hold : (choice : Choice) (p : Source) (earlier : List (List ℕ)) (fs : List Function) → AllHold choice (headers_steps p earlier fs) → HeadersFit p earlier fs
+pub headers_hold : (choice : Choice) (p : Source) (earlier : List (List ℕ)) (fs : List Function) → AllHold choice (headers_steps p earlier fs)
+    → HeadersFit p earlier fs
 headers_hold choice p earlier [] h = record { names = tt; fit = tt }
 headers_hold choice p earlier (f ∷ fs) h =
     let rest : List Step = headers_steps p (earlier ++ f.name.word ∷ []) fs in
     let more = headers_hold choice p (earlier ++ f.name.word ∷ []) fs (all_back choice (behind_name p f) rest h.1) in
     record { names = (h.0, more.names); fit = (header_holds choice p f (all_front choice (behind_name p f) rest h.1), more.fit) }
 
-pub hold_headers : (choice : Choice) (p : Source) (earlier : List (List ℕ)) (fs : List Function) → HeadersFit p earlier fs → AllHold choice (headers_steps p earlier fs)
+pub hold_headers : (choice : Choice) (p : Source) (earlier : List (List ℕ)) (fs : List Function) → HeadersFit p earlier fs
+    → AllHold choice (headers_steps p earlier fs)
 hold_headers choice p earlier [] h = tt
 hold_headers choice p earlier (f ∷ fs) h =
     let rest : List Step = headers_steps p (earlier ++ f.name.word ∷ []) fs in (

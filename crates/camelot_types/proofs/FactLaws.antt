@@ -12,7 +12,8 @@ use Rattle.camelot_types.specs.Facts.{Fact, fact_of, fact_at, facts_from}
 
 -- ---- an item by its place
 
-got : {A : Type 0} (xs : List A) (i : ℕ) (o : Option (Bor A)) → is_some o ≡ nat_lt i (length xs) → IfSome o (λ x. x.now ≡ get_or xs i x.now) → option_map (λ x. x.now) o ≡ slice_get xs i
+got : {A : Type 0} (xs : List A) (i : ℕ) (o : Option (Bor A)) → is_some o ≡ nat_lt i (length xs) → IfSome o (λ x. x.now ≡ get_or xs i x.now)
+    → option_map (λ x. x.now) o ≡ slice_get xs i
 got [] i None h e = refl
 got [] i (Some x) h e = let less : nat_lt i 0 ≡ false = grind (arith, nat_tests) in absurd (let k : true ≡ false = h ∙ less in cc)
 got (y ∷ xs) zero None h e = let less : nat_lt 0 (suc (length xs)) ≡ true = grind (arith, nat_tests) in absurd (let k : false ≡ true = h ∙ less in cc)
@@ -53,7 +54,9 @@ facts_owner owner (d ∷ ds) c = by_test (facts_owner (suc owner) ds (c - length
     long : length own ≡ length d.cons
     long = length_map (fact_at owner) d.cons
 
-    by_test : option_map (λ f. f.owner) (slice_get rest (c - length d.cons)) ≡ type_from (suc owner) ds (c - length d.cons) → (b : Bool) → nat_lt c (length d.cons) ≡ b → option_map (λ f. f.owner) (slice_get (own ++ rest) c) ≡ (if b then Some owner else type_from (suc owner) ds (c - length d.cons))
+    by_test : option_map (λ f. f.owner) (slice_get rest (c - length d.cons)) ≡ type_from (suc owner) ds (c - length d.cons) → (b : Bool)
+        → nat_lt c (length d.cons) ≡ b
+        → option_map (λ f. f.owner) (slice_get (own ++ rest) c) ≡ (if b then Some owner else type_from (suc owner) ds (c - length d.cons))
     by_test later true b =
         let less : c < length d.cons = grind (arith, nat_tests, b) in
         ap (option_map (λ f. f.owner)) (slice_get_front own rest c (omega (arith, less, long))) ∙ own_owner owner d.cons c less
@@ -63,7 +66,8 @@ facts_owner owner (d ∷ ds) c = by_test (facts_owner (suc owner) ds (c - length
 
 -- ---- a fact by its number
 
-found : (facts : List ConFact) (types : List DataType) (con : ℕ) (o : Option (Bor ConFact)) → map fact_of facts ≡ facts_from 0 types → is_some o ≡ nat_lt con (length facts) → IfSome o (λ x. x.now ≡ get_or facts con x.now)
+found : (facts : List ConFact) (types : List DataType) (con : ℕ) (o : Option (Bor ConFact)) → map fact_of facts ≡ facts_from 0 types
+    → is_some o ≡ nat_lt con (length facts) → IfSome o (λ x. x.now ≡ get_or facts con x.now)
     → option_map (λ x. fact_of x.now) o ≡ slice_get (facts_from 0 types) con
 found facts types con o h k e =
     through o ∙ ap (option_map fact_of) (got facts con o k e) ∙ sym (slice_get-map fact_of facts con) ∙ ap (λ l. slice_get l con) h
@@ -72,7 +76,8 @@ found facts types con o h k e =
     through None = refl
     through (Some x) = refl
 
-pub fact_con : (facts : List ConFact) (types : List DataType) (con : ℕ) (o : Option (Bor ConFact)) → map fact_of facts ≡ facts_from 0 types → is_some o ≡ nat_lt con (length facts) → IfSome o (λ x. x.now ≡ get_or facts con x.now)
+pub fact_con : (facts : List ConFact) (types : List DataType) (con : ℕ) (o : Option (Bor ConFact)) → map fact_of facts ≡ facts_from 0 types
+    → is_some o ≡ nat_lt con (length facts) → IfSome o (λ x. x.now ≡ get_or facts con x.now)
     → option_map (λ x. constructor_of x.now.con.now) o ≡ constructor types con
 fact_con facts types con o h k e =
     through o ∙ ap (option_map (λ f. f.con)) (found facts types con o h k e) ∙ sym (slice_get-map (λ f. f.con) (facts_from 0 types) con) ∙ ap (λ l. slice_get l con) (facts_cons 0 types)
@@ -81,7 +86,8 @@ fact_con facts types con o h k e =
     through None = refl
     through (Some x) = refl
 
-pub fact_owner : (facts : List ConFact) (types : List DataType) (con : ℕ) (o : Option (Bor ConFact)) → map fact_of facts ≡ facts_from 0 types → is_some o ≡ nat_lt con (length facts) → IfSome o (λ x. x.now ≡ get_or facts con x.now)
+pub fact_owner : (facts : List ConFact) (types : List DataType) (con : ℕ) (o : Option (Bor ConFact)) → map fact_of facts ≡ facts_from 0 types
+    → is_some o ≡ nat_lt con (length facts) → IfSome o (λ x. x.now ≡ get_or facts con x.now)
     → option_map (λ x. x.now.owner) o ≡ type_of types con
 fact_owner facts types con o h k e = through o ∙ ap (option_map (λ f. f.owner)) (found facts types con o h k e) ∙ facts_owner 0 types con
   where

@@ -5,7 +5,7 @@ use Rattle.std.specs.Option.{option_map}
 use Rattle.std.specs.Str.{bytes_eq}
 use Rattle.std.proofs.lemmas.Bool.{lt-ltb}
 use Rattle.camelot_values.specs.Names.{place_among}
-use Rattle.typing_rules.specs.Kinds.{head_of}
+use Rattle.camelot_typing.specs.Kinds.{head_of}
 use Rattle.camelot_types.specs.declared.globals.FunHead.{FunHead}
 use Rattle.camelot_tree.specs.Tree.{Function, Source}
 use Rattle.camelot_types.specs.Tables.{head_view}
@@ -16,7 +16,8 @@ suc_some : (o : Option ℕ) (i : ℕ) → option_map suc o ≡ Some i → (j : �
 suc_some None i h = cc
 suc_some (Some j) i h = let e : suc j ≡ i = cc in (j, refl, sym e)
 
-head_at : (hs : List FunHead) (n : List ℕ) (i : ℕ) (d : FunHead) → place_among (map (λ h. h.name.now) hs) n ≡ Some i → head_of (map head_view hs) n ≡ Some (head_view (get_or hs i d))
+head_at : (hs : List FunHead) (n : List ℕ) (i : ℕ) (d : FunHead) → place_among (map (λ h. h.name.now) hs) n ≡ Some i
+    → head_of (map head_view hs) n ≡ Some (head_view (get_or hs i d))
 head_at [] n i d h = cc
 head_at (x ∷ hs) n i d h = by_test (λ j e. head_at hs n j d e) (bytes_eq x.name.now n) h
   where
@@ -32,7 +33,8 @@ length_names : (hs : List FunHead) → length (map {B = List ℕ} (λ h. h.name.
 length_names [] = refl
 length_names (h ∷ hs) = ap suc (length_names hs)
 
-pub head_found : (hs : List FunHead) (funs : List (List ℕ)) (n : List ℕ) (i : ℕ) (o : Option (Bor FunHead)) → funs ≡ map (λ h. h.name.now) hs → Some i ≡ place_among funs n → is_some o ≡ nat_lt i (length hs)
+pub head_found : (hs : List FunHead) (funs : List (List ℕ)) (n : List ℕ) (i : ℕ) (o : Option (Bor FunHead)) → funs ≡ map (λ h. h.name.now) hs
+    → Some i ≡ place_among funs n → is_some o ≡ nat_lt i (length hs)
     → IfSome o (λ x. x.now ≡ get_or hs i x.now) → option_map (λ h. head_view h.now) o ≡ head_of (map head_view hs) n
 head_found hs funs n i None e p s h =
     let q : place_among (map (λ h. h.name.now) hs) n ≡ Some i = sym (ap (λ l. place_among l n) e) ∙ sym p in
@@ -43,7 +45,8 @@ head_found hs funs n i (Some x) e p s h =
     let q : place_among (map (λ h. h.name.now) hs) n ≡ Some i = sym (ap (λ l. place_among l n) e) ∙ sym p in
     ap (λ y. Some (head_view y)) h ∙ sym (head_at hs n i x.now q)
 
-pub head_missing : (hs : List FunHead) (funs : List (List ℕ)) (n : List ℕ) → funs ≡ map (λ h. h.name.now) hs → None ≡ place_among funs n → None ≡ head_of (map head_view hs) n
+pub head_missing : (hs : List FunHead) (funs : List (List ℕ)) (n : List ℕ) → funs ≡ map (λ h. h.name.now) hs → None ≡ place_among funs n
+    → None ≡ head_of (map head_view hs) n
 head_missing hs funs n e p = sym (missing hs (sym (ap (λ l. place_among l n) e) ∙ sym p))
   where
     none : (o : Option ℕ) → option_map suc o ≡ None → o ≡ None
@@ -69,5 +72,6 @@ names_of_heads : (p : Source) (n : ℕ) (fs : List Function) → map {B = List �
 names_of_heads p n [] = refl
 names_of_heads p n (f ∷ fs) = ap (λ l. f.name.word ∷ l) (names_of_heads p (suc (n + length f.params)) fs)
 
-pub names_are : (p : Source) (n : ℕ) (hs : List FunHead) (fs : List Function) → map head_view hs ≡ head_guesses p n fs → map (λ f. f.name.word) fs ≡ map (λ h. h.name.now) hs
+pub names_are : (p : Source) (n : ℕ) (hs : List FunHead) (fs : List Function) → map head_view hs ≡ head_guesses p n fs
+    → map (λ f. f.name.word) fs ≡ map (λ h. h.name.now) hs
 names_are p n hs fs e = sym (names_of_heads p n fs) ∙ ap (λ l. map {B = List ℕ} (λ h. h.name) l) (sym e) ∙ names_of_views hs

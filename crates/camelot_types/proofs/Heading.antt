@@ -2,13 +2,14 @@
 use Rattle.std.proofs.Common.{◌≡◌, ℕ, zero, suc, ◌+◌, ◌≤◌, ◌<◌, List, [], ◌∷◌, ◌++◌, map, length, get_or, drop, subst, sym, ap, ◌∙◌, refl, arith, append_assoc}
 use Rattle.std.specs.List.{AllByRecursion}
 use Rattle.camelot_tree.specs.Tree.{Function, Source}
-use Rattle.typing_rules.specs.Kinds.{Head}
+use Rattle.camelot_typing.specs.Kinds.{Head}
 use Rattle.camelot_types.specs.declared.guess.Guess.{Guess}
 use Rattle.camelot_types.specs.Walk.{head_guess, head_guesses}
 use Rattle.camelot_types.specs.Solving.{unknowns}
 use Rattle.camelot_types.proofs.Looping.{item_here}
 
-pub few_here : {A : Type 0} (f : A → Function) (xs : List A) (i : ℕ) (x : A) → AllByRecursion (λ f. length f.params ≤ 16) (map f xs) → i < length xs → x ≡ get_or xs i x → length (f x).params ≤ 16
+pub few_here : {A : Type 0} (f : A → Function) (xs : List A) (i : ℕ) (x : A) → AllByRecursion (λ f. length f.params ≤ 16) (map f xs) → i < length xs
+    → x ≡ get_or xs i x → length (f x).params ≤ 16
 few_here f [] i x h l e = absurd (omega (arith, l))
 few_here f (y ∷ ys) zero x h l e = subst (λ z. length (f z).params ≤ 16) (sym e) h.0
 few_here f (y ∷ ys) (suc i) x h l e = few_here f ys i x h.1 (omega arith) e
@@ -26,12 +27,14 @@ map_last f [] x = refl
 map_last f (y ∷ xs) x = ap (λ l. f y ∷ l) (map_last f xs x)
 
 -- a head is put last
-pub head_last : {A : Type 0} (v : A → Head Guess) (before after : List A) (x : A) (h : Head Guess) → after ≡ before ++ x ∷ [] → v x ≡ h → map v after ≡ map v before ++ h ∷ []
+pub head_last : {A : Type 0} (v : A → Head Guess) (before after : List A) (x : A) (h : Head Guess) → after ≡ before ++ x ∷ [] → v x ≡ h
+    → map v after ≡ map v before ++ h ∷ []
 head_last v before after x h e k = ap (map v) e ∙ map_last v before x ∙ ap (λ y. map v before ++ y ∷ []) k
 
 -- ---- the number of unknowns
 
-pub unknowns_more : {A : Type 0} (f : A → Function) (xs : List A) (i n next all : ℕ) (x : A) → i < length xs → x ≡ get_or xs i x → n + unknowns (map f (drop i xs)) ≡ all → next ≡ n + suc (length (f x).params)
+pub unknowns_more : {A : Type 0} (f : A → Function) (xs : List A) (i n next all : ℕ) (x : A) → i < length xs → x ≡ get_or xs i x
+    → n + unknowns (map f (drop i xs)) ≡ all → next ≡ n + suc (length (f x).params)
     → next + unknowns (map f (drop (i + 1) xs)) ≡ all
 unknowns_more f xs i n next all x l e h k =
     let s : n + suc (length (f x).params + unknowns (map f (drop (i + 1) xs))) ≡ all = ap (λ ys. n + unknowns (map f ys)) (sym (item_here xs i x l e)) ∙ h in

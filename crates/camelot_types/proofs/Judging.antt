@@ -1,4 +1,5 @@
--- The steps of an expression hold for a choice exactly where the expression has, under the choice, the kind of its guess.
+-- The steps of an expression hold for a choice exactly where the expression has, under the choice, the kind of its
+-- guess.
 use Rattle.std.proofs.Common.{◌≡◌, ℕ, suc, ◌+◌, ◌≤◌, Bool, true, false, List, [], ◌∷◌, ◌++◌, map, length, Option, Some, None, refl, sym, ap, ◌∙◌, subst, arith, append_assoc}
 use Rattle.std.specs.Prelude.{◌==◌, ◌||◌, not, is_some, if◌then◌else◌}
 use Rattle.std.specs.List.{AllByRecursion}
@@ -15,9 +16,9 @@ use Rattle.camelot_tree.specs.declared.tree.ArmCell.{ArmCell}
 use Rattle.camelot_tree.specs.declared.tree.ArmCell.TheVariants as cell
 use Rattle.camelot_tree.specs.Tree.{Expression, Num, Truth, Var, Prim, If, Let, Match, Build, Call, Expressions, NoExpressions, AndExpression, Arms, NoArms, AndArm}
 use Rattle.camelot_tree.specs.Meaning.{is_that}
-use Rattle.typing_rules.specs.Kinds.{Head, Globals, Scope, bind, or_else, constructor_number, fields_of, is_inline, built_kind, numbers_of, head_of, bound_names, arm_scope}
-use Rattle.typing_rules.specs.Typing.{Signature, PlaceFits, CellFits, arms_with, Covers, HeadFits, HasKind, HaveKinds, ArmsHaveKind}
-use Rattle.typing_rules.specs.NumberLaws.{among_numbers}
+use Rattle.camelot_typing.specs.Kinds.{Head, Globals, Scope, bind, or_else, constructor_number, fields_of, is_inline, built_kind, numbers_of, head_of, bound_names, arm_scope}
+use Rattle.camelot_typing.specs.Typing.{Signature, PlaceFits, CellFits, arms_with, Covers, HeadFits, HasKind, HaveKinds, ArmsHaveKind}
+use Rattle.camelot_typing.specs.NumberLaws.{among_numbers}
 use Rattle.camelot_types.specs.declared.guess.Guess.{Guess}
 use Rattle.camelot_types.specs.declared.guess.Guess.TheVariants.{Known}
 use Rattle.camelot_types.specs.Walk.{Step, Same, Choice, under, Holds, AllHold, new_names, words, line_of, argument_count, guess, same_steps, place_known, place_same, build_steps, call_steps, con_guess, head_steps, arm_numbers, missing_steps, cons_of_type, first_number, steps, all_steps, arms_steps}
@@ -50,7 +51,8 @@ hold_new choice earlier [] h = tt
 hold_new choice earlier (n ∷ ns) h = (h.0, hold_new choice (earlier ++ n.word ∷ []) ns h.1)
 
 -- a name that is in scope
-known_name : (choice : Choice) (s : Scope Guess) (n : List ℕ) → is_some (find s n) ≡ true → find (scope_under choice s) n ≡ Some (under choice (or_else (find s n) (Known kind.Int)))
+known_name : (choice : Choice) (s : Scope Guess) (n : List ℕ) → is_some (find s n) ≡ true
+    → find (scope_under choice s) n ≡ Some (under choice (or_else (find s n) (Known kind.Int)))
 known_name choice s n h = find_under choice s n ∙ by_option (find s n) h
   where
     by_option : (o : Option Guess) → is_some o ≡ true → option_map (under choice) o ≡ Some (under choice (or_else o (Known kind.Int)))
@@ -70,7 +72,8 @@ name_known choice s n k h = by_option (find s n) refl (sym (find_under choice s 
 
 -- ---- a place
 
-place_holds : (choice : Choice) (s : Scope Guess) (inline : Bool) (place : Option Name) → (not inline || not (is_some place)) ≡ true → AllHold choice (place_known s place) → AllHold choice (place_same s place)
+place_holds : (choice : Choice) (s : Scope Guess) (inline : Bool) (place : Option Name) → (not inline || not (is_some place)) ≡ true
+    → AllHold choice (place_known s place) → AllHold choice (place_same s place)
     → PlaceFits (scope_under choice s) inline place
 place_holds choice s inline None t h k = tt
 place_holds choice s inline (Some d) t h k = (or_first inline true t refl, known_name choice s d.word h.0 ∙ ap Some k.0)
@@ -80,7 +83,8 @@ pub record PlaceHolds (choice : Choice) (s : Scope Guess) (inline : Bool) (place
   pub known : AllHold choice (place_known s place)
   pub same : AllHold choice (place_same s place)
 
-holds_place : (choice : Choice) (s : Scope Guess) (inline : Bool) (place : Option Name) → PlaceFits (scope_under choice s) inline place → PlaceHolds choice s inline place
+holds_place : (choice : Choice) (s : Scope Guess) (inline : Bool) (place : Option Name) → PlaceFits (scope_under choice s) inline place
+    → PlaceHolds choice s inline place
 holds_place choice s inline None h = record { test = no_place inline; known = tt; same = tt }
   where
     no_place : (b : Bool) → (not b || true) ≡ true
@@ -144,7 +148,8 @@ head_holds choice types earlier against c fs x (Some con) e h = record {
   distinct = new_distinct (words (bound_names fs x)) (new_hold choice [] (bound_names fs x) h.1.1.1.1);
 }
 
-holds_head : (choice : Choice) (types : List DataType) (earlier : List ℕ) (against : ℕ → Step) (c : Name) (fs : List (Option Name)) (x : ArmCell) → HeadHolds choice types earlier against c fs x
+holds_head : (choice : Choice) (types : List DataType) (earlier : List ℕ) (against : ℕ → Step) (c : Name) (fs : List (Option Name)) (x : ArmCell)
+    → HeadHolds choice types earlier against c fs x
     → AllHold choice (head_steps types earlier against c fs x (constructor_number types c.word))
 holds_head choice types earlier against c fs x h = subst (λ o. AllHold choice (head_steps types earlier against c fs x o)) (sym h.is) (
   h.new,
@@ -161,7 +166,8 @@ head_fits choice types earlier against c fs x t h o = record { con = h.con; is =
 pub record ArmsCounted (types : List DataType) (as' : Arms) : Type 0 where
   pub same : (con : ℕ) → arms_with types con as' ≡ times con (arm_numbers types as')
 
-counted_more : (types : List DataType) (c : Name) (fs : List (Option Name)) (x : ArmCell) (b : Expression) (as' : Arms) (con : ℕ) → constructor_number types c.word ≡ Some con → ArmsCounted types as'
+counted_more : (types : List DataType) (c : Name) (fs : List (Option Name)) (x : ArmCell) (b : Expression) (as' : Arms) (con : ℕ)
+    → constructor_number types c.word ≡ Some con → ArmsCounted types as'
     → ArmsCounted types (AndArm c fs x b as')
 counted_more types c fs x b as' con e h = record {
   same = λ n.
@@ -169,16 +175,19 @@ counted_more types c fs x b as' con e h = record {
       ∙ sym (ap (λ o. (if or_else o 0 == n then 1 else 0) + times n (arm_numbers types as')) e);
 }
 
-missing_all : (choice : Choice) (types : List DataType) (there : List ℕ) (line : ℕ) (cons : List ℕ) → AllHold choice (missing_steps types there line cons) → AllByRecursion (λ con. is_in con there ≡ true) cons
+missing_all : (choice : Choice) (types : List DataType) (there : List ℕ) (line : ℕ) (cons : List ℕ)
+    → AllHold choice (missing_steps types there line cons) → AllByRecursion (λ con. is_in con there ≡ true) cons
 missing_all choice types there line [] h = tt
 missing_all choice types there line (con ∷ cons) h = (h.0, missing_all choice types there line cons h.1)
 
-all_missing : (choice : Choice) (types : List DataType) (there : List ℕ) (line : ℕ) (cons : List ℕ) → AllByRecursion (λ con. 1 ≤ times con there) cons → AllHold choice (missing_steps types there line cons)
+all_missing : (choice : Choice) (types : List DataType) (there : List ℕ) (line : ℕ) (cons : List ℕ)
+    → AllByRecursion (λ con. 1 ≤ times con there) cons → AllHold choice (missing_steps types there line cons)
 all_missing choice types there line [] h = tt
 all_missing choice types there line (con ∷ cons) h = (some_times con there h.0, all_missing choice types there line cons h.1)
 
 -- each constructor has an arm, and none has two
-covers : (types : List DataType) (cons there : List ℕ) (as' : Arms) → ((con : ℕ) → arms_with types con as' ≡ times con there) → ((con : ℕ) → times con there ≤ 1) → AllByRecursion (λ con. is_in con there ≡ true) cons
+covers : (types : List DataType) (cons there : List ℕ) (as' : Arms) → ((con : ℕ) → arms_with types con as' ≡ times con there)
+    → ((con : ℕ) → times con there ≤ 1) → AllByRecursion (λ con. is_in con there ≡ true) cons
     → AllByRecursion (λ con. arms_with types con as' ≡ 1) cons
 covers types [] there as' same few h = tt
 covers types (con ∷ cons) there as' same few h =
@@ -186,7 +195,8 @@ covers types (con ∷ cons) there as' same few h =
     let most = few con in
     (same con ∙ omega (arith, some, most), covers types cons there as' same few h.1)
 
-some_of_covers : (types : List DataType) (cons there : List ℕ) (as' : Arms) → ((con : ℕ) → arms_with types con as' ≡ times con there) → AllByRecursion (λ con. arms_with types con as' ≡ 1) cons
+some_of_covers : (types : List DataType) (cons there : List ℕ) (as' : Arms) → ((con : ℕ) → arms_with types con as' ≡ times con there)
+    → AllByRecursion (λ con. arms_with types con as' ≡ 1) cons
     → AllByRecursion (λ con. 1 ≤ times con there) cons
 some_of_covers types [] there as' same h = tt
 some_of_covers types (con ∷ cons) there as' same h = let e : times con there ≡ 1 = sym (same con) ∙ h.0 in (omega (arith, e), some_of_covers types cons there as' same h.1)
@@ -253,7 +263,8 @@ match_sound choice g s e c fs x b as' l ke h kb arms missing =
 
 -- ---- a build and a call
 
-build_sound : (choice : Choice) (g : Globals Guess) (s : Scope Guess) (c : Name) (es : Expressions) (place : Option Name) (o : Option ℕ) → constructor_number g.types c.word ≡ o
+build_sound : (choice : Choice) (g : Globals Guess) (s : Scope Guess) (c : Name) (es : Expressions) (place : Option Name) (o : Option ℕ)
+    → constructor_number g.types c.word ≡ o
     → ((ts : List Guess) → argument_count es ≡ length ts → AllHold choice (same_steps g s es ts) → HaveKinds (globals_under choice g) (scope_under choice s) es (map (under choice) ts))
     → AllHold choice (build_steps g s c es place o) → HasKind (globals_under choice g) (scope_under choice s) (Build c es place) (under choice (guess g s (Build c es place)))
 build_sound choice g s c es place None e f h = let q : false ≡ true = h.0 in cc
@@ -287,7 +298,8 @@ call_sound choice g s f es (Some d) e k h = (
 -- ---- steps that hold give kinds
 
 mutual
-  pub sound : (choice : Choice) (g : Globals Guess) (s : Scope Guess) (e : Expression) → AllHold choice (steps g s e) → HasKind (globals_under choice g) (scope_under choice s) e (under choice (guess g s e))
+  pub sound : (choice : Choice) (g : Globals Guess) (s : Scope Guess) (e : Expression) → AllHold choice (steps g s e)
+      → HasKind (globals_under choice g) (scope_under choice s) e (under choice (guess g s e))
   sound choice g s (Num z l) h = refl
   sound choice g s (Truth b l) h = refl
   sound choice g s (Var n) h = known_name choice s n.word h.0
@@ -344,7 +356,8 @@ mutual
       call_sound choice g s f es (head_of g.heads f.word) refl
       (λ ts n k. sound_all choice g s es ts n (all_front choice (all_steps g s es) last h) k) (all_back choice (all_steps g s es) last h)
 
-  pub sound_all : (choice : Choice) (g : Globals Guess) (s : Scope Guess) (es : Expressions) (ts : List Guess) → argument_count es ≡ length ts → AllHold choice (all_steps g s es) → AllHold choice (same_steps g s es ts)
+  pub sound_all : (choice : Choice) (g : Globals Guess) (s : Scope Guess) (es : Expressions) (ts : List Guess) → argument_count es ≡ length ts
+      → AllHold choice (all_steps g s es) → AllHold choice (same_steps g s es ts)
       → HaveKinds (globals_under choice g) (scope_under choice s) es (map (under choice) ts)
   sound_all choice g s NoExpressions [] n h k = tt
   sound_all choice g s NoExpressions (t ∷ ts) n h k = absurd (omega (arith, n))
@@ -354,7 +367,8 @@ mutual
     sound_all choice g s es ts (omega (arith, n)) (all_back choice (steps g s e) (all_steps g s es) h) k.1,
   )
 
-  pub sound_arms : (choice : Choice) (g : Globals Guess) (s : Scope Guess) (earlier : List ℕ) (first t : ℕ) (body : Guess) (as' : Arms) → type_of g.types first ≡ Some t
+  pub sound_arms : (choice : Choice) (g : Globals Guess) (s : Scope Guess) (earlier : List ℕ) (first t : ℕ) (body : Guess) (as' : Arms)
+      → type_of g.types first ≡ Some t
       → AllHold choice (arms_steps g s earlier first body as') → ArmsSound choice g s earlier t body as'
   sound_arms choice g s earlier first t body NoArms o h = record { kinds = tt; counted = record { same = λ con. refl }; new = tt }
   sound_arms choice g s earlier first t body (AndArm c fs x b as') o h =
@@ -388,11 +402,13 @@ head_complete : (choice : Choice) (types : List DataType) (earlier : List ℕ) (
     → not (is_in h.con earlier) ≡ true → Holds choice (against h.con) → HeadHolds choice types earlier against c fs x
 head_complete choice types earlier against c fs x t h new same = record { con = h.con; is = h.is; new = new; same = same; full = h.full; place = h.place; distinct = h.distinct }
 
-counted_kinds : (g : Globals Guess) (choice : Choice) (s : Scope Guess) (t : ℕ) (as' : Arms) (k : Kind) → ArmsHaveKind (globals_under choice g) (scope_under choice s) t as' k → ArmsCounted g.types as'
+counted_kinds : (g : Globals Guess) (choice : Choice) (s : Scope Guess) (t : ℕ) (as' : Arms) (k : Kind)
+    → ArmsHaveKind (globals_under choice g) (scope_under choice s) t as' k → ArmsCounted g.types as'
 counted_kinds g choice s t NoArms k h = record { same = λ con. refl }
 counted_kinds g choice s t (AndArm c fs x b as') k h = counted_more g.types c fs x b as' h.0.con h.0.is (counted_kinds g choice s t as' k h.2)
 
-build_complete : (choice : Choice) (g : Globals Guess) (s : Scope Guess) (c : Name) (es : Expressions) (place : Option Name) (k : Kind) (con : ℕ) → constructor_number g.types c.word ≡ Some con → built_kind g.types con ≡ Some k
+build_complete : (choice : Choice) (g : Globals Guess) (s : Scope Guess) (c : Name) (es : Expressions) (place : Option Name) (k : Kind) (con : ℕ)
+    → constructor_number g.types c.word ≡ Some con → built_kind g.types con ≡ Some k
     → AllJudged choice g s es (map Known (fields_of g.types con)) → PlaceFits (scope_under choice s) (is_inline g.types con) place → Judged choice g s (Build c es place) k
 build_complete choice g s c es place k con e b all fits =
     let p = holds_place choice s (is_inline g.types con) place fits in
@@ -418,7 +434,8 @@ head_known choice g f h e = by_option (head_of g.heads f) refl (sym (head_of_und
     by_option None q k = cc
     by_option (Some d) q k = let same : head_under choice d ≡ h = cc in record { head = d; is = q; signature = same }
 
-call_complete : (choice : Choice) (g : Globals Guess) (s : Scope Guess) (f : Name) (es : Expressions) (k : Kind) (h : Signature) → (n : HeadKnown choice g f.word h) → h.result ≡ k → AllJudged choice g s es n.head.params
+call_complete : (choice : Choice) (g : Globals Guess) (s : Scope Guess) (f : Name) (es : Expressions) (k : Kind) (h : Signature)
+    → (n : HeadKnown choice g f.word h) → h.result ≡ k → AllJudged choice g s es n.head.params
     → Judged choice g s (Call f es) k
 call_complete choice g s f es k h n r all = record {
   hold = all_both choice (all_steps g s es) (call_steps g s f es (head_of g.heads f.word)) all.hold
@@ -445,7 +462,8 @@ arm_complete choice g s earlier first t body c fs x b as' k o e h once j rest =
     (all_both choice (steps g inner b) (last ∷ more) j.hold (e ∙ sym j.is, rest))
 
 match_complete : (choice : Choice) (g : Globals Guess) (s : Scope Guess) (e : Expression) (c : Name) (fs : List (Option Name)) (x : ArmCell) (b : Expression) (as' : Arms) (l : ℕ) (k : Kind) (t : ℕ)
-    → Judged choice g s e (kind.Of t) → Covers g.types t (AndArm c fs x b as') → (h : HeadFits g.types t c fs x) → Judged choice g (arm_scope Known g.types c fs x s) b k → ArmsCounted g.types as'
+    → Judged choice g s e (kind.Of t) → Covers g.types t (AndArm c fs x b as') → (h : HeadFits g.types t c fs x)
+    → Judged choice g (arm_scope Known g.types c fs x s) b k → ArmsCounted g.types as'
     → ((first : ℕ) → type_of g.types first ≡ Some t → ((con : ℕ) → type_of g.types con ≡ Some t → times con (first ∷ arm_numbers g.types as') ≤ 1)
     → AllHold choice (arms_steps g s (first ∷ []) first (guess g (arm_scope Known g.types c fs x s) b) as'))
     → Judged choice g s (Match e (AndArm c fs x b as') l) k
@@ -475,7 +493,8 @@ match_complete choice g s e c fs x b as' l k t je covered h jb counts arms =
     }
 
 mutual
-  pub complete : (choice : Choice) (g : Globals Guess) (s : Scope Guess) (e : Expression) (k : Kind) → HasKind (globals_under choice g) (scope_under choice s) e k → Judged choice g s e k
+  pub complete : (choice : Choice) (g : Globals Guess) (s : Scope Guess) (e : Expression) (k : Kind)
+      → HasKind (globals_under choice g) (scope_under choice s) e k → Judged choice g s e k
   complete choice g s (Num z l) k h = record { hold = tt; is = sym h }
   complete choice g s (Truth b l) k h = record { hold = tt; is = sym h }
   complete choice g s (Var n) k h = let q = name_known choice s n.word k h in record { hold = (q.there, tt); is = q.is }
@@ -515,7 +534,8 @@ mutual
       call_complete choice g s f es k h.0 n h.2
       (complete_all choice g s es n.head.params (subst (HaveKinds (globals_under choice g) (scope_under choice s) es) (sym (ap (λ d. d.params) n.signature)) h.3))
 
-  pub complete_all : (choice : Choice) (g : Globals Guess) (s : Scope Guess) (es : Expressions) (ts : List Guess) → HaveKinds (globals_under choice g) (scope_under choice s) es (map (under choice) ts) → AllJudged choice g s es ts
+  pub complete_all : (choice : Choice) (g : Globals Guess) (s : Scope Guess) (es : Expressions) (ts : List Guess)
+      → HaveKinds (globals_under choice g) (scope_under choice s) es (map (under choice) ts) → AllJudged choice g s es ts
   complete_all choice g s NoExpressions [] h = record { hold = tt; count_is = refl; same = tt }
   complete_all choice g s NoExpressions (t ∷ ts) h = absurd h
   complete_all choice g s (AndExpression e es) [] h = absurd h
@@ -524,7 +544,8 @@ mutual
       let js = complete_all choice g s es ts h.1 in
       record { hold = all_both choice (steps g s e) (all_steps g s es) j.hold js.hold; count_is = ap suc js.count_is; same = (j.is, js.same) }
 
-  pub complete_arms : (choice : Choice) (g : Globals Guess) (s : Scope Guess) (earlier : List ℕ) (first t : ℕ) (body : Guess) (as' : Arms) (k : Kind) → type_of g.types first ≡ Some t → under choice body ≡ k
+  pub complete_arms : (choice : Choice) (g : Globals Guess) (s : Scope Guess) (earlier : List ℕ) (first t : ℕ) (body : Guess) (as' : Arms) (k : Kind)
+      → type_of g.types first ≡ Some t → under choice body ≡ k
       → ArmsHaveKind (globals_under choice g) (scope_under choice s) t as' k → ((con : ℕ) → type_of g.types con ≡ Some t → times con (earlier ++ arm_numbers g.types as') ≤ 1)
       → AllHold choice (arms_steps g s earlier first body as')
   complete_arms choice g s earlier first t body NoArms k o e h once = tt

@@ -9,9 +9,10 @@ use Rattle.camelot_tree.specs.declared.tree.ArmCell.{ArmCell}
 use Rattle.camelot_tree.specs.declared.tree.ArmCell.TheVariants as cell
 use Rattle.camelot_tree.specs.Tree.{Function, Expression, Branch, expressions, arms, Match, Expressions, NoExpressions, AndExpression, Arms, NoArms, AndArm}
 use Rattle.camelot_tree.specs.Spine.{spine_of, leaf_of}
-use Rattle.typing_rules.specs.Kinds.{Head, Globals, Scope, bind, or_else, fields_of, constructor_number, bind_fields, bind_cell, arm_scope, all_atoms}
+use Rattle.camelot_typing.specs.Kinds.{Head, Globals, Scope, bind, or_else, fields_of, constructor_number, bind_fields, bind_cell, arm_scope, all_atoms}
 use Rattle.camelot_types.specs.declared.fault.TypeFault.{TypeFault}
-use Rattle.camelot_types.specs.declared.fault.TypeFault.TheVariants.{UnknownName, UnknownType, Duplicate, Arity, Clash, MissingArm, RepeatedArm, TooManyFields, PlaceOnInline, TooMany, Memory}
+use Rattle.stops.specs.declared.stop.Stop.{Stop}
+use Rattle.stops.specs.declared.stop.Stop.TheVariants.{Fault, Memory}
 use Rattle.camelot_types.specs.declared.guess.Guess.{Guess}
 use Rattle.camelot_types.specs.declared.guess.Guess.TheVariants.{Known, Unknown}
 use Rattle.camelot_types.specs.Walk.{line_of, con_guess, cons_of_type, all_steps}
@@ -36,17 +37,9 @@ entry_changed f xs ys i d y h e k =
 
 -- ---- answers that stop
 
-pub stops_along : {A B : Type 0} (o : Walked A) (q : Walked B) (fault : TypeFault) → (o ≡ Stops fault → q ≡ Stops fault) → StopsWith o fault → StopsWith q fault
-stops_along o q (UnknownName n l) f h = f h
-stops_along o q (UnknownType n l) f h = f h
-stops_along o q (Duplicate n l) f h = f h
-stops_along o q (Arity n m k l) f h = f h
-stops_along o q (Clash a b l) f h = f h
-stops_along o q (MissingArm c l) f h = f h
-stops_along o q (RepeatedArm c l) f h = f h
-stops_along o q (TooManyFields c n l) f h = f h
-stops_along o q (PlaceOnInline c l) f h = f h
-stops_along o q (TooMany w n l) f h = f h
+pub stops_along : {A B : Type 0} (o : Walked A) (q : Walked B) (stop : Stop TypeFault) → ((fault : TypeFault) → o ≡ Stops fault → q ≡ Stops fault)
+    → StopsWith o stop → StopsWith q stop
+stops_along o q (Fault fault) f h = f fault h
 stops_along o q Memory f h = tt
 
 abbrev arm_found : Work → ℕ → Guess → FoundArm
@@ -58,22 +51,24 @@ map_last : {A : Type 0} (f : A → Expression) (xs : List A) (x : A) → map f (
 map_last f [] x = refl
 map_last f (y ∷ xs) x = ap (λ l. f y ∷ l) (map_last f xs x)
 
-pub unwound_begins : (g : Globals Guess) (s : Scope Guess) (w : Work) (e leaf : Expression) (ps : List Expression) (o : Walked Found) → ps ≡ spine_of e → leaf ≡ leaf_of e → walk g s w leaf ≡ o → unwound g s ps o ≡ walk g s w e
+pub unwound_begins : (g : Globals Guess) (s : Scope Guess) (w : Work) (e leaf : Expression) (ps : List Expression) (o : Walked Found)
+    → ps ≡ spine_of e → leaf ≡ leaf_of e → walk g s w leaf ≡ o → unwound g s ps o ≡ walk g s w e
 unwound_begins g s w e leaf ps o p l h = ap (unwound g s ps) (sym h ∙ ap (walk g s w) l) ∙ ap (λ x. unwound g s x (walk g s w (leaf_of e))) p ∙ unwound_spine g s w e
 
-pub leaf_stops : (g : Globals Guess) (s : Scope Guess) (w : Work) (e leaf : Expression) (ps : List Expression) (fault : TypeFault) → ps ≡ spine_of e → leaf ≡ leaf_of e → StopsWith (walk g s w leaf) fault → StopsWith (walk g s w e) fault
-leaf_stops g s w e leaf ps fault p l h =
-    stops_along (walk g s w leaf) (walk g s w e) fault (λ k. sym (unwound_begins g s w e leaf ps (Stops fault) p l k) ∙ unwound_stops g s ps fault) h
+pub leaf_stops : (g : Globals Guess) (s : Scope Guess) (w : Work) (e leaf : Expression) (ps : List Expression) (stop : Stop TypeFault)
+    → ps ≡ spine_of e → leaf ≡ leaf_of e → StopsWith (walk g s w leaf) stop → StopsWith (walk g s w e) stop
+leaf_stops g s w e leaf ps stop p l h =
+    stops_along (walk g s w leaf) (walk g s w e) stop (λ fault k. sym (unwound_begins g s w e leaf ps (Stops fault) p l k) ∙ unwound_stops g s ps fault) h
 
 pub unwound_more : {A : Type 0} (f : A → Expression) (g : Globals Guess) (s : Scope Guess) (before after : List A) (p : A) (found : Found) (o whole : Walked Found) → before ≡ after ++ p ∷ []
     → unwound g s (map f before) (Goes found) ≡ whole → rest_of g s (f p) found ≡ o → unwound g s (map f after) o ≡ whole
 unwound_more f g s before after p found o whole e h k =
     ap (unwound g s (map f after)) (sym k) ∙ sym (unwound_last g s (map f after) (f p) (Goes found)) ∙ ap (λ l. unwound g s l (Goes found)) (sym (map_last f after p)) ∙ ap (λ l. unwound g s (map f l) (Goes found)) (sym e) ∙ h
 
-pub unwound_fails : {A : Type 0} (f : A → Expression) (g : Globals Guess) (s : Scope Guess) (before after : List A) (p : A) (found : Found) (whole : Walked Found) (fault : TypeFault) → before ≡ after ++ p ∷ []
-    → unwound g s (map f before) (Goes found) ≡ whole → StopsWith (rest_of g s (f p) found) fault → StopsWith whole fault
-unwound_fails f g s before after p found whole fault e h k =
-    stops_along (rest_of g s (f p) found) whole fault (λ q. sym (unwound_more f g s before after p found (Stops fault) whole e h q) ∙ unwound_stops g s (map f after) fault) k
+pub unwound_fails : {A : Type 0} (f : A → Expression) (g : Globals Guess) (s : Scope Guess) (before after : List A) (p : A) (found : Found) (whole : Walked Found) (stop : Stop TypeFault) → before ≡ after ++ p ∷ []
+    → unwound g s (map f before) (Goes found) ≡ whole → StopsWith (rest_of g s (f p) found) stop → StopsWith whole stop
+unwound_fails f g s before after p found whole stop e h k =
+    stops_along (rest_of g s (f p) found) whole stop (λ fault q. sym (unwound_more f g s before after p found (Stops fault) whole e h q) ∙ unwound_stops g s (map f after) fault) k
 
 -- ---- arguments
 
@@ -84,7 +79,8 @@ and_then_stops o next fault h = ap (λ q. and_then q next) h
 abbrev behind : List Guess → FoundAll → FoundGuesses
 behind before h = record { work = h.work; guesses = before ++ h.guesses }
 
-walk_on_all : (g : Globals Guess) (s : Scope Guess) (w : Work) (before : List Guess) (es : Expressions) → walk_on g s w before es ≡ and_then (walk_all g s w es) (λ h. Goes (behind before h))
+walk_on_all : (g : Globals Guess) (s : Scope Guess) (w : Work) (before : List Guess) (es : Expressions)
+    → walk_on g s w before es ≡ and_then (walk_all g s w es) (λ h. Goes (behind before h))
 unfolding walk_on walk_all
 walk_on_all g s w before NoExpressions = ap (λ l. Goes (with_guesses w l)) (sym (append-nil before))
   where
@@ -98,7 +94,8 @@ walk_on_all g s w before (AndExpression e es) = by_walk (walk g s w e) (λ f. wa
     with_guesses : Work → List Guess → FoundGuesses
     with_guesses w l = record { work = w; guesses = l }
 
-    by_all : (f : Found) (o : Walked FoundAll) → and_then o (λ h. Goes (behind (before ++ f.guess ∷ []) h)) ≡ and_then (and_then o (λ h. Goes (whole f h))) (λ h. Goes (behind before h))
+    by_all : (f : Found) (o : Walked FoundAll)
+        → and_then o (λ h. Goes (behind (before ++ f.guess ∷ []) h)) ≡ and_then (and_then o (λ h. Goes (whole f h))) (λ h. Goes (behind before h))
     by_all f (Goes h) = ap (λ l. Goes (with_guesses h.work l)) (append_assoc before (f.guess ∷ []) h.guesses)
     by_all f (Stops fault) = refl
 
@@ -132,20 +129,21 @@ args_more g s first all w next guesses more e es a h k m = record {
   left = ap (λ l. walk_on g s next l es) m ∙ sym (ap (λ o. and_then o (λ f. walk_on g s f.work (guesses ++ f.guess ∷ []) es)) k) ∙ h.left;
 }
 
-pub args_fail : (g : Globals Guess) (s : Scope Guess) (first : Work) (all : Expressions) (w : Work) (guesses : List Guess) (e : Expression) (es : Expressions) (fault : TypeFault) → ArgsLeft g s first all w guesses (AndExpression e es)
-    → StopsWith (walk g s w e) fault → StopsWith (walk_all g s first all) fault
+pub args_fail : (g : Globals Guess) (s : Scope Guess) (first : Work) (all : Expressions) (w : Work) (guesses : List Guess) (e : Expression) (es : Expressions) (stop : Stop TypeFault) → ArgsLeft g s first all w guesses (AndExpression e es)
+    → StopsWith (walk g s w e) stop → StopsWith (walk_all g s first all) stop
 unfolding walk_on
-args_fail g s first all w guesses e es fault h k = stops_along (walk g s w e) (walk_all g s first all) fault (λ q. by_all (walk_all g s first all)
+args_fail g s first all w guesses e es stop h k = stops_along (walk g s w e) (walk_all g s first all) stop (λ fault q. by_all fault (walk_all g s first all)
     (sym (walk_on_all g s first [] all) ∙ sym h.left ∙ ap (λ o. and_then o (λ f. walk_on g s f.work (guesses ++ f.guess ∷ []) es)) q)) k
   where
-    by_all : (o : Walked FoundAll) → and_then o (λ h. Goes (behind [] h)) ≡ Stops fault → o ≡ Stops fault
-    by_all (Goes h) q = cc
-    by_all (Stops found) q = let e : found ≡ fault = cc in ap stopped e
+    by_all : (fault : TypeFault) (o : Walked FoundAll) → and_then o (λ h. Goes (behind [] h)) ≡ Stops fault → o ≡ Stops fault
+    by_all fault (Goes h) q = cc
+    by_all fault (Stops found) q = let e : found ≡ fault = cc in ap stopped e
       where
         stopped : TypeFault → Walked FoundAll
         stopped f = Stops f
 
-pub args_end : (g : Globals Guess) (s : Scope Guess) (first : Work) (all : Expressions) (w : Work) (guesses : List Guess) → ArgsLeft g s first all w guesses NoExpressions
+pub args_end : (g : Globals Guess) (s : Scope Guess) (first : Work) (all : Expressions) (w : Work) (guesses : List Guess)
+    → ArgsLeft g s first all w guesses NoExpressions
     → walk_all g s first all ≡ Goes (record { work = w; lines = lines_of all; guesses = guesses })
 unfolding walk_on
 args_end g s first all w guesses h = by_all (walk_all g s first all) refl (sym (walk_on_all g s first [] all) ∙ sym h.left)
@@ -177,7 +175,8 @@ arms_step g s w ns first body c fs x b as' = by_con (con_found g.types c (constr
     by_same con f (Goes t) = refl
     by_same con f (Stops fault) = refl
 
-    by_body : (con : ℕ) (o : Walked Found) → and_then o (λ f. and_then (made_same g.types f.work.table body f.guess (line_of b)) (λ next. walk_arms g s (with_table f.work next) (ns ++ con ∷ []) first body as'))
+    by_body : (con : ℕ) (o : Walked Found)
+        → and_then o (λ f. and_then (made_same g.types f.work.table body f.guess (line_of b)) (λ next. walk_arms g s (with_table f.work next) (ns ++ con ∷ []) first body as'))
         ≡ and_then (and_then o (λ f. and_then (made_same g.types f.work.table body f.guess (line_of b)) (λ next. Goes (arm_found (with_table f.work next) con f.guess)))) (λ r. walk_arms g s r.work (ns ++ r.con ∷ []) first body as')
     by_body con (Goes f) = by_same con f (made_same g.types f.work.table body f.guess (line_of b))
     by_body con (Stops fault) = refl
@@ -200,7 +199,8 @@ arms_step g s w ns first body c fs x b as' = by_con (con_found g.types c (constr
 pub record ArmsLeft (g : Globals Guess) (s : Scope Guess) (start : Work) (con : ℕ) (body : Guess) (all : Arms) (w : Work) (ns : List ℕ) (rest : Arms) : Type 0 where
   pub left : walk_arms g s w ns con body rest ≡ walk_arms g s start (con ∷ []) con body all
 
-pub arms_begin : (g : Globals Guess) (s : Scope Guess) (w : Work) (con : ℕ) (body : Guess) (all : Arms) (ns : List ℕ) → ns ≡ con ∷ [] → ArmsLeft g s w con body all w ns all
+pub arms_begin : (g : Globals Guess) (s : Scope Guess) (w : Work) (con : ℕ) (body : Guess) (all : Arms) (ns : List ℕ) → ns ≡ con ∷ []
+    → ArmsLeft g s w con body all w ns all
 arms_begin g s w con body all ns h = record { left = ap (λ l. walk_arms g s w l con body all) h }
 
 pub arms_more : (g : Globals Guess) (s : Scope Guess) (start : Work) (con : ℕ) (body : Guess) (all : Arms) (w next : Work) (ns more : List ℕ) (c : Name) (fs : List (Option Name)) (x : ArmCell) (b : Expression) (as' : Arms) (k : ℕ) (a : Guess)
@@ -209,13 +209,14 @@ arms_more g s start con body all w next ns more c fs x b as' k a h e m = record 
   left = ap (λ l. walk_arms g s next l con body as') m ∙ sym (ap (λ o. and_then o (λ r. walk_arms g s r.work (ns ++ r.con ∷ []) con body as')) e) ∙ sym (arms_step g s w ns con body c fs x b as') ∙ h.left;
 }
 
-pub arms_fail : (g : Globals Guess) (s : Scope Guess) (start : Work) (con : ℕ) (body : Guess) (all : Arms) (w : Work) (ns : List ℕ) (c : Name) (fs : List (Option Name)) (x : ArmCell) (b : Expression) (as' : Arms) (fault : TypeFault)
-    → ArmsLeft g s start con body all w ns (AndArm c fs x b as') → StopsWith (next_arm g s w ns con body c fs x b) fault → StopsWith (walk_arms g s start (con ∷ []) con body all) fault
-arms_fail g s start con body all w ns c fs x b as' fault h k =
-    stops_along (next_arm g s w ns con body c fs x b) (walk_arms g s start (con ∷ []) con body all) fault
-    (λ q. sym h.left ∙ arms_step g s w ns con body c fs x b as' ∙ ap (λ o. and_then o (λ r. walk_arms g s r.work (ns ++ r.con ∷ []) con body as')) q) k
+pub arms_fail : (g : Globals Guess) (s : Scope Guess) (start : Work) (con : ℕ) (body : Guess) (all : Arms) (w : Work) (ns : List ℕ) (c : Name) (fs : List (Option Name)) (x : ArmCell) (b : Expression) (as' : Arms) (stop : Stop TypeFault)
+    → ArmsLeft g s start con body all w ns (AndArm c fs x b as') → StopsWith (next_arm g s w ns con body c fs x b) stop → StopsWith (walk_arms g s start (con ∷ []) con body all) stop
+arms_fail g s start con body all w ns c fs x b as' stop h k =
+    stops_along (next_arm g s w ns con body c fs x b) (walk_arms g s start (con ∷ []) con body all) stop
+    (λ fault q. sym h.left ∙ arms_step g s w ns con body c fs x b as' ∙ ap (λ o. and_then o (λ r. walk_arms g s r.work (ns ++ r.con ∷ []) con body as')) q) k
 
-pub arms_end : (g : Globals Guess) (s : Scope Guess) (start : Work) (con : ℕ) (body : Guess) (all : Arms) (w : Work) (ns : List ℕ) → ArmsLeft g s start con body all w ns NoArms
+pub arms_end : (g : Globals Guess) (s : Scope Guess) (start : Work) (con : ℕ) (body : Guess) (all : Arms) (w : Work) (ns : List ℕ)
+    → ArmsLeft g s start con body all w ns NoArms
     → walk_arms g s start (con ∷ []) con body all ≡ Goes (record { work = w; numbers = ns })
 unfolding walk_arms
 arms_end g s start con body all w ns h = sym h.left
@@ -233,11 +234,13 @@ match_is g s w e (AndArm c fs x b as') l = by_walk (walk g s w e)
     rest : FoundArm → Walked Found
     rest r = and_then (walk_arms g s r.work (r.con ∷ []) r.con r.guess as') (λ arms. and_then (missing_checked g.types arms.numbers l (cons_of_type g.types r.con)) (λ u. Goes (noted arms.work r.guess)))
 
-    by_body : (con : ℕ) (o : Walked Found) → and_then (and_then o (λ body. Goes (arm_found body.work con body.guess))) rest ≡ and_then o (λ body. rest (arm_found body.work con body.guess))
+    by_body : (con : ℕ) (o : Walked Found)
+        → and_then (and_then o (λ body. Goes (arm_found body.work con body.guess))) rest ≡ and_then o (λ body. rest (arm_found body.work con body.guess))
     by_body con (Goes f) = refl
     by_body con (Stops fault) = refl
 
-    by_head : (f : Found) (con : ℕ) (o : Walked (List Guess)) → and_then (and_then o (λ table. and_then (walk g inner (with_table f.work table) b) (λ body. Goes (arm_found body.work con body.guess)))) rest
+    by_head : (f : Found) (con : ℕ) (o : Walked (List Guess))
+        → and_then (and_then o (λ table. and_then (walk g inner (with_table f.work table) b) (λ body. Goes (arm_found body.work con body.guess)))) rest
         ≡ and_then o (λ table. and_then (walk g inner (with_table f.work table) b) (λ body. rest (arm_found body.work con body.guess)))
     by_head f con (Goes t) = by_body con (walk g inner (with_table f.work t) b)
     by_head f con (Stops fault) = refl
@@ -253,7 +256,7 @@ match_is g s w e (AndArm c fs x b as') l = by_walk (walk g s w e)
     by_walk (Goes f) = by_con f (con_found g.types c (constructor_number g.types c.word))
     by_walk (Stops fault) = refl
 
-pub finds_match : (g : Globals Guess) (s : Scope Guess) (w work : Work) (e : Expression) (as' : Arms) (l : ℕ) (result : Result Guess TypeFault) → Finds (match_walk g s w e as' l) work result → Finds (walk g s w (Match e as' l)) work result
+pub finds_match : (g : Globals Guess) (s : Scope Guess) (w work : Work) (e : Expression) (as' : Arms) (l : ℕ) (result : Result Guess (Stop TypeFault)) → Finds (match_walk g s w e as' l) work result → Finds (walk g s w (Match e as' l)) work result
 finds_match g s w work e as' l result h = subst (λ o. Finds o work result) (match_is g s w e as' l) h
 
 pub number_found : (types : List DataType) (c : Name) (o : Option ℕ) (con : ℕ) → con_found types c o ≡ Goes con → o ≡ Some con
@@ -263,7 +266,8 @@ number_found types c (Some n) con h = let e : n ≡ con = cc in ap Some e
 
 -- ---- scopes that are left
 
-extends_fields : (fs : List (Option Name)) (ks : List Kind) (s : Scope Guess) → (k : ℕ) × (length (bind_fields Known fs ks s) ≡ k + length s) × (drop k (bind_fields Known fs ks s) ≡ s)
+extends_fields : (fs : List (Option Name)) (ks : List Kind) (s : Scope Guess)
+    → (k : ℕ) × (length (bind_fields Known fs ks s) ≡ k + length s) × (drop k (bind_fields Known fs ks s) ≡ s)
 extends_fields [] ks s = (0, omega arith, refl)
 extends_fields (None ∷ fs) [] s = (0, omega arith, refl)
 extends_fields (None ∷ fs) (k ∷ ks) s = extends_fields fs ks s
@@ -294,7 +298,8 @@ left_behind s inner len h l =
     let e : length inner - len ≡ h.more = omega (arith, z, l) in
     ap (λ k. drop k inner) e ∙ h.left
 
-pub arm_left : (types : List DataType) (c : Name) (fs : List (Option Name)) (x : ArmCell) (s inner : Scope Guess) (len : ℕ) → inner ≡ arm_scope Known types c fs x s → len ≡ length s → drop (length inner - len) inner ≡ s
+pub arm_left : (types : List DataType) (c : Name) (fs : List (Option Name)) (x : ArmCell) (s inner : Scope Guess) (len : ℕ)
+    → inner ≡ arm_scope Known types c fs x s → len ≡ length s → drop (length inner - len) inner ≡ s
 arm_left types c fs x s inner len h l =
     let fields : Scope Guess = bind_fields Known fs (fields_of types (or_else (constructor_number types c.word) 0)) s in
     let e = extends_fields fs (fields_of types (or_else (constructor_number types c.word) 0)) s in
@@ -360,13 +365,13 @@ bodies_more f v g t atoms more xs hs i x h w whole l e m k b q r =
     ∙ sym (ap (λ o. and_then o (λ w. bodies_on g w.table (atoms ++ w.atoms ∷ []) (map f (drop (i + 1) xs)) (drop (i + 1) (map v hs)))) q)
     ∙ bodies_here f v g t atoms xs hs i x h whole l e m k b
 
-pub bodies_fail : {A B : Type 0} (f : A → Function) (v : B → Head Guess) (g : Globals Guess) (t : List Guess) (atoms : List (List Guess)) (xs : List A) (hs : List B) (i : ℕ) (x : A) (h : B) (whole : Walked Bodies) (fault : TypeFault)
+pub bodies_fail : {A B : Type 0} (f : A → Function) (v : B → Head Guess) (g : Globals Guess) (t : List Guess) (atoms : List (List Guess)) (xs : List A) (hs : List B) (i : ℕ) (x : A) (h : B) (whole : Walked Bodies) (stop : Stop TypeFault)
     → i < length xs → x ≡ get_or xs i x → i < length hs → h ≡ get_or hs i h → bodies_on g t atoms (map f (drop i xs)) (drop i (map v hs)) ≡ whole
-    → StopsWith (body_walked g (f x) (v h) t) fault → StopsWith whole fault
+    → StopsWith (body_walked g (f x) (v h) t) stop → StopsWith whole stop
 unfolding bodies_on
-bodies_fail f v g t atoms xs hs i x h whole fault l e m k b q =
-    stops_along (body_walked g (f x) (v h) t) whole fault
-    (λ r. sym (bodies_here f v g t atoms xs hs i x h whole l e m k b) ∙ ap (λ o. and_then o (λ w. bodies_on g w.table (atoms ++ w.atoms ∷ []) (map f (drop (i + 1) xs)) (drop (i + 1) (map v hs)))) r) q
+bodies_fail f v g t atoms xs hs i x h whole stop l e m k b q =
+    stops_along (body_walked g (f x) (v h) t) whole stop
+    (λ fault r. sym (bodies_here f v g t atoms xs hs i x h whole l e m k b) ∙ ap (λ o. and_then o (λ w. bodies_on g w.table (atoms ++ w.atoms ∷ []) (map f (drop (i + 1) xs)) (drop (i + 1) (map v hs)))) r) q
 
 pub atoms_last : {A : Type 0} (v : A → List Guess) (before after : List A) (x : A) → after ≡ before ++ x ∷ [] → map v after ≡ map v before ++ v x ∷ []
 atoms_last v before after x e = ap (map v) e ∙ last v before x
@@ -377,7 +382,8 @@ atoms_last v before after x e = ap (map v) e ∙ last v before x
 
 -- ---- a fresh table
 
-pub fresh_more : (done more all : List Guess) (n c : ℕ) → n < c → done ++ fresh n (c - n) ≡ all → more ≡ done ++ Unknown n ∷ [] → more ++ fresh (n + 1) (c - (n + 1)) ≡ all
+pub fresh_more : (done more all : List Guess) (n c : ℕ) → n < c → done ++ fresh n (c - n) ≡ all → more ≡ done ++ Unknown n ∷ []
+    → more ++ fresh (n + 1) (c - (n + 1)) ≡ all
 fresh_more done more all n c l h m =
     let e : c - n ≡ suc (c - (n + 1)) = omega (arith, l) in
     let s : n + 1 ≡ suc n = omega arith in
@@ -398,7 +404,8 @@ replaced_by_itself x (a ∷ table) = ap (λ b. b ∷ map (replaced x (Unknown x)
     same (Unknown y) = by_test y (y == x) refl
 
 -- two guesses that the table has as one unknown are the same already
-pub same_already : (types : List DataType) (table : List Guess) (left right : Guess) (line x y : ℕ) → looked_up table left ≡ Unknown x → looked_up table right ≡ Unknown y → x ≡ y → made_same types table left right line ≡ Goes table
+pub same_already : (types : List DataType) (table : List Guess) (left right : Guess) (line x y : ℕ) → looked_up table left ≡ Unknown x
+    → looked_up table right ≡ Unknown y → x ≡ y → made_same types table left right line ≡ Goes table
 unfolding made_same
 same_already types table left right line x y l r e =
     ap (λ a. unified types table line a (looked_up table right)) l ∙ ap (unified types table line (Unknown x)) (r ∙ ap Unknown (sym e)) ∙ ap Goes (replaced_by_itself x table)

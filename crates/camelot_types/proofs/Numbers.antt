@@ -8,7 +8,7 @@ use Rattle.std.proofs.lemmas.Bool.{eqb-true}
 use Rattle.std.proofs.lemmas.Bool.Decides.{nat_tests}
 use Rattle.camelot_values.specs.Names.{place_among}
 use Rattle.camelot_values.specs.Kinds.{DataType, constructors, type_from, type_of}
-use Rattle.typing_rules.specs.Kinds.{constructor_number}
+use Rattle.camelot_typing.specs.Kinds.{constructor_number}
 
 not_below : (c n : ℕ) → nat_lt c n ≡ false → n ≤ c
 not_below c n h = grind (arith, nat_tests)
@@ -23,7 +23,8 @@ place_within (n ∷ ns) name i h = by_test (λ j k. place_within ns name j k) (b
     later None f h = absurd cc
     later (Some j) f h = let l = f j refl in let e : suc j ≡ i = cc in omega (arith, l, e)
 
-    by_test : ((j : ℕ) → place_among ns name ≡ Some j → j < length ns) → (b : Bool) → (if b then Some 0 else option_map suc (place_among ns name)) ≡ Some i → i < length (n ∷ ns)
+    by_test : ((j : ℕ) → place_among ns name ≡ Some j → j < length ns) → (b : Bool)
+        → (if b then Some 0 else option_map suc (place_among ns name)) ≡ Some i → i < length (n ∷ ns)
     by_test f true h = let e : 0 ≡ i = cc in omega (arith, e)
     by_test f false h = later (place_among ns name) f h
 
@@ -54,7 +55,8 @@ pub type_below : (number : ℕ) (types : List DataType) (c t : ℕ) → type_fro
 type_below number [] c t h = absurd cc
 type_below number (d ∷ ds) c t h = by_test (type_below (suc number) ds (c - length d.cons) t) (nat_lt c (length d.cons)) h
   where
-    by_test : (type_from (suc number) ds (c - length d.cons) ≡ Some t → t < suc number + length ds) → (b : Bool) → (if b then Some number else type_from (suc number) ds (c - length d.cons)) ≡ Some t → t < number + length (d ∷ ds)
+    by_test : (type_from (suc number) ds (c - length d.cons) ≡ Some t → t < suc number + length ds) → (b : Bool)
+        → (if b then Some number else type_from (suc number) ds (c - length d.cons)) ≡ Some t → t < number + length (d ∷ ds)
     by_test f true k = let e : number ≡ t = cc in omega (arith, e)
     by_test f false k = let l = f k in omega (arith, l)
 

@@ -1,4 +1,5 @@
--- The steps of a program hold for a choice exactly where the program is typed, within the limits, with the kinds that the choice gives.
+-- The steps of a program hold for a choice exactly where the program is typed, within the limits, with the kinds that
+-- the choice gives.
 use Rattle.std.proofs.Common.{◌≡◌, ℕ, zero, suc, ◌+◌, ◌≤◌, List, [], ◌∷◌, ◌++◌, map, length, get_or, Option, Some, None, refl, sym, ap, ◌∙◌, subst, arith}
 use Rattle.std.specs.Prelude.{is_some, codes, IsSome, IsTrue}
 use Rattle.std.specs.List.{AllByRecursion}
@@ -9,8 +10,8 @@ use Rattle.camelot_tree.specs.declared.tree.Atom.{Atom}
 use Rattle.camelot_tree.specs.declared.tree.Param.{Param}
 use Rattle.camelot_tree.specs.Tree.{Function, Source}
 use Rattle.camelot_tree.specs.Tokens.{has_ints}
-use Rattle.typing_rules.specs.Kinds.{Head, Globals, Scope, or_else, kind_of_atom, types_of}
-use Rattle.typing_rules.specs.Typing.{Signature, HasKind, IsDeclared, Stands, ParamsStand, params_scope, FunctionsFit, globals_of, IsTyped, IsWithinLimits}
+use Rattle.camelot_typing.specs.Kinds.{Head, Globals, Scope, or_else, kind_of_atom, types_of}
+use Rattle.camelot_typing.specs.Typing.{Signature, HasKind, IsDeclared, Stands, ParamsStand, params_scope, FunctionsFit, globals_of, IsTyped, IsWithinLimits}
 use Rattle.camelot_tree.specs.Meaning.{declared_constructors}
 use Rattle.camelot_types.specs.declared.guess.Guess.{Guess}
 use Rattle.camelot_types.specs.Walk.{Step, Same, Choice, under, AllHold, few, types_steps, headers_steps, guess_of, param_guesses, head_guess, head_guesses, guesses_of, line_of, guess, steps, body_steps, bodies_steps, program_steps}
@@ -40,7 +41,8 @@ there : {A : Type 0} (o : Option A) (a : A) → IsSome o → o ≡ Some (or_else
 there None a h = cc
 there (Some b) a h = refl
 
-stands_under : (choice : Choice) (p : Source) (number : ℕ) (o : Option Atom) → IsDeclaredChoice p choice → IsDeclaredKind p o → Stands p o (under choice (guess_of p number o))
+stands_under : (choice : Choice) (p : Source) (number : ℕ) (o : Option Atom) → IsDeclaredChoice p choice → IsDeclaredKind p o
+    → Stands p o (under choice (guess_of p number o))
 stands_under choice p number None d h = d number
 stands_under choice p number (Some a) d h = there (kind_of_atom p a) kind.Int h
 
@@ -58,7 +60,8 @@ body_sound choice g f h k =
     subst (λ inner. HasKind (globals_under choice g) inner f.body (under choice h.result)) (params_under choice f.params h.params)
     (subst (HasKind (globals_under choice g) (scope_under choice s) f.body) (all_back choice (steps g s f.body) last k).0 (sound choice g s f.body (all_front choice (steps g s f.body) last k)))
 
-functions_fit : (choice : Choice) (p : Source) (g : Globals Guess) (number : ℕ) (fs : List Function) → IsDeclaredChoice p choice → AllByRecursion (HeaderFits p) fs
+functions_fit : (choice : Choice) (p : Source) (g : Globals Guess) (number : ℕ) (fs : List Function) → IsDeclaredChoice p choice
+    → AllByRecursion (HeaderFits p) fs
     → AllHold choice (bodies_steps g fs (head_guesses p number fs)) → FunctionsFit p (globals_under choice g) fs (map (head_under choice) (head_guesses p number fs))
 functions_fit choice p g number [] d h k = tt
 functions_fit choice p g number (f ∷ fs) d h k =
@@ -79,7 +82,8 @@ limits_of : (p : Source) (fs : List Function) → AllByRecursion (HeaderFits p) 
 limits_of p [] h = tt
 limits_of p (f ∷ fs) h = (h.0.few, limits_of p fs h.1)
 
-pub program_sound : (choice : Choice) (p : Source) → ((x : ℕ) → IsDeclared (types_of p) (choice x)) → IsTrue (has_ints p) → AllHold choice (program_steps p) → IsTyped p (signatures_under choice p) × IsWithinLimits p
+pub program_sound : (choice : Choice) (p : Source) → ((x : ℕ) → IsDeclared (types_of p) (choice x)) → IsTrue (has_ints p)
+    → AllHold choice (program_steps p) → IsTyped p (signatures_under choice p) × IsWithinLimits p
 program_sound choice p d ints h =
     let types = types_hold choice p [] [] p.types (all_front choice (types_steps p [] [] p.types) (header_part p) h.1) in
     let behind = all_back choice (types_steps p [] [] p.types) (header_part p) h.1 in
@@ -121,7 +125,8 @@ agrees choice number (k ∷ ks) h = (
 )
 
 -- what stands where an atom is guessed
-guess_stands : (choice : Choice) (p : Source) (number : ℕ) (o : Option Atom) (k : Kind) → Stands p o k → choice number ≡ k → under choice (guess_of p number o) ≡ k
+guess_stands : (choice : Choice) (p : Source) (number : ℕ) (o : Option Atom) (k : Kind) → Stands p o k → choice number ≡ k
+    → under choice (guess_of p number o) ≡ k
 guess_stands choice p number None k h e = e
 guess_stands choice p number (Some a) k h e = ap (λ o. or_else o kind.Int) h
 
@@ -135,7 +140,8 @@ record ParamsAre (choice : Choice) (p : Source) (number : ℕ) (xs : List Param)
   declared : AllByRecursion (λ x. IsDeclaredKind p x.kind) xs
   more : Agrees choice (number + length xs) rest
 
-params_are : (choice : Choice) (p : Source) (number : ℕ) (xs : List Param) (ks rest : List Kind) → ParamsStand p xs ks → Agrees choice number (ks ++ rest) → ParamsAre choice p number xs ks rest
+params_are : (choice : Choice) (p : Source) (number : ℕ) (xs : List Param) (ks rest : List Kind) → ParamsStand p xs ks
+    → Agrees choice number (ks ++ rest) → ParamsAre choice p number xs ks rest
 params_are choice p number [] [] rest h a = let e : number ≡ number + 0 = omega arith in record { same = refl; declared = tt; more = subst (λ n. Agrees choice n rest) e a }
 params_are choice p number [] (k ∷ ks) rest h a = absurd h
 params_are choice p number (x ∷ xs) [] rest h a = absurd h
@@ -157,7 +163,8 @@ record FunctionsAre (choice : Choice) (p : Source) (number : ℕ) (fs : List Fun
   same : map (head_under choice) (head_guesses p number fs) ≡ ss
   fit : AllByRecursion (HeaderFits p) fs
 
-functions_are : (choice : Choice) (p : Source) (g : Globals Kind) (number : ℕ) (fs : List Function) (ss : List Signature) → AllByRecursion (λ f. length f.params ≤ 16) fs → FunctionsFit p g fs ss → Agrees choice number (flat ss)
+functions_are : (choice : Choice) (p : Source) (g : Globals Kind) (number : ℕ) (fs : List Function) (ss : List Signature)
+    → AllByRecursion (λ f. length f.params ≤ 16) fs → FunctionsFit p g fs ss → Agrees choice number (flat ss)
     → FunctionsAre choice p number fs ss
 functions_are choice p g number [] [] l h a = record { same = refl; fit = tt }
 functions_are choice p g number [] (s ∷ ss) l h a = absurd h
@@ -173,7 +180,8 @@ functions_are choice p g number (f ∷ fs) (s ∷ ss) l h a =
       fit = (record { few = l.0; distinct = h.0.distinct; params = ps.declared; result = declared_kind p f.result s.result h.0.result }, more.fit);
     }
 
-body_complete : (choice : Choice) (g : Globals Guess) (f : Function) (h : Head Guess) → HasKind (globals_under choice g) (params_scope f.params (map (under choice) h.params)) f.body (under choice h.result)
+body_complete : (choice : Choice) (g : Globals Guess) (f : Function) (h : Head Guess)
+    → HasKind (globals_under choice g) (params_scope f.params (map (under choice) h.params)) f.body (under choice h.result)
     → AllHold choice (body_steps g f h)
 body_complete choice g f h k =
     let s : Scope Guess = params_scope f.params h.params in
@@ -181,7 +189,8 @@ body_complete choice g f h k =
     let j = complete choice g s f.body (under choice h.result) (subst (λ inner. HasKind (globals_under choice g) inner f.body (under choice h.result)) (sym (params_under choice f.params h.params)) k) in
     all_both choice (steps g s f.body) last j.hold (j.is, tt)
 
-bodies_complete : (choice : Choice) (p : Source) (g : Globals Guess) (fs : List Function) (hs : List (Head Guess)) → FunctionsFit p (globals_under choice g) fs (map (head_under choice) hs) → AllHold choice (bodies_steps g fs hs)
+bodies_complete : (choice : Choice) (p : Source) (g : Globals Guess) (fs : List Function) (hs : List (Head Guess))
+    → FunctionsFit p (globals_under choice g) fs (map (head_under choice) hs) → AllHold choice (bodies_steps g fs hs)
 bodies_complete choice p g [] [] k = tt
 bodies_complete choice p g [] (h ∷ hs) k = absurd k
 bodies_complete choice p g (f ∷ fs) [] k = absurd k

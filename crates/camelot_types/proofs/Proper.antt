@@ -15,8 +15,8 @@ use Rattle.camelot_tree.specs.declared.tree.Name.{Name}
 use Rattle.camelot_tree.specs.declared.tree.ArmCell.{ArmCell}
 use Rattle.camelot_tree.specs.declared.tree.ArmCell.TheVariants as cell
 use Rattle.camelot_tree.specs.Tree.{Expression, Num, Truth, Var, Prim, If, Let, Match, Build, Call, Expressions, NoExpressions, AndExpression, Arms, NoArms, AndArm}
-use Rattle.typing_rules.specs.Kinds.{Head, Globals, Scope, bind, or_else, constructor_number, fields_of, head_of, bound_names, bind_fields, bind_cell, arm_scope, arms_atom}
-use Rattle.typing_rules.specs.Typing.{IsDeclared}
+use Rattle.camelot_typing.specs.Kinds.{Head, Globals, Scope, bind, or_else, constructor_number, fields_of, head_of, bound_names, bind_fields, bind_cell, arm_scope, arms_atom}
+use Rattle.camelot_typing.specs.Typing.{IsDeclared}
 use Rattle.camelot_types.specs.declared.guess.Guess.{Guess}
 use Rattle.camelot_types.specs.declared.guess.Guess.TheVariants.{Known}
 use Rattle.camelot_types.specs.Walk.{Step, Same, new_names, line_of, guess, same_steps, place_known, place_same, build_steps, call_steps, con_guess, head_steps, arm_numbers, missing_steps, cons_of_type, first_number, steps, all_steps, arms_steps}
@@ -39,15 +39,18 @@ ScopeWithin types n s = AllByRecursion (λ b. IsWithin types n b.is) s
 
 -- ---- scopes
 
-found_within : (types : List DataType) (n : ℕ) (s : Scope Guess) (name : List ℕ) → ScopeWithin types n s → IsWithin types n (or_else (find s name) (Known kind.Int))
+found_within : (types : List DataType) (n : ℕ) (s : Scope Guess) (name : List ℕ) → ScopeWithin types n s
+    → IsWithin types n (or_else (find s name) (Known kind.Int))
 found_within types n [] name h = tt
 found_within types n (b ∷ bs) name h = by_test (bytes_eq b.name name) (found_within types n bs name h.1)
   where
-    by_test : (t : Bool) → IsWithin types n (or_else (find bs name) (Known kind.Int)) → IsWithin types n (or_else (if t then Some b.is else find bs name) (Known kind.Int))
+    by_test : (t : Bool) → IsWithin types n (or_else (find bs name) (Known kind.Int))
+        → IsWithin types n (or_else (if t then Some b.is else find bs name) (Known kind.Int))
     by_test true k = h.0
     by_test false k = k
 
-fields_within : (types : List DataType) (n : ℕ) (fs : List (Option Name)) (ks : List Kind) (s : Scope Guess) → AreDeclared types ks → ScopeWithin types n s → ScopeWithin types n (bind_fields Known fs ks s)
+fields_within : (types : List DataType) (n : ℕ) (fs : List (Option Name)) (ks : List Kind) (s : Scope Guess) → AreDeclared types ks
+    → ScopeWithin types n s → ScopeWithin types n (bind_fields Known fs ks s)
 fields_within types n [] ks s d h = h
 fields_within types n (None ∷ fs) [] s d h = h
 fields_within types n (None ∷ fs) (k ∷ ks) s d h = fields_within types n fs ks s d.1 h
@@ -59,7 +62,8 @@ cell_within types n cell.Plain s h = h
 cell_within types n cell.Free s h = h
 cell_within types n (cell.Keep m) s h = (tt, h)
 
-arm_within : (n : ℕ) (g : Globals Guess) (c : Name) (fs : List (Option Name)) (x : ArmCell) (s : Scope Guess) → IsProper n g → ScopeWithin g.types n s → ScopeWithin g.types n (arm_scope Known g.types c fs x s)
+arm_within : (n : ℕ) (g : Globals Guess) (c : Name) (fs : List (Option Name)) (x : ArmCell) (s : Scope Guess) → IsProper n g
+    → ScopeWithin g.types n s → ScopeWithin g.types n (arm_scope Known g.types c fs x s)
 arm_within n g c fs x s p h =
     let con : ℕ = or_else (constructor_number g.types c.word) 0 in
     cell_within g.types n x (bind_fields Known fs (fields_of g.types con) s) (fields_within g.types n fs (fields_of g.types con) s (p.fields con) h)
@@ -84,16 +88,19 @@ built_within types n con = by_type (type_of types con) refl
     by_type None e = tt
     by_type (Some t) e = type_declared types con t e
 
-head_there : (types : List DataType) (n : ℕ) (hs : List (Head Guess)) (name : List ℕ) (h : Head Guess) → AllByRecursion (λ h. AreWithin types n h.params × IsWithin types n h.result) hs → head_of hs name ≡ Some h
+head_there : (types : List DataType) (n : ℕ) (hs : List (Head Guess)) (name : List ℕ) (h : Head Guess)
+    → AllByRecursion (λ h. AreWithin types n h.params × IsWithin types n h.result) hs → head_of hs name ≡ Some h
     → AreWithin types n h.params × IsWithin types n h.result
 head_there types n [] name h w e = cc
 head_there types n (d ∷ ds) name h w e = by_test (bytes_eq d.name name) (head_there types n ds name h w.1) e
   where
-    by_test : (t : Bool) → (head_of ds name ≡ Some h → AreWithin types n h.params × IsWithin types n h.result) → (if t then Some d else head_of ds name) ≡ Some h → AreWithin types n h.params × IsWithin types n h.result
+    by_test : (t : Bool) → (head_of ds name ≡ Some h → AreWithin types n h.params × IsWithin types n h.result)
+        → (if t then Some d else head_of ds name) ≡ Some h → AreWithin types n h.params × IsWithin types n h.result
     by_test true f q = let same : d ≡ h = cc in subst (λ z. AreWithin types n z.params × IsWithin types n z.result) same w.0
     by_test false f q = f q
 
-result_within : (n : ℕ) (g : Globals Guess) (name : List ℕ) → IsProper n g → IsWithin g.types n (option_map_or (λ h. h.result) (head_of g.heads name) (Known kind.Int))
+result_within : (n : ℕ) (g : Globals Guess) (name : List ℕ) → IsProper n g
+    → IsWithin g.types n (option_map_or (λ h. h.result) (head_of g.heads name) (Known kind.Int))
 result_within n g name p = by_option (head_of g.heads name) refl
   where
     by_option : (o : Option (Head Guess)) → head_of g.heads name ≡ o → IsWithin g.types n (option_map_or (λ h. h.result) o (Known kind.Int))
@@ -112,7 +119,8 @@ mutual
   guess_within n g s (Build c es place) p h = built_within g.types n (or_else (constructor_number g.types c.word) 0)
   guess_within n g s (Call f es) p h = result_within n g f.word p
 
-  arms_guess_within : (n : ℕ) (g : Globals Guess) (s : Scope Guess) (as' : Arms) → IsProper n g → ScopeWithin g.types n s → IsWithin g.types n (arms_atom Known g s as')
+  arms_guess_within : (n : ℕ) (g : Globals Guess) (s : Scope Guess) (as' : Arms) → IsProper n g → ScopeWithin g.types n s
+      → IsWithin g.types n (arms_atom Known g s as')
   arms_guess_within n g s NoArms p h = tt
   arms_guess_within n g s (AndArm c fs x b as') p h = guess_within n g (arm_scope Known g.types c fs x s) b p (arm_within n g c fs x s p h)
 
@@ -122,7 +130,8 @@ names_within : (types : List DataType) (n : ℕ) (earlier : List (List ℕ)) (ns
 names_within types n earlier [] = tt
 names_within types n earlier (m ∷ ns) = (tt, names_within types n (earlier ++ m.word ∷ []) ns)
 
-same_within : (n : ℕ) (g : Globals Guess) (s : Scope Guess) (es : Expressions) (ts : List Guess) → IsProper n g → ScopeWithin g.types n s → AreWithin g.types n ts → AllWithin g.types n (same_steps g s es ts)
+same_within : (n : ℕ) (g : Globals Guess) (s : Scope Guess) (es : Expressions) (ts : List Guess) → IsProper n g → ScopeWithin g.types n s
+    → AreWithin g.types n ts → AllWithin g.types n (same_steps g s es ts)
 same_within n g s NoExpressions ts p h w = tt
 same_within n g s (AndExpression e es) [] p h w = tt
 same_within n g s (AndExpression e es) (t ∷ ts) p h w = ((guess_within n g s e p h, w.0), same_within n g s es ts p h w.1)
@@ -139,7 +148,8 @@ declared_within : (types : List DataType) (n : ℕ) (ks : List Kind) → AreDecl
 declared_within types n [] h = tt
 declared_within types n (k ∷ ks) h = (h.0, declared_within types n ks h.1)
 
-build_within : (n : ℕ) (g : Globals Guess) (s : Scope Guess) (c : Name) (es : Expressions) (place : Option Name) (o : Option ℕ) → IsProper n g → ScopeWithin g.types n s → AllWithin g.types n (build_steps g s c es place o)
+build_within : (n : ℕ) (g : Globals Guess) (s : Scope Guess) (c : Name) (es : Expressions) (place : Option Name) (o : Option ℕ) → IsProper n g
+    → ScopeWithin g.types n s → AllWithin g.types n (build_steps g s c es place o)
 build_within n g s c es place None p h = (tt, tt)
 build_within n g s c es place (Some con) p h =
     let ts : List Guess = map Known (fields_of g.types con) in (
@@ -151,7 +161,8 @@ build_within n g s c es place (Some con) p h =
       ),
     )
 
-call_within : (n : ℕ) (g : Globals Guess) (s : Scope Guess) (f : Name) (es : Expressions) (o : Option (Head Guess)) → head_of g.heads f.word ≡ o → IsProper n g → ScopeWithin g.types n s → AllWithin g.types n (call_steps g s f es o)
+call_within : (n : ℕ) (g : Globals Guess) (s : Scope Guess) (f : Name) (es : Expressions) (o : Option (Head Guess)) → head_of g.heads f.word ≡ o
+    → IsProper n g → ScopeWithin g.types n s → AllWithin g.types n (call_steps g s f es o)
 call_within n g s f es None e p h = (tt, tt)
 call_within n g s f es (Some d) e p h = (tt, same_within n g s es d.params p h (head_there g.types n g.heads f.word d p.heads e).0)
 
@@ -204,11 +215,13 @@ mutual
   expr_within n g s (Call f es) p h =
       within_both g.types n (all_steps g s es) (call_steps g s f es (head_of g.heads f.word)) (all_steps_within n g s es p h) (call_within n g s f es (head_of g.heads f.word) refl p h)
 
-  all_steps_within : (n : ℕ) (g : Globals Guess) (s : Scope Guess) (es : Expressions) → IsProper n g → ScopeWithin g.types n s → AllWithin g.types n (all_steps g s es)
+  all_steps_within : (n : ℕ) (g : Globals Guess) (s : Scope Guess) (es : Expressions) → IsProper n g → ScopeWithin g.types n s
+      → AllWithin g.types n (all_steps g s es)
   all_steps_within n g s NoExpressions p h = tt
   all_steps_within n g s (AndExpression e es) p h = within_both g.types n (steps g s e) (all_steps g s es) (expr_within n g s e p h) (all_steps_within n g s es p h)
 
-  arms_steps_within : (n : ℕ) (g : Globals Guess) (s : Scope Guess) (earlier : List ℕ) (first : ℕ) (body : Guess) (as' : Arms) → IsProper n g → ScopeWithin g.types n s → IsWithin g.types n body
+  arms_steps_within : (n : ℕ) (g : Globals Guess) (s : Scope Guess) (earlier : List ℕ) (first : ℕ) (body : Guess) (as' : Arms) → IsProper n g
+      → ScopeWithin g.types n s → IsWithin g.types n body
       → AllWithin g.types n (arms_steps g s earlier first body as')
   arms_steps_within n g s earlier first body NoArms p h w = tt
   arms_steps_within n g s earlier first body (AndArm c fs x b as') p h w =

@@ -1,4 +1,5 @@
--- The table that the walk starts with has a place for each unknown in a program's steps, and every choice agrees with it.
+-- The table that the walk starts with has a place for each unknown in a program's steps, and every choice agrees with
+-- it.
 use Rattle.std.proofs.Common.{◌≡◌, ℕ, zero, suc, ◌+◌, ◌<◌, ◌≤◌, List, [], ◌∷◌, ◌++◌, map, length, get_or, Option, Some, None, refl, sym, ap, ◌∙◌, subst, arith}
 use Rattle.std.specs.Prelude.{slice_get, flat_map}
 use Rattle.std.specs.List.{AllByRecursion}
@@ -12,8 +13,8 @@ use Rattle.camelot_tree.specs.declared.tree.Atom.TheVariants as atom
 use Rattle.camelot_tree.specs.declared.tree.Param.{Param}
 use Rattle.camelot_tree.specs.Tree as tree
 use Rattle.camelot_tree.specs.Tree.{Constructor, Function, Source}
-use Rattle.typing_rules.specs.Kinds.{Head, Globals, Scope, or_else, type_number, field_kind, constructor_kinds, data_kinds, types_of}
-use Rattle.typing_rules.specs.Typing.{IsDeclared, params_scope}
+use Rattle.camelot_typing.specs.Kinds.{Head, Globals, Scope, or_else, type_number, field_kind, constructor_kinds, data_kinds, types_of}
+use Rattle.camelot_typing.specs.Typing.{IsDeclared, params_scope}
 use Rattle.camelot_types.specs.declared.guess.Guess.{Guess}
 use Rattle.camelot_types.specs.declared.guess.Guess.TheVariants.{Unknown}
 use Rattle.camelot_types.specs.Walk.{Step, Same, under, new_names, line_of, guess, steps, fields_step, atom_step, con_names, words, types_steps, kind_step, param_names, headers_steps, guess_of, param_guesses, head_guesses, guesses_of, body_steps, bodies_steps, program_steps}
@@ -48,7 +49,8 @@ fields_declared p (a ∷ as') = (field_declared p a, fields_declared p as')
 abbrev FieldsDeclared : Source → values.Constructor → Type 0
 FieldsDeclared p c = AllByRecursion (IsDeclared (types_of p)) c.fields
 
-cons_declared : (p : Source) (cs : List Constructor) (rest : List values.Constructor) → AllByRecursion (FieldsDeclared p) rest → AllByRecursion (FieldsDeclared p) (map (constructor_kinds p) cs ++ rest)
+cons_declared : (p : Source) (cs : List Constructor) (rest : List values.Constructor) → AllByRecursion (FieldsDeclared p) rest
+    → AllByRecursion (FieldsDeclared p) (map (constructor_kinds p) cs ++ rest)
 cons_declared p [] rest h = h
 cons_declared p (c ∷ cs) rest h = (fields_declared p c.fields, cons_declared p cs rest h)
 
@@ -56,7 +58,8 @@ types_declared : (p : Source) (ts : List tree.DataType) → AllByRecursion (Fiel
 types_declared p [] = tt
 types_declared p (t ∷ ts) = cons_declared p t.cons (constructors (map (data_kinds p) ts)) (types_declared p ts)
 
-one_declared : (p : Source) (cs : List values.Constructor) (con : ℕ) → AllByRecursion (FieldsDeclared p) cs → AllByRecursion (IsDeclared (types_of p)) (option_map_or (λ c. c.fields) (slice_get cs con) [])
+one_declared : (p : Source) (cs : List values.Constructor) (con : ℕ) → AllByRecursion (FieldsDeclared p) cs
+    → AllByRecursion (IsDeclared (types_of p)) (option_map_or (λ c. c.fields) (slice_get cs con) [])
 one_declared p [] con h = tt
 one_declared p (c ∷ cs) zero h = h.0
 one_declared p (c ∷ cs) (suc con) h = one_declared p cs con h.1
@@ -90,7 +93,8 @@ names_within : (types : List DataType) (n : ℕ) (earlier : List (List ℕ)) (ns
 names_within types n earlier [] = tt
 names_within types n earlier (m ∷ ns) = (tt, names_within types n (earlier ++ m.word ∷ []) ns)
 
-flat_within : {A : Type 0} (types : List DataType) (n : ℕ) (f : A → List Step) (xs : List A) → ((x : A) → AllWithin types n (f x)) → AllWithin types n (flat_map f xs)
+flat_within : {A : Type 0} (types : List DataType) (n : ℕ) (f : A → List Step) (xs : List A) → ((x : A) → AllWithin types n (f x))
+    → AllWithin types n (flat_map f xs)
 flat_within types n f [] h = tt
 flat_within types n f (x ∷ xs) h = within_both types n (f x) (flat_map f xs) (h x) (flat_within types n f xs h)
 
@@ -108,7 +112,8 @@ few_within : (types : List DataType) (n : ℕ) (cs : List Constructor) → AllWi
 few_within types n [] = tt
 few_within types n (c ∷ cs) = (tt, few_within types n cs)
 
-types_within : (types : List DataType) (n : ℕ) (p : Source) (names cons : List (List ℕ)) (ts : List tree.DataType) → AllWithin types n (types_steps p names cons ts)
+types_within : (types : List DataType) (n : ℕ) (p : Source) (names cons : List (List ℕ)) (ts : List tree.DataType)
+    → AllWithin types n (types_steps p names cons ts)
 types_within types n p names cons [] = tt
 types_within types n p names cons (t ∷ ts) = (
   tt,
@@ -133,18 +138,21 @@ headers_within types n p earlier (f ∷ fs) = (
 
 -- ---- bodies
 
-scope_within : (types : List DataType) (n : ℕ) (xs : List Param) (gs : List Guess) → AllByRecursion (IsWithin types n) gs → ScopeWithin types n (params_scope xs gs)
+scope_within : (types : List DataType) (n : ℕ) (xs : List Param) (gs : List Guess) → AllByRecursion (IsWithin types n) gs
+    → ScopeWithin types n (params_scope xs gs)
 scope_within types n [] gs h = tt
 scope_within types n (x ∷ xs) [] h = tt
 scope_within types n (x ∷ xs) (a ∷ gs) h = (h.0, scope_within types n xs gs h.1)
 
-body_within : (n : ℕ) (g : Globals Guess) (f : Function) (h : Head Guess) → IsProper n g → AllByRecursion (IsWithin g.types n) h.params → IsWithin g.types n h.result → AllWithin g.types n (body_steps g f h)
+body_within : (n : ℕ) (g : Globals Guess) (f : Function) (h : Head Guess) → IsProper n g → AllByRecursion (IsWithin g.types n) h.params
+    → IsWithin g.types n h.result → AllWithin g.types n (body_steps g f h)
 body_within n g f h p w r =
     let s : Scope Guess = params_scope f.params h.params in
     let inside = scope_within g.types n f.params h.params w in
     within_both g.types n (steps g s f.body) (Same (guess g s f.body) h.result (line_of f.body) ∷ []) (expr_within n g s f.body p inside) ((guess_within n g s f.body p inside, r), tt)
 
-bodies_within : (n : ℕ) (g : Globals Guess) (fs : List Function) (hs : List (Head Guess)) → IsProper n g → AllByRecursion (λ h. AllByRecursion (IsWithin g.types n) h.params × IsWithin g.types n h.result) hs
+bodies_within : (n : ℕ) (g : Globals Guess) (fs : List Function) (hs : List (Head Guess)) → IsProper n g
+    → AllByRecursion (λ h. AllByRecursion (IsWithin g.types n) h.params × IsWithin g.types n h.result) hs
     → AllWithin g.types n (bodies_steps g fs hs)
 bodies_within n g [] hs p h = tt
 bodies_within n g (f ∷ fs) [] p h = tt

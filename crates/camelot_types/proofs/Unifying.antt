@@ -7,7 +7,7 @@ use Rattle.std.proofs.lemmas.Bool.Decides.{nat_tests}
 use Rattle.camelot_values.specs.Kinds.{DataType, same_kind}
 use Rattle.camelot_values.specs.declared.kinds.Kind.{Kind}
 use Rattle.camelot_values.specs.declared.kinds.Kind.TheVariants as kind
-use Rattle.typing_rules.specs.Typing.{IsDeclared}
+use Rattle.camelot_typing.specs.Typing.{IsDeclared}
 use Rattle.camelot_types.specs.declared.fault.TypeFault.{TypeFault}
 use Rattle.camelot_types.specs.declared.fault.TypeFault.TheVariants.{Clash}
 use Rattle.camelot_types.specs.declared.guess.Guess.{Guess}
@@ -79,7 +79,8 @@ under_looked : (choice : Choice) (table : List Guess) (a : Guess) → Respects c
 under_looked choice table (Known k) h = refl
 under_looked choice table (Unknown x) h = h x
 
-within_looked : (types : List DataType) (table : List Guess) (a : Guess) → TableWithin types table → IsWithin types (length table) a → IsWithin types (length table) (looked_up table a)
+within_looked : (types : List DataType) (table : List Guess) (a : Guess) → TableWithin types table → IsWithin types (length table) a
+    → IsWithin types (length table) (looked_up table a)
 within_looked types table (Known k) h w = w
 within_looked types table (Unknown x) h w = h x w
 
@@ -123,7 +124,8 @@ within_replaced types n x new (Unknown y) h w = by_test (y == x)
     by_test false = w
 
 -- what stands in a table with an unknown replaced
-looked_replaced : (table : List Guess) (x y : ℕ) (new : Guess) → x < length table → looked_up (map (replaced x new) table) (Unknown y) ≡ replaced x new (looked_up table (Unknown y))
+looked_replaced : (table : List Guess) (x y : ℕ) (new : Guess) → x < length table
+    → looked_up (map (replaced x new) table) (Unknown y) ≡ replaced x new (looked_up table (Unknown y))
 looked_replaced table x y new h = by_test (nat_lt y (length table)) refl
   where
     apart : (y < length table → ⊥) → (b : Bool) → (y == x) ≡ b → Unknown y ≡ (if b then new else Unknown y)
@@ -148,21 +150,25 @@ get_map_past f (g ∷ table) (suc x) d e h = get_map_past f table x d e (omega a
 abbrev pub IsFree : List Guess → ℕ → Type 0
 IsFree table x = looked_up table (Unknown x) ≡ Unknown x
 
-respects_replaced : (choice : Choice) (table : List Guess) (x : ℕ) (new : Guess) → x < length table → Respects choice table → choice x ≡ under choice new → Respects choice (map (replaced x new) table)
+respects_replaced : (choice : Choice) (table : List Guess) (x : ℕ) (new : Guess) → x < length table → Respects choice table
+    → choice x ≡ under choice new → Respects choice (map (replaced x new) table)
 respects_replaced choice table x new l h e y =
     h y ∙ sym (under_replaced choice x new (looked_up table (Unknown y)) e) ∙ ap (under choice) (sym (looked_replaced table x y new l))
 
 replaced_itself : (x : ℕ) (new : Guess) → replaced x new (Unknown x) ≡ new
 replaced_itself x new = ap (λ b. if b then new else Unknown x) (number_itself x)
 
-new_is : (choice : Choice) (table : List Guess) (x : ℕ) (new : Guess) → x < length table → IsFree table x → Respects choice (map (replaced x new) table) → choice x ≡ under choice new
+new_is : (choice : Choice) (table : List Guess) (x : ℕ) (new : Guess) → x < length table → IsFree table x
+    → Respects choice (map (replaced x new) table) → choice x ≡ under choice new
 new_is choice table x new l free h = h x ∙ ap (under choice) (looked_replaced table x x new l ∙ ap (replaced x new) free ∙ replaced_itself x new)
 
-respects_before : (choice : Choice) (table : List Guess) (x : ℕ) (new : Guess) → x < length table → IsFree table x → Respects choice (map (replaced x new) table) → Respects choice table
+respects_before : (choice : Choice) (table : List Guess) (x : ℕ) (new : Guess) → x < length table → IsFree table x
+    → Respects choice (map (replaced x new) table) → Respects choice table
 respects_before choice table x new l free h y =
     h y ∙ ap (under choice) (looked_replaced table x y new l) ∙ under_replaced choice x new (looked_up table (Unknown y)) (new_is choice table x new l free h)
 
-settled_replaced : (table : List Guess) (x : ℕ) (new : Guess) → x < length table → looked_up table new ≡ new → IsSettled table → IsSettled (map (replaced x new) table)
+settled_replaced : (table : List Guess) (x : ℕ) (new : Guess) → x < length table → looked_up table new ≡ new → IsSettled table
+    → IsSettled (map (replaced x new) table)
 settled_replaced table x new l own h y =
     ap (looked_up (map (replaced x new) table)) (looked_replaced table x y new l) ∙ twice (looked_up table (Unknown y)) (h y) ∙ sym (looked_replaced table x y new l)
   where
@@ -182,14 +188,16 @@ settled_replaced table x new l own h y =
         by_test true e = of_new new own refl
         by_test false e = looked_replaced table x z new l ∙ ap (replaced x new) o ∙ ap (λ b. if b then new else Unknown z) e
 
-within_table : (types : List DataType) (table : List Guess) (x : ℕ) (new : Guess) → x < length table → IsWithin types (length table) new → TableWithin types table → TableWithin types (map (replaced x new) table)
+within_table : (types : List DataType) (table : List Guess) (x : ℕ) (new : Guess) → x < length table → IsWithin types (length table) new
+    → TableWithin types table → TableWithin types (map (replaced x new) table)
 within_table types table x new l w h y k =
     let same : length (map (replaced x new) table) ≡ length table = length_map (replaced x new) table in
     let inside : y < length table = omega (arith, k, same) in
     subst (λ a. IsWithin types (length (map (replaced x new) table)) a) (sym (looked_replaced table x y new l))
     (subst (λ n. IsWithin types n (replaced x new (looked_up table (Unknown y)))) (sym same) (within_replaced types (length table) x new (looked_up table (Unknown y)) w (h y inside)))
 
-sound_replaced : (types : List DataType) (table : List Guess) (x : ℕ) (new : Guess) → x < length table → looked_up table new ≡ new → IsWithin types (length table) new → IsSafe types table → IsSafe types (map (replaced x new) table)
+sound_replaced : (types : List DataType) (table : List Guess) (x : ℕ) (new : Guess) → x < length table → looked_up table new ≡ new
+    → IsWithin types (length table) new → IsSafe types table → IsSafe types (map (replaced x new) table)
 sound_replaced types table x new l own w s = record { settled = settled_replaced table x new l own s.settled; within = within_table types table x new l w s.within }
 
 -- ---- one step
@@ -213,7 +221,8 @@ pub record Looked (types : List DataType) (table : List Guess) (a b : Guess) : T
   pub first_within : IsWithin types (length table) first
   pub second_within : IsWithin types (length table) second
 
-look : (types : List DataType) (table : List Guess) (a b : Guess) → IsSafe types table → IsWithin types (length table) a → IsWithin types (length table) b → Looked types table a b
+look : (types : List DataType) (table : List Guess) (a b : Guess) → IsSafe types table → IsWithin types (length table) a
+    → IsWithin types (length table) b → Looked types table a b
 look types table a b s v w = record {
   first = looked_up table a;
   second = looked_up table b;
@@ -225,10 +234,12 @@ look types table a b s v w = record {
   second_within = within_looked types table b s.within w;
 }
 
-did_nothing : (types : List DataType) (table : List Guess) (step : Step) → IsSafe types table → ((choice : Choice) → Respects choice table → Holds choice step) → Did types table table step
+did_nothing : (types : List DataType) (table : List Guess) (step : Step) → IsSafe types table
+    → ((choice : Choice) → Respects choice table → Holds choice step) → Did types table table step
 did_nothing types table step s h = record { sound = s; size = refl; keeps = λ c r k. r; back = λ c r. r; holds = h }
 
-did_replace : (types : List DataType) (table next : List Guess) (a b : Guess) (line x : ℕ) (new : Guess) → IsSafe types table → x < length table → IsFree table x → looked_up table new ≡ new → IsWithin types (length table) new
+did_replace : (types : List DataType) (table next : List Guess) (a b : Guess) (line x : ℕ) (new : Guess) → IsSafe types table → x < length table
+    → IsFree table x → looked_up table new ≡ new → IsWithin types (length table) new
     → next ≡ map (replaced x new) table
     → ((choice : Choice) → Respects choice table → under choice a ≡ under choice b → choice x ≡ under choice new)
     → ((choice : Choice) → Respects choice table → choice x ≡ under choice new → under choice a ≡ under choice b) → Did types table next (Same a b line)
@@ -248,7 +259,8 @@ unified_did : (types : List DataType) (table next : List Guess) (a b : Guess) (l
     → unified types table line first second ≡ Goes next → Did types table next (Same a b line)
 unified_did types table next a b line (Known k) (Known q) s fi se fo so fw sw h = by_test (same_kind k q) refl h
   where
-    by_test : (c : Bool) → same_kind k q ≡ c → (if c then Goes table else Stops (Clash (kind_name types k) (kind_name types q) line)) ≡ Goes next → Did types table next (Same a b line)
+    by_test : (c : Bool) → same_kind k q ≡ c → (if c then Goes table else Stops (Clash (kind_name types k) (kind_name types q) line)) ≡ Goes next
+        → Did types table next (Same a b line)
     by_test true e g =
         let n : table ≡ next = cc in
         subst (λ t. Did types table t (Same a b line)) n
@@ -263,7 +275,8 @@ unified_did types table next a b line (Unknown x) new s fi se fo so fw sw h =
     (λ c r e. sym (ap (under c) fi) ∙ sym (under_looked c table a r) ∙ e ∙ under_looked c table b r ∙ ap (under c) se)
     (λ c r e. under_looked c table a r ∙ ap (under c) fi ∙ e ∙ sym (ap (under c) se) ∙ sym (under_looked c table b r))
 
-pub step_did : (types : List DataType) (table next : List Guess) (step : Step) → IsSafe types table → StepWithin types (length table) step → step_done types table step ≡ Goes next → Did types table next step
+pub step_did : (types : List DataType) (table next : List Guess) (step : Step) → IsSafe types table → StepWithin types (length table) step
+    → step_done types table step ≡ Goes next → Did types table next step
 unfolding made_same
 step_did types table next (Must true fault) s w h = let n : table ≡ next = cc in subst (λ t. Did types table t (Must true fault)) n (did_nothing types table (Must true fault) s (λ c r. refl))
 step_did types table next (Must false fault) s w h = cc
@@ -289,7 +302,8 @@ abbrev pub StepEnds : List DataType → List Guess → Step → Walked (List Gue
 StepEnds types table step (Goes next) = Did types table next step
 StepEnds types table step (Stops fault) = Unit {0}
 
-pub run_ran : (types : List DataType) (table next : List Guess) (steps : List Step) → IsSafe types table → AllWithin types (length table) steps → run types table steps ≡ Goes next → Ran types table next steps
+pub run_ran : (types : List DataType) (table next : List Guess) (steps : List Step) → IsSafe types table → AllWithin types (length table) steps
+    → run types table steps ≡ Goes next → Ran types table next steps
 run_ran types table next [] s w h =
     let n : table ≡ next = cc in
     subst (λ t. Ran types table t []) n (record { sound = s; size = refl; keeps = λ c r k. r; back = λ c r. r; holds = λ c r. tt })
@@ -332,11 +346,13 @@ choice_forced table choice x r h = by_guess (looked_up table (Unknown x)) refl
 
 -- ---- the first fault
 
-fails_same : (types : List DataType) (table : List Guess) (before : List Step) (a b : Guess) (line : ℕ) (first second : Guess) (fault : TypeFault) → ((choice : Choice) → AllHold choice before → Respects choice table)
+fails_same : (types : List DataType) (table : List Guess) (before : List Step) (a b : Guess) (line : ℕ) (first second : Guess) (fault : TypeFault)
+    → ((choice : Choice) → AllHold choice before → Respects choice table)
     → looked_up table a ≡ first → looked_up table b ≡ second → unified types table line first second ≡ Stops fault → Clashes types before a b line fault
 fails_same types table before a b line (Known k) (Known q) fault r fi se h = by_test (same_kind k q) refl h
   where
-    by_test : (c : Bool) → same_kind k q ≡ c → (if c then Goes table else Stops (Clash (kind_name types k) (kind_name types q) line)) ≡ Stops fault → Clashes types before a b line fault
+    by_test : (c : Bool) → same_kind k q ≡ c → (if c then Goes table else Stops (Clash (kind_name types k) (kind_name types q) line)) ≡ Stops fault
+        → Clashes types before a b line fault
     by_test true e g = cc
     by_test false e g = record {
       first = k;
@@ -351,7 +367,8 @@ fails_same types table before a b line (Known k) (Known q) fault r fi se h = by_
 fails_same types table before a b line (Known k) (Unknown y) fault r fi se h = cc
 fails_same types table before a b line (Unknown x) new fault r fi se h = cc
 
-step_fails : (types : List DataType) (table : List Guess) (before : List Step) (step : Step) (fault : TypeFault) → ((choice : Choice) → AllHold choice before → Respects choice table)
+step_fails : (types : List DataType) (table : List Guess) (before : List Step) (step : Step) (fault : TypeFault)
+    → ((choice : Choice) → AllHold choice before → Respects choice table)
     → step_done types table step ≡ Stops fault → FailsWith types before step fault
 unfolding made_same
 step_fails types table before (Must true found) fault r h = cc
@@ -375,7 +392,8 @@ pub all_back : (choice : Choice) (xs ys : List Step) → AllHold choice (xs ++ y
 all_back choice [] ys h = h
 all_back choice (x ∷ xs) ys h = all_back choice xs ys h.1
 
-run_fails : (types : List DataType) (table : List Guess) (done steps all : List Step) (fault : TypeFault) → all ≡ done ++ steps → IsSafe types table → AllWithin types (length table) steps → Left done table
+run_fails : (types : List DataType) (table : List Guess) (done steps all : List Step) (fault : TypeFault) → all ≡ done ++ steps → IsSafe types table
+    → AllWithin types (length table) steps → Left done table
     → run types table steps ≡ Stops fault → IsFirstFault types all fault
 run_fails types table done [] all fault e s w l h = cc
 run_fails types table done (step ∷ steps) all fault e s w l h =
@@ -404,7 +422,8 @@ run_fails types table done (step ∷ steps) all fault e s w l h =
 
 -- ---- the run finds the first fault, and there is no other
 
-pub append_run : (types : List DataType) (table : List Guess) (xs ys : List Step) → run types table (xs ++ ys) ≡ and_then (run types table xs) (λ t. run types t ys)
+pub append_run : (types : List DataType) (table : List Guess) (xs ys : List Step)
+    → run types table (xs ++ ys) ≡ and_then (run types table xs) (λ t. run types t ys)
 append_run types table [] ys = refl
 append_run types table (x ∷ xs) ys = by_step (step_done types table x) (λ t. append_run types t xs ys)
   where
@@ -426,12 +445,14 @@ within_both types n [] ys h k = k
 within_both types n (x ∷ xs) ys h k = (h.0, within_both types n xs ys h.1 k)
 
 -- no choice for the steps up to a failing one holds for it
-none_holds : (types : List DataType) (before : List Step) (step : Step) (fault : TypeFault) (choice : Choice) → AllHold choice before → FailsWith types before step fault → Holds choice step → ⊥
+none_holds : (types : List DataType) (before : List Step) (step : Step) (fault : TypeFault) (choice : Choice) → AllHold choice before
+    → FailsWith types before step fault → Holds choice step → ⊥
 none_holds types before (Must test found) fault choice all f h = let e : true ≡ false = sym h ∙ f.0 in cc
 none_holds types before (Same a b line) fault choice all f h = let both = f.forced choice all in f.differ (sym both.0 ∙ h ∙ both.1)
 
 -- a step that holds for a choice of the table doesn't stop
-no_clash : (types : List DataType) (table : List Guess) (a b : Guess) (line : ℕ) (first second : Guess) (fault : TypeFault) (choice : Choice) → Respects choice table
+no_clash : (types : List DataType) (table : List Guess) (a b : Guess) (line : ℕ) (first second : Guess) (fault : TypeFault) (choice : Choice)
+    → Respects choice table
     → looked_up table a ≡ first → looked_up table b ≡ second → unified types table line first second ≡ Stops fault → under choice a ≡ under choice b → ⊥
 no_clash types table a b line (Known k) (Known q) fault choice r fi se h e = by_test (same_kind k q) refl h
   where
@@ -444,26 +465,30 @@ no_clash types table a b line (Known k) (Known q) fault choice r fi se h e = by_
 no_clash types table a b line (Known k) (Unknown y) fault choice r fi se h e = absurd cc
 no_clash types table a b line (Unknown x) new fault choice r fi se h e = absurd cc
 
-no_stop : (types : List DataType) (table : List Guess) (step : Step) (fault : TypeFault) (choice : Choice) → Respects choice table → step_done types table step ≡ Stops fault → Holds choice step → ⊥
+no_stop : (types : List DataType) (table : List Guess) (step : Step) (fault : TypeFault) (choice : Choice) → Respects choice table
+    → step_done types table step ≡ Stops fault → Holds choice step → ⊥
 unfolding made_same
 no_stop types table (Must true found) fault choice r h k = absurd cc
 no_stop types table (Must false found) fault choice r h k = absurd cc
 no_stop types table (Same a b line) fault choice r h k = no_clash types table a b line (looked_up table a) (looked_up table b) fault choice r refl refl h k
 
 -- steps that hold for some choice don't stop
-pub runs_on : (types : List DataType) (table : List Guess) (steps : List Step) (choice : Choice) → IsSafe types table → AllWithin types (length table) steps → Respects choice table → AllHold choice steps
+pub runs_on : (types : List DataType) (table : List Guess) (steps : List Step) (choice : Choice) → IsSafe types table
+    → AllWithin types (length table) steps → Respects choice table → AllHold choice steps
     → (next : List Guess) × (run types table steps ≡ Goes next)
 runs_on types table [] choice s w r h = (table, refl)
 runs_on types table (step ∷ steps) choice s w r h = by_step (step_done types table step) refl
     (λ mid d. runs_on types mid steps choice d.sound (subst (λ n. AllWithin types n steps) (sym d.size) w.1) (d.keeps choice r h.0) h.1)
   where
-    by_step : (o : Walked (List Guess)) → step_done types table step ≡ o → ((mid : List Guess) → Did types table mid step → (next : List Guess) × (run types mid steps ≡ Goes next))
+    by_step : (o : Walked (List Guess)) → step_done types table step ≡ o
+        → ((mid : List Guess) → Did types table mid step → (next : List Guess) × (run types mid steps ≡ Goes next))
         → (next : List Guess) × (and_then o (λ t. run types t steps) ≡ Goes next)
     by_step (Goes mid) e f = f mid (step_did types table mid step s w.0 e)
     by_step (Stops fault) e f = absurd (no_stop types table step fault choice r e h.0)
 
 -- a step that fails stops the run, with its fault
-step_stops : (types : List DataType) (table : List Guess) (before : List Step) (step : Step) (fault : TypeFault) → IsSafe types table → StepWithin types (length table) step
+step_stops : (types : List DataType) (table : List Guess) (before : List Step) (step : Step) (fault : TypeFault) → IsSafe types table
+    → StepWithin types (length table) step
     → ((choice : Choice) → Respects choice table → AllHold choice before) → ((choice : Choice) → AllHold choice before → Respects choice table)
     → FailsWith types before step fault → step_done types table step ≡ Stops fault
 step_stops types table before step fault s w back there f = by_step (step_done types table step) refl
@@ -495,7 +520,8 @@ pub record IsFresh (types : List DataType) (table : List Guess) : Type 0 where
   pub sound : IsSafe types table
   pub free : (choice : Choice) → Respects choice table
 
-pub fault_runs : (types : List DataType) (table : List Guess) (steps : List Step) (fault : TypeFault) → IsFresh types table → AllWithin types (length table) steps → IsFirstFault types steps fault → run types table steps ≡ Stops fault
+pub fault_runs : (types : List DataType) (table : List Guess) (steps : List Step) (fault : TypeFault) → IsFresh types table
+    → AllWithin types (length table) steps → IsFirstFault types steps fault → run types table steps ≡ Stops fault
 fault_runs types table steps fault fresh w f =
     let all : AllWithin types (length table) (f.before ++ f.step ∷ f.after) = subst (AllWithin types (length table)) f.parts w in
     let on = runs_on types table f.before f.choice fresh.sound (within_front types (length table) f.before (f.step ∷ f.after) all) (fresh.free f.choice) f.hold in
@@ -505,5 +531,6 @@ fault_runs types table steps fault fresh w f =
     step_stops types on.0 f.before f.step fault ran.sound (subst (λ n. StepWithin types n f.step) (sym ran.size) at.0) (λ c r. ran.holds c r) (λ c h. ran.keeps c (fresh.free c) h) f.fails in
     ap (run types table) f.parts ∙ append_run types table f.before (f.step ∷ f.after) ∙ ap (λ o. and_then o (λ t. run types t (f.step ∷ f.after))) on.1 ∙ ap (λ o. and_then o (λ t. run types t f.after)) stop
 
-pub run_finds : (types : List DataType) (table : List Guess) (steps : List Step) (fault : TypeFault) → IsFresh types table → AllWithin types (length table) steps → run types table steps ≡ Stops fault → IsFirstFault types steps fault
+pub run_finds : (types : List DataType) (table : List Guess) (steps : List Step) (fault : TypeFault) → IsFresh types table
+    → AllWithin types (length table) steps → run types table steps ≡ Stops fault → IsFirstFault types steps fault
 run_finds types table steps fault fresh w h = run_fails types table [] steps steps fault refl fresh.sound w (record { there = λ c k. fresh.free c; back = λ c r. tt }) h

@@ -11,7 +11,7 @@ use Rattle.camelot_tree.specs.declared.tree.Name.{Name}
 use Rattle.camelot_tree.specs.declared.tree.ArmCell.{ArmCell}
 use Rattle.camelot_tree.specs.Tree.{Expression, Num, Truth, Var, Prim, If, Let, Match, Build, Call, Expressions, NoExpressions, AndExpression, Arms, NoArms, AndArm}
 use Rattle.camelot_tree.specs.Spine.{spine_of, leaf_of}
-use Rattle.typing_rules.specs.Kinds.{Head, Globals, Scope, bind, or_else, constructor_number, fields_of, is_inline, head_of, bound_names, arm_scope, atoms_of, all_atoms, arms_atoms}
+use Rattle.camelot_typing.specs.Kinds.{Head, Globals, Scope, bind, or_else, constructor_number, fields_of, is_inline, head_of, bound_names, arm_scope, atoms_of, all_atoms, arms_atoms}
 use Rattle.camelot_types.specs.declared.fault.TypeFault.{TypeFault}
 use Rattle.camelot_types.specs.declared.fault.TypeFault.TheVariants.{UnknownName, Duplicate, MissingArm}
 use Rattle.camelot_types.specs.declared.guess.Guess.{Guess}
@@ -67,7 +67,8 @@ table_part types table xs ys o K G e h = part types table xs ys o (λ t. t) K G 
     by_run (Goes t) = refl
     by_run (Stops fault) = refl
 
-last_table : {B : Type 0} (q o : Walked (List Guess)) (K : List Guess → Walked B) (G : List Guess → B) → o ≡ q → ((t : List Guess) → K t ≡ Goes (G t)) → and_then o K ≡ giving G q
+last_table : {B : Type 0} (q o : Walked (List Guess)) (K : List Guess → Walked B) (G : List Guess → B) → o ≡ q
+    → ((t : List Guess) → K t ≡ Goes (G t)) → and_then o K ≡ giving G q
 last_table q o K G e h = ap (λ r. and_then r K) e ∙ by_run q
   where
     by_run : (r : Walked (List Guess)) → and_then r K ≡ giving G r
@@ -90,7 +91,8 @@ then_same : {A B : Type 0} (o : Walked A) (K R : A → Walked B) → ((a : A) �
 then_same (Goes a) K R h = h a
 then_same (Stops fault) K R h = refl
 
-pub names_is : (types : List DataType) (table : List Guess) (earlier : List (List ℕ)) (ns : List Name) → and_then (names_checked earlier ns) (λ z. Goes table) ≡ run types table (new_names earlier ns)
+pub names_is : (types : List DataType) (table : List Guess) (earlier : List (List ℕ)) (ns : List Name)
+    → and_then (names_checked earlier ns) (λ z. Goes table) ≡ run types table (new_names earlier ns)
 unfolding names_checked
 names_is types table earlier [] = refl
 names_is types table earlier (n ∷ ns) = by_test (stands earlier n.word) (names_is types table (earlier ++ n.word ∷ []) ns)
@@ -126,7 +128,8 @@ guesses_count : (g : Globals Guess) (s : Scope Guess) (es : Expressions) → len
 guesses_count g s NoExpressions = refl
 guesses_count g s (AndExpression e es) = ap suc (guesses_count g s es)
 
-all_same_is : (types : List DataType) (table : List Guess) (g : Globals Guess) (s : Scope Guess) (es : Expressions) (ts : List Guess) → all_same types table (lines_of es) (guesses_of g s es) ts ≡ run types table (same_steps g s es ts)
+all_same_is : (types : List DataType) (table : List Guess) (g : Globals Guess) (s : Scope Guess) (es : Expressions) (ts : List Guess)
+    → all_same types table (lines_of es) (guesses_of g s es) ts ≡ run types table (same_steps g s es ts)
 unfolding all_same
 all_same_is types table g s NoExpressions ts = refl
 all_same_is types table g s (AndExpression e es) [] = refl
@@ -134,7 +137,8 @@ all_same_is types table g s (AndExpression e es) (t ∷ ts) = then_same (made_sa
 
 -- ---- builds and calls, behind their arguments
 
-placed_is : (types : List DataType) (table : List Guess) (s : Scope Guess) (place : Option Name) (o : Walked (List Guess)) (ys : List Step) → o ≡ run types table ys
+placed_is : (types : List DataType) (table : List Guess) (s : Scope Guess) (place : Option Name) (o : Walked (List Guess)) (ys : List Step)
+    → o ≡ run types table ys
     → and_then (place_found s place) (λ d. and_then o (λ next. place_made types next place d)) ≡ run types table (place_known s place ++ (ys ++ place_same s place))
 unfolding place_found name_found place_made
 placed_is types table s None o ys h = ap (λ q. and_then q Goes) h ∙ sym (append_run types table ys [])
@@ -163,7 +167,8 @@ built_is g table s c es place con =
     (test_is g.types table (not (is_inline g.types con) || not (is_some place)) _ _ _
     (placed_is g.types table s place (all_same g.types table (lines_of es) (guesses_of g s es) ts) (same_steps g s es ts) (all_same_is g.types table g s es ts)))
 
-called_is : (g : Globals Guess) (table : List Guess) (s : Scope Guess) (f : Name) (es : Expressions) (h : Option (Head Guess)) → called g.types table f (lines_of es) (guesses_of g s es) h ≡ run g.types table (call_steps g s f es h)
+called_is : (g : Globals Guess) (table : List Guess) (s : Scope Guess) (f : Name) (es : Expressions) (h : Option (Head Guess))
+    → called g.types table f (lines_of es) (guesses_of g s es) h ≡ run g.types table (call_steps g s f es h)
 unfolding called arity_checked
 called_is g table s f es None = refl
 called_is g table s f es (Some h) =
@@ -204,7 +209,8 @@ WalkArmsIs g s as' = (w : Work) (numbers : List ℕ) (first : ℕ) (body : Guess
 
 -- an expression, and what stands behind it
 pub behind : {A : Type 0} (g : Globals Guess) (s : Scope Guess) (w : Work) (e : Expression) (ys : List Step) (K : Found → Walked A) (G : List Guess → A)
-    → WalkIs g s e → ((t : List Guess) → K (answered w (atoms_of Known g s e) (guess g s e) t) ≡ giving G (run g.types t ys)) → and_then (walk g s w e) K ≡ giving G (run g.types w.table (steps g s e ++ ys))
+    → WalkIs g s e → ((t : List Guess) → K (answered w (atoms_of Known g s e) (guess g s e) t) ≡ giving G (run g.types t ys))
+    → and_then (walk g s w e) K ≡ giving G (run g.types w.table (steps g s e ++ ys))
 behind g s w e ys K G h k = part g.types w.table (steps g s e) ys (walk g s w e) (answered w (atoms_of Known g s e) (guess g s e)) K G (h w) k
 
 -- all atoms, those of the parts and its own
@@ -326,7 +332,8 @@ match_is g s inner w e c fs x b as' l (Some con) he hb ha =
 mutual
   unfolding walk noted
 
-  pub walk_is : (g : Globals Guess) (s : Scope Guess) (w : Work) (e : Expression) → walk g s w e ≡ ended (run g.types w.table (steps g s e)) w (atoms_of Known g s e) (guess g s e)
+  pub walk_is : (g : Globals Guess) (s : Scope Guess) (w : Work) (e : Expression)
+      → walk g s w e ≡ ended (run g.types w.table (steps g s e)) w (atoms_of Known g s e) (guess g s e)
   walk_is g s w (Num z l) = refl
   walk_is g s w (Truth b l) = refl
   walk_is g s w (Var n) = var_is g s n w
@@ -372,7 +379,8 @@ unwound_spine g s w (Match e as' l) = refl
 unwound_spine g s w (Build c es place) = refl
 unwound_spine g s w (Call f es) = refl
 
-pub unwound_last : (g : Globals Guess) (s : Scope Guess) (ps : List Expression) (p : Expression) (o : Walked Found) → unwound g s (ps ++ p ∷ []) o ≡ unwound g s ps (and_then o (rest_of g s p))
+pub unwound_last : (g : Globals Guess) (s : Scope Guess) (ps : List Expression) (p : Expression) (o : Walked Found)
+    → unwound g s (ps ++ p ∷ []) o ≡ unwound g s ps (and_then o (rest_of g s p))
 unwound_last g s [] p o = refl
 unwound_last g s (q ∷ ps) p o = ap (λ r. and_then r (rest_of g s q)) (unwound_last g s ps p o)
 

@@ -8,7 +8,7 @@ use Rattle.camelot_tree.specs.declared.tree.Param.{Param}
 use Rattle.camelot_tree.specs.Tree as tree
 use Rattle.camelot_tree.specs.Tree.{Constructor, Function, Source}
 use Rattle.camelot_values.specs.declared.kinds.Kind.{Kind}
-use Rattle.typing_rules.specs.Kinds.{kind_of_atom}
+use Rattle.camelot_typing.specs.Kinds.{kind_of_atom}
 use Rattle.camelot_types.specs.declared.fault.TypeFault.TheVariants.{UnknownType, TooManyFields, TooMany}
 use Rattle.camelot_types.specs.Walk.{line_above, words, con_names, param_names}
 use Rattle.camelot_types.specs.Solving.{Walked, Goes, Stops, and_then, names_checked}

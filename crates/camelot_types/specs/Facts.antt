@@ -2,7 +2,7 @@
 -- What the code keeps of constructors, by their numbers.
 use Rattle.std.specs.Prelude.{ℕ, suc, ◌+◌, List, [], ◌∷◌, ◌++◌, map, length}
 use Rattle.camelot_values.specs.Kinds.{Constructor, DataType, constructor_of}
-use Rattle.typing_rules.specs.Kinds.{numbered}
+use Rattle.camelot_typing.specs.Kinds.{numbered}
 use Rattle.camelot_types.specs.declared.facts.ConFact.{ConFact}
 
 -- a constructor, and the number of its type

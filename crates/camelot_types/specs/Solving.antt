@@ -1,6 +1,6 @@
 -- Private: words for functions of this crate.
--- What private functions do: the steps of the walk, done one by one over a table of what is known of each unknown. An unknown
--- stands in the table for itself until an equality gives it a kind or another unknown.
+-- What private functions do: the steps of the walk, done one by one over a table of what is known of each unknown. An
+-- unknown stands in the table for itself until an equality gives it a kind or another unknown.
 use Rattle.std.specs.Prelude.{ℕ, zero, suc, ◌+◌, ◌==◌, ◌||◌, not, Bool, true, false, if◌then◌else◌, List, [], ◌∷◌, ◌++◌, map, length, Option, Some, None, is_some, get_or}
 use Rattle.std.specs.List.{list_any}
 use Rattle.std.specs.Option.{option_map_or}
@@ -13,9 +13,9 @@ use Rattle.camelot_tree.specs.declared.tree.Name.{Name}
 use Rattle.camelot_tree.specs.declared.tree.ArmCell.{ArmCell}
 use Rattle.camelot_tree.specs.Tree.{Function, Expression, Num, Truth, Var, Prim, If, Let, Match, Build, Call, Expressions, NoExpressions, AndExpression, Arms, NoArms, AndArm}
 use Rattle.camelot_values.specs.Names.{find}
-use Rattle.typing_rules.specs.Kinds.{Head, Globals, Scope, bind, constructor_number, fields_of, is_inline, head_of, bound_names, arm_scope}
-use Rattle.typing_rules.specs.Typing.{params_scope}
-use Rattle.typing_rules.specs.Typed.{FunctionKinds}
+use Rattle.camelot_typing.specs.Kinds.{Head, Globals, Scope, bind, constructor_number, fields_of, is_inline, head_of, bound_names, arm_scope}
+use Rattle.camelot_typing.specs.Typing.{params_scope}
+use Rattle.camelot_typing.specs.Typed.{FunctionKinds}
 use Rattle.camelot_types.specs.Walk.{Step, Must, Same, kind_name, line_of, con_guess, cons_of_type}
 use Rattle.camelot_tree.specs.Cells.{has_cell}
 use Rattle.camelot_types.specs.declared.fault.TypeFault.{TypeFault}
@@ -113,7 +113,8 @@ names_checked earlier (n ∷ ns) = if stands earlier n.word then Stops (Duplicat
 unfoldable pub repeat_checked : Name → ℕ → List ℕ → Walked (Unit {0})
 repeat_checked c con earlier = if list_any (λ n. n == con) earlier then Stops (RepeatedArm c.word c.line) else Goes tt
 
--- what stands before an arm's body, behind arms of these constructors: the type of its constructor is compared with another one
+-- what stands before an arm's body, behind arms of these constructors: the type of its constructor is compared with
+-- another one
 unfoldable pub headed : List DataType → List Guess → (earlier : List ℕ) → (left right : Guess) → Name → ℕ → List (Option Name) → ArmCell → Walked (List Guess)
 headed types table earlier left right c con fs x =
     and_then (repeat_checked c con earlier) (λ u.

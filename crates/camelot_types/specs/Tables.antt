@@ -1,8 +1,8 @@
 -- Private: words for functions of this crate.
 -- What the code knows of the whole program, as plain data.
 use Rattle.std.specs.Prelude.{map}
-use Rattle.typing_rules.specs.Kinds.{Head}
-use Rattle.typing_rules.specs.Kinds as plain
+use Rattle.camelot_typing.specs.Kinds.{Head}
+use Rattle.camelot_typing.specs.Kinds as plain
 use Rattle.camelot_types.specs.declared.guess.Guess.{Guess}
 use Rattle.camelot_types.specs.declared.globals.FunHead.{FunHead}
 use Rattle.camelot_types.specs.declared.globals.Globals.{Globals}

@@ -1,8 +1,9 @@
 -- Cited by contracts.
--- The check of types as a walk through the program's text: a list of steps in their order. A step is a test, with the fault where it
--- fails, or two atoms that have to be the same. The atom of a parameter or a result that isn't written is an unknown, which has a
--- number; what is known so far of an atom is a guess. An equality fails where the earlier steps hold for some choice of the
--- unknowns, and with it for none (unification in the manner of Milner 1978, over atoms). The first step that fails is the fault.
+-- The check of types as a walk through the program's text: a list of steps in their order. A step is a test, with the
+-- fault where it fails, or two atoms that have to be the same. The atom of a parameter or a result that isn't written
+-- is an unknown, which has a number; what is known so far of an atom is a guess. An equality fails where the earlier
+-- steps hold for some choice of the unknowns, and with it for none (unification in the manner of Milner 1978, over
+-- atoms). The first step that fails is the fault.
 use Rattle.std.specs.Prelude.{◌≡◌, ℕ, suc, ◌+◌, nat_le, ◌==◌, ◌||◌, not, Bool, true, false, List, [], ◌∷◌, ◌++◌, map, flat_map, length, slice_get, Option, Some, None, is_some, codes, ⊤}
 use Rattle.std.specs.List.{AllByRecursion, list_any}
 use Rattle.std.specs.Option.{option_map_or}
@@ -18,11 +19,11 @@ use Rattle.camelot_tree.specs.declared.tree.ArmCell.{ArmCell}
 use Rattle.camelot_tree.specs.Tree.{Expression, Num, Truth, Var, Prim, If, Let, Match, Build, Call, Expressions, NoExpressions, AndExpression, Arms, NoArms, AndArm, Constructor, Function, Source}
 use Rattle.camelot_tree.specs.Tree as tree
 use Rattle.camelot_values.specs.Names.{find}
-use Rattle.typing_rules.specs.Kinds.{Head, Globals, Scope, bind, or_else, kind_of_atom, types_of, constructor_number, fields_of, is_inline, built_kind, numbers_of, head_of, bound_names, arm_scope, atom_of}
-use Rattle.typing_rules.specs.Typing.{params_scope}
+use Rattle.camelot_typing.specs.Kinds.{Head, Globals, Scope, bind, or_else, kind_of_atom, types_of, constructor_number, fields_of, is_inline, built_kind, numbers_of, head_of, bound_names, arm_scope, atom_of}
+use Rattle.camelot_typing.specs.Typing.{params_scope}
 use Rattle.camelot_tree.specs.Cells.{has_cell}
 use Rattle.camelot_types.specs.declared.fault.TypeFault.{TypeFault}
-use Rattle.camelot_types.specs.declared.fault.TypeFault.TheVariants.{UnknownName, UnknownType, Duplicate, Arity, Clash, MissingArm, RepeatedArm, TooManyFields, PlaceOnInline, TooMany, Memory}
+use Rattle.camelot_types.specs.declared.fault.TypeFault.TheVariants.{UnknownName, UnknownType, Duplicate, Arity, Clash, MissingArm, RepeatedArm, TooManyFields, PlaceOnInline, TooMany}
 use Rattle.camelot_types.specs.declared.guess.Guess.{Guess}
 use Rattle.camelot_types.specs.declared.guess.Guess.TheVariants.{Known, Unknown}
 
@@ -132,8 +133,8 @@ abbrev pub headers_steps : Source → List (List ℕ) → List Function → List
 headers_steps p earlier [] = []
 headers_steps p earlier (f ∷ fs) = header_steps p earlier f ++ headers_steps p (earlier ++ f.name.word ∷ []) fs
 
--- Every parameter and every result has a number, function by function in text order. What is written is known, and what isn't is
--- the unknown of that number.
+-- Every parameter and every result has a number, function by function in text order. What is written is known, and what
+-- isn't is the unknown of that number.
 abbrev pub guess_of : Source → ℕ → Option Atom → Guess
 guess_of p number None = Unknown number
 guess_of p number (Some a) = Known (or_else (kind_of_atom p a) kind.Int)
@@ -205,8 +206,8 @@ call_steps g s f es (Some h) = Must (argument_count es == length h.params) (Arit
 abbrev pub con_guess : List DataType → ℕ → Guess
 con_guess types con = Known (or_else (built_kind types con) kind.Int)
 
--- what stands before the body of an arm, behind arms of these constructors. Its constructor's type is compared with the first arm's, and
--- that of the first arm with the scrutinee's.
+-- what stands before the body of an arm, behind arms of these constructors. Its constructor's type is compared with the
+-- first arm's, and that of the first arm with the scrutinee's.
 abbrev pub head_steps : List DataType → List ℕ → (ℕ → Step) → Name → List (Option Name) → ArmCell → Option ℕ → List Step
 head_steps types earlier against c fs x None = Must false (UnknownName c.word c.line) ∷ []
 head_steps types earlier against c fs x (Some con) =
@@ -291,8 +292,3 @@ program_steps p =
 -- the first fault of a program
 abbrev pub HasFault : Source → TypeFault → Type 0
 HasFault p fault = IsFirstFault (types_of p) (program_steps p) fault
-
--- want of memory has no cause in the program
-abbrev pub HasCause : Source → TypeFault → Type 0
-HasCause p Memory = ⊤
-HasCause p fault = HasFault p fault

@@ -1,14 +1,15 @@
 //! What stands before the body of an arm, and arms that are missing.
 
 ghost use Rattle.std.specs.Prelude.{◌≡◌, ◌++◌, map, OnOk, IfOk, IfErr, Some};
-ghost use Rattle.typing_rules.specs.Kinds.{field_names, cell_names, bound_names, bind_fields, bind_cell, arm_scope, constructor_number};
+ghost use Rattle.camelot_typing.specs.Kinds.{field_names, cell_names, bound_names, bind_fields, bind_cell, arm_scope, constructor_number};
 ghost use Rattle.camelot_types.specs.Tables.{globals_view};
 ghost use Rattle.camelot_types.specs.Walk.{cons_of_type};
 ghost use Rattle.camelot_tree.specs.Cells.{has_cell};
 ghost use Rattle.camelot_types.specs.Solving.{Stops, headed, missing_checked};
 ghost use Rattle.camelot_types.specs.Doing.{StopsWith, Allows, Leaves};
 ghost use Rattle.camelot_values.specs.Kinds.{constructor_name};
-ghost use Rattle.camelot_types.specs.declared.fault.TypeFault.TheVariants.{MissingArm, Memory};
+ghost use Rattle.camelot_types.specs.declared.fault.TypeFault.TheVariants.{MissingArm};
+ghost use Rattle.stops.specs.declared.stop.Stop.TheVariants.{Memory};
 ghost use Rattle.camelot_types.specs.declared.guess.Guess.TheVariants.{Known};
 
 use crate::constructors::{fields_of, is_inline};
@@ -21,8 +22,9 @@ use crate::walker::Walker;
 use camelot_tree::{Arm, ArmCell, Name};
 use camelot_values::Kind;
 use std::alloc::{AllocError, Global};
+use stops::Stop;
 
-/// Whether an `@` stands in an arm.
+// Whether an `@` stands in an arm.
 fn has_cell(cell: &ArmCell) -> bool
     ensures { result ≡ has_cell cell.now }
 {
@@ -32,7 +34,7 @@ fn has_cell(cell: &ArmCell) -> bool
     }
 }
 
-/// The names that an arm binds, in text order.
+// The names that an arm binds, in text order.
 fn bound_names<'n>(
     alloc: Global,
     fields: &'n [Option<Name>],
@@ -60,7 +62,8 @@ pub(crate) struct BodyGuess {
 }
 
 impl<'a> Walker<'a> {
-    /// The head of an arm, behind arms of these constructors: two guesses are the same, one of them for the constructor's type.
+    /// The head of an arm, behind arms of these constructors: two guesses are the same, one of them for the
+    /// constructor's type.
     #[tactic(auto, unfolding(crate::specs::Solving::headed))]
     pub(crate) fn head(
         &mut self,
@@ -70,8 +73,9 @@ impl<'a> Walker<'a> {
         right: Guess,
         con: u32,
         arm: &Arm,
-    ) -> Result<(), TypeFault>
-        ensures done { Leaves (headed (globals_view globals.now).types self.old.table.items earlier.now left right arm.now.con con arm.now.fields.items arm.now.cell) self.new.table.items result }
+    ) -> Result<(), Stop<TypeFault>>
+        ensures done { Leaves (headed (globals_view globals.now).types self.old.table.items earlier.now left right
+            arm.now.con con arm.now.fields.items arm.now.cell) self.new.table.items result }
         ensures atoms { self.new.atoms.items ≡ self.old.atoms.items }
         ensures scope { self.new.scope ≡ self.old.scope }
     {
@@ -85,9 +89,13 @@ impl<'a> Walker<'a> {
         check_names(self.alloc, &names)
     }
 
-    /// Binds the names of an arm's fields.
-    fn bind_fields(&mut self, fields: &'a [Option<Name>], kinds: &[Kind]) -> Result<(), TypeFault>
-        ensures memory { IfErr result (λ fault. fault ≡ Memory) }
+    // Binds the names of an arm's fields.
+    fn bind_fields(
+        &mut self,
+        fields: &'a [Option<Name>],
+        kinds: &[Kind],
+    ) -> Result<(), Stop<TypeFault>>
+        ensures memory { IfErr result (λ stop. stop ≡ Memory) }
         ensures scope { OnOk result (self.new.scope ≡ bind_fields Known fields.now kinds.now self.old.scope) }
         ensures table { self.new.table.items ≡ self.old.table.items }
         ensures atoms { self.new.atoms.items ≡ self.old.atoms.items }
@@ -104,9 +112,9 @@ impl<'a> Walker<'a> {
         self.bind_fields(fields, kinds)
     }
 
-    /// Binds the name of an arm's cell.
-    fn bind_cell(&mut self, cell: &'a ArmCell) -> Result<(), TypeFault>
-        ensures memory { IfErr result (λ fault. fault ≡ Memory) }
+    // Binds the name of an arm's cell.
+    fn bind_cell(&mut self, cell: &'a ArmCell) -> Result<(), Stop<TypeFault>>
+        ensures memory { IfErr result (λ stop. stop ≡ Memory) }
         ensures scope { OnOk result (self.new.scope ≡ bind_cell Known cell.now self.old.scope) }
         ensures table { self.new.table.items ≡ self.old.table.items }
         ensures atoms { self.new.atoms.items ≡ self.old.atoms.items }
@@ -123,10 +131,11 @@ impl<'a> Walker<'a> {
         globals: &Globals<'_, '_>,
         con: u32,
         arm: &'a Arm,
-    ) -> Result<(), TypeFault>
+    ) -> Result<(), Stop<TypeFault>>
         requires { constructor_number (globals_view globals.now).types arm.now.con.word ≡ Some con }
-        ensures memory { IfErr result (λ fault. fault ≡ Memory) }
-        ensures scope { OnOk result (self.new.scope ≡ arm_scope Known (globals_view globals.now).types arm.now.con arm.now.fields.items arm.now.cell self.old.scope) }
+        ensures memory { IfErr result (λ stop. stop ≡ Memory) }
+        ensures scope { OnOk result (self.new.scope ≡ arm_scope Known
+            (globals_view globals.now).types arm.now.con arm.now.fields.items arm.now.cell self.old.scope) }
         ensures table { self.new.table.items ≡ self.old.table.items }
         ensures atoms { self.new.atoms.items ≡ self.old.atoms.items }
     {
@@ -134,8 +143,8 @@ impl<'a> Walker<'a> {
         self.bind_cell(&arm.cell)
     }
 
-    /// The fault of a match without an arm for this constructor.
-    fn missing(&self, globals: &Globals<'_, '_>, con: u32, line: u32) -> TypeFault
+    // The fault of a match without an arm for this constructor.
+    fn missing(&self, globals: &Globals<'_, '_>, con: u32, line: u32) -> Stop<TypeFault>
         ensures { StopsWith {A = Unit {0}} (Stops (MissingArm (constructor_name (globals_view globals.now).types con) line)) result }
     {
         let name = match globals.fact(con) {
@@ -143,11 +152,11 @@ impl<'a> Walker<'a> {
             None => word(self.alloc, b""),
         };
         match name {
-            Ok(con) => TypeFault::MissingArm {
+            Ok(con) => Stop::Fault(TypeFault::MissingArm {
                 con,
                 line: u64::from(line),
-            },
-            Err(_) => TypeFault::Memory,
+            }),
+            Err(_) => Stop::Memory,
         }
     }
 
@@ -159,7 +168,7 @@ impl<'a> Walker<'a> {
         there: &[u32],
         line: u32,
         con: u32,
-    ) -> Result<(), TypeFault>
+    ) -> Result<(), Stop<TypeFault>>
         ensures { Allows (missing_checked (globals_view globals.now).types there.now line (cons_of_type (globals_view globals.now).types con)) result }
     {
         'siblings: for sibling in globals.siblings(con) {

@@ -4,7 +4,7 @@ ghost use Rattle.std.specs.Prelude.{◌≡◌, ◌≤◌, map, length};
 ghost use Rattle.camelot_values.specs.Names.{place_among};
 ghost use Rattle.camelot_tree.specs.Tree.{data_type_of};
 ghost use Rattle.camelot_tree.specs.Programs.{program_of};
-ghost use Rattle.typing_rules.specs.Kinds.{kind_of_atom};
+ghost use Rattle.camelot_typing.specs.Kinds.{kind_of_atom};
 ghost use Rattle.camelot_types.specs.declared.fault.TypeFault.TheVariants.{UnknownType, TooMany};
 ghost use Rattle.camelot_types.specs.Solving.{Stops};
 ghost use Rattle.camelot_types.specs.Declaring.{atom_checked, atoms_checked, kind_written};
@@ -15,22 +15,23 @@ use crate::table::word;
 use camelot_tree::{Atom, Name, Program, TypeDecl};
 use camelot_values::Kind;
 use std::alloc::Global;
+use stops::Stop;
 
 /// The fault of too many declarations of some sort: how many there are, and the line of the first above the limit.
-pub(crate) fn too_many(alloc: Global, what: &[u8], have: usize, line: u32) -> TypeFault
+pub(crate) fn too_many(alloc: Global, what: &[u8], have: usize, line: u32) -> Stop<TypeFault>
     ensures { StopsWith {A = Unit {0}} (Stops (TooMany what.now have line)) result }
 {
     match word(alloc, what) {
-        Ok(what) => TypeFault::TooMany {
+        Ok(what) => Stop::Fault(TypeFault::TooMany {
             what,
             have: have as u64,
             line: u64::from(line),
-        },
-        Err(_) => TypeFault::Memory,
+        }),
+        Err(_) => Stop::Memory,
     }
 }
 
-/// The number of the type of this name.
+// The number of the type of this name.
 fn type_number(types: &[TypeDecl], name: &Name) -> Option<u32>
     requires { length types.now ≤ 64 }
     ensures { result ≡ place_among (map (λ t. t.name.word) (map data_type_of types.now)) name.now.word }
@@ -59,22 +60,26 @@ pub(crate) fn kind_of_atom(program: &Program, atom: &Atom) -> Option<Kind>
     }
 }
 
-/// The fault at a type that isn't declared.
-fn unknown_type(alloc: Global, name: &Name) -> TypeFault
+// The fault at a type that isn't declared.
+fn unknown_type(alloc: Global, name: &Name) -> Stop<TypeFault>
     ensures { StopsWith {A = Unit {0}} (Stops (UnknownType name.now.word name.now.line)) result }
 {
     match name.word.copy(alloc) {
-        Ok(word) => TypeFault::UnknownType {
+        Ok(word) => Stop::Fault(TypeFault::UnknownType {
             name: word,
             line: u64::from(name.line),
-        },
-        Err(_) => TypeFault::Memory,
+        }),
+        Err(_) => Stop::Memory,
     }
 }
 
 /// Refuses a written atom whose type isn't declared.
 #[tactic(auto, unfolding(crate::specs::Declaring::atom_checked, crate::specs::Declaring::kind_checked))]
-pub(crate) fn check_atom(alloc: Global, program: &Program, atom: &Atom) -> Result<(), TypeFault>
+pub(crate) fn check_atom(
+    alloc: Global,
+    program: &Program,
+    atom: &Atom,
+) -> Result<(), Stop<TypeFault>>
     requires { length program.now.types.items ≤ 64 }
     ensures { Allows (atom_checked (program_of program.now) atom.now) result }
 {
@@ -89,7 +94,11 @@ pub(crate) fn check_atom(alloc: Global, program: &Program, atom: &Atom) -> Resul
 
 /// Refuses a written atom whose type isn't declared, among these.
 #[tactic(auto, unfolding(crate::specs::Declaring::atoms_checked))]
-pub(crate) fn check_atoms(alloc: Global, program: &Program, atoms: &[Atom]) -> Result<(), TypeFault>
+pub(crate) fn check_atoms(
+    alloc: Global,
+    program: &Program,
+    atoms: &[Atom],
+) -> Result<(), Stop<TypeFault>>
     requires { length program.now.types.items ≤ 64 }
     ensures { Allows (atoms_checked (program_of program.now) atoms.now) result }
 {
@@ -105,7 +114,7 @@ pub(crate) fn check_kind(
     alloc: Global,
     program: &Program,
     kind: &Option<Atom>,
-) -> Result<(), TypeFault>
+) -> Result<(), Stop<TypeFault>>
     requires { length program.now.types.items ≤ 64 }
     ensures { Allows (kind_written (program_of program.now) kind.now) result }
 {

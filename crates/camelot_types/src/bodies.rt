@@ -2,11 +2,11 @@
 
 ghost use Rattle.std.specs.Prelude.{◌≡◌, ◌++◌, [], OnOk, IfErr, map};
 ghost use Rattle.camelot_tree.specs.Tree.{function_of};
-ghost use Rattle.typing_rules.specs.Typing.{params_scope};
+ghost use Rattle.camelot_typing.specs.Typing.{params_scope};
 ghost use Rattle.camelot_types.specs.Tables.{globals_view, head_view};
 ghost use Rattle.camelot_types.specs.Solving.{body_walked, bodies_on};
 ghost use Rattle.camelot_types.specs.Ending.{FindsBody, FindsBodies};
-ghost use Rattle.camelot_types.specs.declared.fault.TypeFault.TheVariants.{Memory};
+ghost use Rattle.stops.specs.declared.stop.Stop.TheVariants.{Memory};
 
 use crate::builds::line_of;
 use crate::fault::TypeFault;
@@ -16,6 +16,7 @@ use crate::walker::Walker;
 use camelot_names::Scope;
 use camelot_tree::{FunDecl, Param, Rooms};
 use std::alloc::Global;
+use stops::Stop;
 
 /// The table behind a body, and the atoms of its expressions.
 #[derive(Drop)]
@@ -32,9 +33,9 @@ pub(crate) struct BodiesWork {
 }
 
 impl<'a> Walker<'a> {
-    /// Binds parameters, the first one innermost.
-    fn bind_params(&mut self, params: &'a [Param], guesses: &[Guess]) -> Result<(), TypeFault>
-        ensures memory { IfErr result (λ fault. fault ≡ Memory) }
+    // Binds parameters, the first one innermost.
+    fn bind_params(&mut self, params: &'a [Param], guesses: &[Guess]) -> Result<(), Stop<TypeFault>>
+        ensures memory { IfErr result (λ stop. stop ≡ Memory) }
         ensures scope { OnOk result (self.new.scope ≡ params_scope params.now guesses.now ++ self.old.scope) }
         ensures table { self.new.table.items ≡ self.old.table.items }
         ensures atoms { self.new.atoms.items ≡ self.old.atoms.items }
@@ -51,7 +52,7 @@ impl<'a> Walker<'a> {
     }
 }
 
-/// The body of a function.
+// The body of a function.
 #[tactic(auto, unfolding(crate::specs::Solving::body_walked))]
 fn walk_body(
     alloc: Global,
@@ -59,7 +60,7 @@ fn walk_body(
     table: Vec<Guess>,
     fun: &FunDecl,
     head: &FunHead<'_>,
-) -> Result<BodyWork, TypeFault>
+) -> Result<BodyWork, Stop<TypeFault>>
     ensures { FindsBody (body_walked (globals_view globals.now) (function_of fun.now) (head_view head.now) table.items) result }
 {
     let mut walker = Walker {
@@ -85,7 +86,7 @@ pub(crate) fn walk_bodies(
     globals: &Globals<'_, '_>,
     table: Vec<Guess>,
     funs: &[FunDecl],
-) -> Result<BodiesWork, TypeFault>
+) -> Result<BodiesWork, Stop<TypeFault>>
     ensures { FindsBodies (bodies_on (globals_view globals.now) table.items [] (map function_of funs.now) (globals_view globals.now).heads) result }
 {
     let mut work = BodiesWork {
@@ -101,7 +102,7 @@ pub(crate) fn walk_bodies(
                 work.table = body.table;
                 work.atoms.push(body.atoms)?;
             }
-            Err(fault) => return Err(fault),
+            Err(stop) => return Err(stop),
         }
     }
     Ok(work)

@@ -18,6 +18,7 @@ use crate::names::{check_arity, check_place, unknown_name};
 use crate::walker::Walker;
 use camelot_tree::{Expr, Name};
 use camelot_values::Kind;
+use stops::Stop;
 
 /// The line of an expression's first token; a `let` counts with that of its name.
 pub(crate) fn line_of(expr: &Expr) -> u32
@@ -37,9 +38,9 @@ pub(crate) fn line_of(expr: &Expr) -> u32
 }
 
 impl Walker<'_> {
-    /// The guess for the diamond that a build names, where it names one.
+    // The guess for the diamond that a build names, where it names one.
     #[tactic(auto, unfolding(crate::specs::Solving::place_found))]
-    fn place(&self, place: &Option<Name>) -> Result<Option<Guess>, TypeFault>
+    fn place(&self, place: &Option<Name>) -> Result<Option<Guess>, Stop<TypeFault>>
         ensures { Gives (place_found self.now.scope place.now) result }
     {
         match place {
@@ -48,14 +49,14 @@ impl Walker<'_> {
         }
     }
 
-    /// Makes what a build names a diamond.
+    // Makes what a build names a diamond.
     #[tactic(auto, unfolding(crate::specs::Solving::place_made))]
     fn same_place(
         &mut self,
         globals: &Globals<'_, '_>,
         place: &Option<Name>,
         guess: Option<Guess>,
-    ) -> Result<(), TypeFault>
+    ) -> Result<(), Stop<TypeFault>>
         ensures done { Leaves (place_made (globals_view globals.now).types self.old.table.items place.now guess) self.new.table.items result }
         ensures atoms { self.new.atoms.items ≡ self.old.atoms.items }
         ensures scope { self.new.scope ≡ self.old.scope }
@@ -68,7 +69,7 @@ impl Walker<'_> {
         }
     }
 
-    /// Makes the guesses of arguments the same as those of parameters, from left to right.
+    // Makes the guesses of arguments the same as those of parameters, from left to right.
     #[tactic(auto, unfolding(crate::specs::Solving::all_same))]
     fn same_params(
         &mut self,
@@ -76,8 +77,9 @@ impl Walker<'_> {
         args: &[Expr],
         guesses: &[Guess],
         needed: &[Guess],
-    ) -> Result<(), TypeFault>
-        ensures done { Leaves (all_same (globals_view globals.now).types self.old.table.items (lines_of (expressions (map expression_of args.now))) guesses.now needed.now) self.new.table.items result }
+    ) -> Result<(), Stop<TypeFault>>
+        ensures done { Leaves (all_same (globals_view globals.now).types self.old.table.items
+            (lines_of (expressions (map expression_of args.now))) guesses.now needed.now) self.new.table.items result }
         ensures atoms { self.new.atoms.items ≡ self.old.atoms.items }
         ensures scope { self.new.scope ≡ self.old.scope }
     {
@@ -94,7 +96,7 @@ impl Walker<'_> {
         self.same_params(globals, args, guesses, needed)
     }
 
-    /// Makes the guesses of arguments the same as the kinds of fields, from left to right.
+    // Makes the guesses of arguments the same as the kinds of fields, from left to right.
     #[tactic(auto, unfolding(crate::specs::Solving::all_same))]
     fn same_fields(
         &mut self,
@@ -102,8 +104,10 @@ impl Walker<'_> {
         args: &[Expr],
         guesses: &[Guess],
         needed: &[Kind],
-    ) -> Result<(), TypeFault>
-        ensures done { Leaves (all_same (globals_view globals.now).types self.old.table.items (lines_of (expressions (map expression_of args.now))) guesses.now (map Known needed.now)) self.new.table.items result }
+    ) -> Result<(), Stop<TypeFault>>
+        ensures done { Leaves (all_same (globals_view globals.now).types self.old.table.items
+            (lines_of (expressions (map expression_of args.now))) guesses.now
+            (map Known needed.now)) self.new.table.items result }
         ensures atoms { self.new.atoms.items ≡ self.old.atoms.items }
         ensures scope { self.new.scope ≡ self.old.scope }
     {
@@ -130,8 +134,10 @@ impl Walker<'_> {
         args: &[Expr],
         guesses: &[Guess],
         place: &Option<Name>,
-    ) -> Result<(), TypeFault>
-        ensures done { Leaves (built (globals_view globals.now).types self.old.scope self.old.table.items name.now con (lines_of (expressions (map expression_of args.now))) guesses.now place.now) self.new.table.items result }
+    ) -> Result<(), Stop<TypeFault>>
+        ensures done { Leaves (built (globals_view globals.now).types self.old.scope self.old.table.items name.now
+            con (lines_of (expressions (map expression_of args.now))) guesses.now place.now) self.new.table.items
+            result }
         ensures atoms { self.new.atoms.items ≡ self.old.atoms.items }
         ensures scope { self.new.scope ≡ self.old.scope }
     {
@@ -152,8 +158,10 @@ impl Walker<'_> {
         head: Option<&FunHead<'_>>,
         args: &[Expr],
         guesses: &[Guess],
-    ) -> Result<(), TypeFault>
-        ensures done { Leaves (called (globals_view globals.now).types self.old.table.items name.now (lines_of (expressions (map expression_of args.now))) guesses.now (option_map (λ h. head_view h.now) head.entry)) self.new.table.items result }
+    ) -> Result<(), Stop<TypeFault>>
+        ensures done { Leaves (called (globals_view globals.now).types self.old.table.items name.now
+            (lines_of (expressions (map expression_of args.now))) guesses.now
+            (option_map (λ h. head_view h.now) head.entry)) self.new.table.items result }
         ensures atoms { self.new.atoms.items ≡ self.old.atoms.items }
         ensures scope { self.new.scope ≡ self.old.scope }
     {

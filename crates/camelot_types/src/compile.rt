@@ -5,7 +5,7 @@ ghost use Rattle.camelot_values.specs.Kinds.{AreTypes};
 ghost use Rattle.camelot_values.specs.Kinds as values;
 ghost use Rattle.camelot_tree.specs.Tree as tree;
 ghost use Rattle.camelot_tree.specs.Programs.{program_of};
-ghost use Rattle.typing_rules.specs.Kinds.{field_kind, constructor_kinds, data_kinds, types_of, numbered};
+ghost use Rattle.camelot_typing.specs.Kinds.{field_kind, constructor_kinds, data_kinds, types_of, numbered};
 ghost use Rattle.camelot_types.specs.Facts.{numbers_from_type};
 
 use crate::atoms::kind_of_atom;
@@ -13,7 +13,7 @@ use camelot_tree::{Atom, ConDecl, Program, TypeDecl};
 use camelot_values::{Con, Kind, TypeDef, Types};
 use std::alloc::{AllocError, Global};
 
-/// The kind of a field.
+// The kind of a field.
 fn field_kind(program: &Program, atom: &Atom) -> Kind
     requires { length program.now.types.items ≤ 64 }
     ensures { result ≡ field_kind (program_of program.now) atom.now }
@@ -21,7 +21,7 @@ fn field_kind(program: &Program, atom: &Atom) -> Kind
     kind_of_atom(program, atom).unwrap_or(Kind::Int)
 }
 
-/// The kinds of fields.
+// The kinds of fields.
 fn field_kinds(alloc: Global, program: &Program, fields: &[Atom]) -> Result<Vec<Kind>, AllocError>
     requires { length program.now.types.items ≤ 64 }
     ensures { IfOk result (λ kinds. kinds.items ≡ map (field_kind (program_of program.now)) fields.now) }
@@ -33,7 +33,7 @@ fn field_kinds(alloc: Global, program: &Program, fields: &[Atom]) -> Result<Vec<
     Ok(kinds)
 }
 
-/// A constructor with the kinds of its fields.
+// A constructor with the kinds of its fields.
 fn compile_con(alloc: Global, program: &Program, decl: &ConDecl) -> Result<Con, AllocError>
     requires { length program.now.types.items ≤ 64 }
     ensures { IfOk result (λ con. values.constructor_of con ≡ constructor_kinds (program_of program.now) (tree.constructor_of decl.now)) }
@@ -45,7 +45,7 @@ fn compile_con(alloc: Global, program: &Program, decl: &ConDecl) -> Result<Con, 
     })
 }
 
-/// A type with the kinds of all fields.
+// A type with the kinds of all fields.
 fn compile_type(alloc: Global, program: &Program, decl: &TypeDecl) -> Result<TypeDef, AllocError>
     requires { length program.now.types.items ≤ 64 }
     ensures { IfOk result (λ def. values.data_type_of def ≡ data_kinds (program_of program.now) (tree.data_type_of decl.now)) }
@@ -71,7 +71,7 @@ pub(crate) fn compile_types(alloc: Global, program: &Program) -> Result<Types, A
     Ok(Types::new(defs))
 }
 
-/// The numbers of the constructors of one type, from the next number on.
+// The numbers of the constructors of one type, from the next number on.
 fn numbered(alloc: Global, next: &mut u32, cons: &[Con]) -> Result<Vec<u32>, AllocError>
     requires { next.old + length cons.now ≤ 4096 }
     ensures numbers { IfOk result (λ numbers. numbers.items ≡ numbered next.old (map values.constructor_of cons.now)) }

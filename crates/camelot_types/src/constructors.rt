@@ -2,7 +2,7 @@
 
 ghost use Rattle.std.specs.Prelude.{◌≡◌, ◌<◌, ◌^◌, IfOk};
 ghost use Rattle.camelot_values.specs.Kinds.{constructor_of, constructor, type_of};
-ghost use Rattle.typing_rules.specs.Kinds.{constructor_number, fields_of, is_inline, head_of};
+ghost use Rattle.camelot_typing.specs.Kinds.{constructor_number, fields_of, is_inline, head_of};
 ghost use Rattle.camelot_types.specs.Walk.{con_guess, cons_of_type};
 ghost use Rattle.camelot_types.specs.Tables.{globals_view, head_view};
 ghost use Rattle.camelot_types.specs.Solving.{con_found};
@@ -17,6 +17,7 @@ use crate::names::unknown_name;
 use camelot_tree::Name;
 use camelot_values::Kind;
 use std::alloc::Global;
+use stops::Stop;
 
 /// The kinds of a constructor's fields.
 pub(crate) fn fields_of<'g>(globals: &'g Globals<'_, '_>, con: u32) -> &'g [Kind]
@@ -60,7 +61,7 @@ impl Globals<'_, '_> {
 
     /// The number of the constructor of this name.
     #[tactic(auto, unfolding(crate::specs::Solving::con_found))]
-    pub(crate) fn con(&self, alloc: Global, name: &Name) -> Result<u32, TypeFault>
+    pub(crate) fn con(&self, alloc: Global, name: &Name) -> Result<u32, Stop<TypeFault>>
         ensures { Gives (con_found (globals_view self.now).types name.now (constructor_number (globals_view self.now).types name.now.word)) result }
     {
         match self.cons.number(name.word.bytes()) {

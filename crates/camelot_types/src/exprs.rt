@@ -1,11 +1,12 @@
-//! The walk of expressions. It goes along the left end of an expression in a loop, since trees are deep there and nowhere else.
+//! The walk of expressions. It goes along the left end of an expression in a loop, since trees are deep there and
+//! nowhere else.
 
 ghost use Rattle.std.specs.Prelude.{◌≡◌, ◌∷◌, ℕ, [], map, OnOk, Some};
 ghost use Rattle.camelot_tree.specs.Tree.{expression_of, expressions, branch_of, operator_of};
 ghost use Rattle.camelot_tree.specs.Tree as tree;
 ghost use Rattle.camelot_tree.specs.Spine.{IsLeaf};
 ghost use Rattle.camelot_values.specs.Typing.{operator_kind};
-ghost use Rattle.typing_rules.specs.Kinds.{arm_scope, constructor_number};
+ghost use Rattle.camelot_typing.specs.Kinds.{arm_scope, constructor_number};
 ghost use Rattle.camelot_types.specs.Tables.{globals_view};
 ghost use Rattle.camelot_types.specs.Working.{work_of};
 ghost use Rattle.camelot_types.specs.Solving.{walk, walk_all, walk_arms, rest_of, lines_of, first_arm, next_arm, match_walk};
@@ -22,8 +23,9 @@ use crate::table::word;
 use crate::walker::Walker;
 use camelot_tree::{Arm, Expr, Name, PrimOp};
 use camelot_values::Kind;
+use stops::Stop;
 
-/// The kind of what an operator gives.
+// The kind of what an operator gives.
 fn operator_kind(op: PrimOp) -> Kind
     ensures { result ≡ operator_kind (operator_of op) }
 {
@@ -41,7 +43,7 @@ impl<'a> Walker<'a> {
         &mut self,
         globals: &Globals<'_, '_>,
         expr: &'a Expr,
-    ) -> Result<Guess, TypeFault>
+    ) -> Result<Guess, Stop<TypeFault>>
         ensures found { Finds (walk (globals_view globals.now) self.old.scope (work_of self.old) (expression_of expr.now)) (work_of self.new) result }
         ensures scope { OnOk result (self.new.scope ≡ self.old.scope) }
     {
@@ -51,14 +53,14 @@ impl<'a> Walker<'a> {
         'up: while let Some(parent) = parents.pop() {
             match self.rest(globals, parent, guess) {
                 Ok(next) => guess = next,
-                Err(fault) => return Err(fault),
+                Err(stop) => return Err(stop),
             }
         }
         self.rooms.keep(parents);
         Ok(guess)
     }
 
-    /// What is left of an operator or a conditional, whose first part has this guess.
+    // What is left of an operator or a conditional, whose first part has this guess.
     #[cycle(walk)]
     #[tactic(auto, unfolding(crate::specs::Solving::rest_of))]
     fn rest(
@@ -66,8 +68,9 @@ impl<'a> Walker<'a> {
         globals: &Globals<'_, '_>,
         parent: &'a Expr,
         first: Guess,
-    ) -> Result<Guess, TypeFault>
-        ensures found { Finds (rest_of (globals_view globals.now) self.old.scope (expression_of parent.now) (record { work = work_of self.old; guess = first })) (work_of self.new) result }
+    ) -> Result<Guess, Stop<TypeFault>>
+        ensures found { Finds (rest_of (globals_view globals.now) self.old.scope (expression_of parent.now)
+            (record { work = work_of self.old; guess = first })) (work_of self.new) result }
         ensures scope { OnOk result (self.new.scope ≡ self.old.scope) }
     {
         match parent {
@@ -93,10 +96,10 @@ impl<'a> Walker<'a> {
         }
     }
 
-    /// What a left end begins with.
+    // What a left end begins with.
     #[cycle(walk)]
     #[tactic(auto, unfolding(crate::specs::Solving::walk))]
-    fn leaf(&mut self, globals: &Globals<'_, '_>, expr: &'a Expr) -> Result<Guess, TypeFault>
+    fn leaf(&mut self, globals: &Globals<'_, '_>, expr: &'a Expr) -> Result<Guess, Stop<TypeFault>>
         requires { IsLeaf (expression_of expr.now) }
         ensures found { Finds (walk (globals_view globals.now) self.old.scope (work_of self.old) (expression_of expr.now)) (work_of self.new) result }
         ensures scope { OnOk result (self.new.scope ≡ self.old.scope) }
@@ -116,7 +119,7 @@ impl<'a> Walker<'a> {
         }
     }
 
-    /// A `let`.
+    // A `let`.
     #[cycle(walk)]
     #[tactic(auto, unfolding(crate::specs::Solving::walk))]
     fn bound(
@@ -125,8 +128,9 @@ impl<'a> Walker<'a> {
         name: &'a Name,
         value: &'a Expr,
         body: &'a Expr,
-    ) -> Result<Guess, TypeFault>
-        ensures found { Finds (walk (globals_view globals.now) self.old.scope (work_of self.old) (tree.Let name.now (expression_of value.now) (expression_of body.now))) (work_of self.new) result }
+    ) -> Result<Guess, Stop<TypeFault>>
+        ensures found { Finds (walk (globals_view globals.now) self.old.scope (work_of self.old)
+            (tree.Let name.now (expression_of value.now) (expression_of body.now))) (work_of self.new) result }
         ensures scope { OnOk result (self.new.scope ≡ self.old.scope) }
     {
         let guess = self.expr(globals, value)?;
@@ -137,7 +141,7 @@ impl<'a> Walker<'a> {
         self.note(found)
     }
 
-    /// A build.
+    // A build.
     #[cycle(walk)]
     #[tactic(auto, unfolding(crate::specs::Solving::walk))]
     fn built(
@@ -146,8 +150,9 @@ impl<'a> Walker<'a> {
         con: &Name,
         args: &'a [Expr],
         place: &Option<Name>,
-    ) -> Result<Guess, TypeFault>
-        ensures found { Finds (walk (globals_view globals.now) self.old.scope (work_of self.old) (tree.Build con.now (expressions (map expression_of args.now)) place.now)) (work_of self.new) result }
+    ) -> Result<Guess, Stop<TypeFault>>
+        ensures found { Finds (walk (globals_view globals.now) self.old.scope (work_of self.old)
+            (tree.Build con.now (expressions (map expression_of args.now)) place.now)) (work_of self.new) result }
         ensures scope { OnOk result (self.new.scope ≡ self.old.scope) }
     {
         let guesses = self.args(globals, args)?;
@@ -156,7 +161,7 @@ impl<'a> Walker<'a> {
         self.note(con_guess(globals, number))
     }
 
-    /// A call.
+    // A call.
     #[cycle(walk)]
     #[tactic(auto, unfolding(crate::specs::Solving::walk))]
     fn called(
@@ -164,8 +169,9 @@ impl<'a> Walker<'a> {
         globals: &Globals<'_, '_>,
         fun: &Name,
         args: &'a [Expr],
-    ) -> Result<Guess, TypeFault>
-        ensures found { Finds (walk (globals_view globals.now) self.old.scope (work_of self.old) (tree.Call fun.now (expressions (map expression_of args.now)))) (work_of self.new) result }
+    ) -> Result<Guess, Stop<TypeFault>>
+        ensures found { Finds (walk (globals_view globals.now) self.old.scope (work_of self.old)
+            (tree.Call fun.now (expressions (map expression_of args.now)))) (work_of self.new) result }
         ensures scope { OnOk result (self.new.scope ≡ self.old.scope) }
     {
         let guesses = self.args(globals, args)?;
@@ -177,24 +183,30 @@ impl<'a> Walker<'a> {
         }
     }
 
-    /// Arguments in order, with their guesses.
+    // Arguments in order, with their guesses.
     #[cycle(walk)]
     #[tactic(auto, using(crate::proofs::Looping::args_begin, crate::proofs::Looping::args_more, crate::proofs::Looping::args_fail, crate::proofs::Looping::args_end))]
-    fn args(&mut self, globals: &Globals<'_, '_>, args: &'a [Expr]) -> Result<Vec<Guess>, TypeFault>
-        ensures found { FindsAll (walk_all (globals_view globals.now) self.old.scope (work_of self.old) (expressions (map expression_of args.now))) (work_of self.new) (lines_of (expressions (map expression_of args.now))) result }
+    fn args(
+        &mut self,
+        globals: &Globals<'_, '_>,
+        args: &'a [Expr],
+    ) -> Result<Vec<Guess>, Stop<TypeFault>>
+        ensures found { FindsAll (walk_all (globals_view globals.now) self.old.scope (work_of self.old)
+            (expressions (map expression_of args.now))) (work_of self.new)
+            (lines_of (expressions (map expression_of args.now))) result }
         ensures scope { OnOk result (self.new.scope ≡ self.old.scope) }
     {
         let mut guesses = Vec::new(self.alloc);
         'args: for arg in args {
             match self.expr(globals, arg) {
                 Ok(guess) => guesses.push(guess)?,
-                Err(fault) => return Err(fault),
+                Err(stop) => return Err(stop),
             }
         }
         Ok(guesses)
     }
 
-    /// A match.
+    // A match.
     #[cycle(walk)]
     #[tactic(auto, using(crate::proofs::Looping::finds_match))]
     fn matched(
@@ -203,14 +215,15 @@ impl<'a> Walker<'a> {
         on: &'a Expr,
         arms: &'a [Arm],
         line: u32,
-    ) -> Result<Guess, TypeFault>
-        ensures found { Finds (walk (globals_view globals.now) self.old.scope (work_of self.old) (tree.Match (expression_of on.now) (tree.arms (map branch_of arms.now)) line)) (work_of self.new) result }
+    ) -> Result<Guess, Stop<TypeFault>>
+        ensures found { Finds (walk (globals_view globals.now) self.old.scope (work_of self.old)
+            (tree.Match (expression_of on.now) (tree.arms (map branch_of arms.now)) line)) (work_of self.new) result }
         ensures scope { OnOk result (self.new.scope ≡ self.old.scope) }
     {
         self.match_arms(globals, on, arms, line)
     }
 
-    /// A match, arm by arm.
+    // A match, arm by arm.
     #[cycle(walk)]
     #[tactic(auto, unfolding(crate::specs::Solving::match_walk))]
     fn match_arms(
@@ -219,16 +232,17 @@ impl<'a> Walker<'a> {
         on: &'a Expr,
         arms: &'a [Arm],
         line: u32,
-    ) -> Result<Guess, TypeFault>
-        ensures found { Finds (match_walk (globals_view globals.now) self.old.scope (work_of self.old) (expression_of on.now) (tree.arms (map branch_of arms.now)) line) (work_of self.new) result }
+    ) -> Result<Guess, Stop<TypeFault>>
+        ensures found { Finds (match_walk (globals_view globals.now) self.old.scope (work_of self.old)
+            (expression_of on.now) (tree.arms (map branch_of arms.now)) line) (work_of self.new) result }
         ensures scope { OnOk result (self.new.scope ≡ self.old.scope) }
     {
         let scrutinee = self.expr(globals, on)?;
         let [first, arms @ ..] = arms else {
-            return Err(TypeFault::MissingArm {
+            return Err(Stop::Fault(TypeFault::MissingArm {
                 con: word(self.alloc, b"")?,
                 line: u64::from(line),
-            });
+            }));
         };
         let body = self.first_arm(globals, scrutinee, first)?;
         let numbers = self.arms(globals, body, arms)?;
@@ -236,7 +250,7 @@ impl<'a> Walker<'a> {
         self.note(body.guess)
     }
 
-    /// The body of an arm of this constructor.
+    // The body of an arm of this constructor.
     #[cycle(walk)]
     #[tactic(auto, using(crate::proofs::Looping::arm_left))]
     fn arm_body(
@@ -244,9 +258,11 @@ impl<'a> Walker<'a> {
         globals: &Globals<'_, '_>,
         con: u32,
         arm: &'a Arm,
-    ) -> Result<Guess, TypeFault>
+    ) -> Result<Guess, Stop<TypeFault>>
         requires { constructor_number (globals_view globals.now).types arm.now.con.word ≡ Some con }
-        ensures found { Finds (walk (globals_view globals.now) (arm_scope Known (globals_view globals.now).types arm.now.con arm.now.fields.items arm.now.cell self.old.scope) (work_of self.old) (branch_of arm.now).body) (work_of self.new) result }
+        ensures found { Finds (walk (globals_view globals.now)
+            (arm_scope Known (globals_view globals.now).types arm.now.con arm.now.fields.items arm.now.cell
+            self.old.scope) (work_of self.old) (branch_of arm.now).body) (work_of self.new) result }
         ensures scope { OnOk result (self.new.scope ≡ self.old.scope) }
     {
         let len = self.scope.len();
@@ -256,7 +272,7 @@ impl<'a> Walker<'a> {
         Ok(guess)
     }
 
-    /// The first arm of a match, whose scrutinee has this guess.
+    // The first arm of a match, whose scrutinee has this guess.
     #[cycle(walk)]
     #[tactic(auto, unfolding(crate::specs::Solving::first_arm), using(crate::proofs::Looping::number_found))]
     fn first_arm(
@@ -264,8 +280,10 @@ impl<'a> Walker<'a> {
         globals: &Globals<'_, '_>,
         scrutinee: Guess,
         arm: &'a Arm,
-    ) -> Result<BodyGuess, TypeFault>
-        ensures found { FindsArm (first_arm (globals_view globals.now) self.old.scope (work_of self.old) scrutinee (branch_of arm.now).con (branch_of arm.now).fields (branch_of arm.now).cell (branch_of arm.now).body) (work_of self.new) result }
+    ) -> Result<BodyGuess, Stop<TypeFault>>
+        ensures found { FindsArm (first_arm (globals_view globals.now) self.old.scope (work_of self.old) scrutinee
+            (branch_of arm.now).con (branch_of arm.now).fields (branch_of arm.now).cell (branch_of arm.now).body)
+            (work_of self.new) result }
         ensures scope { OnOk result (self.new.scope ≡ self.old.scope) }
     {
         let con = globals.con(self.alloc, &arm.con)?;
@@ -274,7 +292,7 @@ impl<'a> Walker<'a> {
         Ok(BodyGuess { con, guess })
     }
 
-    /// A further arm, behind arms of these constructors; the first arm is this one.
+    // A further arm, behind arms of these constructors; the first arm is this one.
     #[cycle(walk)]
     #[tactic(auto, unfolding(crate::specs::Solving::next_arm), using(crate::proofs::Looping::number_found))]
     fn next_arm(
@@ -283,8 +301,10 @@ impl<'a> Walker<'a> {
         numbers: &[u32],
         first: BodyGuess,
         arm: &'a Arm,
-    ) -> Result<BodyGuess, TypeFault>
-        ensures found { FindsArm (next_arm (globals_view globals.now) self.old.scope (work_of self.old) numbers.now first.con first.guess (branch_of arm.now).con (branch_of arm.now).fields (branch_of arm.now).cell (branch_of arm.now).body) (work_of self.new) result }
+    ) -> Result<BodyGuess, Stop<TypeFault>>
+        ensures found { FindsArm (next_arm (globals_view globals.now) self.old.scope
+            (work_of self.old) numbers.now first.con first.guess (branch_of arm.now).con (branch_of arm.now).fields
+            (branch_of arm.now).cell (branch_of arm.now).body) (work_of self.new) result }
         ensures scope { OnOk result (self.new.scope ≡ self.old.scope) }
     {
         let con = globals.con(self.alloc, &arm.con)?;
@@ -302,7 +322,7 @@ impl<'a> Walker<'a> {
         Ok(BodyGuess { con, guess })
     }
 
-    /// The arms behind the first one, which is this; the numbers of all arms.
+    // The arms behind the first one, which is this; the numbers of all arms.
     #[cycle(walk)]
     #[tactic(auto, using(crate::proofs::Looping::arms_begin, crate::proofs::Looping::arms_more, crate::proofs::Looping::arms_fail, crate::proofs::Looping::arms_end))]
     fn arms(
@@ -310,8 +330,9 @@ impl<'a> Walker<'a> {
         globals: &Globals<'_, '_>,
         first: BodyGuess,
         arms: &'a [Arm],
-    ) -> Result<Vec<u32>, TypeFault>
-        ensures found { FindsArms (walk_arms (globals_view globals.now) self.old.scope (work_of self.old) (first.con ∷ []) first.con first.guess (tree.arms (map branch_of arms.now))) (work_of self.new) result }
+    ) -> Result<Vec<u32>, Stop<TypeFault>>
+        ensures found { FindsArms (walk_arms (globals_view globals.now) self.old.scope (work_of self.old)
+            (first.con ∷ []) first.con first.guess (tree.arms (map branch_of arms.now))) (work_of self.new) result }
         ensures scope { OnOk result (self.new.scope ≡ self.old.scope) }
     {
         let mut numbers = Vec::new(self.alloc);
@@ -319,7 +340,7 @@ impl<'a> Walker<'a> {
         'arms: for arm in arms {
             match self.next_arm(globals, &numbers, first, arm) {
                 Ok(found) => numbers.push(found.con)?,
-                Err(fault) => return Err(fault),
+                Err(stop) => return Err(stop),
             }
         }
         Ok(numbers)

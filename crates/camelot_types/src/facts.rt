@@ -14,7 +14,7 @@ pub(crate) struct ConFact<'t> {
     pub(crate) owner: u32,
 }
 
-/// The constructors of the type of this number, behind the others.
+// The constructors of the type of this number, behind the others.
 fn add_facts<'t>(
     facts: &mut Vec<ConFact<'t>>,
     owner: u32,

@@ -1,8 +1,4 @@
-ghost use Rattle.std.specs.Prelude.{◌≡◌};
-ghost use Rattle.camelot_types.specs.declared.fault.TypeFault.TheVariants.{Memory};
-
 use camelot_values::Word;
-use std::alloc::{AllocError, AllocFailed};
 use thiserror::Error;
 
 /// Why a program has no types: the first step of the walk through its text that fails. Lines are counted from 1.
@@ -34,8 +30,8 @@ pub enum TypeFault {
         need: u64,
         line: u64,
     },
-    /// Two types that have to be the same and differ. Of two branches or arms the first one's is `left`; elsewhere `left` is the
-    /// type of what stands there, and `right` the one that is needed.
+    /// Two types that have to be the same and differ. Of two branches or arms the first one's is `left`; elsewhere
+    /// `left` is the type of what stands there, and `right` the one that is needed.
     #[error("clash {left} {right} line {line}")]
     Clash {
         left: Word,
@@ -67,31 +63,12 @@ pub enum TypeFault {
         con: Word,
         line: u64,
     },
-    /// More than 64 types, 64 constructors of one type, 64 functions or 16 parameters: `what` is `types`, `constructors`,
-    /// `functions` or `parameters`, and the line is that of the first above the limit.
+    /// More than 64 types, 64 constructors of one type, 64 functions or 16 parameters: `what` is `types`,
+    /// `constructors`, `functions` or `parameters`, and the line is that of the first above the limit.
     #[error("too-many {what} have {have} line {line}")]
     TooMany {
         what: Word,
         have: u64,
         line: u64,
     },
-    /// Memory ran out.
-    #[error("out of memory")]
-    Memory,
-}
-
-impl<T: Drop> From<AllocFailed<T>> for TypeFault {
-    ghost from_gives = { λ _ fault. fault ≡ Memory };
-
-    fn from(_failed: AllocFailed<T>) -> TypeFault {
-        TypeFault::Memory
-    }
-}
-
-impl From<AllocError> for TypeFault {
-    ghost from_gives = { λ _ fault. fault ≡ Memory };
-
-    fn from(_error: AllocError) -> TypeFault {
-        TypeFault::Memory
-    }
 }

@@ -15,7 +15,7 @@ use camelot_tree::{Atom, FunDecl, Param, Program};
 use camelot_values::Kind;
 use std::alloc::{AllocError, Global};
 
-/// What is known of a parameter or result of this number: its kind where it is written.
+// What is known of a parameter or result of this number: its kind where it is written.
 fn guess_of(program: &Program, number: u32, kind: &Option<Atom>) -> Guess
     requires { length program.now.types.items ≤ 64 }
     ensures { result ≡ guess_of (program_of program.now) number kind.now }
@@ -29,7 +29,7 @@ fn guess_of(program: &Program, number: u32, kind: &Option<Atom>) -> Guess
     }
 }
 
-/// What is known of parameters, the first of which has this number.
+// What is known of parameters, the first of which has this number.
 fn param_guesses(
     alloc: Global,
     program: &Program,
@@ -50,7 +50,7 @@ fn param_guesses(
     Ok(guesses)
 }
 
-/// What is known of a function, whose parameters have numbers from this one on.
+// What is known of a function, whose parameters have numbers from this one on.
 fn head_guess<'p>(
     alloc: Global,
     program: &Program,

@@ -1,5 +1,6 @@
-//! The types of Camelot programs: the rules of typing (`typing_rules`) decided, with the first fault of the walk through the text
-//! (`specs/Walk.antt`). Kinds that aren't written are found by unification, as in ML (Milner 1978), over kinds without type variables.
+//! The types of Camelot programs: the rules of typing (`camelot_typing`) decided, with the first fault of the walk
+//! through the text (`specs/Walk.antt`). Kinds that aren't written are found by unification, as in ML (Milner 1978),
+//! over kinds without type variables.
 #![tactic(auto)]
 
 mod arms;
@@ -23,6 +24,6 @@ mod table;
 mod types;
 mod walker;
 
+pub use camelot_typing::{FunKinds, Typed};
 pub use fault::TypeFault;
 pub use program::{check, check_program};
-pub use typing_rules::{FunKinds, Typed};

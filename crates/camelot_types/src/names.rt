@@ -10,30 +10,31 @@ ghost use Rattle.camelot_types.specs.Doing.{StopsWith, Allows};
 use crate::fault::TypeFault;
 use camelot_tree::Name;
 use std::alloc::Global;
+use stops::Stop;
 
 /// The fault at a name that isn't there.
-pub(crate) fn unknown_name(alloc: Global, name: &Name) -> TypeFault
+pub(crate) fn unknown_name(alloc: Global, name: &Name) -> Stop<TypeFault>
     ensures { StopsWith {A = Unit {0}} (Stops (UnknownName name.now.word name.now.line)) result }
 {
     match name.word.copy(alloc) {
-        Ok(word) => TypeFault::UnknownName {
+        Ok(word) => Stop::Fault(TypeFault::UnknownName {
             name: word,
             line: u64::from(name.line),
-        },
-        Err(_) => TypeFault::Memory,
+        }),
+        Err(_) => Stop::Memory,
     }
 }
 
 /// A name that stands before.
-pub(crate) fn duplicate(alloc: Global, name: &Name) -> TypeFault
+pub(crate) fn duplicate(alloc: Global, name: &Name) -> Stop<TypeFault>
     ensures { StopsWith {A = Unit {0}} (Stops (Duplicate name.now.word name.now.line)) result }
 {
     match name.word.copy(alloc) {
-        Ok(word) => TypeFault::Duplicate {
+        Ok(word) => Stop::Fault(TypeFault::Duplicate {
             name: word,
             line: u64::from(name.line),
-        },
-        Err(_) => TypeFault::Memory,
+        }),
+        Err(_) => Stop::Memory,
     }
 }
 
@@ -51,7 +52,7 @@ pub(crate) fn stands(earlier: &[&Name], name: &Name) -> bool
 
 /// Refuses a name that stands twice among these.
 #[tactic(auto, unfolding(crate::specs::Solving::names_checked))]
-pub(crate) fn check_names(alloc: Global, names: &[&Name]) -> Result<(), TypeFault>
+pub(crate) fn check_names(alloc: Global, names: &[&Name]) -> Result<(), Stop<TypeFault>>
     ensures { Allows (names_checked [] (map (λ n. n.now) names.now)) result }
 {
     'names: for (index, name) in names.iter().enumerate() {
@@ -69,18 +70,18 @@ pub(crate) fn check_arity(
     name: &Name,
     have: usize,
     need: usize,
-) -> Result<(), TypeFault>
+) -> Result<(), Stop<TypeFault>>
     ensures { Allows (arity_checked name.now have need) result }
 {
     if have == need {
         return Ok(());
     }
-    Err(TypeFault::Arity {
+    Err(Stop::Fault(TypeFault::Arity {
         name: name.word.copy(alloc)?,
         have: have as u64,
         need: need as u64,
         line: u64::from(name.line),
-    })
+    }))
 }
 
 /// Refuses an `@` on an inline constructor.
@@ -90,16 +91,16 @@ pub(crate) fn check_place(
     con: &Name,
     inline: bool,
     placed: bool,
-) -> Result<(), TypeFault>
+) -> Result<(), Stop<TypeFault>>
     ensures { Allows (place_checked con.now inline placed) result }
 {
     if !inline || !placed {
         return Ok(());
     }
-    Err(TypeFault::PlaceOnInline {
+    Err(Stop::Fault(TypeFault::PlaceOnInline {
         con: con.word.copy(alloc)?,
         line: u64::from(con.line),
-    })
+    }))
 }
 
 /// Refuses a constructor that an earlier arm has.
@@ -109,14 +110,14 @@ pub(crate) fn check_repeat(
     con: &Name,
     number: u32,
     earlier: &[u32],
-) -> Result<(), TypeFault>
+) -> Result<(), Stop<TypeFault>>
     ensures { Allows (repeat_checked con.now number earlier.now) result }
 {
     if !earlier.contains(&number) {
         return Ok(());
     }
-    Err(TypeFault::RepeatedArm {
+    Err(Stop::Fault(TypeFault::RepeatedArm {
         con: con.word.copy(alloc)?,
         line: u64::from(con.line),
-    })
+    }))
 }

@@ -2,16 +2,16 @@ ghost use Rattle.std.specs.Prelude.{◌≡◌, ◌≤◌, ◌⊎◌, List, lengt
 ghost use Rattle.std.specs.List.{AllByRecursion};
 ghost use Rattle.camelot_values.specs.Kinds.{constructors};
 ghost use Rattle.camelot_tree.specs.Programs.{program_of};
-ghost use Rattle.typing_rules.specs.Kinds.{types_of};
-ghost use Rattle.typing_rules.specs.Typing.{Signature, IsTyped, IsWithinLimits, globals_of};
-ghost use Rattle.typing_rules.specs.Typed.{typing_kinds, functions_kinds};
-ghost use Rattle.typing_rules.specs.TypedPrograms.{typing_of};
-ghost use Rattle.typing_rules.specs.Settled.{KindsSettled};
+ghost use Rattle.camelot_typing.specs.Kinds.{types_of};
+ghost use Rattle.camelot_typing.specs.Typing.{Signature, IsTyped, IsWithinLimits, globals_of};
+ghost use Rattle.camelot_typing.specs.Typed.{typing_kinds, functions_kinds};
+ghost use Rattle.camelot_typing.specs.TypedPrograms.{typing_of};
+ghost use Rattle.camelot_typing.specs.Settled.{KindsSettled};
 ghost use Rattle.camelot_types.specs.Walk.{HasFault};
 ghost use Rattle.camelot_types.specs.Checked.{BodiesChecked, Checks};
-ghost use Rattle.camelot_types.specs.Walk.{HasCause};
 ghost use Rattle.camelot_types.specs.declared.fault.TypeFault.{TypeFault};
-ghost use Rattle.camelot_types.specs.declared.fault.TypeFault.TheVariants.{Memory};
+ghost use Rattle.stops.specs.declared.stop.Stop.TheVariants.{Fault, Memory};
+ghost use Rattle.stops.specs.Stopping.{FaultIs};
 
 use crate::bodies::walk_bodies;
 use crate::compile::{compile_types, type_numbers};
@@ -24,18 +24,19 @@ use crate::settle::{fresh, settled_funs};
 use crate::types::check_types;
 use camelot_names::Names;
 use camelot_tree::Program;
+use camelot_typing::{FunKinds, Typed};
 use camelot_values::Types;
 use std::alloc::Global;
-use typing_rules::{FunKinds, Typed};
+use stops::Stop;
 
-/// The kinds of all functions, whose declarations and headers are checked.
+// The kinds of all functions, whose declarations and headers are checked.
 fn check_bodies<'p>(
     alloc: Global,
     program: &'p Program,
     types: &Types,
     cons: Names<'p>,
     funs: Names<'p>,
-) -> Result<Vec<FunKinds>, TypeFault>
+) -> Result<Vec<FunKinds>, Stop<TypeFault>>
     requires types { types.now ≡ types_of (program_of program.now) }
     requires few_types { length program.now.types.items ≤ 64 }
     requires few_funs { length program.now.funs.items ≤ 64 }
@@ -59,7 +60,7 @@ fn check_bodies<'p>(
     let table = fresh(alloc, unknowns(&program.funs))?;
     match walk_bodies(alloc, &globals, table, &program.funs) {
         Ok(work) => Ok(settled_funs(alloc, &work.table, &globals.heads, &work.atoms)?),
-        Err(fault) => Err(fault),
+        Err(stop) => Err(stop),
     }
 }
 
@@ -70,49 +71,52 @@ struct Parts {
     funs: Vec<FunKinds>,
 }
 
-fn check_parts(alloc: Global, program: &Program) -> Result<Parts, TypeFault>
+fn check_parts(alloc: Global, program: &Program) -> Result<Parts, Stop<TypeFault>>
     ensures { Checks (program_of program.now) result }
 {
     let cons = match check_types(alloc, program) {
         Ok(cons) => cons,
-        Err(fault) => return Err(fault),
+        Err(stop) => return Err(stop),
     };
     let funs = match check_headers(alloc, program) {
         Ok(funs) => funs,
-        Err(fault) => return Err(fault),
+        Err(stop) => return Err(stop),
     };
     let types = compile_types(alloc, program)?;
     match check_bodies(alloc, program, &types, cons, funs) {
         Ok(funs) => Ok(Parts { types, funs }),
-        Err(fault) => Err(fault),
+        Err(stop) => Err(stop),
     }
 }
 
 /// Checks the types of a program, which becomes that of the answer.
 ///
-/// A program is typed where some choice of one kind for each parameter, result, local and expression obeys the rules of ML's typing
-/// (Milner 1978) without type parameters; a kind that nothing fixes becomes `int`. The walk through the text is
-/// `specs/Walk.antt`.
+/// A program is typed where some choice of one kind for each parameter, result, local and expression obeys the rules of
+/// ML's typing (Milner 1978) without type parameters; a kind that nothing fixes becomes `int`. The walk through the
+/// text is `specs/Walk.antt`.
 ///
 /// # Errors
 ///
-/// The first step of the walk that fails: first the declarations of types, then the headers of functions, then their bodies, each in text
-/// order; see [`TypeFault`]. [`TypeFault::Memory`] where memory runs out.
-pub fn check_program(alloc: Global, program: Program) -> Result<Typed, TypeFault>
+/// The first step of the walk that fails: first the declarations of types, then the headers of functions, then their
+/// bodies, each in text order; see [`TypeFault`]. [`Stop::Memory`] where memory runs out.
+pub fn check_program(alloc: Global, program: Program) -> Result<Typed, Stop<TypeFault>>
     // The answer is this program, typed with these kinds, within the limits.
     ensures program { IfOk result (λ typed. (typing_of typed).source ≡ program_of program) }
+    // The kinds in the answer obey the rules of typing.
     ensures typed { IfOk result (λ typed. IsTyped (program_of program) (typing_of typed).signatures) }
+    // The program is within the limits.
     ensures within { IfOk result (λ _. IsWithinLimits (program_of program)) }
     // A kind other than `int` is the same in every choice that obeys the rules.
     ensures settled { IfOk result (λ typed. (signatures : List Signature) → IsTyped (program_of program) signatures
         → KindsSettled (typing_kinds (typing_of typed)) (functions_kinds (globals_of (program_of program) signatures) (program_of program).funs signatures)) }
     // A fault is the first one of the walk.
-    ensures fault { IfErr result (HasCause (program_of program)) }
+    ensures fault { IfErr result (FaultIs (HasFault (program_of program))) }
     // A typed program within the limits is taken, and one that has a fault is refused for it, unless memory runs out.
     ensures takes { (signatures : List Signature) → IsTyped (program_of program) signatures → IsWithinLimits (program_of program)
         → MatchResult result (λ _. ⊤) (λ found. found ≡ Memory) }
+    // A program with a first fault is refused for it, unless memory runs out.
     ensures refuses { (fault : TypeFault) → HasFault (program_of program) fault
-        → MatchResult result (λ _. ⊥) (λ found. (found ≡ fault) ⊎ (found ≡ Memory)) }
+        → MatchResult result (λ _. ⊥) (λ found. (found ≡ Fault fault) ⊎ (found ≡ Memory)) }
 {
     match check_parts(alloc, &program) {
         Ok(parts) => Ok(Typed {
@@ -120,22 +124,30 @@ pub fn check_program(alloc: Global, program: Program) -> Result<Typed, TypeFault
             types: parts.types,
             funs: parts.funs,
         }),
-        Err(fault) => Err(fault),
+        Err(stop) => Err(stop),
     }
 }
 
 /// Checks the types of a copy of the program, as [`check_program`] does.
-pub fn check(alloc: Global, program: &Program) -> Result<Typed, TypeFault>
+pub fn check(alloc: Global, program: &Program) -> Result<Typed, Stop<TypeFault>>
+    // The program in the answer is this one.
     ensures program { IfOk result (λ typed. (typing_of typed).source ≡ program_of program.now) }
+    // The kinds in the answer obey the rules of typing.
     ensures typed { IfOk result (λ typed. IsTyped (program_of program.now) (typing_of typed).signatures) }
+    // The program is within the limits.
     ensures within { IfOk result (λ _. IsWithinLimits (program_of program.now)) }
+    // A kind other than `int` in the answer is the same in every choice of kinds that obeys the rules.
     ensures settled { IfOk result (λ typed. (signatures : List Signature) → IsTyped (program_of program.now) signatures
-        → KindsSettled (typing_kinds (typing_of typed)) (functions_kinds (globals_of (program_of program.now) signatures) (program_of program.now).funs signatures)) }
-    ensures fault { IfErr result (HasCause (program_of program.now)) }
+        → KindsSettled (typing_kinds (typing_of typed))
+        (functions_kinds (globals_of (program_of program.now) signatures) (program_of program.now).funs signatures)) }
+    // A fault that is answered is the program's first.
+    ensures fault { IfErr result (FaultIs (HasFault (program_of program.now))) }
+    // A program that is typed for some kinds within the limits is taken, unless memory runs out.
     ensures takes { (signatures : List Signature) → IsTyped (program_of program.now) signatures → IsWithinLimits (program_of program.now)
         → MatchResult result (λ _. ⊤) (λ found. found ≡ Memory) }
+    // A program with a first fault is refused for it, unless memory runs out.
     ensures refuses { (fault : TypeFault) → HasFault (program_of program.now) fault
-        → MatchResult result (λ _. ⊥) (λ found. (found ≡ fault) ⊎ (found ≡ Memory)) }
+        → MatchResult result (λ _. ⊥) (λ found. (found ≡ Fault fault) ⊎ (found ≡ Memory)) }
 {
     let copy = program.copy(alloc)?;
     check_program(alloc, copy)

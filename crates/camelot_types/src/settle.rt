@@ -1,18 +1,18 @@
 //! The kinds that the walk leaves for guesses.
 
 ghost use Rattle.std.specs.Prelude.{◌≡◌, map, IfOk};
-ghost use Rattle.typing_rules.specs.Typed.{kinds_of};
+ghost use Rattle.camelot_typing.specs.Typed.{kinds_of};
 ghost use Rattle.camelot_types.specs.Tables.{head_view};
 ghost use Rattle.camelot_types.specs.Solving.{closed, settled, settled_funs, fresh};
 
 use crate::globals::FunHead;
 use crate::guess::Guess;
 use crate::table::looked_up;
+use camelot_typing::FunKinds;
 use camelot_values::Kind;
 use std::alloc::{AllocError, Global};
-use typing_rules::FunKinds;
 
-/// The kind that the table leaves for a guess: `int` where nothing fixes it.
+// The kind that the table leaves for a guess: `int` where nothing fixes it.
 fn settled(table: &[Guess], guess: Guess) -> Kind
     ensures { result ≡ settled table.now guess }
 {
@@ -38,7 +38,13 @@ fn settled_fun(
     head: &FunHead<'_>,
     atoms: &[Guess],
 ) -> Result<FunKinds, AllocError>
-    ensures { IfOk result (λ kinds. kinds_of kinds ≡ record { params = map (settled table.now) (head_view head.now).params; result = settled table.now (head_view head.now).result; exprs = map (settled table.now) atoms.now }) }
+    ensures { IfOk result (λ kinds. kinds_of kinds
+        ≡ record {
+          params = map (settled table.now) (head_view head.now).params;
+          result = settled table.now
+              (head_view head.now).result;
+          exprs = map (settled table.now) atoms.now;
+        }) }
 {
     Ok(FunKinds {
         params: settled_all(alloc, table, &head.params)?,

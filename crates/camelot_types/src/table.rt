@@ -12,6 +12,7 @@ use crate::fault::TypeFault;
 use crate::guess::Guess;
 use camelot_values::{Kind, Types, Word};
 use std::alloc::{AllocError, Global};
+use stops::Stop;
 
 /// A name of these bytes.
 pub(crate) fn word(alloc: Global, bytes: &[u8]) -> Result<Word, AllocError>
@@ -20,7 +21,7 @@ pub(crate) fn word(alloc: Global, bytes: &[u8]) -> Result<Word, AllocError>
     Ok(Word::new(Vec::from_slice(alloc, bytes)?))
 }
 
-/// How a kind is written.
+// How a kind is written.
 fn kind_name(alloc: Global, types: &Types, kind: Kind) -> Result<Word, AllocError>
     ensures { IfOk result (λ name. name ≡ kind_name types.now kind) }
 {
@@ -48,7 +49,7 @@ pub(crate) fn looked_up(table: &[Guess], guess: Guess) -> Guess
     }
 }
 
-/// A guess, with another one in place of an unknown.
+// A guess, with another one in place of an unknown.
 fn replaced(guess: Guess, number: u32, new: Guess) -> Guess
     ensures { result ≡ replaced number new guess }
 {
@@ -58,7 +59,7 @@ fn replaced(guess: Guess, number: u32, new: Guess) -> Guess
     }
 }
 
-/// Puts a guess in place of an unknown everywhere.
+// Puts a guess in place of an unknown everywhere.
 #[inline(never)]
 #[tactic(auto, using(crate::proofs::Looping::entry_changed))]
 fn replace(table: &mut [Guess], number: u32, new: Guess)
@@ -69,7 +70,7 @@ fn replace(table: &mut [Guess], number: u32, new: Guess)
     }
 }
 
-/// Whether the kinds are the same.
+// Whether the kinds are the same.
 fn same_kind(left: Kind, right: Kind) -> bool
     ensures { result ≡ same_kind left right }
 {
@@ -78,23 +79,24 @@ fn same_kind(left: Kind, right: Kind) -> bool
 
 #[cold]
 #[inline(never)]
-fn clash(alloc: Global, types: &Types, left: Kind, right: Kind, line: u32) -> TypeFault
+fn clash(alloc: Global, types: &Types, left: Kind, right: Kind, line: u32) -> Stop<TypeFault>
     ensures { StopsWith {A = List Guess} (Stops (Clash (kind_name types.now left) (kind_name types.now right) line)) result }
 {
     match (
         kind_name(alloc, types, left),
         kind_name(alloc, types, right),
     ) {
-        (Ok(left), Ok(right)) => TypeFault::Clash {
+        (Ok(left), Ok(right)) => Stop::Fault(TypeFault::Clash {
             left,
             right,
             line: u64::from(line),
-        },
-        _ => TypeFault::Memory,
+        }),
+        _ => Stop::Memory,
     }
 }
 
-/// Makes two guesses the same, as the table has them: two kinds have to be the same already, and an unknown gets the other guess.
+/// Makes two guesses the same, as the table has them: two kinds have to be the same already, and an unknown gets the
+/// other guess.
 #[inline(always)]
 #[tactic(auto, unfolding(crate::specs::Solving::made_same))]
 pub(crate) fn make_same(
@@ -104,7 +106,7 @@ pub(crate) fn make_same(
     left: Guess,
     right: Guess,
     line: u32,
-) -> Result<(), TypeFault>
+) -> Result<(), Stop<TypeFault>>
     ensures { Leaves (made_same types.now table.old left right line) table.new result }
 {
     match (looked_up(table, left), looked_up(table, right)) {

@@ -17,10 +17,11 @@ use crate::names::duplicate;
 use camelot_names::Names;
 use camelot_tree::{ConDecl, Name, Program, TypeDecl};
 use std::alloc::Global;
+use stops::Stop;
 
-/// Refuses more than 64 types.
+// Refuses more than 64 types.
 #[tactic(auto, unfolding(crate::specs::Declaring::few_checked))]
-fn check_few_types(alloc: Global, types: &[TypeDecl]) -> Result<(), TypeFault>
+fn check_few_types(alloc: Global, types: &[TypeDecl]) -> Result<(), Stop<TypeFault>>
     ensures allowed { Allows (few_checked (codes "types") 64 (map (λ t. t.name) (map data_type_of types.now))) result }
     ensures few { OnOk result (length types.now ≤ 64) }
 {
@@ -30,9 +31,9 @@ fn check_few_types(alloc: Global, types: &[TypeDecl]) -> Result<(), TypeFault>
     }
 }
 
-/// Refuses more than 64 constructors of one type.
+// Refuses more than 64 constructors of one type.
 #[tactic(auto, unfolding(crate::specs::Declaring::few_checked))]
-fn check_few_cons(alloc: Global, cons: &[ConDecl]) -> Result<(), TypeFault>
+fn check_few_cons(alloc: Global, cons: &[ConDecl]) -> Result<(), Stop<TypeFault>>
     ensures { Allows (few_checked (codes "constructors") 64 (map (λ c. c.name) (map constructor_of cons.now))) result }
 {
     match cons.get(64) {
@@ -41,7 +42,7 @@ fn check_few_cons(alloc: Global, cons: &[ConDecl]) -> Result<(), TypeFault>
     }
 }
 
-/// Whether the name is that of one of these types.
+// Whether the name is that of one of these types.
 fn stands(earlier: &[TypeDecl], name: &Name) -> bool
     ensures { result ≡ stands (map (λ t. t.name.word) (map data_type_of earlier.now)) name.now.word }
 {
@@ -53,9 +54,9 @@ fn stands(earlier: &[TypeDecl], name: &Name) -> bool
     false
 }
 
-/// Refuses the name of an earlier type.
+// Refuses the name of an earlier type.
 #[tactic(auto, unfolding(crate::specs::Solving::names_checked))]
-fn check_name(alloc: Global, earlier: &[TypeDecl], name: &Name) -> Result<(), TypeFault>
+fn check_name(alloc: Global, earlier: &[TypeDecl], name: &Name) -> Result<(), Stop<TypeFault>>
     ensures { Allows (names_checked (map (λ t. t.name.word) (map data_type_of earlier.now)) (name.now ∷ [])) result }
 {
     if stands(earlier, name) {
@@ -64,9 +65,13 @@ fn check_name(alloc: Global, earlier: &[TypeDecl], name: &Name) -> Result<(), Ty
     Ok(())
 }
 
-/// Adds the names of constructors, and refuses one that stands before.
+// Adds the names of constructors, and refuses one that stands before.
 #[tactic(auto, unfolding(crate::specs::Solving::names_checked))]
-fn add_cons<'a>(alloc: Global, names: &mut Names<'a>, cons: &'a [ConDecl]) -> Result<(), TypeFault>
+fn add_cons<'a>(
+    alloc: Global,
+    names: &mut Names<'a>,
+    cons: &'a [ConDecl],
+) -> Result<(), Stop<TypeFault>>
     ensures allowed { Allows (names_checked names.old (map (λ c. c.name) (map constructor_of cons.now))) result }
     ensures names { OnOk result (names.new ≡ names.old ++ words (map (λ c. c.name) (map constructor_of cons.now))) }
 {
@@ -78,23 +83,23 @@ fn add_cons<'a>(alloc: Global, names: &mut Names<'a>, cons: &'a [ConDecl]) -> Re
     Ok(())
 }
 
-/// The fault at a constructor of too many fields.
-fn too_many_fields(alloc: Global, con: &ConDecl) -> TypeFault
+// The fault at a constructor of too many fields.
+fn too_many_fields(alloc: Global, con: &ConDecl) -> Stop<TypeFault>
     ensures { StopsWith {A = Unit {0}} (Stops (TooManyFields con.now.name.word (length con.now.fields.items) con.now.name.line)) result }
 {
     match con.name.word.copy(alloc) {
-        Ok(word) => TypeFault::TooManyFields {
+        Ok(word) => Stop::Fault(TypeFault::TooManyFields {
             con: word,
             have: con.fields.len() as u64,
             line: u64::from(con.name.line),
-        },
-        Err(_) => TypeFault::Memory,
+        }),
+        Err(_) => Stop::Memory,
     }
 }
 
-/// Refuses a constructor of more than 4 fields.
+// Refuses a constructor of more than 4 fields.
 #[tactic(auto, unfolding(crate::specs::Declaring::fields_checked))]
-fn check_field_counts(alloc: Global, cons: &[ConDecl]) -> Result<(), TypeFault>
+fn check_field_counts(alloc: Global, cons: &[ConDecl]) -> Result<(), Stop<TypeFault>>
     ensures { Allows (fields_checked (map constructor_of cons.now)) result }
 {
     'cons: for con in cons {
@@ -105,9 +110,9 @@ fn check_field_counts(alloc: Global, cons: &[ConDecl]) -> Result<(), TypeFault>
     Ok(())
 }
 
-/// Refuses a field whose type isn't declared.
+// Refuses a field whose type isn't declared.
 #[tactic(auto, unfolding(crate::specs::Declaring::cons_checked))]
-fn check_fields(alloc: Global, program: &Program, cons: &[ConDecl]) -> Result<(), TypeFault>
+fn check_fields(alloc: Global, program: &Program, cons: &[ConDecl]) -> Result<(), Stop<TypeFault>>
     requires { length program.now.types.items ≤ 64 }
     ensures { Allows (cons_checked (program_of program.now) (map constructor_of cons.now)) result }
 {
@@ -117,7 +122,7 @@ fn check_fields(alloc: Global, program: &Program, cons: &[ConDecl]) -> Result<()
     Ok(())
 }
 
-/// Checks the declaration of a type behind earlier ones, and adds the names of its constructors.
+// Checks the declaration of a type behind earlier ones, and adds the names of its constructors.
 #[tactic(auto, unfolding(crate::specs::Declaring::type_checked))]
 fn check_type<'a>(
     alloc: Global,
@@ -125,9 +130,10 @@ fn check_type<'a>(
     earlier: &[TypeDecl],
     names: &mut Names<'a>,
     decl: &'a TypeDecl,
-) -> Result<(), TypeFault>
+) -> Result<(), Stop<TypeFault>>
     requires { length program.now.types.items ≤ 64 }
-    ensures allowed { Allows (type_checked (program_of program.now) (map (λ t. t.name.word) (map data_type_of earlier.now)) names.old (data_type_of decl.now)) result }
+    ensures allowed { Allows (type_checked (program_of program.now)
+        (map (λ t. t.name.word) (map data_type_of earlier.now)) names.old (data_type_of decl.now)) result }
     ensures names { OnOk result (names.new ≡ names.old ++ words (con_names (data_type_of decl.now))) }
 {
     check_name(alloc, earlier, &decl.name)?;
@@ -139,7 +145,7 @@ fn check_type<'a>(
 
 /// Checks the declarations of types; the names of all constructors in order, by their numbers.
 #[tactic(auto, unfolding(crate::specs::Declaring::types_checked, crate::specs::Declaring::each_type_checked))]
-pub(crate) fn check_types(alloc: Global, program: &Program) -> Result<Names<'_>, TypeFault>
+pub(crate) fn check_types(alloc: Global, program: &Program) -> Result<Names<'_>, Stop<TypeFault>>
     ensures allowed { Allows (types_checked (program_of program.now)) result }
     ensures few { OnOk result (length program.now.types.items ≤ 64) }
     ensures names { IfOk result (λ names. names ≡ map (λ c. c.name.word) (declared_constructors (program_of program.now))) }

@@ -15,8 +15,10 @@ use crate::table::make_same;
 use camelot_names::Scope;
 use camelot_tree::{Name, Rooms};
 use std::alloc::Global;
+use stops::Stop;
 
-/// The walk between two expressions: the names in scope, the table of unknowns, the atoms of the expressions so far, and room for left ends.
+/// The walk between two expressions: the names in scope, the table of unknowns, the atoms of the expressions so far,
+/// and room for left ends.
 #[derive(Drop)]
 pub(crate) struct Walker<'a> {
     pub(crate) alloc: Global,
@@ -29,7 +31,7 @@ pub(crate) struct Walker<'a> {
 impl<'a> Walker<'a> {
     /// What a name means.
     #[tactic(auto, unfolding(crate::specs::Solving::name_found))]
-    pub(crate) fn name(&self, name: &Name) -> Result<Guess, TypeFault>
+    pub(crate) fn name(&self, name: &Name) -> Result<Guess, Stop<TypeFault>>
         ensures { Gives (name_found (find self.now.scope name.now.word) name.now) result }
     {
         match self.scope.find(name.word.bytes()) {
@@ -46,7 +48,7 @@ impl<'a> Walker<'a> {
         left: Guess,
         right: Guess,
         line: u32,
-    ) -> Result<(), TypeFault>
+    ) -> Result<(), Stop<TypeFault>>
         ensures done { Leaves (made_same (globals_view globals.now).types self.old.table.items left right line) self.new.table.items result }
         ensures atoms { self.new.atoms.items ≡ self.old.atoms.items }
         ensures scope { self.new.scope ≡ self.old.scope }
@@ -63,7 +65,7 @@ impl<'a> Walker<'a> {
 
     /// Notes the atom of an expression behind those of its parts.
     #[tactic(auto, unfolding(crate::specs::Solving::noted))]
-    pub(crate) fn note(&mut self, guess: Guess) -> Result<Guess, TypeFault>
+    pub(crate) fn note(&mut self, guess: Guess) -> Result<Guess, Stop<TypeFault>>
         ensures noted { Finds (Goes (noted (work_of self.old) guess)) (work_of self.new) result }
         ensures scope { self.new.scope ≡ self.old.scope }
     {

@@ -30,7 +30,8 @@ same_self kind.Dia = refl
 same_self (kind.Of t) = grind (arith, nat_tests)
 
 -- what stands behind a test is nothing that holds, unless the test does
-behind_test : {A : Type 0} (b : Bool) (o : Option A) (f : A → Bool) → option_map_or f (cond b o None) false ≡ true → (b ≡ true) × (option_map_or f o false ≡ true)
+behind_test : {A : Type 0} (b : Bool) (o : Option A) (f : A → Bool) → option_map_or f (cond b o None) false ≡ true
+    → (b ≡ true) × (option_map_or f o false ≡ true)
 behind_test true o f h = (refl, h)
 behind_test false o f h = absurd cc
 
@@ -61,11 +62,13 @@ fit_length types [] (value.And v vs) h = absurd h
 fit_length types (q ∷ qs) value.End h = absurd h
 
 -- the fields of a constructor that has just n of them
-has_fields : (n : ℕ) (o : Option Constructor) (f : List Kind → Bool) → option_map_or f (fields_where n o) false ≡ true → IsSomeAnd o (λ con. (length con.fields ≡ n) × (f con.fields ≡ true))
+has_fields : (n : ℕ) (o : Option Constructor) (f : List Kind → Bool) → option_map_or f (fields_where n o) false ≡ true
+    → IsSomeAnd o (λ con. (length con.fields ≡ n) × (f con.fields ≡ true))
 has_fields n None f h = absurd cc
 has_fields n (Some con) f h = let p = behind_test (length con.fields == n) (Some con.fields) f h in (grind (arith, nat_tests, p.0), p.1)
 
-fields_are : (n : ℕ) (o : Option Constructor) (f : List Kind → Bool) (b : Bool) → IsSomeAnd o (λ con. (length con.fields ≡ n) × (f con.fields ≡ b)) → option_map_or f (fields_where n o) false ≡ b
+fields_are : (n : ℕ) (o : Option Constructor) (f : List Kind → Bool) (b : Bool) → IsSomeAnd o (λ con. (length con.fields ≡ n) × (f con.fields ≡ b))
+    → option_map_or f (fields_where n o) false ≡ b
 fields_are n None f b h = absurd h
 fields_are n (Some con) f b h = past_test (length con.fields == n) (Some con.fields) f (grind (arith, nat_tests, h.0)) ∙ h.1
 
@@ -78,7 +81,8 @@ some_pick None P f h = absurd h
 some_pick (Some x) P f h = f x h
 
 mutual
-  fits_sound : (types : List DataType) (q : Kind) (v : Value) (qs : List Kind) (rest : List Item) → fits_nodes types (q ∷ qs) (nodes v rest) ≡ true → Fits types q v × (fits_nodes types qs rest ≡ true)
+  fits_sound : (types : List DataType) (q : Kind) (v : Value) (qs : List Kind) (rest : List Item) → fits_nodes types (q ∷ qs) (nodes v rest) ≡ true
+      → Fits types q v × (fits_nodes types qs rest ≡ true)
   fits_sound types q (value.Int z) qs rest h =
       let p = behind_test (same_kind q kind.Int && is_int32 z) (Some []) (λ fields. fits_nodes types (fields ++ qs) rest) h in
       let b = both_true (same_kind q kind.Int) (is_int32 z) p.0 in ((same_true q kind.Int b.0, passing_int z b.1), p.1)
@@ -92,7 +96,8 @@ mutual
         some_pick (constructor types c) _ (λ con g. (all_sound types vs con.fields qs rest g.0 g.1).1) k,
       )
 
-  all_sound : (types : List DataType) (vs : Values) (ps qs : List Kind) (rest : List Item) → length ps ≡ part_count vs → fits_nodes types (ps ++ qs) (nodes_all vs rest) ≡ true → FitAll types ps vs × (fits_nodes types qs rest ≡ true)
+  all_sound : (types : List DataType) (vs : Values) (ps qs : List Kind) (rest : List Item) → length ps ≡ part_count vs
+      → fits_nodes types (ps ++ qs) (nodes_all vs rest) ≡ true → FitAll types ps vs × (fits_nodes types qs rest ≡ true)
   all_sound types value.End [] qs rest n h = (tt, h)
   all_sound types value.End (p ∷ ps) qs rest n h = absurd (omega (arith, n))
   all_sound types (value.And v vs) [] qs rest n h = absurd (omega (arith, n))
@@ -101,7 +106,8 @@ mutual
       let b = all_sound types vs ps qs rest (omega (arith, n)) a.1 in ((a.0, b.0), b.1)
 
 mutual
-  fits_complete : (types : List DataType) (q : Kind) (v : Value) (qs : List Kind) (rest : List Item) → Fits types q v → fits_nodes types (q ∷ qs) (nodes v rest) ≡ fits_nodes types qs rest
+  fits_complete : (types : List DataType) (q : Kind) (v : Value) (qs : List Kind) (rest : List Item) → Fits types q v
+      → fits_nodes types (q ∷ qs) (nodes v rest) ≡ fits_nodes types qs rest
   fits_complete types q (value.Int z) qs rest h = past_test (same_kind q kind.Int && is_int32 z) (Some []) (λ fields. fits_nodes types (fields ++ qs) rest) (true_both (same_kind q kind.Int) (is_int32 z) (subst (λ k. same_kind k kind.Int ≡ true) (sym h.0) refl) (int_passes z h.1))
   fits_complete types q (value.Flag b) qs rest h = past_test (same_kind q kind.Flag) (Some []) (λ fields. fits_nodes types (fields ++ qs) rest) (subst (λ k. same_kind k kind.Flag ≡ true) (sym h) refl)
   fits_complete types q value.Dia qs rest h = past_test (same_kind q kind.Dia) (Some []) (λ fields. fits_nodes types (fields ++ qs) rest) (subst (λ k. same_kind k kind.Dia ≡ true) (sym h) refl)
@@ -111,13 +117,15 @@ mutual
       ∙ fields_are (part_count vs) (constructor types c) f (fits_nodes types qs rest)
       (some_and (constructor types c) (λ con. FitAll types con.fields vs) _ (λ con g. (fit_length types con.fields vs g, all_complete types vs con.fields qs rest g)) h.1)
 
-  all_complete : (types : List DataType) (vs : Values) (ps qs : List Kind) (rest : List Item) → FitAll types ps vs → fits_nodes types (ps ++ qs) (nodes_all vs rest) ≡ fits_nodes types qs rest
+  all_complete : (types : List DataType) (vs : Values) (ps qs : List Kind) (rest : List Item) → FitAll types ps vs
+      → fits_nodes types (ps ++ qs) (nodes_all vs rest) ≡ fits_nodes types qs rest
   all_complete types value.End [] qs rest h = refl
   all_complete types value.End (p ∷ ps) qs rest h = absurd h
   all_complete types (value.And v vs) [] qs rest h = absurd h
   all_complete types (value.And v vs) (p ∷ ps) qs rest h = fits_complete types p v (ps ++ qs) (nodes_all vs rest) h.0 ∙ all_complete types vs ps qs rest h.1
 
-pub fits_read : (types : List DataType) (q : Kind) (xs : List Item) (v : Value) (b : Bool) → xs ≡ items_of v → b ≡ fits_nodes types (q ∷ []) xs → IsTrue b ↔ Fits types q v
+pub fits_read : (types : List DataType) (q : Kind) (xs : List Item) (v : Value) (b : Bool) → xs ≡ items_of v → b ≡ fits_nodes types (q ∷ []) xs
+    → IsTrue b ↔ Fits types q v
 fits_read types q xs v b e h =
     let s = ap (fits_nodes types (q ∷ [])) e in
     (λ t. (fits_sound types q v [] [] (sym s ∙ sym h ∙ t)).0, λ f. h ∙ s ∙ fits_complete types q v [] [] f)
@@ -128,7 +136,8 @@ fits_read types q xs v b e h =
 last_first : (qs rs : List Kind) (q : Kind) → qs ≡ rs ++ q ∷ [] → reverse qs ≡ q ∷ reverse rs
 last_first qs rs q e = ap reverse e ∙ reverse-append rs (q ∷ [])
 
-pub fits_on : (types : List DataType) (xs : List Item) (i : ℕ) (x : Item) (old rest new fields : List Kind) (q : Kind) (b : Bool) → i < length xs → x ≡ get_or xs i x
+pub fits_on : (types : List DataType) (xs : List Item) (i : ℕ) (x : Item) (old rest new fields : List Kind) (q : Kind) (b : Bool) → i < length xs
+    → x ≡ get_or xs i x
     → b ≡ fits_nodes types (reverse old) (drop i xs) → old ≡ rest ++ q ∷ [] → Some fields ≡ parts_due types q x → new ≡ rest ++ reverse fields
     → b ≡ fits_nodes types (reverse new) (drop (i + 1) xs)
 fits_on types xs i x old rest new fields q b h is e last due push =
@@ -138,7 +147,8 @@ fits_on types xs i x old rest new fields q b h is e last due push =
     ∙ ap (λ qs. fits_nodes types qs (drop (suc i) xs)) (sym (ap reverse push ∙ reverse-append rest (reverse fields) ∙ ap (λ l. l ++ reverse rest) (reverse-reverse fields)))
     ∙ ap (λ n. fits_nodes types (reverse new) (drop n xs)) (sym (add-one i))
 
-pub fits_not : (types : List DataType) (first : Kind) (v : Value) (xs : List Item) (i : ℕ) (d : Item) (old rest : List Kind) (q : Kind) → xs ≡ items_of v → i < length xs
+pub fits_not : (types : List DataType) (first : Kind) (v : Value) (xs : List Item) (i : ℕ) (d : Item) (old rest : List Kind) (q : Kind)
+    → xs ≡ items_of v → i < length xs
     → fits_nodes types (first ∷ []) xs ≡ fits_nodes types (reverse old) (drop i xs) → old ≡ rest ++ q ∷ [] → None ≡ parts_due types q (get_or xs i d) → IsTrue false ↔ Fits types first v
 fits_not types first v xs i d old rest q all h e last due =
     let no = e ∙ ap (λ qs. fits_nodes types qs (drop i xs)) (last_first old rest q last) ∙ ap (fits_nodes types (q ∷ reverse rest)) (drop-cons xs i d h)
@@ -159,7 +169,8 @@ none_left : (types : List DataType) (qs : List Kind) → fits_nodes types qs [] 
 none_left types [] = refl
 none_left types (q ∷ qs) = grind (arith, nat_tests)
 
-pub fits_end : (types : List DataType) (first : Kind) (v : Value) (xs : List Item) (i n : ℕ) (due : List Kind) → xs ≡ items_of v → length xs ≤ i → n ≡ length due
+pub fits_end : (types : List DataType) (first : Kind) (v : Value) (xs : List Item) (i n : ℕ) (due : List Kind) → xs ≡ items_of v → length xs ≤ i
+    → n ≡ length due
     → fits_nodes types (first ∷ []) xs ≡ fits_nodes types (reverse due) (drop i xs) → IsTrue (n == 0) ↔ Fits types first v
 fits_end types first v xs i n due all h k e =
     let s = e ∙ ap (fits_nodes types (reverse due)) (drop_of_length-le xs {i = i} h) ∙ none_left types (reverse due) ∙ ap (λ m. m == 0) (length-reverse due ∙ sym k) in

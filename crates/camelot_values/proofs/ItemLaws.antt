@@ -29,7 +29,8 @@ before-keeps : (v : Value) (xs : List Item) (o : Option Values) → Keeps xs o �
 before-keeps v xs None h = tt
 before-keeps v xs (Some vs) h = ap (nodes v) h
 
-gather-keeps : (c n : ℕ) (xs : List Item) (vs : Values) (o : Option (Values × Values)) → nodes_all vs [] ≡ xs → SplitKeeps n vs o → Keeps (item.Con c n ∷ xs) (gather c o)
+gather-keeps : (c n : ℕ) (xs : List Item) (vs : Values) (o : Option (Values × Values)) → nodes_all vs [] ≡ xs → SplitKeeps n vs o
+    → Keeps (item.Con c n ∷ xs) (gather c o)
 gather-keeps c n xs vs None h k = tt
 gather-keeps c n xs vs (Some p) h k = ap (λ m. item.Con c m ∷ nodes_all p.0 (nodes_all p.1 [])) k.0 ∙ ap (λ l. item.Con c n ∷ l) (k.1 ∙ h)
 

@@ -14,10 +14,12 @@ count_is : (t : TypeDef) → length (data_type_of t).cons ≡ vec_len t.cons
 count_is t = length-map t.cons.items constructor_of ∙ sym t.cons.ok.0
 
 -- the types from place i on begin with the type at i
-types_at : (defs : List TypeDef) (i : ℕ) (d : TypeDef) → i < length defs → map data_type_of (drop i defs) ≡ data_type_of (get_or defs i d) ∷ map data_type_of (drop (i + 1) defs)
+types_at : (defs : List TypeDef) (i : ℕ) (d : TypeDef) → i < length defs
+    → map data_type_of (drop i defs) ≡ data_type_of (get_or defs i d) ∷ map data_type_of (drop (i + 1) defs)
 types_at defs i d h = ap (map data_type_of) (drop-cons defs i d h) ∙ ap (λ n. data_type_of (get_or defs i d) ∷ map data_type_of (drop n defs)) (sym (add-one i))
 
-pub con_here : (defs : List TypeDef) (i place c : ℕ) (t : TypeDef) (x : Con) (types : List DataType) → i < length defs → t ≡ get_or defs i t → place < vec_len t.cons → x ≡ get_or t.cons.items place x
+pub con_here : (defs : List TypeDef) (i place c : ℕ) (t : TypeDef) (x : Con) (types : List DataType) → i < length defs → t ≡ get_or defs i t
+    → place < vec_len t.cons → x ≡ get_or t.cons.items place x
     → constructor (map data_type_of (drop i defs)) place ≡ constructor types c → Some (constructor_of x) ≡ constructor types c
 con_here defs i place c t x types h is k at e =
     ap (option_map constructor_of) (sym (slice_get_read t.cons.items (vec_len t.cons) place x t.cons.ok.0 k at))

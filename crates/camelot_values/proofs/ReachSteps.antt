@@ -58,7 +58,8 @@ first_type number c m o h = ap (λ b. if b then Some number else o) (let e : nat
 later_type : (number c m : ℕ) (o : Option ℕ) → m ≤ c → (if nat_lt c m then Some number else o) ≡ o
 later_type number c m o h = ap (λ b. if b then Some number else o) (let e : nat_lt c m ≡ false = grind (arith, nat_tests, h) in e)
 
-walked : (q : ℕ → Bool) (number next : ℕ) (ds : List DataType) → filter (λ c. in_type q (type_from number ds (c - next))) (range_with_len next (length (constructors ds))) ≡ numbers_where q number next ds
+walked : (q : ℕ → Bool) (number next : ℕ) (ds : List DataType)
+    → filter (λ c. in_type q (type_from number ds (c - next))) (range_with_len next (length (constructors ds))) ≡ numbers_where q number next ds
 walked q number next [] = refl
 walked q number next (d ∷ ds) =
     let p = λ (c : ℕ). in_type q (type_from number (d ∷ ds) (c - next)) in
@@ -93,7 +94,8 @@ one_type_on q defs i next d h =
     ∙ ap (λ k. cond (q i) (range_with_len next k) [] ++ numbers_where q (suc i) (next + k) (map data_type_of (drop (suc i) defs))) n
     ∙ ap (λ k. cond (q i) (range_with_len next (vec_len t.cons)) [] ++ numbers_where q k (next + vec_len t.cons) (map data_type_of (drop k defs))) (sym (add-one i))
 
-each_at : (ts : List TypeDef) (i : ℕ) (d : TypeDef) → i < length ts → AllByRecursion IsDataType (map data_type_of ts) → IsDataType (data_type_of (get_or ts i d))
+each_at : (ts : List TypeDef) (i : ℕ) (d : TypeDef) → i < length ts → AllByRecursion IsDataType (map data_type_of ts)
+    → IsDataType (data_type_of (get_or ts i d))
 each_at [] i d h a = absurd (omega (arith, h))
 each_at (t ∷ ts) zero d h a = a.0
 each_at (t ∷ ts) (suc i) d h a = each_at ts i d (omega (arith, h)) a.1
@@ -116,12 +118,14 @@ passes_test types t u b h k = led_test types t u b k ∙ ap (λ c. c && leads_by
 pub passes_not : (types : List DataType) (t u : ℕ) → is_heap_type types u ≡ false → false ≡ passes types t u
 passes_not types t u h = ap (λ c. c && leads_by types (length types) t u) (sym h)
 
-pub one_number_on : (new old all : List ℕ) (number end : ℕ) → number < end → new ≡ old ++ number ∷ [] → old ++ range_with_len number (end - number) ≡ all → new ++ range_with_len (number + 1) (end - (number + 1)) ≡ all
+pub one_number_on : (new old all : List ℕ) (number end : ℕ) → number < end → new ≡ old ++ number ∷ []
+    → old ++ range_with_len number (end - number) ≡ all → new ++ range_with_len (number + 1) (end - (number + 1)) ≡ all
 one_number_on new old all number end h push e =
     ap (λ l. l ++ range_with_len (number + 1) (end - (number + 1))) push ∙ append_assoc old (number ∷ []) (range_with_len (number + 1) (end - (number + 1)))
     ∙ ap (λ k. old ++ range_with_len number k) (let n : suc (end - (number + 1)) ≡ end - number = omega (arith, h) in n) ∙ e
 
-pub one_type_more : (q : ℕ → Bool) (defs : List TypeDef) (i next m : ℕ) (t : TypeDef) (b : Bool) (old new all : List ℕ) → i < length defs → t ≡ get_or defs i t → m ≡ vec_len t.cons → b ≡ q i
+pub one_type_more : (q : ℕ → Bool) (defs : List TypeDef) (i next m : ℕ) (t : TypeDef) (b : Bool) (old new all : List ℕ) → i < length defs
+    → t ≡ get_or defs i t → m ≡ vec_len t.cons → b ≡ q i
     → new ≡ old ++ cond b (range_with_len next m) [] → old ++ numbers_where q i next (map data_type_of (drop i defs)) ≡ all
     → new ++ numbers_where q (i + 1) (next + m) (map data_type_of (drop (i + 1) defs)) ≡ all
 one_type_more q defs i next m t b old new all h is n test push e =
@@ -132,13 +136,15 @@ one_type_more q defs i next m t b old new all h is n test push e =
     ∙ ap (λ w. old ++ (cond (q i) (range_with_len next w) [] ++ numbers_where q (i + 1) (next + w) (map data_type_of (drop (i + 1) defs)))) k
     ∙ ap (λ l. old ++ l) (sym (one_type_on q defs i next t h)) ∙ e
 
-pub all_types : (q : ℕ → Bool) (defs : List TypeDef) (i next : ℕ) (found all : List ℕ) → length defs ≤ i → found ++ numbers_where q i next (map data_type_of (drop i defs)) ≡ all → found ≡ all
+pub all_types : (q : ℕ → Bool) (defs : List TypeDef) (i next : ℕ) (found all : List ℕ) → length defs ≤ i
+    → found ++ numbers_where q i next (map data_type_of (drop i defs)) ≡ all → found ≡ all
 all_types q defs i next found all h e = sym (append-nil found) ∙ ap (λ ts. found ++ numbers_where q i next (map data_type_of ts)) (sym (drop_of_length-le defs {i = i} h)) ∙ e
 
 pub few_defs : (ts : List TypeDef) (types : List DataType) → map data_type_of ts ≡ types → AreTypes types → length ts ≤ 64
 few_defs ts types e a = let k : length (map data_type_of ts) ≡ length types = ap length e in let n : length (map data_type_of ts) ≡ length ts = length-map ts data_type_of in omega (arith, a.few_types, k, n)
 
-pub few_cons : (ts : List TypeDef) (types : List DataType) (i : ℕ) (d : TypeDef) → i < length ts → map data_type_of ts ≡ types → AreTypes types → vec_len (get_or ts i d).cons ≤ 64
+pub few_cons : (ts : List TypeDef) (types : List DataType) (i : ℕ) (d : TypeDef) → i < length ts → map data_type_of ts ≡ types → AreTypes types
+    → vec_len (get_or ts i d).cons ≤ 64
 few_cons ts types i d h e a = few_at ts i d h (subst (AllByRecursion IsDataType) (sym e) a.each)
 
 pub reached_bare : (types : List DataType) (q : Kind) → (q ≡ Int) ⊎ ((q ≡ Flag) ⊎ (q ≡ Dia)) → reached types q ≡ []
@@ -149,5 +155,6 @@ reached_bare types q (inr (inr e)) = ap (reached types) e ∙ reached_nothing ty
 pub reached_beyond : (types : List DataType) (q : Kind) (t : ℕ) → q ≡ Of t → length types ≤ 64 → 64 ≤ t → reached types q ≡ []
 reached_beyond types q t e h k = ap (reached types) e ∙ reached_nothing types (Of t) (λ c r. reaches_nowhere types t c h k r)
 
-pub reached_here : (types : List DataType) (q : Kind) (t : ℕ) (list : List ℕ) → q ≡ Of t → list ≡ numbers_where (passes types t) 0 0 types → list ≡ reached types q
+pub reached_here : (types : List DataType) (q : Kind) (t : ℕ) (list : List ℕ) → q ≡ Of t → list ≡ numbers_where (passes types t) 0 0 types
+    → list ≡ reached types q
 reached_here types q t list e h = h ∙ sym (ap (reached types) e ∙ reached_numbers types t)

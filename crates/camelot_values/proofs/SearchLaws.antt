@@ -81,7 +81,8 @@ not_new m n o e f = n (some_same m New (sym e ∙ f))
     some_same : (a b : Mark) → Some a ≡ Some b → a ≡ b
     some_same a b g = cc
 
-begin_fields : (types : List DataType) (first place : ℕ) (marks : List Mark) → Searched types first marks → slice_get marks place ≡ Some Waiting → Between types first place (fields_at types place) (slice_set marks place Seen)
+begin_fields : (types : List DataType) (first place : ℕ) (marks : List Mark) → Searched types first marks → slice_get marks place ≡ Some Waiting
+    → Between types first place (fields_at types place) (slice_set marks place Seen)
 begin_fields types first place marks s w = record {
   size = length_set marks place Seen ∙ s.size;
   begun = λ e. s.begun (old first e);
@@ -105,14 +106,16 @@ begin_fields types first place marks s w = record {
     sound u m e n (inl p) = subst (IsLedTo types first) p (s.sound place Waiting w (λ x. absurd cc))
     sound u m e n (inr p) = s.sound u m (sym (get_set_other marks place u Seen p) ∙ e) n
 
-    closed : (t u : ℕ) → slice_get (slice_set marks place Seen) t ≡ Some Seen → HoldsType types t u → slice_get marks u ≡ Some New → (place ≡ t) ⊎ (place ≡ t → ⊥) → (t ≡ place) × IsTrue (list_any (is_of u) (fields_at types place))
+    closed : (t u : ℕ) → slice_get (slice_set marks place Seen) t ≡ Some Seen → HoldsType types t u → slice_get marks u ≡ Some New
+        → (place ≡ t) ⊎ (place ≡ t → ⊥) → (t ≡ place) × IsTrue (list_any (is_of u) (fields_at types place))
     closed t u d h e (inl p) = (sym p, subst (λ x. HoldsType types x u) (sym p) h)
     closed t u d h e (inr n) = absurd (s.closed t u (sym (get_set_other marks place t Seen n) ∙ d) h e)
 
 -- ---- one field more
 
 -- the mark of the type at u becomes Waiting, where it was New and u is the type of the field
-wait_met : (types : List DataType) (first place u : ℕ) (left : List Kind) (marks : List Mark) → Between types first place (Of u ∷ left) marks → slice_get marks u ≡ Some New
+wait_met : (types : List DataType) (first place u : ℕ) (left : List Kind) (marks : List Mark) → Between types first place (Of u ∷ left) marks
+    → slice_get marks u ≡ Some New
     → Between types first place left (slice_set marks u Waiting)
 wait_met types first place u left marks b new = record {
   size = length_set marks u Waiting ∙ b.size;
@@ -142,7 +145,9 @@ wait_met types first place u left marks b new = record {
         subst (IsLedTo types first) p (l.0 ++ (u ∷ []), one_more types first l.0 place u l.1 held)
     sound y m e n (inr p) = b.sound y m (sym (get_set_other marks u y Waiting p) ∙ e) n
 
-    closed : (t y : ℕ) → slice_get (slice_set marks u Waiting) t ≡ Some Seen → HoldsType types t y → slice_get (slice_set marks u Waiting) y ≡ Some New → (u ≡ t) ⊎ (u ≡ t → ⊥) → (u ≡ y) ⊎ (u ≡ y → ⊥) → (t ≡ place) × IsTrue (list_any (is_of y) left)
+    closed : (t y : ℕ) → slice_get (slice_set marks u Waiting) t ≡ Some Seen → HoldsType types t y
+        → slice_get (slice_set marks u Waiting) y ≡ Some New → (u ≡ t) ⊎ (u ≡ t → ⊥) → (u ≡ y) ⊎ (u ≡ y → ⊥)
+        → (t ≡ place) × IsTrue (list_any (is_of y) left)
     closed t y d h e (inl p) q = let f : Some Waiting ≡ Some Seen = sym (get_set_same marks u Waiting (slice_get_within marks u New new)) ∙ ap (slice_get (slice_set marks u Waiting)) p ∙ d in absurd cc
     closed t y d h e (inr p) q =
         let o = old y e q in
@@ -172,7 +177,8 @@ wait_old types first place q left marks b met_before = record {
     other y e true is h = absurd (met_before y is e)
     other y e false is h = h
 
-wait_one : (types : List DataType) (first place : ℕ) (q : Kind) (left : List Kind) (marks : List Mark) → Between types first place (q ∷ left) marks → Between types first place left (wait q marks)
+wait_one : (types : List DataType) (first place : ℕ) (q : Kind) (left : List Kind) (marks : List Mark) → Between types first place (q ∷ left) marks
+    → Between types first place left (wait q marks)
 wait_one types first place Int left marks b = wait_old types first place Int left marks b (λ y h e. absurd cc)
 wait_one types first place Flag left marks b = wait_old types first place Flag left marks b (λ y h e. absurd cc)
 wait_one types first place Dia left marks b = wait_old types first place Dia left marks b (λ y h e. absurd cc)
@@ -187,7 +193,8 @@ wait_one types first place (Of u) left marks b = by_mark (slice_get marks u) ref
     by_mark (Some Waiting) e = wait_old types first place (Of u) left marks b (seen (Some Waiting) e (λ x. absurd cc))
     by_mark (Some Seen) e = wait_old types first place (Of u) left marks b (seen (Some Seen) e (λ x. absurd cc))
 
-wait_all : (types : List DataType) (first place : ℕ) (left : List Kind) (marks : List Mark) → Between types first place left marks → Between types first place [] (spread left marks)
+wait_all : (types : List DataType) (first place : ℕ) (left : List Kind) (marks : List Mark) → Between types first place left marks
+    → Between types first place [] (spread left marks)
 wait_all types first place [] marks b = b
 wait_all types first place (q ∷ left) marks b = wait_all types first place left (wait q marks) (wait_one types first place q left marks b)
 
@@ -259,7 +266,8 @@ starts_new types n first size h = record {
     here : slice_get (slice_set (replicate n New) first Waiting) first ≡ Some Waiting
     here = get_set_same (replicate n New) first Waiting (omega (arith, length_new n))
 
-    sound : (u : ℕ) (m : Mark) → slice_get (slice_set (replicate n New) first Waiting) u ≡ Some m → (m ≡ New → ⊥) → (first ≡ u) ⊎ (first ≡ u → ⊥) → IsLedTo types first u
+    sound : (u : ℕ) (m : Mark) → slice_get (slice_set (replicate n New) first Waiting) u ≡ Some m → (m ≡ New → ⊥) → (first ≡ u) ⊎ (first ≡ u → ⊥)
+        → IsLedTo types first u
     sound u m e o (inl p) = ([], p)
     sound u m e o (inr p) = absurd (o (all_new n u m (sym (get_set_other (replicate n New) first u Waiting p) ∙ e)))
 
@@ -280,7 +288,8 @@ beyond (m ∷ ms) zero e = let f : Some m ≡ None = e in absurd cc
 beyond (m ∷ ms) (suc t) e = omega (arith, beyond ms t e)
 
 -- once none waits, what is led to was met
-met_all : (types : List DataType) (first : ℕ) (marks : List Mark) → length types ≤ 64 → Searched types first marks → NoneWaits marks → (t : ℕ) (path : List ℕ) (u : ℕ)
+met_all : (types : List DataType) (first : ℕ) (marks : List Mark) → length types ≤ 64 → Searched types first marks → NoneWaits marks
+    → (t : ℕ) (path : List ℕ) (u : ℕ)
     → LeadsTo types t path u → (slice_get marks t ≡ Some New → ⊥) → slice_get marks u ≡ Some New → ⊥
 met_all types first marks few s done t [] u l n e = n (ap (slice_get marks) l ∙ e)
 met_all types first marks few s done t (v ∷ path) u l n e =
@@ -293,7 +302,8 @@ met_all types first marks few s done t (v ∷ path) u l n e =
     by_mark (Some Seen) is f = s.closed t v is l.0 f
 
 -- the answer by the mark of the type that was looked for
-pub found_is : (types : List DataType) (first last : ℕ) (marks : List Mark) (met : Bool) → length types ≤ 64 → last < 64 → Searched types first marks → NoneWaits marks
+pub found_is : (types : List DataType) (first last : ℕ) (marks : List Mark) (met : Bool) → length types ≤ 64 → last < 64 → Searched types first marks
+    → NoneWaits marks
     → (IsTrue met ↔ (slice_get marks last ≡ Some New → ⊥)) → IsTrue met ↔ IsLedTo types first last
 found_is types first last marks met few h s done answer = (λ t. by_mark (slice_get marks last) refl t, λ l. answer.1 (met_all types first marks few s done first l.0 last l.1 s.begun))
   where
@@ -309,7 +319,8 @@ type_within : (n : ℕ) (types : List DataType) (c u : ℕ) → type_from n type
 type_within n [] c u e = let f : None ≡ Some u = e in absurd cc
 type_within n (t ∷ ts) c u e = by_test (nat_lt c (length t.cons)) (type_within (suc n) ts (c - length t.cons) u) e
   where
-    by_test : (b : Bool) → (type_from (suc n) ts (c - length t.cons) ≡ Some u → u < suc n + length ts) → (if b then Some n else type_from (suc n) ts (c - length t.cons)) ≡ Some u → u < n + suc (length ts)
+    by_test : (b : Bool) → (type_from (suc n) ts (c - length t.cons) ≡ Some u → u < suc n + length ts)
+        → (if b then Some n else type_from (suc n) ts (c - length t.cons)) ≡ Some u → u < n + suc (length ts)
     by_test true later f = let g : n ≡ u = cc in omega arith
     by_test false later f = omega (arith, later f)
 
@@ -332,7 +343,8 @@ reaches_inline types t c u e inline r =
     let same : u ≡ r.last = cc in
     let f : false ≡ true = sym inline ∙ ap (is_heap_type types) same ∙ r.heap in absurd cc
 
-pub reaches_by : (types : List DataType) (t c u : ℕ) (met : Bool) → type_of types c ≡ Some u → is_heap types (Of u) ≡ true → (IsTrue met ↔ IsLedTo types t u) → IsTrue met ↔ Reaches types (Of t) c
+pub reaches_by : (types : List DataType) (t c u : ℕ) (met : Bool) → type_of types c ≡ Some u → is_heap types (Of u) ≡ true
+    → (IsTrue met ↔ IsLedTo types t u) → IsTrue met ↔ Reaches types (Of t) c
 reaches_by types t c u met e heap led = (λ m. record { last = u; leads = led.0 m; heap = heap; owned = e }, λ r. led.1 (back r))
   where
     back : Reaches types (Of t) c → IsLedTo types t u

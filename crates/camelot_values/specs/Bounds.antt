@@ -1,6 +1,6 @@
 -- Cited by contracts.
--- What holds of the value that a run comes to, and of its cells: bounds on the peak and on the net, in units of which each cell
--- costs so many, as in the potentials of Hofmann and Jost (2003).
+-- What holds of the value that a run comes to, and of its cells: bounds on the peak and on the net, in units of which
+-- each cell costs so many, as in the potentials of Hofmann and Jost (2003).
 use Rattle.std.specs.Prelude.{ℕ, ◌+◌, ◌*◌, ◌≤◌}
 use Rattle.camelot_values.specs.Outcome.{Outcome, Done, Fuel, Deep, Stuck}
 
@@ -11,9 +11,9 @@ Yields P (Fuel calls peak) = Unit {0}
 Yields P (Deep peak) = Unit {0}
 Yields P Stuck = ⊥
 
--- With so many units to begin with: the peak costs no more, and at a value the net and what is left for the value cost no more
--- together. The net is the peak without `low`, so the second stands with `low` on the other side. Of a stuck run this says nothing: that
--- there is none is said apart (Yields).
+-- With so many units to begin with: the peak costs no more, and at a value the net and what is left for the value cost
+-- no more together. The net is the peak without `low`, so the second stands with `low` on the other side. Of a stuck
+-- run this says nothing: that there is none is said apart (Yields).
 abbrev pub IsPaidBy : {A : Type 0} → (unit units : ℕ) → (A → ℕ) → Outcome A → Type 0
 IsPaidBy unit units left (Done v calls peak low) = (unit * peak ≤ units) × (unit * peak + left v ≤ units + unit * low)
 IsPaidBy unit units left (Fuel calls peak) = unit * peak ≤ units

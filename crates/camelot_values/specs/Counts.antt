@@ -1,6 +1,6 @@
 -- Cited by contracts.
--- How many nodes of a constructor a value has, and how many cells a machine needs to hold it: one for each boxed node, and one for
--- each diamond, which names a cell. The code counts the nodes in prefix order.
+-- How many nodes of a constructor a value has, and how many cells a machine needs to hold it: one for each boxed node,
+-- and one for each diamond, which names a cell. The code counts the nodes in prefix order.
 use Rattle.std.specs.Prelude.{ℕ, suc, ◌+◌, ◌==◌, Bool, false, not, cond, List}
 use Rattle.std.specs.Option.{option_map_or}
 use Rattle.camelot_values.specs.Value as value

@@ -1,7 +1,7 @@
 -- Cited by contracts.
--- Which kinds have values that take cells, and which constructors of heap types belong to a kind or to its fields, followed to the
--- end. A type with no boxed constructor needs no cell; every other type, and the diamond, is a heap type (Hofmann 2000), whose values are
--- used at most once. A kind reaches no constructor of a type that needs no cell.
+-- Which kinds have values that take cells, and which constructors of heap types belong to a kind or to its fields,
+-- followed to the end. A type with no boxed constructor needs no cell; every other type, and the diamond, is a heap
+-- type (Hofmann 2000), whose values are used at most once. A kind reaches no constructor of a type that needs no cell.
 use Rattle.std.specs.Prelude.{◌≡◌, ℕ, zero, suc, not, Bool, true, false, List, [], ◌∷◌, length, flat_map, slice_get, ◌==◌, ◌&&◌, ◌||◌, Option, Some, None, IsTrue}
 use Rattle.std.specs.List.{list_any, filter, range_with_len}
 use Rattle.std.specs.Option.{option_map_or}
@@ -65,7 +65,8 @@ Reaches types kind con = ⊥
 abbrev pub holds_type : List DataType → ℕ → ℕ → Bool
 holds_type types t u = list_any (is_of u) (fields_at types t)
 
--- From type t to type u by way of types below n alone (Warshall 1962): either without type n - 1, or to it and on from it.
+-- From type t to type u by way of types below n alone (Warshall 1962): either without type n - 1, or to it and on from
+-- it.
 abbrev pub leads_by : List DataType → ℕ → ℕ → ℕ → Bool
 leads_by types zero t u = (t == u) || holds_type types t u
 leads_by types (suc n) t u = leads_by types n t u || (leads_by types n t n && leads_by types n n u)

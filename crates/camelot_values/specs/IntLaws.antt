@@ -51,7 +51,8 @@ no_con types c e = by_type (type_of types c) e
     by_type None e = absurd cc
     by_type (Some t) e = absurd cc
 
-pub operate_sound : (types : List DataType) (op : Operator) (u v : Value) → Fits types kind.Int u → Fits types kind.Int v → IsSafe types (operator_kind op) (operate op u v)
+pub operate_sound : (types : List DataType) (op : Operator) (u v : Value) → Fits types kind.Int u → Fits types kind.Int v
+    → IsSafe types (operator_kind op) (operate op u v)
 operate_sound types op (value.Int x) (value.Int y) h g = on_ints_sound types op x y h.1 g.1
 operate_sound types op (value.Int x) (value.Flag y) h g = absurd cc
 operate_sound types op (value.Int x) value.Dia h g = absurd cc

@@ -27,7 +27,8 @@ pub record Located (types : List DataType) (first c t : ℕ) (con : Constructor)
   pub place_is : place_of types c ≡ Some place
   pub con_is : slice_get def.cons place ≡ Some con
 
-pub located : (first : ℕ) (types : List DataType) (c t : ℕ) (con : Constructor) → constructor types c ≡ Some con → type_from first types c ≡ Some t → Located types first c t con
+pub located : (first : ℕ) (types : List DataType) (c t : ℕ) (con : Constructor) → constructor types c ≡ Some con → type_from first types c ≡ Some t
+    → Located types first c t con
 located first [] c t con e h = let k : None ≡ Some t = h in absurd cc
 located first (d ∷ ds) c t con e h = by_test (nat_lt c (length d.cons)) refl (located (suc first) ds (c - length d.cons) t con) h
   where
@@ -55,7 +56,8 @@ located first (d ∷ ds) c t con e h = by_test (nat_lt c (length d.cons)) refl (
       con_is = l.con_is;
     }
 
-    by_test : (b : Bool) → nat_lt c (length d.cons) ≡ b → (constructor ds (c - length d.cons) ≡ Some con → type_from (suc first) ds (c - length d.cons) ≡ Some t → Located ds (suc first) (c - length d.cons) t con)
+    by_test : (b : Bool) → nat_lt c (length d.cons) ≡ b
+        → (constructor ds (c - length d.cons) ≡ Some con → type_from (suc first) ds (c - length d.cons) ≡ Some t → Located ds (suc first) (c - length d.cons) t con)
         → (if b then Some first else type_from (suc first) ds (c - length d.cons)) ≡ Some t → Located (d ∷ ds) first c t con
     by_test true b rec k = here b cc
     by_test false b rec k =

@@ -58,7 +58,8 @@ pub stands_split : (earlier before rest : List (List ℕ)) (w : List ℕ) → ea
 stands_split earlier before rest w e = ap (λ l. stands l w) e ∙ place_is_some (bytes_eq w) before rest w (name_itself w)
 
 -- a name that stands before is among those before it
-twice : (earlier ws : List (List ℕ)) (w : List ℕ) (before rest : List (List ℕ)) → AreNew earlier ws → ws ≡ before ++ w ∷ rest → stands (earlier ++ before) w ≡ true → ⊥
+twice : (earlier ws : List (List ℕ)) (w : List ℕ) (before rest : List (List ℕ)) → AreNew earlier ws → ws ≡ before ++ w ∷ rest
+    → stands (earlier ++ before) w ≡ true → ⊥
 twice earlier [] w [] rest h q s = cc
 twice earlier [] w (y ∷ before) rest h q s = cc
 twice earlier (v ∷ ws) w [] rest h q s =

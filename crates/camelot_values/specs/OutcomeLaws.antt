@@ -43,7 +43,8 @@ pub at_once_then : {A B : Type 0} (k : ℕ) (v : A) (next : ℕ → A → Outcom
 at_once_then k v next = after_nothing (next (k - 0) v) ∙ ap (λ j. next j v) (omega arith)
 
 -- after comes out of what is done first
-pub after_first : {A B : Type 0} (c p g k j : ℕ) (o : Outcome A) (next : ℕ → A → Outcome B) → j ≡ k - c → first_then k (after c p g o) next ≡ after c p g (first_then j o next)
+pub after_first : {A B : Type 0} (c p g k j : ℕ) (o : Outcome A) (next : ℕ → A → Outcome B) → j ≡ k - c
+    → first_then k (after c p g o) next ≡ after c p g (first_then j o next)
 after_first c p g k j (Done v d q h) next e = ap (λ i. after (c + d) (p + (q - g)) (h + (g - q)) (next i v)) (omega arith) ∙ sym (after_both c p g d q h (next (j - d) v))
 after_first c p g k j (Fuel d q) next e = refl
 after_first c p g k j (Deep q) next e = refl
@@ -58,7 +59,8 @@ then_then k (Deep p) next last = refl
 then_then k Stuck next last = refl
 
 -- the same goes on at each value
-pub then_same : {A B : Type 0} (k : ℕ) (o : Outcome A) (next last : ℕ → A → Outcome B) → ((j : ℕ) (v : A) → next j v ≡ last j v) → first_then k o next ≡ first_then k o last
+pub then_same : {A B : Type 0} (k : ℕ) (o : Outcome A) (next last : ℕ → A → Outcome B) → ((j : ℕ) (v : A) → next j v ≡ last j v)
+    → first_then k o next ≡ first_then k o last
 then_same k (Done v c p g) next last h = ap (after c p g) (h (k - c) v)
 then_same k (Fuel c p) next last h = refl
 then_same k (Deep p) next last h = refl

@@ -51,7 +51,8 @@ leads_by_sound types zero t u h = either (or_split (t == u) (holds_type types t 
     either (inr e) = (u ∷ [], (e, refl))
 leads_by_sound types (suc n) t u h = either (λ x y e. leads_by_sound types n x y e) (or_split (leads_by types n t u) (leads_by types n t n && leads_by types n n u) h)
   where
-    either : ((x y : ℕ) → leads_by types n x y ≡ true → IsLedTo types x y) → (leads_by types n t u ≡ true) ⊎ ((leads_by types n t n && leads_by types n n u) ≡ true) → IsLedTo types t u
+    either : ((x y : ℕ) → leads_by types n x y ≡ true → IsLedTo types x y)
+        → (leads_by types n t u ≡ true) ⊎ ((leads_by types n t n && leads_by types n n u) ≡ true) → IsLedTo types t u
     either f (inl e) = f t u e
     either f (inr e) = let p = and_split (leads_by types n t n) (leads_by types n n u) e in led_on types t n u (f t n p.0) (f n u p.1)
 
@@ -94,7 +95,8 @@ on types (suc n) t v u h a b = by_order (λ x y z k p q. on types n x y z k p q)
     either f k (inr p) (inl q) = let r = and_split (leads_by types n t n) (leads_by types n n v) p in by_last r.0 (f n v u k r.1 q)
     either f k (inr p) (inr q) = by_last (and_split (leads_by types n t n) (leads_by types n n v) p).0 (and_split (leads_by types n v n) (leads_by types n n u) q).1
 
-    by_order : ((x y z : ℕ) → y < n → leads_by types n x y ≡ true → leads_by types n y z ≡ true → leads_by types n x z ≡ true) → (v < n) ⊎ (n ≤ v) → leads_by types (suc n) t u ≡ true
+    by_order : ((x y z : ℕ) → y < n → leads_by types n x y ≡ true → leads_by types n y z ≡ true → leads_by types n x z ≡ true) → (v < n) ⊎ (n ≤ v)
+        → leads_by types (suc n) t u ≡ true
     by_order f (inl k) = either f k (or_split (leads_by types n t v) (leads_by types n t n && leads_by types n n v) a) (or_split (leads_by types n v u) (leads_by types n v n && leads_by types n n u) b)
     by_order f (inr k) = let e : v ≡ n = omega (arith, h, k) in
         by_last (to_last t (subst (λ x. leads_by types (suc n) t x ≡ true) e a)) (from_last u (subst (λ x. leads_by types (suc n) x u ≡ true) e b))
@@ -113,7 +115,8 @@ led_along : (types : List DataType) (u t : ℕ) (path : List ℕ) → LeadsTo ty
 led_along types u t [] h = subst (λ x. leads_by types (length types) t x ≡ true) h (itself types (length types) t)
 led_along types u t (v ∷ path) h = by_order (cases_lt v (length types)) (led_along types u v path h.1) path h.1
   where
-    by_order : (v < length types) ⊎ (length types ≤ v) → leads_by types (length types) v u ≡ true → (path : List ℕ) → LeadsTo types v path u → leads_by types (length types) t u ≡ true
+    by_order : (v < length types) ⊎ (length types ≤ v) → leads_by types (length types) v u ≡ true → (path : List ℕ) → LeadsTo types v path u
+        → leads_by types (length types) t u ≡ true
     by_order (inl k) e path g = on types (length types) t v u k (one_step types (length types) t v h.0) e
     by_order (inr k) e [] g = subst (λ x. leads_by types (length types) t x ≡ true) g (one_step types (length types) t v h.0)
     by_order (inr k) e (w ∷ path) g = absurd (holds_none types v w k g.0)
@@ -128,7 +131,8 @@ among_passing : (p : ℕ → Bool) (a n x : ℕ) → a ≤ x → x < a + n → p
 among_passing p a zero x h k e = absurd (omega (arith, h, k))
 among_passing p a (suc n) x h k e = by_order (λ g l. among_passing p (a + 1) n x g l e) (cases_lt a x)
   where
-    behind : (b : Bool) → is_among (filter p (range_with_len (a + 1) n)) x ≡ true → is_among (cond b (a ∷ filter p (range_with_len (a + 1) n)) (filter p (range_with_len (a + 1) n))) x ≡ true
+    behind : (b : Bool) → is_among (filter p (range_with_len (a + 1) n)) x ≡ true
+        → is_among (cond b (a ∷ filter p (range_with_len (a + 1) n)) (filter p (range_with_len (a + 1) n))) x ≡ true
     behind true q = or_second (a == x) _ q
     behind false q = q
 
@@ -136,7 +140,8 @@ among_passing p a (suc n) x h k e = by_order (λ g l. among_passing p (a + 1) n 
     here true f q = or_first (a == x) _ (grind (arith, nat_tests, q))
     here false f q = absurd cc
 
-    by_order : (a + 1 ≤ x → x < a + 1 + n → is_among (filter p (range_with_len (a + 1) n)) x ≡ true) → (a < x) ⊎ (x ≤ a) → is_among (filter p (range_with_len a (suc n))) x ≡ true
+    by_order : (a + 1 ≤ x → x < a + 1 + n → is_among (filter p (range_with_len (a + 1) n)) x ≡ true) → (a < x) ⊎ (x ≤ a)
+        → is_among (filter p (range_with_len a (suc n))) x ≡ true
     by_order f (inl less) = behind (p a) (f (omega (arith, less)) (omega (arith, k)))
     by_order f (inr more) = let q : a ≡ x = omega (arith, h, more) in here (p a) (ap p q ∙ e) q
 
@@ -145,7 +150,8 @@ passing_among : (p : ℕ → Bool) (a n x : ℕ) → is_among (filter p (range_w
 passing_among p a zero x h = absurd cc
 passing_among p a (suc n) x h = by_test (λ q. passing_among p (a + 1) n x q) (p a) refl h
   where
-    by_test : (is_among (filter p (range_with_len (a + 1) n)) x ≡ true → p x ≡ true) → (b : Bool) → p a ≡ b → is_among (cond b (a ∷ filter p (range_with_len (a + 1) n)) (filter p (range_with_len (a + 1) n))) x ≡ true → p x ≡ true
+    by_test : (is_among (filter p (range_with_len (a + 1) n)) x ≡ true → p x ≡ true) → (b : Bool) → p a ≡ b
+        → is_among (cond b (a ∷ filter p (range_with_len (a + 1) n)) (filter p (range_with_len (a + 1) n))) x ≡ true → p x ≡ true
     by_test f false e q = f q
     by_test f true e q = either (or_split (a == x) _ q)
       where
@@ -166,7 +172,8 @@ passing_above : (p : ℕ → Bool) (b a n : ℕ) → b < a → Above b (filter p
 passing_above p b a zero h = tt
 passing_above p b a (suc n) h = by_test (passing_above p b (a + 1) n (omega (arith, h))) (p a)
   where
-    by_test : Above b (filter p (range_with_len (a + 1) n)) → (c : Bool) → Above b (cond c (a ∷ filter p (range_with_len (a + 1) n)) (filter p (range_with_len (a + 1) n)))
+    by_test : Above b (filter p (range_with_len (a + 1) n)) → (c : Bool)
+        → Above b (cond c (a ∷ filter p (range_with_len (a + 1) n)) (filter p (range_with_len (a + 1) n)))
     by_test f true = h
     by_test f false = f
 
@@ -174,7 +181,8 @@ passing_ascend : (p : ℕ → Bool) (a n : ℕ) → Ascend (filter p (range_with
 passing_ascend p a zero = tt
 passing_ascend p a (suc n) = by_test (passing_ascend p (a + 1) n) (p a)
   where
-    by_test : Ascend (filter p (range_with_len (a + 1) n)) → (c : Bool) → Ascend (cond c (a ∷ filter p (range_with_len (a + 1) n)) (filter p (range_with_len (a + 1) n)))
+    by_test : Ascend (filter p (range_with_len (a + 1) n)) → (c : Bool)
+        → Ascend (cond c (a ∷ filter p (range_with_len (a + 1) n)) (filter p (range_with_len (a + 1) n)))
     by_test f true = in_order a _ (passing_above p a (a + 1) n (omega arith)) f
     by_test f false = f
 
@@ -185,7 +193,9 @@ owned_there : (first : ℕ) (types : List DataType) (c t : ℕ) → type_from fi
 owned_there first [] c t h = let e : None ≡ Some t = h in absurd cc
 owned_there first (d ∷ ds) c t h = by_test (λ q. owned_there (suc first) ds (c - length d.cons) t q) (nat_lt c (length d.cons)) refl h
   where
-    by_test : (type_from (suc first) ds (c - length d.cons) ≡ Some t → c - length d.cons < length (constructors ds)) → (b : Bool) → nat_lt c (length d.cons) ≡ b → (if b then Some first else type_from (suc first) ds (c - length d.cons)) ≡ Some t → c < length (d.cons ++ constructors ds)
+    by_test : (type_from (suc first) ds (c - length d.cons) ≡ Some t → c - length d.cons < length (constructors ds)) → (b : Bool)
+        → nat_lt c (length d.cons) ≡ b → (if b then Some first else type_from (suc first) ds (c - length d.cons)) ≡ Some t
+        → c < length (d.cons ++ constructors ds)
     by_test f true e q = let k : c < length d.cons = grind (arith, nat_tests, e) in omega (arith, k, length-append d.cons (constructors ds))
     by_test f false e q = let k : length d.cons ≤ c = grind (arith, nat_tests, e) in omega (arith, k, f q, length-append d.cons (constructors ds))
 

@@ -1,7 +1,7 @@
 -- Laws, for the proofs of this crate and of those above it.
--- Laws of whole runs: what two runs have in common that take the same steps with other fuel or another clock. A relation between
--- outcomes that holds of each basic step, and is kept by one run after another, holds of whole runs, of the source language and of
--- code alike: what the bodies of functions mean only has to respect such relations.
+-- Laws of whole runs: what two runs have in common that take the same steps with other fuel or another clock. A
+-- relation between outcomes that holds of each basic step, and is kept by one run after another, holds of whole runs,
+-- of the source language and of code alike: what the bodies of functions mean only has to respect such relations.
 use Rattle.std.proofs.Common.{◌≡◌, ℕ, zero, suc, ◌+◌, ◌-◌, ◌<◌, ◌≤◌, Bool, true, false, List, Option, Some, None, refl, sym, ap, ◌∙◌, subst, arith, inl, inr}
 use Rattle.std.specs.Prelude.{⊤, ◌⊎◌, ℤ, cond, if◌then◌else◌}
 use Rattle.std.proofs.lemmas.Bool.{cases_lt}
@@ -46,7 +46,8 @@ pub known_related : {A : Type 0} (Fine : ℕ → ℕ → Type 0) (R : Relation) 
 known_related {A} Fine R closed None j k = closed.stuck A j k
 known_related {A} Fine R closed (Some v) j k = closed.free A j k v 0 0
 
-pub diamond_related : (Fine : ℕ → ℕ → Type 0) (R : Relation) → Closed Fine R → (u v : Value) (j k : ℕ) → R Value j k (on_diamond u (Done v 0 0 0)) (on_diamond u (Done v 0 0 0))
+pub diamond_related : (Fine : ℕ → ℕ → Type 0) (R : Relation) → Closed Fine R → (u v : Value) (j k : ℕ)
+    → R Value j k (on_diamond u (Done v 0 0 0)) (on_diamond u (Done v 0 0 0))
 diamond_related Fine R closed value.Dia v j k = closed.free Value j k v 0 0
 diamond_related Fine R closed (value.Int z) v j k = closed.stuck Value j k
 diamond_related Fine R closed (value.Flag b) v j k = closed.stuck Value j k
@@ -71,7 +72,8 @@ on_ints_related Fine R closed operator.Le x y j k = closed.free Value j k _ 0 0
 on_ints_related Fine R closed operator.Gt x y j k = closed.free Value j k _ 0 0
 on_ints_related Fine R closed operator.Ge x y j k = closed.free Value j k _ 0 0
 
-pub operate_related : (Fine : ℕ → ℕ → Type 0) (R : Relation) → Closed Fine R → (op : Operator) (u v : Value) (j k : ℕ) → R Value j k (operate op u v) (operate op u v)
+pub operate_related : (Fine : ℕ → ℕ → Type 0) (R : Relation) → Closed Fine R → (op : Operator) (u v : Value) (j k : ℕ)
+    → R Value j k (operate op u v) (operate op u v)
 operate_related Fine R closed op (value.Int x) (value.Int y) j k = on_ints_related Fine R closed op x y j k
 operate_related Fine R closed op (value.Int x) (value.Flag b) j k = closed.stuck Value j k
 operate_related Fine R closed op (value.Int x) value.Dia j k = closed.stuck Value j k
@@ -200,7 +202,8 @@ pub clock_is : (bodies : Bodies) → Respect bodies → (limit clock fuel waits 
 clock_is bodies r limit clock fuel waits tail f args h = same_calls bodies r limit fuel clock fuel h (omega arith) fuel fuel waits tail f args (refl, omega arith)
 
 -- One step of a call: without a clock, the calls in the body mean what calls mean.
-pub unfolds : (bodies : Bodies) → Respect bodies → (limit fuel waits : ℕ) (tail : Bool) (f : ℕ) (args : List Value) → entering bodies limit (suc fuel) waits tail f args
+pub unfolds : (bodies : Bodies) → Respect bodies → (limit fuel waits : ℕ) (tail : Bool) (f : ℕ) (args : List Value)
+    → entering bodies limit (suc fuel) waits tail f args
     ≡ (if is_too_deep limit waits tail then Deep 0 else entered (bodies (entering bodies limit) f fuel (cond tail waits (suc waits)) args))
 unfolds bodies r limit k w t f args =
     ap (λ o. if is_too_deep limit w t then Deep 0 else entered o) (r (Equal k) Same (same_is_closed k) (calls bodies limit k) (entering bodies limit) own f k k (cond t w (suc w)) args (refl, omega arith))
@@ -234,7 +237,8 @@ more_calls bodies r limit (suc n) (suc m) (suc j) (suc k) w t g vs f =
     by_depth false o o' h = more_entered j o o' h
 
 -- What a run says of the same run with more fuel.
-pub more_fuel : (bodies : Bodies) → Respect bodies → (limit f j k : ℕ) (args : List Value) → j ≤ k → Goes j (run_from bodies limit f j args) (run_from bodies limit f k args)
+pub more_fuel : (bodies : Bodies) → Respect bodies → (limit f j k : ℕ) (args : List Value) → j ≤ k
+    → Goes j (run_from bodies limit f j args) (run_from bodies limit f k args)
 more_fuel bodies r limit f j k args h = more_calls bodies r limit j k j k 0 true f args (h, omega arith, omega arith)
 
 -- ---- what the laws of fuel say of one run
@@ -244,7 +248,8 @@ pub used_is : (bodies : Bodies) → Respect bodies → (limit f k c q : ℕ) (ar
 used_is bodies r limit f k c q args e = let g : Goes {A = Value} k (Fuel c q) (Fuel c q) = subst (λ o. Goes k o o) e (more_fuel bodies r limit f k k args (omega arith)) in g.0
 
 -- One that comes to a value has entered at most as many.
-pub within_is : (bodies : Bodies) → Respect bodies → (limit f k : ℕ) (args : List Value) (v : Value) (c q l : ℕ) → run_from bodies limit f k args ≡ Done v c q l → c ≤ k
+pub within_is : (bodies : Bodies) → Respect bodies → (limit f k : ℕ) (args : List Value) (v : Value) (c q l : ℕ)
+    → run_from bodies limit f k args ≡ Done v c q l → c ≤ k
 within_is bodies r limit f k args v c q l e = let g : Goes k (Done v c q l) (Done v c q l) = subst (λ o. Goes k o o) e (more_fuel bodies r limit f k k args (omega arith)) in g.0
 
 -- the same run with less fuel, j, that still covers its calls
@@ -255,7 +260,8 @@ enough_below j c q l v (Deep r) g h = sym g
 enough_below j c q l v Stuck g h = sym g
 
 -- It comes to the same value with every fuel from its calls on.
-pub enough_is : (bodies : Bodies) → Respect bodies → (limit f k j : ℕ) (args : List Value) (v : Value) (c q l : ℕ) → run_from bodies limit f k args ≡ Done v c q l → c ≤ j
+pub enough_is : (bodies : Bodies) → Respect bodies → (limit f k j : ℕ) (args : List Value) (v : Value) (c q l : ℕ)
+    → run_from bodies limit f k args ≡ Done v c q l → c ≤ j
     → run_from bodies limit f j args ≡ Done v c q l
 enough_is bodies r limit f k j args v c q l e h = by_order (cases_lt j k)
   where
@@ -271,20 +277,23 @@ short_below j c q l v (Deep r) g h = let e : Done v c q l ≡ Deep r = g in absu
 short_below j c q l v Stuck g h = let e : Done v c q l ≡ Stuck = g in absurd cc
 
 -- With less it stops on fuel, at no higher a peak.
-pub short_is : (bodies : Bodies) → Respect bodies → (limit f k j : ℕ) (args : List Value) (v : Value) (c q l : ℕ) → run_from bodies limit f k args ≡ Done v c q l → j < c
+pub short_is : (bodies : Bodies) → Respect bodies → (limit f k j : ℕ) (args : List Value) (v : Value) (c q l : ℕ)
+    → run_from bodies limit f k args ≡ Done v c q l → j < c
     → StopsOnFuel j q (run_from bodies limit f j args)
 short_is bodies r limit f k j args v c q l e h =
     short_below j c q l v (run_from bodies limit f j args) (subst (λ o. Goes j (run_from bodies limit f j args) o) e (more_fuel bodies r limit f j k args (omega (arith, within_is bodies r limit f k args v c q l e)))) h
 
 -- More fuel doesn't help a run that went too deep.
-pub deep_is : (bodies : Bodies) → Respect bodies → (limit f k j : ℕ) (args : List Value) (q : ℕ) → run_from bodies limit f k args ≡ Deep q → k ≤ j → run_from bodies limit f j args ≡ Deep q
+pub deep_is : (bodies : Bodies) → Respect bodies → (limit f k j : ℕ) (args : List Value) (q : ℕ) → run_from bodies limit f k args ≡ Deep q → k ≤ j
+    → run_from bodies limit f j args ≡ Deep q
 deep_is bodies r limit f k j args q e h = let g : Goes k (Deep q) (run_from bodies limit f j args) = subst (λ o. Goes k o (run_from bodies limit f j args)) e (more_fuel bodies r limit f k j args h) in g
 
 -- ---- one run
 
--- What holds where a call finds no fuel and where it is too deep, and of each body whose calls have it, holds of all calls. Q says it of the
--- function's number, the arguments and the outcome.
-pub kept_by_calls : (bodies : Bodies) (limit : ℕ) (Q : ℕ → List Value → Outcome Value → Type 0) → ((f : ℕ) (args : List Value) → Q f args (Fuel 0 0)) → ((f : ℕ) (args : List Value) → Q f args (Deep 0))
+-- What holds where a call finds no fuel and where it is too deep, and of each body whose calls have it, holds of all
+-- calls. Q says it of the function's number, the arguments and the outcome.
+pub kept_by_calls : (bodies : Bodies) (limit : ℕ) (Q : ℕ → List Value → Outcome Value → Type 0) → ((f : ℕ) (args : List Value) → Q f args (Fuel 0 0))
+    → ((f : ℕ) (args : List Value) → Q f args (Deep 0))
     → ((enter : Enter) → ((k w : ℕ) (t : Bool) (f : ℕ) (args : List Value) → Q f args (enter k w t f args)) → (f k w : ℕ) (args : List Value) → Q f args (entered (bodies enter f k w args)))
     → (clock k w : ℕ) (t : Bool) (f : ℕ) (args : List Value) → Q f args (calls bodies limit clock k w t f args)
 kept_by_calls bodies limit Q fuel deep step clock zero w t f args = fuel f args
@@ -292,6 +301,7 @@ kept_by_calls bodies limit Q fuel deep step zero (suc k) w t f args = fuel f arg
 kept_by_calls bodies limit Q fuel deep step (suc clock) (suc k) w t f args =
     by_depth (is_too_deep limit w t) (step (calls bodies limit clock) (kept_by_calls bodies limit Q fuel deep step clock) f k (cond t w (suc w)) args)
   where
-    by_depth : (b : Bool) → Q f args (entered (bodies (calls bodies limit clock) f k (cond t w (suc w)) args)) → Q f args (if b then Deep 0 else entered (bodies (calls bodies limit clock) f k (cond t w (suc w)) args))
+    by_depth : (b : Bool) → Q f args (entered (bodies (calls bodies limit clock) f k (cond t w (suc w)) args))
+        → Q f args (if b then Deep 0 else entered (bodies (calls bodies limit clock) f k (cond t w (suc w)) args))
     by_depth true h = deep f args
     by_depth false h = h

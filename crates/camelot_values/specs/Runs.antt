@@ -34,13 +34,14 @@ is_too_deep limit waits tail = not tail && (waits == limit)
 
 -- ---- calls
 
--- what the bodies of a program's functions mean, where it is known what calls mean: the function's number, the fuel, the number
--- of waiting calls and the arguments
+-- what the bodies of a program's functions mean, where it is known what calls mean: the function's number, the fuel,
+-- the number of waiting calls and the arguments
 abbrev pub Bodies : Type 0
 Bodies = Enter → ℕ → ℕ → ℕ → List Value → Outcome Value
 
--- A call of a function takes one unit of fuel, which is looked at first, and then the depth: at most `limit` calls may wait, and a
--- call in tail position doesn't wait. The clock makes the recursion structural: where it is at least the fuel, it changes nothing.
+-- A call of a function takes one unit of fuel, which is looked at first, and then the depth: at most `limit` calls may
+-- wait, and a call in tail position doesn't wait. The clock makes the recursion structural: where it is at least the
+-- fuel, it changes nothing.
 abbrev pub calls : Bodies → ℕ → ℕ → Enter
 calls bodies limit clock zero waits tail func args = Fuel 0 0
 calls bodies limit zero (suc fuel) waits tail func args = Fuel 0 0

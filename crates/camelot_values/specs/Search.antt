@@ -36,7 +36,8 @@ pub record Searched (types : List DataType) (first : ℕ) (marks : List Mark) : 
 abbrev pub passes : List DataType → ℕ → ℕ → Bool
 passes types t u = is_heap_type types u && leads_by types (length types) t u
 
--- the numbers of the constructors of the types that pass, where the first type has this number and its first constructor is `next`
+-- the numbers of the constructors of the types that pass, where the first type has this number and its first
+-- constructor is `next`
 abbrev pub numbers_where : (ℕ → Bool) → ℕ → ℕ → List DataType → List ℕ
 numbers_where q number next [] = []
 numbers_where q number next (d ∷ ds) = cond (q number) (range_with_len next (length d.cons)) [] ++ numbers_where q (suc number) (next + length d.cons) ds

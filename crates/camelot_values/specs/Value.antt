@@ -14,8 +14,8 @@ abbrev pub is_int32 : ℤ → Bool
 is_int32 (pos n) = nat_lt n 2147483648
 is_int32 (negsuc n) = nat_lt n 2147483648
 
--- An int, a truth value, a diamond, or a constructor, by its number, with its parts. That ints have 32 bits stands where a value is
--- of a kind (Typing).
+-- An int, a truth value, a diamond, or a constructor, by its number, with its parts. That ints have 32 bits stands
+-- where a value is of a kind (Typing).
 mutual
   pub data Value : Type 0 where
     Int : ℤ → Value

@@ -47,8 +47,8 @@ impl Flat {
         total
     }
 
-    /// How many cells a machine needs to hold the value: one for each boxed node and one for each diamond. A constructor that
-    /// isn't there needs none.
+    /// How many cells a machine needs to hold the value: one for each boxed node and one for each diamond. A
+    /// constructor that isn't there needs none.
     #[tactic(auto, using(crate::proofs::CountSteps::node_more))]
     pub fn cells(&self, types: &Types) -> u64
         ensures { result ≡ cells types.now self.now }

@@ -62,8 +62,8 @@ fn push_all(due: &mut Vec<Kind>, kinds: &[Kind]) -> Result<(), AllocError>
 }
 
 impl Flat {
-    /// Whether the value is of this kind: each int has 32 bits, and each constructor is of its type and has one part of the right
-    /// kind for each field. `AllocError` where memory runs out.
+    /// Whether the value is of this kind: each int has 32 bits, and each constructor is of its type and has one part of
+    /// the right kind for each field. `AllocError` where memory runs out.
     #[tactic(auto, using(crate::proofs::FitSteps::fits_on, crate::proofs::FitSteps::fits_not, crate::proofs::FitSteps::fits_past, crate::proofs::FitSteps::fits_end))]
     pub fn fits(&self, alloc: Global, types: &Types, kind: Kind) -> Result<bool, AllocError>
         ensures { IfOk result (λ fits. IsTrue fits ↔ Fits types.now kind self.now) }

@@ -130,8 +130,8 @@ impl Types {
         &self.defs
     }
 
-    /// The limits that the type keeps: at most 64 types, each with 1 to 64 constructors of at most 4 fields, and an inline
-    /// constructor has no fields. It does nothing; its clause is what whoever holds a `Types` can use.
+    /// The limits that the type keeps: at most 64 types, each with 1 to 64 constructors of at most 4 fields, and an
+    /// inline constructor has no fields. It does nothing; its clause is what whoever holds a `Types` can use.
     pub fn limits(&self)
         ensures { AreTypes self.now }
     {

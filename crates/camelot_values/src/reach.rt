@@ -110,7 +110,8 @@ pub(crate) fn search_from(types: &[TypeDef], first: usize) -> [Mark; MOST_TYPES]
     marks
 }
 
-// Whether type `last` stands in type `first` itself or in its fields, followed to the end, by the marks of a search from there.
+// Whether type `last` stands in type `first` itself or in its fields, followed to the end, by the marks of a search
+// from there.
 pub(crate) fn is_led_to(types: &[TypeDef], first: usize, marks: &[Mark], last: usize) -> bool
     requires few { length types.now ≤ 64 }
     requires last { last < MOST_TYPES }

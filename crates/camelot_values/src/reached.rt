@@ -48,7 +48,8 @@ impl Types {
         }
     }
 
-    // The numbers of the constructors of those heap types that stand in type `first`, by the marks of a search from there.
+    // The numbers of the constructors of those heap types that stand in type `first`, by the marks of a search from
+    // there.
     #[tactic(auto, using(crate::proofs::ReachSteps::all_types, crate::proofs::ReachSteps::few_defs, crate::proofs::ReachSteps::few_cons))]
     fn passing(&self, alloc: Global, first: usize, marks: &[Mark]) -> Result<Vec<u32>, AllocError>
         requires searched { Searched self.now first marks.now }
@@ -66,8 +67,8 @@ impl Types {
         Ok(found)
     }
 
-    /// The numbers of the constructors that the kind reaches, ascending: those of the heap types that stand in the kind itself or in
-    /// its fields, followed to the end. `AllocError` where memory runs out.
+    /// The numbers of the constructors that the kind reaches, ascending: those of the heap types that stand in the kind
+    /// itself or in its fields, followed to the end. `AllocError` where memory runs out.
     #[tactic(auto, using(crate::proofs::ReachSteps::few_defs, crate::proofs::ReachSteps::reached_here))]
     pub fn reached(&self, alloc: Global, kind: Kind) -> Result<Vec<u32>, AllocError>
         ensures { IfOk result (λ list. list.items ≡ reached self.now kind) }

@@ -47,8 +47,8 @@ impl Case {
         self.text.push_str(line)
     }
 
-    /// Adds what a line stands for: nothing where it begins with `--`; lines with the numbers 00, 01 and 02 in place of `#` where it is as `%3 let f# x = x`;
-    /// and else itself.
+    /// Adds what a line stands for: nothing where it begins with `--`; lines with the numbers 00, 01 and 02 in place of
+    /// `#` where it is as `%3 let f# x = x`; and else itself.
     pub fn add(&mut self, alloc: Global, line: &str) -> Result<(), AllocError> {
         if line.starts_with("--") {
             return Ok(());
@@ -66,7 +66,7 @@ impl Case {
     }
 }
 
-/// The number and the pattern of a line that stands for several.
+// The number and the pattern of a line that stands for several.
 fn repetition(line: &str) -> Option<(u32, &str)> {
     let (times, pattern) = line.strip_prefix("%")?.split_once(" ")?;
     Some((times.parse::<u32>().ok()?, pattern))

@@ -1,4 +1,5 @@
-//! What tables of cases are written in: tables of lines, codes in hexadecimal digits, texts with changed lines, and cases with a head.
+//! What tables of cases are written in: tables of lines, codes in hexadecimal digits, texts with changed lines, and
+//! cases with a head.
 #![tactic(auto)]
 
 mod case;

@@ -20,7 +20,8 @@ impl Tables {
         }
     }
 
-    /// Takes a line of the input: `table NAME` begins a table, and any other line is one of the last table. What stands before the first table is left out.
+    /// Takes a line of the input: `table NAME` begins a table, and any other line is one of the last table. What stands
+    /// before the first table is left out.
     pub fn add(&mut self, alloc: Global, line: String) -> Result<(), AllocError> {
         if let Some(name) = line.as_str().strip_prefix("table ") {
             let name = String::from_str(alloc, name)?;

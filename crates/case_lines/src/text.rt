@@ -21,7 +21,7 @@ enum Change<'a> {
     Before(usize, &'a str),
 }
 
-/// Adds the bytes, with `{W*N}` as N times the word W, and `{=N}` as the byte N.
+// Adds the bytes, with `{W*N}` as N times the word W, and `{=N}` as the byte N.
 fn push_expanded(alloc: Global, out: &mut Vec<u8>, content: &str) -> Result<(), AllocError> {
     let parts: Vec<&str> = content.split("{").collect(alloc)?;
     let mut first = true;
@@ -46,14 +46,14 @@ fn push_expanded(alloc: Global, out: &mut Vec<u8>, content: &str) -> Result<(), 
     Ok(())
 }
 
-/// Adds the line and its line feed.
+// Adds the line and its line feed.
 fn push_line(alloc: Global, out: &mut Vec<u8>, content: &str) -> Result<(), AllocError> {
     push_expanded(alloc, out, content)?;
     out.push(b'\n')?;
     Ok(())
 }
 
-/// Adds a line that stands there, where the change leaves it.
+// Adds a line that stands there, where the change leaves it.
 fn push_changed(
     alloc: Global,
     out: &mut Vec<u8>,
@@ -87,7 +87,7 @@ impl Text {
         Ok(())
     }
 
-    /// The bytes of the text with this change, and these bytes at its end.
+    // The bytes of the text with this change, and these bytes at its end.
     fn bytes(&self, alloc: Global, change: Change, ending: &str) -> Result<Vec<u8>, AllocError> {
         let mut out = Vec::new(alloc);
         for (index, line) in self.lines.iter().enumerate() {
@@ -103,7 +103,8 @@ pub trait Judge {
     fn judge(&self, alloc: Global, bytes: &[u8]) -> io::Result<String>;
 }
 
-/// The answers to all fronts of a text, from none to all of it; answers that are equal stand together, with their number.
+// The answers to all fronts of a text, from none to all of it; answers that are equal stand together, with their
+// number.
 fn fronts<J: Judge>(alloc: Global, judge: &J, bytes: &[u8]) -> io::Result<String> {
     let mut out = String::new(alloc);
     let mut last = judge.judge(alloc, &bytes[..0])?;
@@ -122,7 +123,7 @@ fn fronts<J: Judge>(alloc: Global, judge: &J, bytes: &[u8]) -> io::Result<String
     Ok(out)
 }
 
-/// The number of a line and what stands behind it.
+// The number of a line and what stands behind it.
 fn numbered(words: &str) -> Option<(usize, &str)> {
     let (number, content) = words.split_once(" |")?;
     match number.parse::<usize>() {
@@ -131,7 +132,7 @@ fn numbered(words: &str) -> Option<(usize, &str)> {
     }
 }
 
-/// The change that a command asks for.
+// The change that a command asks for.
 fn change_of(line: &str) -> Option<Change<'_>> {
     if line == "read" {
         return Some(Change::None);
@@ -151,8 +152,9 @@ fn change_of(line: &str) -> Option<Change<'_>> {
     }
 }
 
-/// What is said of the text where a command has changed it: `read` doesn't; `with K |LINE` puts a line in the place of its line K, `without K` takes that away, and
-/// `before K |LINE` puts one before it; `ending |BYTES` puts bytes behind its last line feed; and `fronts` asks for each front of the text.
+/// What is said of the text where a command has changed it: `read` doesn't; `with K |LINE` puts a line in the place of
+/// its line K, `without K` takes that away, and `before K |LINE` puts one before it; `ending |BYTES` puts bytes behind
+/// its last line feed; and `fronts` asks for each front of the text.
 pub fn answer<J: Judge>(alloc: Global, judge: &J, text: &Text, line: &str) -> io::Result<String> {
     if line == "fronts" {
         return fronts(alloc, judge, &text.bytes(alloc, Change::None, "")?);

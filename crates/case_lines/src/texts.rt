@@ -62,7 +62,8 @@ fn bytes_of(alloc: Global, digits: &str) -> io::Result<Vec<u8>> {
     }
 }
 
-/// The bytes, where each word as `3=67` has put others in the place of one of them, counted from 0. `InvalidInput` for any other word.
+/// The bytes, where each word as `3=67` has put others in the place of one of them, counted from 0. `InvalidInput` for
+/// any other word.
 pub fn edited(alloc: Global, bytes: &[u8], words: &[&str]) -> io::Result<Vec<u8>> {
     let mut text = Vec::from_slice(alloc, bytes)?;
     for word in words {

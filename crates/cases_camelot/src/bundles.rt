@@ -1,7 +1,9 @@
-//! Compiles Camelot programs to bundles, so that tables of them are data: `stdin` has the cases, and `stdout` what is to come of them.
+//! Compiles Camelot programs to bundles, so that tables of them are data: `stdin` has the cases, and `stdout` what is
+//! to come of them.
 //!
-//! A case is a line `== NAME` and its text, the lines below it, each with its line feed. The answer is the name and the bundle, or the name and the cause for
-//! which the text is refused. A line that begins with `--` is a note, and what stands before the first case is no case.
+//! A case is a line `== NAME` and its text, the lines below it, each with its line feed. The answer is the name and the
+//! bundle, or the name and the cause for which the text is refused. A line that begins with `--` is a note, and what
+//! stands before the first case is no case.
 mod answers;
 
 use answers::answer;

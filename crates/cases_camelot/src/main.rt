@@ -1,4 +1,5 @@
-//! Answers tables of cases about Camelot, so that they are data: `stdin` has the tables, and `stdout` what is to be answered.
+//! Answers tables of cases about Camelot, so that they are data: `stdin` has the tables, and `stdout` what is to be
+//! answered.
 //!
 //! A line `table NAME` begins a table, and names what its lines are about:
 //!
@@ -15,7 +16,7 @@ use case_lines::{Table, Tables};
 use std::io;
 use std::io::{BufRead, BufReader};
 
-/// Answers a table.
+// Answers a table.
 fn answer_table(rt: &HostRuntime, table: &Table) -> io::Result<()> {
     println!(rt; "table {}", table.name)?;
     match table.name.as_str() {

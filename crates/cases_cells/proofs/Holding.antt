@@ -48,7 +48,8 @@ put_same (z ∷ xs) (suc i) x e = ap (λ (l : List (Option Run)). z ∷ l) (put_
 pub place_stays : (held now : List Place) (at : ℕ) (x : Place) → x ≡ get_or held at x → now ≡ set held at None → x ≡ None → now ≡ held
 place_stays held now at x e f g = f ∙ ap (set held at) (sym g ∙ e) ∙ set-get_or held at x
 
-pub place_read : (held : List Place) (n at : ℕ) (x : Place) (l : LeaseView) → n ≡ length held → at < n → x ≡ get_or held at x → x ≡ Some l → slice_get held at ≡ Some (Some l)
+pub place_read : (held : List Place) (n at : ℕ) (x : Place) (l : LeaseView) → n ≡ length held → at < n → x ≡ get_or held at x → x ≡ Some l
+    → slice_get held at ≡ Some (Some l)
 place_read held n at x l many less e f = slice_get_read held n at x many less e ∙ ap (λ (y : Place). Some y) f
 
 -- the place in which nothing is holds no lease
@@ -66,7 +67,8 @@ none_there zero at l e = grind arith
 none_there (suc n) zero l e = let q : None ≡ Some l = some_same None (Some l) e in grind arith
 none_there (suc n) (suc at) l e = none_there n at l e
 
-pub first_held : {P : Type 0} (range : Range) (sizes : List ℕ) (jobs : ℕ) (held : List Place) (d : DeskView P) → held ≡ replicate jobs None → jobs ≡ length sizes → d ≡ new_desk range sizes → AllHeld held d
+pub first_held : {P : Type 0} (range : Range) (sizes : List ℕ) (jobs : ℕ) (held : List Place) (d : DeskView P) → held ≡ replicate jobs None
+    → jobs ≡ length sizes → d ≡ new_desk range sizes → AllHeld held d
 first_held {P} range sizes jobs held d e m f =
     let is : held ≡ replicate (length sizes) None = e ∙ ap (λ n. replicate n None) m in
     subst (λ (x : DeskView P). AllHeld held x) (sym f) (record {
@@ -86,7 +88,8 @@ module _ {P : Type 0} (held : List Place) (old : DeskView P) (k : AllHeld held o
   pub is_free : (next : Option Move) (new : DeskView P) (l : LeaseView) → Takes next old new l → slice_get held l.job ≡ Some None
   is_free next new l t = free_here held l.job (ap (λ (ls : List (Option Run)). slice_get ls l.job) k.leases ∙ t.free)
 
-  pub taken_held : (next : Option Move) (new : DeskView P) (l : LeaseView) (now : List Place) → Takes next old new l → now ≡ slice_set held l.job (Some l) → AllHeld now new
+  pub taken_held : (next : Option Move) (new : DeskView P) (l : LeaseView) (now : List Place) → Takes next old new l
+      → now ≡ slice_set held l.job (Some l) → AllHeld now new
   taken_held next new l now t e =
       let less : l.job < length held = slice_get_within held l.job None (is_free next new l t) in
       subst (λ (xs : List Place). AllHeld xs new) (sym e) (record {
@@ -94,7 +97,8 @@ module _ {P : Type 0} (held : List Place) (old : DeskView P) (k : AllHeld held o
         own = λ at m q. by_place at m (cases_eq l.job at) less q;
       })
     where
-      by_place : (at : ℕ) (m : LeaseView) → (l.job ≡ at) ⊎ ((l.job ≡ at) → ⊥) → l.job < length held → slice_get (slice_set held l.job (Some l)) at ≡ Some (Some m) → m.job ≡ at
+      by_place : (at : ℕ) (m : LeaseView) → (l.job ≡ at) ⊎ ((l.job ≡ at) → ⊥) → l.job < length held
+          → slice_get (slice_set held l.job (Some l)) at ≡ Some (Some m) → m.job ≡ at
       by_place at m (inl here) less q =
           let same : l ≡ m = some_same l m (some_same (Some l) (Some m) (sym (put_here held l.job (Some l) less) ∙ subst (λ j. slice_get (slice_set held l.job (Some l)) j ≡ Some (Some m)) (sym here) q)) in
           subst (λ (x : LeaseView). x.job ≡ at) same here
@@ -124,7 +128,8 @@ module _ {P : Type 0} (held : List Place) (old : DeskView P) (k : AllHeld held o
             absurd (grind arith)
         by_place (inr there) = k.own i m (sym (put_there held job i None there) ∙ q)
 
-    pub given_held : (payloads : List (Option P)) (withdrawn : ℕ) (now : List Place) (new : DeskView P) → now ≡ slice_set held job None → new ≡ given_back old l payloads withdrawn → AllHeld now new
+    pub given_held : (payloads : List (Option P)) (withdrawn : ℕ) (now : List Place) (new : DeskView P) → now ≡ slice_set held job None
+        → new ≡ given_back old l payloads withdrawn → AllHeld now new
     given_held payloads withdrawn now new e f =
         subst (λ (xs : List Place). AllHeld xs new) (sym e) (subst (λ (d : DeskView P). AllHeld (slice_set held job None) d) (sym f) (record {
           leases = map-set run_in held job None ∙ ap (λ (ls : List (Option Run)). slice_set ls job None) k.leases ∙ ap (λ j. slice_set old.state.leases j None) (sym (k.own job l at));
@@ -152,7 +157,8 @@ module _ {P : Type 0} (held : List Place) (old : DeskView P) (k : AllHeld held o
             own = λ i n q. by_place i n (cases_eq job i) place q;
           })
         where
-          by_place : (i : ℕ) (n : LeaseView) → (job ≡ i) ⊎ ((job ≡ i) → ⊥) → m.job ≡ job → slice_get (slice_set (slice_set held job None) job (Some m)) i ≡ Some (Some n) → n.job ≡ i
+          by_place : (i : ℕ) (n : LeaseView) → (job ≡ i) ⊎ ((job ≡ i) → ⊥) → m.job ≡ job
+              → slice_get (slice_set (slice_set held job None) job (Some m)) i ≡ Some (Some n) → n.job ≡ i
           by_place i n (inl here) place q =
               let less : job < length (slice_set held job None) = slice_get_within (slice_set held job None) job None (put_here held job None (slice_get_within held job (Some l) at)) in
               let same : m ≡ n = some_same m n (some_same (Some m) (Some n) (sym (put_here (slice_set held job None) job (Some m) less)
@@ -179,7 +185,8 @@ get_seam : (xs : List Place) (x : Option Run) (behind : List (Option Run)) → s
 get_seam [] x behind = refl
 get_seam (y ∷ xs) x behind = get_seam xs x behind
 
-set_seam : (xs : List Place) (x y : Option Run) (behind : List (Option Run)) → slice_set (map run_in xs ++ x ∷ behind) (length xs) y ≡ map run_in xs ++ y ∷ behind
+set_seam : (xs : List Place) (x y : Option Run) (behind : List (Option Run))
+    → slice_set (map run_in xs ++ x ∷ behind) (length xs) y ≡ map run_in xs ++ y ∷ behind
 set_seam [] x y behind = refl
 set_seam (z ∷ xs) x y behind = ap (λ (l : List (Option Run)). run_in z ∷ l) (set_seam xs x y behind)
 
@@ -194,7 +201,8 @@ module _ {P : Type 0} where
   front_own : (held now : List Place) (x : Place) (d : DeskView P) → FrontHeld held d → held ≡ now ++ x ∷ [] → AreOwn now
   front_own held now x d k e at l q = k.own at l (ap (λ (xs : List Place). slice_get xs at) e ∙ get_longer now (x ∷ []) at (Some l) q)
 
-  front_leases : (held now : List Place) (x : Place) (d : DeskView P) → (k : FrontHeld held d) → held ≡ now ++ x ∷ [] → map run_in now ++ run_in x ∷ k.behind ≡ d.state.leases
+  front_leases : (held now : List Place) (x : Place) (d : DeskView P) → (k : FrontHeld held d) → held ≡ now ++ x ∷ []
+      → map run_in now ++ run_in x ∷ k.behind ≡ d.state.leases
   front_leases held now x d k e = sym (map_more now x k.behind) ∙ ap (λ (xs : List Place). map run_in xs ++ k.behind) (sym e) ∙ k.leases
 
   pub empty_front : (held now : List Place) (d : DeskView P) → FrontHeld held d → held ≡ now ++ None ∷ [] → FrontHeld now d

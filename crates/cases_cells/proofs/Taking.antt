@@ -42,7 +42,8 @@ stop_takes : (a b e f p : ℕ) → p ≤ a + f * e → p ≤ a + b + f * e
 stop_takes a b e f p h = grind (arith, h)
 
 -- what holds of both holds of one after the other
-takes_then : (a b e f : ℕ) (o : Outcome Value) (next : ℕ → Value → Outcome Value) → Takes a e f o → ((k : ℕ) (v : Value) → Takes b e k (next k v)) → Takes (a + b) e f (first_then f o next)
+takes_then : (a b e f : ℕ) (o : Outcome Value) (next : ℕ → Value → Outcome Value) → Takes a e f o → ((k : ℕ) (v : Value) → Takes b e k (next k v))
+    → Takes (a + b) e f (first_then f o next)
 takes_then a b e f (Done v c p l) next t k = takes_after a b e c p l f (next (f - c) v) t.0 t.1 (k (f - c) v)
 takes_then a b e f (Fuel c p) next t k = stop_takes a b e f p t
 takes_then a b e f (Deep p) next t k = stop_takes a b e f p t
@@ -106,7 +107,8 @@ op_takes e enter on_call (Prim op x y) k w env = operands_take op e k (env x) (e
 op_takes e enter on_call (Make con args p) k w env = given_takes _ e k (values_of env args) (λ vs. built con vs p env) (λ vs. built_takes e k con vs p env)
 op_takes e enter on_call (Call func args) k w env = given_takes _ e k (values_of env args) (λ vs. enter k w false func vs) (λ vs. on_call k w false func vs)
 
-lets_take : (rest e : ℕ) (enter : Enter) → EnterTakes e enter → (ls : List Let) (k w : ℕ) (env : Locals) (next : ℕ → Locals → Outcome Value) → ((j : ℕ) (last : Locals) → Takes rest e j (next j last))
+lets_take : (rest e : ℕ) (enter : Enter) → EnterTakes e enter → (ls : List Let) (k w : ℕ) (env : Locals) (next : ℕ → Locals → Outcome Value)
+    → ((j : ℕ) (last : Locals) → Takes rest e j (next j last))
     → Takes (new_lets ls + rest) e k (lets_run enter ls k w env next)
 lets_take rest e enter on_call [] k w env next on = takes_more rest (0 + rest) e k (next k env) (grind (arith)) (on k env)
 lets_take rest e enter on_call (b ∷ bs) k w env next on =
@@ -130,41 +132,49 @@ freed_takes : (a e k : ℕ) (o : Outcome Value) → Takes a e k o → Takes a e 
 freed_takes a e k o t = let none : k - 0 ≡ k = grind (arith) in let same : 0 + a ≡ a = grind (arith) in
     subst (λ n. Takes n e k (after 0 0 1 o)) same (takes_after 0 a e 0 0 1 k o (grind (arith)) (grind (arith)) (subst (λ n. Takes a e n o) (sym none) t))
 
-cell_takes : (a e k : ℕ) (c : CaseCell) (env : Locals) (next : Locals → Outcome Value) → ((last : Locals) → Takes a e k (next last)) → Takes a e k (cell_run c env next)
+cell_takes : (a e k : ℕ) (c : CaseCell) (env : Locals) (next : Locals → Outcome Value) → ((last : Locals) → Takes a e k (next last))
+    → Takes a e k (cell_run c env next)
 cell_takes a e k cell.Inline env next h = h env
 cell_takes a e k cell.Free env next h = freed_takes a e k (next env) (h env)
 cell_takes a e k (cell.Keep d) env next h = h (put env d value.Dia)
 
-arm_takes : (a e : ℕ) (later : Later) → LaterTakes a e later → (arm : Option CaseArm) (vs : Values) (k w : ℕ) (env : Locals) → Takes a e k (arm_run later arm vs k w env)
+arm_takes : (a e : ℕ) (later : Later) → LaterTakes a e later → (arm : Option CaseArm) (vs : Values) (k w : ℕ) (env : Locals)
+    → Takes a e k (arm_run later arm vs k w env)
 arm_takes a e later on None vs k w env = tt
 arm_takes a e later on (Some arm) vs k w env = given_takes a e k (put_all env arm.fields vs) _ (λ bound. cell_takes a e k arm.cell bound _ (λ last. on arm.target k w last))
 
-case_takes : (types : List DataType) (a e : ℕ) (later : Later) → LaterTakes a e later → (v : Value) (arms : List CaseArm) (k w : ℕ) (env : Locals) → Takes a e k (case_run types later v arms k w env)
+case_takes : (types : List DataType) (a e : ℕ) (later : Later) → LaterTakes a e later → (v : Value) (arms : List CaseArm) (k w : ℕ) (env : Locals)
+    → Takes a e k (case_run types later v arms k w env)
 case_takes types a e later on (value.Con c vs) arms k w env = arm_takes a e later on (arm_at arms (place_of types c)) vs k w env
 case_takes types a e later on (value.Int z) arms k w env = tt
 case_takes types a e later on (value.Flag b) arms k w env = tt
 case_takes types a e later on value.Dia arms k w env = tt
 
-term_takes : (types : List DataType) (a e : ℕ) (enter : Enter) → EnterTakes e enter → (later : Later) → LaterTakes a e later → (t : Term) (k w : ℕ) (env : Locals) → Takes a e k (term_run types enter later t k w env)
+term_takes : (types : List DataType) (a e : ℕ) (enter : Enter) → EnterTakes e enter → (later : Later) → LaterTakes a e later
+    → (t : Term) (k w : ℕ) (env : Locals) → Takes a e k (term_run types enter later t k w env)
 term_takes types a e enter on_call later on (Ret x) k w env = takes_more 0 a e k _ (grind (arith)) (known_takes e k (env x))
 term_takes types a e enter on_call later on (Tail func args) k w env = takes_more 0 a e k _ (grind (arith)) (given_takes 0 e k (values_of env args) _ (λ vs. on_call k w true func vs))
 term_takes types a e enter on_call later on (Goto b) k w env = on b k w env
 term_takes types a e enter on_call later on (If x first second) k w env = given_takes a e k (env x) _ (λ v. chosen_takes a e k v _ _ (on first k w env) (on second k w env))
 term_takes types a e enter on_call later on (Case x arms) k w env = given_takes a e k (env x) _ (λ v. case_takes types a e later on v arms k w env)
 
-block_takes : (types : List DataType) (a e : ℕ) (enter : Enter) → EnterTakes e enter → (later : Later) → LaterTakes a e later → (b : Block) (k w : ℕ) (env : Locals)
+block_takes : (types : List DataType) (a e : ℕ) (enter : Enter) → EnterTakes e enter → (later : Later) → LaterTakes a e later
+    → (b : Block) (k w : ℕ) (env : Locals)
     → Takes (new_lets b.lets + a) e k (block_run types enter later (narrow b) k w env)
 block_takes types a e enter on_call later on b k w env = lets_take a e enter on_call b.lets k w env _ (λ j last. term_takes types a e enter on_call later on b.term j w last)
 
-jumps_take : (types : List DataType) (e : ℕ) (enter : Enter) → EnterTakes e enter → (first : ℕ) (bs : List Block) → LaterTakes (new_blocks bs) e (jump_run types enter first (map narrow bs))
+jumps_take : (types : List DataType) (e : ℕ) (enter : Enter) → EnterTakes e enter → (first : ℕ) (bs : List Block)
+    → LaterTakes (new_blocks bs) e (jump_run types enter first (map narrow bs))
 jumps_take types e enter on_call first [] b k w env = tt
 jumps_take types e enter on_call first (body ∷ bs) b k w env = by_place (jumps_take types e enter on_call (suc first) bs) (b == first)
   where
-    by_place : LaterTakes (new_blocks bs) e (jump_run types enter (suc first) (map narrow bs)) → (here : Bool) → Takes (new_lets body.lets + new_blocks bs) e k (if here then block_run types enter (jump_run types enter (suc first) (map narrow bs)) (narrow body) k w ((narrow body).takes env) else jump_run types enter (suc first) (map narrow bs) b k w env)
+    by_place : LaterTakes (new_blocks bs) e (jump_run types enter (suc first) (map narrow bs)) → (here : Bool)
+        → Takes (new_lets body.lets + new_blocks bs) e k (if here then block_run types enter (jump_run types enter (suc first) (map narrow bs)) (narrow body) k w ((narrow body).takes env) else jump_run types enter (suc first) (map narrow bs) b k w env)
     by_place later true = block_takes types (new_blocks bs) e enter on_call _ later body k w ((narrow body).takes env)
     by_place later false = takes_more (new_blocks bs) (new_lets body.lets + new_blocks bs) e k _ (grind (arith)) (later b k w env)
 
-blocks_take : (types : List DataType) (e : ℕ) (enter : Enter) → EnterTakes e enter → (bs : List Block) (k w : ℕ) (env : Locals) → Takes (new_blocks bs) e k (blocks_run types enter (map narrow bs) k w env)
+blocks_take : (types : List DataType) (e : ℕ) (enter : Enter) → EnterTakes e enter → (bs : List Block) (k w : ℕ) (env : Locals)
+    → Takes (new_blocks bs) e k (blocks_run types enter (map narrow bs) k w env)
 blocks_take types e enter on_call [] k w env = tt
 blocks_take types e enter on_call (body ∷ bs) k w env = block_takes types (new_blocks bs) e enter on_call _ (jumps_take types e enter on_call 1 bs) body k w env
 
@@ -175,7 +185,8 @@ at_most_all [] i f h = absurd cc
 at_most_all (g ∷ fs) zero f h = let same : g ≡ f = cc in subst (λ x. new_blocks x.blocks ≤ new_blocks g.blocks + new_funcs fs) same (grind (arith))
 at_most_all (g ∷ fs) (suc i) f h = let more : new_blocks f.blocks ≤ new_funcs fs = at_most_all fs i f h in grind (arith, more)
 
-body_takes : (p : Code) (enter : Enter) → EnterTakes (new_funcs p.funcs) enter → (f : Option Func) (i : ℕ) → slice_get p.funcs i ≡ f → (k w : ℕ) (args : List Value) → Takes (new_funcs p.funcs) (new_funcs p.funcs) k (body_run p.types enter f k w args)
+body_takes : (p : Code) (enter : Enter) → EnterTakes (new_funcs p.funcs) enter → (f : Option Func) (i : ℕ) → slice_get p.funcs i ≡ f
+    → (k w : ℕ) (args : List Value) → Takes (new_funcs p.funcs) (new_funcs p.funcs) k (body_run p.types enter f k w args)
 body_takes p enter on_call None i h k w args = tt
 body_takes p enter on_call (Some f) i h k w args = by_count (length args == length f.params)
   where
@@ -189,7 +200,8 @@ entered_takes e f (Fuel c p) t = grind (arith, t, more_calls 1 f e)
 entered_takes e f (Deep p) t = grind (arith, t, more_calls 1 f e)
 entered_takes e f Stuck t = tt
 
-calls_take : (p : Code) (limit clock : ℕ) → (k w : ℕ) (tail : Bool) (func : ℕ) (args : List Value) → Takes 0 (new_funcs p.funcs) k (calls (bodies p) limit clock k w tail func args)
+calls_take : (p : Code) (limit clock : ℕ) → (k w : ℕ) (tail : Bool) (func : ℕ) (args : List Value)
+    → Takes 0 (new_funcs p.funcs) k (calls (bodies p) limit clock k w tail func args)
 calls_take p limit clock zero w tail func args = grind (arith)
 calls_take p limit zero (suc k) w tail func args = grind (arith)
 calls_take p limit (suc clock) (suc k) w tail func args = by_depth (calls_take p limit clock) (is_too_deep limit w tail)
@@ -197,7 +209,8 @@ calls_take p limit (suc clock) (suc k) w tail func args = by_depth (calls_take p
     e : ℕ
     e = new_funcs p.funcs
 
-    by_depth : EnterTakes e (calls (bodies p) limit clock) → (deep : Bool) → Takes 0 e (suc k) (if deep then Deep 0 else entered (bodies p (calls (bodies p) limit clock) func k (cond tail w (suc w)) args))
+    by_depth : EnterTakes e (calls (bodies p) limit clock) → (deep : Bool)
+        → Takes 0 e (suc k) (if deep then Deep 0 else entered (bodies p (calls (bodies p) limit clock) func k (cond tail w (suc w)) args))
     by_depth on_call true = grind (arith)
     by_depth on_call false = entered_takes e k _ (body_takes p (calls (bodies p) limit clock) on_call (slice_get p.funcs func) func refl k (cond tail w (suc w)) args)
 

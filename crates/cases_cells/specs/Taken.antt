@@ -1,5 +1,6 @@
 -- Private: words for functions of this crate.
--- How many cells a run can take, by the lets of its code that build in new ones: a call takes no more than there are such lets.
+-- How many cells a run can take, by the lets of its code that build in new ones: a call takes no more than there are
+-- such lets.
 use Rattle.std.specs.Prelude.{ℕ, ◌+◌, ◌*◌, ◌≤◌, List, [], ◌∷◌}
 use Rattle.camelot_values.specs.Value.{Value}
 use Rattle.camelot_values.specs.Outcome.{Outcome, Done, Fuel, Deep, Stuck, peak_of}

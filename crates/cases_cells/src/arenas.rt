@@ -5,7 +5,8 @@ ghost use Rattle.cell_span.specs.Range.{IsWhole, blank};
 use cell_span::Span;
 use std::alloc::{AllocError, Global};
 
-/// The whole of a new arena of so many cells, from 1 to 2147483648, all of which are blank. `AllocError` where memory runs out.
+/// The whole of a new arena of so many cells, from 1 to 2147483648, all of which are blank. `AllocError` where memory
+/// runs out.
 pub(crate) fn new_arena(alloc: Global, cells: u32) -> Result<Span, AllocError>
     requires some { 1 ≤ cells }
     requires few { cells ≤ 2147483648 }

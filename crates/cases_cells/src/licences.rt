@@ -1,14 +1,18 @@
-//! Answers lines about runs of code with certificates, so that tables of them are data: `stdin` has the lines, and `stdout` what is to be answered.
+//! Answers lines about runs of code with certificates, so that tables of them are data: `stdin` has the lines, and
+//! `stdout` what is to be answered.
 //!
-//! `code NAME` begins a code, and lines that begin with a blank have its bytes in hexadecimal digits. `cert NAME` begins a certificate, and lines
-//! that begin with a blank have its lines. A line that begins with `--` is a note. Any other line is a command, and its answer stands behind it. The
-//! text of the arguments stands between two `|`.
+//! `code NAME` begins a code, and lines that begin with a blank have its bytes in hexadecimal digits. `cert NAME`
+//! begins a certificate, and lines that begin with a blank have its lines. A line that begins with `--` is a note. Any
+//! other line is a command, and its answer stands behind it. The text of the arguments stands between two `|`.
 //!
 //! - `bound CODE CERT FUNCTION |ARGUMENTS|`: the bound and the lease of a run of the function of this number.
-//! - `run CODE CERT FUNCTION FUEL |ARGUMENTS|`: the same, and how the run ends in the cells of its lease, with so much fuel.
-//! - `serve CODE CERT FUNCTION FUEL COPIES ARENA WORKERS GATE |ARGUMENTS|`: the run as so many jobs, numbered from 0, which so many workers serve in an arena of so
-//!   many cells: how many ended, of how many events, and the cells that came back; or, where memory is refused, the first index and the cells of what came home. The
-//!   gate is `open`; or a job's number, at which its worker is refused memory; or `hold`, where job 0 waits until job 1 has passed, and it is told whether it did.
+//! - `run CODE CERT FUNCTION FUEL |ARGUMENTS|`: the same, and how the run ends in the cells of its lease, with so much
+//!   fuel.
+//! - `serve CODE CERT FUNCTION FUEL COPIES ARENA WORKERS GATE |ARGUMENTS|`: the run as so many jobs, numbered from 0,
+//!   which so many workers serve in an arena of so many cells: how many ended, of how many events, and the cells that
+//!   came back; or, where memory is refused, the first index and the cells of what came home. The gate is `open`; or a
+//!   job's number, at which its worker is refused memory; or `hold`, where job 0 waits until job 1 has passed, and it
+//!   is told whether it did.
 mod gates;
 mod jobs;
 mod running;
@@ -22,7 +26,7 @@ use std::io;
 use std::sync::Wait;
 use std::thread::Threads;
 
-/// Prints what is answered about a run of these texts.
+// Prints what is answered about a run of these texts.
 fn answer_run(
     rt: &HostRuntime,
     bytes: (&[u8], &[u8]),
@@ -37,17 +41,17 @@ fn answer_run(
     }
 }
 
-/// The numbers of these words.
+// The numbers of these words.
 fn numbers_of(entry: &str, fuel: &str) -> Option<(u32, Option<u64>)> {
     Some((entry.parse::<u32>().ok()?, Some(fuel.parse::<u64>().ok()?)))
 }
 
-/// The same without fuel.
+// The same without fuel.
 fn number_of(entry: &str) -> Option<(u32, Option<u64>)> {
     Some((entry.parse::<u32>().ok()?, None))
 }
 
-/// The call of these words as so many jobs, where each word is a number.
+// The call of these words as so many jobs, where each word is a number.
 fn call_of<'a>(words: [&str; 5], gate: &'a str, text: &'a [u8]) -> Option<Call<'a>> {
     let [entry, fuel, copies, arena, workers] = words;
     Some(Call {
@@ -61,7 +65,7 @@ fn call_of<'a>(words: [&str; 5], gate: &'a str, text: &'a [u8]) -> Option<Call<'
     })
 }
 
-/// Prints what is answered to the command of these words, with these arguments.
+// Prints what is answered to the command of these words, with these arguments.
 fn answer<R: Threads + Wait + Sync>(
     rt: &HostRuntime,
     threads: &R,
@@ -120,7 +124,7 @@ fn answer_line<R: Threads + Wait + Sync>(
     }
 }
 
-/// Adds a line of a code, in hexadecimal digits, or one of a certificate.
+// Adds a line of a code, in hexadecimal digits, or one of a certificate.
 fn extend(
     rt: &HostRuntime,
     codes: &mut Texts,

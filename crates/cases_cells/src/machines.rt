@@ -1,14 +1,18 @@
-//! Answers lines about runs in cells, so that tables of them are data: `stdin` has the lines, and `stdout` what is to be answered.
+//! Answers lines about runs in cells, so that tables of them are data: `stdin` has the lines, and `stdout` what is to
+//! be answered.
 //!
-//! `code NAME` begins a code, and lines that begin with a blank have its bytes in hexadecimal digits; a line that begins with
-//! `--` is a note. Any other line is a command, and its answer stands behind it. The text of the arguments stands between two `|`.
+//! `code NAME` begins a code, and lines that begin with a blank have its bytes in hexadecimal digits; a line that
+//! begins with `--` is a note. Any other line is a command, and its answer stands behind it. The text of the arguments
+//! stands between two `|`.
 //!
-//! - `run CODE FUNCTION LEASE FUEL |ARGUMENTS|`: how the function of this number ends in so many cells, with so much fuel.
+//! - `run CODE FUNCTION LEASE FUEL |ARGUMENTS|`: how the function of this number ends in so many cells, with so much
+//!   fuel.
 //! - `cells CODE FUNCTION LEASE FUEL |ARGUMENTS|`: the same, and the tag and the words of each cell behind it.
-//! - `time CODE FUNCTION LEASE FUEL TIMES |ARGUMENTS|`: how it ends, and then the calls and the nanoseconds of so many more of the same
-//!   run, in one range. It is for `bench/machine`.
+//! - `time CODE FUNCTION LEASE FUEL TIMES |ARGUMENTS|`: how it ends, and then the calls and the nanoseconds of so many
+//!   more of the same run, in one range. It is for `bench/machine`.
 //!
-//! A run is made only where it is proved that the cells are enough: by the lets of the code that build in new cells, or by the evaluator.
+//! A run is made only where it is proved that the cells are enough: by the lets of the code that build in new cells, or
+//! by the evaluator.
 mod jobs;
 mod running;
 mod taken;
@@ -18,7 +22,7 @@ use case_lines::Texts;
 use jobs::Numbers;
 use std::io;
 
-/// The numbers of these words.
+// The numbers of these words.
 fn numbers_of(entry: &str, lease: &str, fuel: &str) -> Option<Numbers> {
     Some(Numbers {
         entry: entry.parse::<u32>().ok()?,
@@ -27,7 +31,7 @@ fn numbers_of(entry: &str, lease: &str, fuel: &str) -> Option<Numbers> {
     })
 }
 
-/// Prints what is answered to the command of these words, with these arguments.
+// Prints what is answered to the command of these words, with these arguments.
 fn answer(rt: &HostRuntime, codes: &Texts, words: &[&str], text: &[u8]) -> io::Result<()> {
     let (command, name, numbers, times) = match words {
         [command, name, entry, lease, fuel] => (

@@ -1,4 +1,5 @@
-//! Answers tables of cases about cells, so that they are data: `stdin` has the tables, and `stdout` what is to be answered.
+//! Answers tables of cases about cells, so that they are data: `stdin` has the tables, and `stdout` what is to be
+//! answered.
 //!
 //! A line `table NAME` begins a table, and names what its lines are about:
 //!
@@ -20,7 +21,7 @@ use std::io::{BufRead, BufReader};
 use std::sync::Wait;
 use std::thread::Threads;
 
-/// Answers a table. The runtime comes twice: it prints, and it starts threads.
+// Answers a table. The runtime comes twice: it prints, and it starts threads.
 fn answer_table<R: Threads + Wait + Sync>(
     rt: &HostRuntime,
     threads: &R,

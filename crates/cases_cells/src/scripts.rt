@@ -1,15 +1,18 @@
-//! Answers lines about texts of scripts, so that tables of them are data: `stdin` has the lines, and `stdout` what is to be answered.
+//! Answers lines about texts of scripts, so that tables of them are data: `stdin` has the lines, and `stdout` what is
+//! to be answered.
 //!
-//! `text` begins a text. `|LINE` adds a line and its line feed to it. `{W*N}` in a line is N times the word W, and `{=N}` the byte N. `programs N` adds N
-//! empty programs `p1`, `p2` and so on, and `jobs N` as many jobs `j1`, `j2`. A line that begins with `--` is a note. Any other line is a command, and its
-//! answer stands behind it: the numbers of the script and its last entry, or the fault.
+//! `text` begins a text. `|LINE` adds a line and its line feed to it. `{W*N}` in a line is N times the word W, and
+//! `{=N}` the byte N. `programs N` adds N empty programs `p1`, `p2` and so on, and `jobs N` as many jobs `j1`, `j2`. A
+//! line that begins with `--` is a note. Any other line is a command, and its answer stands behind it: the numbers of
+//! the script and its last entry, or the fault.
 //!
 //! - `read`: of the text.
 //! - `with K |LINE`: of the text with this in place of its line K.
 //! - `without K`: of the text without its line K.
 //! - `before K |LINE`: of the text with this line before its line K.
 //! - `ending |BYTES`: of the text with these bytes behind its last line feed.
-//! - `fronts`: of each front of the text, from none to all of it; answers that are equal stand together, with their number.
+//! - `fronts`: of each front of the text, from none to all of it; answers that are equal stand together, with their
+//!   number.
 mod answers;
 
 use answers::Scripts;
@@ -17,7 +20,7 @@ use case_lines::{Text, answer};
 use std::alloc::Global;
 use std::io;
 
-/// Adds as many programs or jobs; false where the line asks for none.
+// Adds as many programs or jobs; false where the line asks for none.
 fn add_many(alloc: Global, text: &mut Text, line: &str) -> io::Result<bool> {
     if let Some(count) = line.strip_prefix("programs ") {
         for number in 1..count.parse::<u32>().unwrap_or(0).saturating_add(1) {

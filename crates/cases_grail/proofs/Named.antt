@@ -7,7 +7,8 @@ use Rattle.grail_code.specs.Code.{Code}
 use Rattle.grail_code.specs.Spelling.{FitsCode, FitsType, FitsCon}
 use Rattle.value_text.specs.Grammar.{AreNamed}
 
-both : (cs : List Constructor) (ds : List Constructor) → AllByRecursion FitsCon cs → AllByRecursion (λ c. IsUpperName c.name) ds → AllByRecursion (λ c. IsUpperName c.name) (cs ++ ds)
+both : (cs : List Constructor) (ds : List Constructor) → AllByRecursion FitsCon cs → AllByRecursion (λ c. IsUpperName c.name) ds
+    → AllByRecursion (λ c. IsUpperName c.name) (cs ++ ds)
 both [] ds a b = b
 both (c ∷ cs) ds a b = (a.0.name, both cs ds a.1 b)
 

@@ -4,9 +4,10 @@
 //! The lines are those of the table `certificates`. The answer is the number of bytes of the code and of the
 //! certificate, with `same` where writing the bundle gives the text again, or the fault.
 use case_lines::Judge;
-use grail_bundle::{BundleError, read_bundle, write_bundle};
+use grail_bundle::{read_bundle, write_bundle};
 use std::alloc::Global;
 use std::io;
+use stops::Stop;
 
 /// What the reader says of a text.
 pub(crate) struct Bundles;
@@ -30,8 +31,8 @@ impl Judge for Bundles {
                     bundle.cert().len()
                 )?)
             }
-            Err(BundleError::Fault(fault)) => Ok(format!(in alloc; "{fault}")?),
-            Err(BundleError::Memory) => Ok(format!(in alloc; "memory")?),
+            Err(Stop::Fault(fault)) => Ok(format!(in alloc; "{fault}")?),
+            Err(Stop::Memory) => Ok(format!(in alloc; "memory")?),
         }
     }
 }

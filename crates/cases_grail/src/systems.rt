@@ -1,10 +1,12 @@
-//! Answers systems of inequalities, so that tables of them are data: `stdin` has the systems, and `stdout` what is to be answered.
+//! Answers systems of inequalities, so that tables of them are data: `stdin` has the systems, and `stdout` what is to
+//! be answered.
 //!
-//! `system NAME COSTS` begins a system of as many unknowns as there are costs, `row LEAST UNKNOWN:FACTOR ..` is a row of it, and
-//! `each COUNT` adds so many unknowns of cost 1, each with a row that makes it 1 at least. A line that begins with `--` is a note.
+//! `system NAME COSTS` begins a system of as many unknowns as there are costs, `row LEAST UNKNOWN:FACTOR ..` is a row
+//! of it, and `each COUNT` adds so many unknowns of cost 1, each with a row that makes it 1 at least. A line that
+//! begins with `--` is a note.
 //!
-//! The answer is the name and `least VALUES over UNIT, prices PRICES over UNIT`, `nothing at VARIABLE`, `wide at PIVOT` or `spent`, and the pivots; or
-//! `not a proper system`.
+//! The answer is the name and `least VALUES over UNIT, prices PRICES over UNIT`, `nothing at VARIABLE`, `wide at PIVOT`
+//! or `spent`, and the pivots; or `not a proper system`.
 mod cases;
 
 use cases::Case;
@@ -13,7 +15,7 @@ use std::alloc::{AllocError, Global};
 use std::fmt::Write;
 use std::io;
 
-/// How a run ends, as text.
+// How a run ends, as text.
 fn text_of(alloc: Global, solved: &Solved) -> Result<String, AllocError> {
     match solved {
         Solved::Least {
@@ -42,7 +44,7 @@ fn push_numbers(text: &mut String, numbers: &[u64]) -> Result<(), AllocError> {
     Ok(())
 }
 
-/// Prints how the run of a system ends by both calls, and its pivots.
+// Prints how the run of a system ends by both calls, and its pivots.
 fn answer(rt: &HostRuntime, case: &Case) -> io::Result<()> {
     let system = &case.system;
     if !system.is_proper() {

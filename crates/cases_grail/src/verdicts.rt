@@ -1,11 +1,13 @@
-//! Answers lines about codes with certificates, so that tables of them are data: `stdin` has the lines, and `stdout` what is to be answered.
+//! Answers lines about codes with certificates, so that tables of them are data: `stdin` has the lines, and `stdout`
+//! what is to be answered.
 //!
-//! `code NAME` begins a code, and lines that begin with a blank have its bytes in hexadecimal digits. `cert NAME` begins a certificate, and lines
-//! that begin with a blank have its lines. A line that begins with `--` is a note.
+//! `code NAME` begins a code, and lines that begin with a blank have its bytes in hexadecimal digits. `cert NAME`
+//! begins a certificate, and lines that begin with a blank have its lines. A line that begins with `--` is a note.
 //!
-//! `verify CODE CERT EDITS / N TEXT` is answered with what the verifier says: an edit as `3=67` puts these bytes, any number of them, in the place
-//! of one byte of the code, counted from 0, and TEXT stands in the place of line N of the certificate, counted from 1, where `|` ends a line. Without
-//! TEXT the line is left out; without `/` the certificate is as it stands.
+//! `verify CODE CERT EDITS / N TEXT` is answered with what the verifier says: an edit as `3=67` puts these bytes, any
+//! number of them, in the place of one byte of the code, counted from 0, and TEXT stands in the place of line N of the
+//! certificate, counted from 1, where `|` ends a line. Without TEXT the line is left out; without `/` the certificate
+//! is as it stands.
 mod certs;
 
 use case_lines::{Texts, edited};
@@ -13,22 +15,23 @@ use certificate::CertFault;
 use certs::Certs;
 use grail_verifier::{Refusal, verify};
 use std::io;
+use stops::Stop;
 
-/// Prints the verdict on these bytes.
+// Prints the verdict on these bytes.
 fn answer(rt: &HostRuntime, code: &[u8], cert: &[u8]) -> io::Result<()> {
     if code.len() >= 4294967296 || cert.len() >= 4294967296 {
         return println!(rt; " too long");
     }
     match verify(rt.alloc(), code, cert) {
         Ok(licence) => println!(rt; " accepted unit {}", licence.cert().unit()),
-        Err(Refusal::Cert(CertFault::Number { line })) => {
+        Err(Stop::Fault(Refusal::Cert(CertFault::Number { line }))) => {
             println!(rt; " certificate number line {line}")
         }
-        Err(refusal) => println!(rt; " {refusal}"),
+        Err(stop) => println!(rt; " {stop}"),
     }
 }
 
-/// Answers a command, whose edit of the certificate stands behind it.
+// Answers a command, whose edit of the certificate stands behind it.
 fn answer_words(
     rt: &HostRuntime,
     codes: &Texts,

@@ -36,7 +36,8 @@ cells_suffice l entry args fuel h fit = by_func (slice_get l.code.funcs entry) r
     by_func (Some f) e g = lease_suffices l.code l.cert h.well (blocks_there l.code h.limits) h.limits.types h.grants.pays most_calls entry fuel args f e g
 
 -- A plan can run.
-pub can_run : (l : Licensed) (entry : ℕ) (args : List Value) (fuel cells : ℕ) → IsLicensed l → IsPlan l entry args fuel cells → CanRun l.code entry args fuel cells
+pub can_run : (l : Licensed) (entry : ℕ) (args : List Value) (fuel cells : ℕ) → IsLicensed l → IsPlan l entry args fuel cells
+    → CanRun l.code entry args fuel cells
 can_run l entry args fuel cells h plan = record {
   well = h.well;
   fits = plan.fits;
@@ -46,12 +47,14 @@ can_run l entry args fuel cells h plan = record {
 }
 
 -- with this code, which is the licence's
-pub can_run_code : (p : Code) (l : Licensed) (entry : ℕ) (args : List Value) (fuel cells : ℕ) → p ≡ l.code → IsLicensed l → IsPlan l entry args fuel cells → CanRun p entry args fuel cells
+pub can_run_code : (p : Code) (l : Licensed) (entry : ℕ) (args : List Value) (fuel cells : ℕ) → p ≡ l.code → IsLicensed l
+    → IsPlan l entry args fuel cells → CanRun p entry args fuel cells
 can_run_code p l entry args fuel cells same h plan = subst (λ q. CanRun q entry args fuel cells) (sym same) (can_run l entry args fuel cells h plan)
 
 -- ---- the number of cells
 
-size_stays : (p : Code) (limit room : ℕ) (outcome : Outcome Value) → IsWellFormed p → IsWithinLimits p → (count : ℕ) (m : Machine) → IsOnWay p limit room outcome m → length (cells_of (steps p limit count m)) ≡ length (cells_of m)
+size_stays : (p : Code) (limit room : ℕ) (outcome : Outcome Value) → IsWellFormed p → IsWithinLimits p → (count : ℕ) (m : Machine)
+    → IsOnWay p limit room outcome m → length (cells_of (steps p limit count m)) ≡ length (cells_of m)
 size_stays p limit room outcome well limits zero m c = refl
 size_stays p limit room outcome well limits (suc n) (Over f) c = ap (λ m. length (cells_of m)) (over_stays p limit n f)
 size_stays p limit room outcome well limits (suc n) (Running s) c = by_step (λ m d. size_stays p limit room outcome well limits n m d) (step p limit s) (step_goes p limit room outcome s well limits c)
@@ -64,11 +67,13 @@ size_stays p limit room outcome well limits (suc n) (Running s) c = by_step (λ 
 
 -- ---- a plan's run
 
-has_step : (p : Code) (limit room : ℕ) (outcome : Outcome Value) (s : Configuration) (o : Option Machine) → KeepsCourse p limit room outcome s o → (m : Machine) × (o ≡ Some m)
+has_step : (p : Code) (limit room : ℕ) (outcome : Outcome Value) (s : Configuration) (o : Option Machine) → KeepsCourse p limit room outcome s o
+    → (m : Machine) × (o ≡ Some m)
 has_step p limit room outcome s None g = absurd g
 has_step p limit room outcome s (Some m) g = (m, refl)
 
-pub runs_as_planned : (l : Licensed) (entry : ℕ) (f : Func) (args : List Value) (fuel cells : ℕ) → IsLicensed l → IsPlan l entry args fuel cells → cells ≤ 2147483648 → slice_get l.code.funcs entry ≡ Some f
+pub runs_as_planned : (l : Licensed) (entry : ℕ) (f : Func) (args : List Value) (fuel cells : ℕ) → IsLicensed l → IsPlan l entry args fuel cells
+    → cells ≤ 2147483648 → slice_get l.code.funcs entry ≡ Some f
     → RunsAsPlanned l entry f args fuel cells
 runs_as_planned l entry f args fuel cells h plan few is = record {
   ends = ends_as_meant l.code most_calls entry f args fuel cells h.well h.limits is fits plan.some_fuel enough few;

@@ -22,8 +22,8 @@ pub record IsPlan (l : Licensed) (entry : ℕ) (args : List Value) (fuel cells :
 abbrev pub planned_state : (l : Licensed) (entry : ℕ) → Func → List Value → (fuel cells count : ℕ) → Machine
 planned_state l entry f args fuel cells count = steps l.code most_calls count (Running (begun l.code entry f args fuel cells))
 
--- The run of a plan ends as the code means. Each state in which it goes on has a step, so that none finds its free list empty. Each state on
--- the way has just the lease's number of cells.
+-- The run of a plan ends as the code means. Each state in which it goes on has a step, so that none finds its free list
+-- empty. Each state on the way has just the lease's number of cells.
 pub record RunsAsPlanned (l : Licensed) (entry : ℕ) (f : Func) (args : List Value) (fuel cells : ℕ) : Type 0 where
   pub ends : EndsAsMeant l.code most_calls entry f args fuel cells
   pub goes : (count : ℕ) (s : Configuration) → planned_state l entry f args fuel cells count ≡ Running s → (m : Machine) × (step l.code most_calls s ≡ Some m)

@@ -1,6 +1,7 @@
 -- Laws, for the proofs of this crate and of those above it.
--- How the theorems of `MachineLaws` are proved, from the bottom up: how often offsets stand in lists and cells in values; writes and what they leave alone;
--- the middle of a step, with what it has in hand; lets, calls, returns, jumps and matches; one step, also in a longer list of cells; the beginning of a run, and whole runs.
+-- How the theorems of `MachineLaws` are proved, from the bottom up: how often offsets stand in lists and cells in
+-- values; writes and what they leave alone; the middle of a step, with what it has in hand; lets, calls, returns, jumps
+-- and matches; one step, also in a longer list of cells; the beginning of a run, and whole runs.
 pub mod Counting
 pub mod Holdings
 pub mod Framing

@@ -25,74 +25,100 @@ ghost use Rattle.cell_machine.specs.Stands.{Stands, footprint, RepeatsNone};
 ghost use Rattle.cell_machine.specs.State.{Configuration, Running};
 ghost use Rattle.cell_machine.specs.Steps.{step};
 
-/// One step of well-formed code. A sound state on its way to an outcome, of which what lies ahead takes no more cells at a time than are
-/// free, has a step: behind it stands another such state, on its way to the same outcome with fewer steps to come, or the end that the
-/// outcome says. The free cells and the net number of cells taken stay the same together: they are the room. Where the outcome's peak
-/// is within the room, so is the state's; and the net number of cells is no further below 0 than there are cells beyond the
-/// room. A run on fitting arguments begins so, on its way to what the code means, where there is room for its peak.
+/// One step of well-formed code. A sound state on its way to an outcome, of which what lies ahead takes no more cells
+/// at a time than are free, has a step: behind it stands another such state, on its way to the same outcome with fewer
+/// steps to come, or the end that the outcome says. The free cells and the net number of cells taken stay the same
+/// together: they are the room. Where the outcome's peak is within the room, so is the state's; and the net number of
+/// cells is no further below 0 than there are cells beyond the room. A run on fitting arguments begins so, on its way
+/// to what the code means, where there is room for its peak.
 pub fn law_of_steps()
+    // A sound state on its way to an outcome that the free cells pay for has a step: to another such state, or to the
+    // end.
     ensures step { (program : Code) (limit room : ℕ) (outcome : Outcome Value) (s : Configuration) → IsWellFormed program → IsWithinLimits program
         → IsOnCourse program limit room outcome s → KeepsCourse program limit room outcome s (step program limit s) }
-    ensures counters { (program : Code) (limit room : ℕ) (outcome : Outcome Value) (s : Configuration) → IsWithinRoom room outcome → IsOnCourse program limit room outcome s
+    // In such a state the peak so far is within the room, and no more cells are free than there are.
+    ensures counters { (program : Code) (limit room : ℕ) (outcome : Outcome Value) (s : Configuration)
+        → IsWithinRoom room outcome → IsOnCourse program limit room outcome s
         → (s.peak ≤ room) × (room + s.low ≤ length s.cells + s.peak) }
+    // The state in which a run of fitting arguments begins is one.
     ensures begun { (program : Code) (limit entry : ℕ) (f : Func) (args : List Value) (fuel lease : ℕ) → IsWellFormed program → IsWithinLimits program
-        → slice_get program.funcs entry ≡ Some f → ArgumentsFit program.types f.params args → length (cells_from program.types 0 (parts args)) ≤ lease → lease ≤ 2147483648 → 1 ≤ fuel
+        → slice_get program.funcs entry ≡ Some f → ArgumentsFit program.types f.params args
+        → length (cells_from program.types 0 (parts args)) ≤ lease → lease ≤ 2147483648 → 1 ≤ fuel
         → IsWithinRoom (lease - length (cells_from program.types 0 (parts args))) (run_of program limit entry fuel args)
-        → IsOnCourse program limit (lease - length (cells_from program.types 0 (parts args))) (run_of program limit entry fuel args) (begun program entry f args fuel lease) }
+        → IsOnCourse program limit (lease - length (cells_from program.types 0 (parts args)))
+        (run_of program limit entry fuel args) (begun program entry f args fuel lease) }
 {}
 
-/// In-place reuse. A run of well-formed code on fitting arguments, in a range with a cell for each boxed node and diamond of
-/// the arguments and so many more as the meaning's peak, never finds its free list empty: within 65,792 steps for each unit of
-/// fuel it is over, and it ends as the code means, with the value that the code means in its cells. Each state on the way is
-/// sound, with as many free cells as the room without the net number of cells taken.
+/// In-place reuse. A run of well-formed code on fitting arguments, in a range with a cell for each boxed node and
+/// diamond of the arguments and so many more as the meaning's peak, never finds its free list empty: within 65,792
+/// steps for each unit of fuel it is over, and it ends as the code means, with the value that the code means in its
+/// cells. Each state on the way is sound, with as many free cells as the room without the net number of cells taken.
 pub fn law_of_reuse()
+    // Where the lease has room for the arguments and the peak, a run ends as the code means, with the value in its
+    // cells.
     ensures ends { (program : Code) (limit entry : ℕ) (f : Func) (args : List Value) (fuel lease : ℕ) → IsWellFormed program → IsWithinLimits program
         → slice_get program.funcs entry ≡ Some f → ArgumentsFit program.types f.params args → 1 ≤ fuel
         → length (cells_from program.types 0 (parts args)) + peak_of (run_of program limit entry fuel args) ≤ lease → lease ≤ 2147483648
         → EndsAsMeant program limit entry f args fuel lease }
+    // Each state on the way is sound, and its free cells pay for what lies ahead; or the run is over, with the end that
+    // the code means.
     ensures each { (program : Code) (limit entry : ℕ) (f : Func) (args : List Value) (fuel lease : ℕ) → IsWellFormed program → IsWithinLimits program
         → slice_get program.funcs entry ≡ Some f → ArgumentsFit program.types f.params args → 1 ≤ fuel
         → length (cells_from program.types 0 (parts args)) + peak_of (run_of program limit entry fuel args) ≤ lease → lease ≤ 2147483648 → (count : ℕ)
-        → IsOnWay program limit (lease - length (cells_from program.types 0 (parts args))) (run_of program limit entry fuel args) (steps program limit count (Running (begun program entry f args fuel lease))) }
+        → IsOnWay program limit (lease - length (cells_from program.types 0 (parts args)))
+        (run_of program limit entry fuel args)
+        (steps program limit count (Running (begun program entry f args fuel lease))) }
 {}
 
-/// A step reads and writes only cells that are there. Where a state has a step, the state with more cells behind has just that step, and
-/// these cells stay as they are. So one step serves a machine in its own range and one in the middle of an arena.
+/// A step reads and writes only cells that are there. Where a state has a step, the state with more cells behind has
+/// just that step, and these cells stay as they are. So one step serves a machine in its own range and one in the
+/// middle of an arena.
 pub fn law_of_longer_lists()
     ensures { (program : Code) (limit : ℕ) (more : List Cell) (s : Configuration) → Widens more (step program limit s) (step program limit (wide more s)) }
 {}
 
-/// Dead words, those of locals that aren't ready, are read by no step: the step of a sound configuration in which they are 0 is its step,
-/// with the dead words behind it set to 0. So a configuration may be kept by its live words alone.
+/// Dead words, those of locals that aren't ready, are read by no step: the step of a sound configuration in which they
+/// are 0 is its step, with the dead words behind it set to 0. So a configuration may be kept by its live words alone.
 pub fn law_of_dead_words()
     ensures { (program : Code) (limit : ℕ) (s : Configuration) → IsWellFormed program → IsWithinLimits program → IsSound program s
         → live_next program (step program limit (live program s)) ≡ live_next program (step program limit s) }
 {}
 
-/// Plans of licensed code, as plain data: an entry, fitting arguments, fuel, and just as many cells as the licence says. The run ends as the
-/// code means, each state in which it goes on has a step, so that none finds its free list empty, and each has just that number of cells.
+/// Plans of licensed code, as plain data: an entry, fitting arguments, fuel, and just as many cells as the licence
+/// says. The run ends as the code means, each state in which it goes on has a step, so that none finds its free list
+/// empty, and each has just that number of cells.
 pub fn law_of_plans()
     ensures { (l : Licensed) (entry : ℕ) (f : Func) (args : List Value) (fuel cells : ℕ) → IsLicensed l → IsPlan l entry args fuel cells
         → cells ≤ 2147483648 → slice_get l.code.funcs entry ≡ Some f → RunsAsPlanned l entry f args fuel cells }
 {}
 
-/// Words in cells. Kind, word and cells determine a value. A value that takes no cell twice takes at most as many as there
-/// are, and has at most four nodes for each of them, and one. Arguments take as many cells as are counted in them.
+/// Words in cells. Kind, word and cells determine a value. A value that takes no cell twice takes at most as many as
+/// there are, and has at most four nodes for each of them, and one. Arguments take as many cells as are counted in
+/// them.
 pub fn law_of_words()
+    // Two values of one kind that one word stands for in the same cells are the same.
     ensures one_value { (types : List DataType) (cells : List Cell) (kind : Kind) (v other : Value) (word : ℕ) → length cells ≤ inline_base → AreTypes types
         → Fits types kind v → Fits types kind other → Stands types cells v word → Stands types cells other word → v ≡ other }
-    ensures few_cells { (types : List DataType) (cells : List Cell) (v : Value) (word : ℕ) → Stands types cells v word → RepeatsNone (footprint types cells v word)
+    // A value that takes no cell twice takes at most as many as there are.
+    ensures few_cells { (types : List DataType) (cells : List Cell) (v : Value) (word : ℕ)
+        → Stands types cells v word → RepeatsNone (footprint types cells v word)
         → length (footprint types cells v word) ≤ length cells }
-    ensures few_nodes { (types : List DataType) (cells : List Cell) (kind : Kind) (v : Value) (word : ℕ) → AreTypes types → Fits types kind v → Stands types cells v word
+    // It has at most four nodes for each cell, and one.
+    ensures few_nodes { (types : List DataType) (cells : List Cell) (kind : Kind) (v : Value) (word : ℕ)
+        → AreTypes types → Fits types kind v → Stands types cells v word
         → RepeatsNone (footprint types cells v word) → length (items_of v) ≤ 4 * length cells + 1 }
+    // Arguments take as many cells as are counted in them.
     ensures argument_cells { (types : List DataType) (kinds : List Kind) (args : List Value) → AreTypes types → ArgumentsFit types kinds args
         → length (cells_from types 0 (parts args)) ≡ cells_among types args }
 {}
 
-/// Each owned cell has one owner. A state is not sound where two ready locals own the same cell, where one owns a cell twice, or where it
-/// owns a cell of the free list.
+/// Each owned cell has one owner. A state is not sound where two ready locals own the same cell, where one owns a cell
+/// twice, or where it owns a cell of the free list.
 pub fn law_of_owners()
+    // No sound state has two ready locals that own one cell.
     ensures two { (program : Code) (s : Configuration) → AreTypes program.types → TwoTake program s → ¬ (IsSound program s) }
+    // In none does a local own a cell twice.
     ensures twice { (program : Code) (s : Configuration) → AreTypes program.types → OneTakesTwice program s → ¬ (IsSound program s) }
+    // In none does a local own a cell of the free list.
     ensures free { (program : Code) (s : Configuration) → AreTypes program.types → FreeIsTaken program s → ¬ (IsSound program s) }
 {}

@@ -21,7 +21,8 @@ pub(crate) const FREE_TAG: u32 = 4_294_967_295;
 /// The tag of a cell that a diamond names.
 const DIAMOND_TAG: u32 = 4_294_967_294;
 
-/// Makes the cells from this offset on the free list, in ascending order; answers the offset of the first, or that there is none.
+/// Makes the cells from this offset on the free list, in ascending order; answers the offset of the first, or that
+/// there is none.
 pub(crate) fn free_cells(span: &mut Span, from: u32) -> u32
     requires { from ≤ length span.old.cells }
     ensures cells { drop from span.new.cells ≡ free_from from (length span.old.cells - from) }
@@ -67,7 +68,8 @@ fn put_word(words: &mut Vec<u32>, word: u32)
     words.push_reserved(word);
 }
 
-// Lays one node in front of others: its cell, if it takes one, is the one before this offset. Answers the offset of what was laid so far.
+// Lays one node in front of others: its cell, if it takes one, is the one before this offset. Answers the offset of
+// what was laid so far.
 fn lay_item(
     span: &mut Span,
     words: &mut Vec<u32>,
@@ -179,8 +181,8 @@ fn lay_value(
     at
 }
 
-/// Lays the arguments in the first cells, the last one first: `count` cells, so many as they need. Puts the words of the arguments behind these
-/// words, the last one first.
+/// Lays the arguments in the first cells, the last one first: `count` cells, so many as they need. Puts the words of
+/// the arguments behind these words, the last one first.
 pub(crate) fn lay_args(
     span: &mut Span,
     words: &mut Vec<u32>,

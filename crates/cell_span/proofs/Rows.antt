@@ -42,7 +42,8 @@ module _ (E : El) {M : Type 1} {𝓤 : Ura M} (𝓛 : Logic 𝓤) (b : ℕ) wher
       (ex 𝓤 (λ (v : Val). sep 𝓤 (H.at full_share (elτ E) b o v) (sem 𝓛 (E.row.own_val x (v ∷ [])))))
   value_out x o = part_out 𝓛 (R E) refl full_share x b o
 
-  pub value_in : (x : el_x E) (o : ℕ) (v : Val) → ent 𝓤 (sep 𝓤 (H.at full_share (elτ E) b o v) (sem 𝓛 (E.row.own_val x (v ∷ [])))) (sem 𝓛 (part_at (R E) full_share x b o))
+  pub value_in : (x : el_x E) (o : ℕ) (v : Val)
+      → ent 𝓤 (sep 𝓤 (H.at full_share (elτ E) b o v) (sem 𝓛 (E.row.own_val x (v ∷ [])))) (sem 𝓛 (part_at (R E) full_share x b o))
   value_in x o v = part_in 𝓛 (R E) refl full_share x b o v
 
   -- a value that is forgotten leaves room
@@ -98,7 +99,8 @@ module _ (E : El) {M : Type 1} {𝓤 : Ura M} (𝓛 : Logic 𝓤) (b : ℕ) wher
 
 -- what is owned of a value is one value of the machine, of its type
 module _ (E : El) {M : Type 1} {𝓤 : Ura M} {𝓛 : Logic 𝓤} {K : Type 0} {Γ : List (Item 𝓤)} {G : Goal 𝓤 𝓛.H} where
-  pub was_one : K → (x : el_x E) (vs : List Val) → ((v : Val) → vs ≡ v ∷ [] → Good E v → Seq K 𝓛 (‵ (E.row.own_val x (v ∷ [])) ∷ Γ) G) → Seq K 𝓛 (‵ (E.row.own_val x vs) ∷ Γ) G
+  pub was_one : K → (x : el_x E) (vs : List Val) → ((v : Val) → vs ≡ v ∷ [] → Good E v → Seq K 𝓛 (‵ (E.row.own_val x (v ∷ [])) ∷ Γ) G)
+      → Seq K 𝓛 (‵ (E.row.own_val x vs) ∷ Γ) G
   was_one t x vs next =
       peeks t (R E) (Is (R E)) (shows 𝓛 (R E)) x vs (λ is.
       let found = one E vs (((param_laws 0 E.row E.laws).lawful 𝓛).typed x vs is) in

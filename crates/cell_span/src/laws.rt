@@ -9,8 +9,11 @@ use std::marker::{Send, Sync};
 /// A run that is split, written in either part and joined is the run, written at that place.
 #[tactic(auto, using(crate::specs::RangeLaws::joined_parts, crate::specs::RangeLaws::joined_front, crate::specs::RangeLaws::joined_back))]
 pub fn law_of_parts()
+    // What is split and joined is as it was.
     ensures whole { (r : Range) (at : ℕ) → joined (front r at) (back r at) ≡ r }
+    // A write in the first part is one in the whole at the same place.
     ensures first { (r : Range) (at i : ℕ) (cell : Cell) → i < at → at ≤ length r.cells → joined (written (front r at) i cell) (back r at) ≡ written r i cell }
+    // A write in the second part is one in the whole, behind the cells of the first.
     ensures second { (r : Range) (at i : ℕ) (cell : Cell) → at ≤ length r.cells → joined (front r at) (written (back r at) i cell) ≡ written r (at + i) cell }
 {}
 

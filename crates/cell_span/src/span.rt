@@ -42,7 +42,7 @@ impl Model for Span {
         × IsRange (record { first = s.first; arena = record { at = s.base.ptr; cells = s.arena }; cells = s.cells.items }) };
 }
 
-/// Fills the empty places of a new block with blank cells.
+// Fills the empty places of a new block with blank cells.
 fn fill(cells: Cells<Cell>, base: Base<Cell>, count: usize) -> Cells<Cell>
     requires { (base.ptr ≡ cells.at) × (cells.first ≡ 0) × (cells.items ≡ []) × (cells.spare ≡ count) }
     ensures { (result.at ≡ cells.at) × (result.first ≡ 0) × (result.items ≡ replicate count blank) × (result.spare ≡ 0) }
@@ -78,8 +78,8 @@ impl Span {
         })
     }
 
-    /// What each run keeps: it has at least one cell, lies within its arena, and the arena has at most 2147483648 cells.
-    /// It does nothing; its clause is what whoever holds a run can use.
+    /// What each run keeps: it has at least one cell, lies within its arena, and the arena has at most 2147483648
+    /// cells. It does nothing; its clause is what whoever holds a run can use.
     pub fn limits(&self)
         ensures { IsRange self.now }
     {
@@ -88,7 +88,9 @@ impl Span {
 
     /// The number of cells.
     pub fn len(&self) -> u32
+        // It is the number of cells.
         ensures count { result ≡ length self.now.cells }
+        // There is at least one cell, and the run lies within its arena.
         ensures range { IsRange self.now }
     {
         self.len
@@ -96,7 +98,9 @@ impl Span {
 
     /// The index in the arena of the first cell.
     pub fn first(&self) -> u32
+        // It is the index of the first cell.
         ensures index { result ≡ self.now.first }
+        // There is at least one cell, and the run lies within its arena.
         ensures range { IsRange self.now }
     {
         self.first
@@ -104,7 +108,9 @@ impl Span {
 
     /// Which arena the run is part of.
     pub fn arena(&self) -> Arena
+        // It is the run's arena: where its allocation begins, and how many cells it has.
         ensures arena { arena_of result ≡ self.now.arena }
+        // There is at least one cell, and the run lies within its arena.
         ensures range { IsRange self.now }
     {
         Arena {
@@ -137,7 +143,9 @@ impl Span {
     pub fn split(self, at: u32) -> (Span, Span)
         requires some { 1 ≤ at }
         requires within { at < length self.cells }
+        // The first part has the first `at` cells.
         ensures front { result.0 ≡ front self at }
+        // The second part has the others.
         ensures back { result.1 ≡ back self at }
     {
         let Span {
@@ -175,7 +183,9 @@ impl Span {
     pub fn split_off_front(&mut self, at: u32) -> Span
         requires some { 1 ≤ at }
         requires within { at < length self.old.cells }
+        // What is given has the first `at` cells.
         ensures front { result ≡ front self.old at }
+        // What stays has the others.
         ensures back { self.new ≡ back self.old at }
     {
         replace_with(self, at, Span::parted)
@@ -235,7 +245,7 @@ impl Span {
         replace_with(self, before, Span::with_before)
     }
 
-    /// The cells behind the first `at`, and these: what stays of a run, and what is taken off.
+    // The cells behind the first `at`, and these: what stays of a run, and what is taken off.
     fn parted(self, at: u32) -> (Span, Span)
         requires some { 1 ≤ at }
         requires within { at < length self.cells }
@@ -245,7 +255,7 @@ impl Span {
         (back, front)
     }
 
-    /// This run with the next one behind it.
+    // This run with the next one behind it.
     fn with_next(self, next: Span) -> (Span, ())
         requires { Meet self next }
         ensures { result.0 ≡ joined self next }
@@ -253,7 +263,7 @@ impl Span {
         (self.join(next), ())
     }
 
-    /// This run with the one before in front of it.
+    // This run with the one before in front of it.
     fn with_before(self, before: Span) -> (Span, ())
         requires { Meet before self }
         ensures { result.0 ≡ joined before self }

@@ -32,17 +32,20 @@ cap_on n (b ∷ bs) = by_test (is_digit b) (sym (cap_on (capped n * 10 + (b - 48
 
 -- ---- the loop over digits
 
-pub digit_on : (word : List ℕ) (value next at : ℕ) (all : Option ℕ) → at < length word → is_digit (get_or word at 0) ≡ true → next ≡ capped (value * 10 + (get_or word at 0 - 48)) → option_map capped (digits_on value (drop at word)) ≡ all
+pub digit_on : (word : List ℕ) (value next at : ℕ) (all : Option ℕ) → at < length word → is_digit (get_or word at 0) ≡ true
+    → next ≡ capped (value * 10 + (get_or word at 0 - 48)) → option_map capped (digits_on value (drop at word)) ≡ all
     → option_map capped (digits_on next (drop (at + 1) word)) ≡ all
 digit_on word value next at all h d e g =
     ap (λ k. option_map capped (digits_on k (drop (at + 1) word))) e ∙ ap (λ n. option_map capped (digits_on (capped (value * 10 + (get_or word at 0 - 48))) (drop n word))) (add-one at)
     ∙ cap_on (value * 10 + (get_or word at 0 - 48)) (drop (suc at) word) ∙ ap (option_map capped) (sym (ap (digits_on value) (drop-cons word at 0 h) ∙ on_digit value (get_or word at 0) (drop (suc at) word) d)) ∙ g
 
-pub digit_off : (word : List ℕ) (value at : ℕ) (all : Option ℕ) → at < length word → is_digit (get_or word at 0) ≡ false → option_map capped (digits_on value (drop at word)) ≡ all → None ≡ all
+pub digit_off : (word : List ℕ) (value at : ℕ) (all : Option ℕ) → at < length word → is_digit (get_or word at 0) ≡ false
+    → option_map capped (digits_on value (drop at word)) ≡ all → None ≡ all
 digit_off word value at all h d g =
     sym (ap (option_map capped) (ap (digits_on value) (drop-cons word at 0 h) ∙ ap (λ t. if t then digits_on (value * 10 + (get_or word at 0 - 48)) (drop (suc at) word) else None) d)) ∙ g
 
-pub digits_done : (word : List ℕ) (value at : ℕ) (all : Option ℕ) → length word ≤ at → value ≤ 2199023255552 → option_map capped (digits_on value (drop at word)) ≡ all → Some value ≡ all
+pub digits_done : (word : List ℕ) (value at : ℕ) (all : Option ℕ) → length word ≤ at → value ≤ 2199023255552
+    → option_map capped (digits_on value (drop at word)) ≡ all → Some value ≡ all
 digits_done word value at all h k g = ap Some (sym (capped_small value k)) ∙ sym (ap (λ l. option_map capped (digits_on value l)) (drop_of_length-le word {i = at} h)) ∙ g
 
 pub first_small : (n : ℕ) (value : ℕ) → value ≡ capped n → value ≤ 2199023255552
@@ -61,7 +64,8 @@ leading_zero [] e h = refl
 leading_zero (b ∷ []) e h = absurd (omega (arith, h))
 leading_zero (b ∷ c ∷ word) e h = ap (λ t. option_map capped (if t then None else digits_on 0 (b ∷ c ∷ word))) (let t : true ≡ (b == 48) = grind (arith, nat_tests, e) in t)
 
-pub other_digits : (word : List ℕ) (o : Option ℕ) → (length word == 0) ≡ false → (get_or word 0 0 ≡ 48 → ⊥) ⊎ (length word ≤ 1) → o ≡ option_map capped (digits_on 0 word) → o ≡ option_map capped (number_of word)
+pub other_digits : (word : List ℕ) (o : Option ℕ) → (length word == 0) ≡ false → (get_or word 0 0 ≡ 48 → ⊥) ⊎ (length word ≤ 1)
+    → o ≡ option_map capped (digits_on 0 word) → o ≡ option_map capped (number_of word)
 unfolding number_of
 other_digits [] o h k e = absurd cc
 other_digits (b ∷ []) o h k e = e
@@ -70,13 +74,15 @@ other_digits (b ∷ c ∷ word) o h (inl k) e = e ∙ ap (λ t. option_map cappe
 
 -- ---- the order of digits
 
-pub below_same : (xs ys : List ℕ) (at : ℕ) (all : Bool) → at < length xs → at < length ys → get_or xs at 0 ≡ get_or ys at 0 → digits_below (drop at xs) (drop at ys) ≡ all → digits_below (drop (at + 1) xs) (drop (at + 1) ys) ≡ all
+pub below_same : (xs ys : List ℕ) (at : ℕ) (all : Bool) → at < length xs → at < length ys → get_or xs at 0 ≡ get_or ys at 0
+    → digits_below (drop at xs) (drop at ys) ≡ all → digits_below (drop (at + 1) xs) (drop (at + 1) ys) ≡ all
 below_same xs ys at all h k e g =
     let t : true ≡ (get_or xs at 0 == get_or ys at 0) = grind (arith, nat_tests, e) in
     ap (λ n. digits_below (drop n xs) (drop n ys)) (add-one at) ∙ ap (λ t. if t then digits_below (drop (suc at) xs) (drop (suc at) ys) else nat_lt (get_or xs at 0) (get_or ys at 0)) t
     ∙ ap (λ l. digits_below l (get_or ys at 0 ∷ drop (suc at) ys)) (sym (drop-cons xs at 0 h)) ∙ ap (digits_below (drop at xs)) (sym (drop-cons ys at 0 k)) ∙ g
 
-pub below_differ : (xs ys : List ℕ) (at : ℕ) (all : Bool) → at < length xs → at < length ys → (get_or xs at 0 ≡ get_or ys at 0 → ⊥) → digits_below (drop at xs) (drop at ys) ≡ all → nat_lt (get_or xs at 0) (get_or ys at 0) ≡ all
+pub below_differ : (xs ys : List ℕ) (at : ℕ) (all : Bool) → at < length xs → at < length ys → (get_or xs at 0 ≡ get_or ys at 0 → ⊥)
+    → digits_below (drop at xs) (drop at ys) ≡ all → nat_lt (get_or xs at 0) (get_or ys at 0) ≡ all
 below_differ xs ys at all h k e g =
     let t : false ≡ (get_or xs at 0 == get_or ys at 0) = grind (arith, nat_tests, e) in
     ap (λ t. if t then digits_below (drop (suc at) xs) (drop (suc at) ys) else nat_lt (get_or xs at 0) (get_or ys at 0)) t
@@ -109,6 +115,7 @@ pub form_first : (word : List ℕ) → (length word == 0) ≡ false → is_lower
 form_first [] h k = absurd cc
 form_first (b ∷ word) h k = ap (λ t. t && list_all is_tail word) (sym k)
 
-pub form_rest : (word rest : List ℕ) → (length word == 0) ≡ false → is_lower (get_or word 0 0) ≡ true → rest ≡ behind word → list_all is_tail rest ≡ has_form is_lower word
+pub form_rest : (word rest : List ℕ) → (length word == 0) ≡ false → is_lower (get_or word 0 0) ≡ true → rest ≡ behind word
+    → list_all is_tail rest ≡ has_form is_lower word
 form_rest [] rest h k e = absurd cc
 form_rest (b ∷ word) rest h k e = ap (list_all is_tail) e ∙ ap (λ t. t && list_all is_tail word) (sym k)

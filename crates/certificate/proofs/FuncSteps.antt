@@ -10,8 +10,8 @@ use Rattle.annotations.specs.Vectors.{Vector}
 use Rattle.certificate.specs.Certificates.{VarCert, BlockCert, MakeCert, FuncCert, VectorIsWithin, VarIsWithin, BlockIsWithin, MakeIsWithin, FuncIsWithin}
 use Rattle.certificate.specs.Steps.{AreWithin}
 use Rattle.certificate.specs.Reading.{and_then, only_if, words, further, capped, is_three, is_five, number_of, is_none, only_params, last_of, last_var, last_block, at_last, vector_of, var_of_words, block_of_words, make_of_words, function_of_words, bare_func, put_behind, add_param, add_result, add_block, var_into, add_var, add_make, add_own, add_line, IsRead, IsStopped, IsWide, IsNoMemory}
-use Rattle.certificate.specs.declared.stop.Stop.{Stop}
-use Rattle.certificate.specs.declared.stop.Stop.TheVariants as stop
+use Rattle.certificate.specs.declared.stop.LineStop.{LineStop}
+use Rattle.certificate.specs.declared.stop.LineStop.TheVariants as stop
 use Rattle.certificate.specs.OptionLaws.{then_is, only_is, map_is, and_both}
 use Rattle.certificate.proofs.Pairs.{there, not_there, then_none, only_none, and_left, and_right}
 use Rattle.certificate.specs.GrowingLaws.{all_end, all_front, all_last}
@@ -31,10 +31,12 @@ none_is (x ∷ xs) t e = (let f : false ≡ (suc (length xs) == 0) = grind (arit
 pub some_result : (r : Vector) (b m : Bool) → (length r == 0) ≡ false → false ≡ (is_none r && b && m)
 some_result r b m h = sym (and_left (is_none r && b) m (and_left (is_none r) b (none_is r false h)))
 
-pub some_blocks : {A : Type 0} (h : A → BlockCert) (r : Vector) (bs : List A) (m : Bool) → (length bs == 0) ≡ false → false ≡ (is_none r && is_none (map h bs) && m)
+pub some_blocks : {A : Type 0} (h : A → BlockCert) (r : Vector) (bs : List A) (m : Bool) → (length bs == 0) ≡ false
+    → false ≡ (is_none r && is_none (map h bs) && m)
 some_blocks h r bs m k = sym (and_left (is_none r && is_none (map h bs)) m (and_right (is_none r) (is_none (map h bs)) (none_map h bs false k)))
 
-pub makes_left : {A B : Type 0} (h : A → BlockCert) (g : B → MakeCert) (r : Vector) (bs : List A) (ms : List B) (t : Bool) → (length r == 0) ≡ true → (length bs == 0) ≡ true → (length ms == 0) ≡ t → t ≡ (is_none r && is_none (map h bs) && is_none (map g ms))
+pub makes_left : {A B : Type 0} (h : A → BlockCert) (g : B → MakeCert) (r : Vector) (bs : List A) (ms : List B) (t : Bool) → (length r == 0) ≡ true
+    → (length bs == 0) ≡ true → (length ms == 0) ≡ t → t ≡ (is_none r && is_none (map h bs) && is_none (map g ms))
 makes_left h g r bs ms t j k l = sym (ap (λ x. x && is_none (map h bs) && is_none (map g ms)) (none_is r true j) ∙ ap (λ x. x && is_none (map g ms)) (none_map h bs true k) ∙ none_map g ms t l)
 
 pub no_makes : {B : Type 0} (g : B → MakeCert) (ms : List B) (t : Bool) → t ≡ (length ms == 0) → t ≡ is_none (map g ms)
@@ -44,7 +46,8 @@ pub no_last : {A B : Type 0} (h : A → B) (f : B → ℕ) (xs : List A) → len
 no_last h f [] k = refl
 no_last h f (x ∷ xs) k = absurd (omega (arith, k))
 
-pub last_is : {A B : Type 0} (h : A → B) (f : B → ℕ) (xs : List A) (x : A) → 1 ≤ length xs → x ≡ get_or xs (length xs - 1) x → Some (f (h x)) ≡ last_of (map f (map h xs))
+pub last_is : {A B : Type 0} (h : A → B) (f : B → ℕ) (xs : List A) (x : A) → 1 ≤ length xs → x ≡ get_or xs (length xs - 1) x
+    → Some (f (h x)) ≡ last_of (map f (map h xs))
 last_is h f [] x k e = absurd (omega (arith, k))
 last_is h f (y ∷ []) x k e = ap (λ z. Some (f (h z))) e
 last_is h f (y ∷ z ∷ xs) x k e = last_is h f (z ∷ xs) x (omega arith) (e ∙ ap (λ n. get_or (y ∷ z ∷ xs) n x) one ∙ ap (λ n. get_or (z ∷ xs) n x) two)
@@ -65,7 +68,8 @@ param_is : (ws : List (List ℕ)) (f : FuncCert) → only_params f ≡ true → 
 unfolding add_param
 param_is ws f h = ap (λ t. only_if t (option_map (λ v. record f { params = f.params ++ v ∷ [] }) (var_of_words (last_var f.params) ws))) h
 
-pub param_stopped : (ws : List (List ℕ)) (f : FuncCert) (s : Stop) → only_params f ≡ true → IsStopped (var_of_words (last_var f.params) ws) VarIsWithin s → IsStopped (add_param ws f) FuncIsWithin s
+pub param_stopped : (ws : List (List ℕ)) (f : FuncCert) (s : LineStop) → only_params f ≡ true
+    → IsStopped (var_of_words (last_var f.params) ws) VarIsWithin s → IsStopped (add_param ws f) FuncIsWithin s
 param_stopped ws f s h r =
     subst (λ o. IsStopped o FuncIsWithin s) (sym (param_is ws f h))
     (stop_map (λ v. record f { params = f.params ++ v ∷ [] }) (var_of_words (last_var f.params) ws) VarIsWithin FuncIsWithin s (λ v w. all_last VarIsWithin f.params v w.params) r)
@@ -86,7 +90,8 @@ result_is : (ws : List (List ℕ)) (f : FuncCert) → only_params f ≡ true →
 unfolding add_result
 result_is ws f h = ap (λ t. only_if t (option_map (λ v. record f { result = v }) (vector_of ws))) h
 
-pub result_stopped : (ws : List (List ℕ)) (f : FuncCert) (s : Stop) → only_params f ≡ true → IsStopped (vector_of ws) VectorIsWithin s → IsStopped (add_result ws f) FuncIsWithin s
+pub result_stopped : (ws : List (List ℕ)) (f : FuncCert) (s : LineStop) → only_params f ≡ true → IsStopped (vector_of ws) VectorIsWithin s
+    → IsStopped (add_result ws f) FuncIsWithin s
 result_stopped ws f s h r =
     subst (λ o. IsStopped o FuncIsWithin s) (sym (result_is ws f h)) (stop_map (λ v. record f { result = v }) (vector_of ws) VectorIsWithin FuncIsWithin s (λ v w. w.result) r)
 
@@ -109,12 +114,14 @@ block_is : (ws : List (List ℕ)) (f : FuncCert) → is_none f.makes ≡ true �
 unfolding add_block
 block_is ws f h = ap (λ t. only_if t (option_map (λ b. record f { blocks = f.blocks ++ b ∷ [] }) (block_of_words (last_block f.blocks) ws))) h
 
-pub block_stopped : (ws : List (List ℕ)) (f : FuncCert) (s : Stop) → is_none f.makes ≡ true → IsStopped (block_of_words (last_block f.blocks) ws) BlockIsWithin s → IsStopped (add_block ws f) FuncIsWithin s
+pub block_stopped : (ws : List (List ℕ)) (f : FuncCert) (s : LineStop) → is_none f.makes ≡ true
+    → IsStopped (block_of_words (last_block f.blocks) ws) BlockIsWithin s → IsStopped (add_block ws f) FuncIsWithin s
 block_stopped ws f s h r =
     subst (λ o. IsStopped o FuncIsWithin s) (sym (block_is ws f h))
     (stop_map (λ b. record f { blocks = f.blocks ++ b ∷ [] }) (block_of_words (last_block f.blocks) ws) BlockIsWithin FuncIsWithin s (λ b w. all_last BlockIsWithin f.blocks b w.blocks) r)
 
-pub block_read : (ws : List (List ℕ)) (f : FuncCert) (b : BlockCert) (bs : List BlockCert) → FuncIsWithin f → is_none f.makes ≡ true → IsRead (block_of_words (last_block f.blocks) ws) BlockIsWithin b → bs ≡ f.blocks ++ b ∷ []
+pub block_read : (ws : List (List ℕ)) (f : FuncCert) (b : BlockCert) (bs : List BlockCert) → FuncIsWithin f → is_none f.makes ≡ true
+    → IsRead (block_of_words (last_block f.blocks) ws) BlockIsWithin b → bs ≡ f.blocks ++ b ∷ []
     → IsRead (add_block ws f) FuncIsWithin (record f { blocks = bs })
 block_read ws f b bs w h r e = subst (λ l. IsRead (add_block ws f) FuncIsWithin (record f { blocks = l })) (sym e) (record {
   is = block_is ws f h ∙ map_is (λ b. record f { blocks = f.blocks ++ b ∷ [] }) (block_of_words (last_block f.blocks) ws) b r.is;
@@ -152,14 +159,16 @@ into_is : (ws : List (List ℕ)) (b : BlockCert) → var_into ws b ≡ option_ma
 unfolding var_into
 into_is ws b = refl
 
-pub var_stopped : (ws : List (List ℕ)) (f : FuncCert) (front : List BlockCert) (b : BlockCert) (s : Stop) → is_none f.makes ≡ true → f.blocks ≡ front ++ b ∷ [] → IsStopped (var_of_words (last_var b.vars) ws) VarIsWithin s → IsStopped (add_var ws f) FuncIsWithin s
+pub var_stopped : (ws : List (List ℕ)) (f : FuncCert) (front : List BlockCert) (b : BlockCert) (s : LineStop) → is_none f.makes ≡ true
+    → f.blocks ≡ front ++ b ∷ [] → IsStopped (var_of_words (last_var b.vars) ws) VarIsWithin s → IsStopped (add_var ws f) FuncIsWithin s
 var_stopped ws f front b s h e r =
     subst (λ o. IsStopped o FuncIsWithin s) (sym (var_is ws f h ∙ ap (λ l. option_map (λ bs. record f { blocks = bs }) (at_last (var_into ws) l)) e ∙ ap (option_map (λ bs. record f { blocks = bs })) (at_end (var_into ws) front b ∙ ap (option_map (λ c. front ++ c ∷ [])) (into_is ws b))))
     (stop_map (λ bs. record f { blocks = bs }) (option_map (λ c. front ++ c ∷ []) (option_map (λ v. record b { vars = b.vars ++ v ∷ [] }) (var_of_words (last_var b.vars) ws))) (AllByRecursion BlockIsWithin) FuncIsWithin s (λ bs w. w.blocks)
     (stop_map (λ c. front ++ c ∷ []) (option_map (λ v. record b { vars = b.vars ++ v ∷ [] }) (var_of_words (last_var b.vars) ws)) BlockIsWithin (AllByRecursion BlockIsWithin) s (λ c w. all_last BlockIsWithin front c w)
     (stop_map (λ v. record b { vars = b.vars ++ v ∷ [] }) (var_of_words (last_var b.vars) ws) VarIsWithin BlockIsWithin s (λ v w. all_last VarIsWithin b.vars v w.vars) r)))
 
-pub var_read : (ws : List (List ℕ)) (f : FuncCert) (front : List BlockCert) (b : BlockCert) (v : VarCert) (vs : List VarCert) (bs : List BlockCert) → FuncIsWithin f → is_none f.makes ≡ true → f.blocks ≡ front ++ b ∷ [] → IsRead (var_of_words (last_var b.vars) ws) VarIsWithin v
+pub var_read : (ws : List (List ℕ)) (f : FuncCert) (front : List BlockCert) (b : BlockCert) (v : VarCert) (vs : List VarCert) (bs : List BlockCert)
+    → FuncIsWithin f → is_none f.makes ≡ true → f.blocks ≡ front ++ b ∷ [] → IsRead (var_of_words (last_var b.vars) ws) VarIsWithin v
     → vs ≡ b.vars ++ v ∷ [] → bs ≡ front ++ record b { vars = vs } ∷ [] → IsRead (add_var ws f) FuncIsWithin (record f { blocks = bs })
 var_read ws f front b v vs bs w h e r g k =
     let c : BlockCert = record b { vars = b.vars ++ v ∷ [] } in
@@ -179,7 +188,8 @@ make_is : (ws : List (List ℕ)) (f : FuncCert) → add_make ws f ≡ option_map
 unfolding add_make
 make_is ws f = refl
 
-pub make_stopped : (ws : List (List ℕ)) (f : FuncCert) (s : Stop) → IsStopped (make_of_words f.makes ws) MakeIsWithin s → IsStopped (add_make ws f) FuncIsWithin s
+pub make_stopped : (ws : List (List ℕ)) (f : FuncCert) (s : LineStop) → IsStopped (make_of_words f.makes ws) MakeIsWithin s
+    → IsStopped (add_make ws f) FuncIsWithin s
 make_stopped ws f s r =
     subst (λ o. IsStopped o FuncIsWithin s) (sym (make_is ws f)) (stop_map (λ m. record f { makes = f.makes ++ m ∷ [] }) (make_of_words f.makes ws) MakeIsWithin FuncIsWithin s (λ m w. all_last MakeIsWithin f.makes m w.makes) r)
 
@@ -201,26 +211,32 @@ pub own_param : (tag : List ℕ) (ws : List (List ℕ)) (f : FuncCert) → bytes
 unfolding add_own
 own_param tag ws f h = if_true (bytes_eq tag (codes "param")) (add_param ws f) _ h
 
-pub own_result : (tag : List ℕ) (ws : List (List ℕ)) (f : FuncCert) → bytes_eq tag (codes "param") ≡ false → bytes_eq tag (codes "result") ≡ true → add_own tag ws f ≡ add_result ws f
+pub own_result : (tag : List ℕ) (ws : List (List ℕ)) (f : FuncCert) → bytes_eq tag (codes "param") ≡ false → bytes_eq tag (codes "result") ≡ true
+    → add_own tag ws f ≡ add_result ws f
 unfolding add_own
 own_result tag ws f p h = if_false (bytes_eq tag (codes "param")) (add_param ws f) _ p ∙ if_true (bytes_eq tag (codes "result")) (add_result ws f) _ h
 
-pub own_block : (tag : List ℕ) (ws : List (List ℕ)) (f : FuncCert) → bytes_eq tag (codes "param") ≡ false → bytes_eq tag (codes "result") ≡ false → bytes_eq tag (codes "block") ≡ true → add_own tag ws f ≡ add_block ws f
+pub own_block : (tag : List ℕ) (ws : List (List ℕ)) (f : FuncCert) → bytes_eq tag (codes "param") ≡ false → bytes_eq tag (codes "result") ≡ false
+    → bytes_eq tag (codes "block") ≡ true → add_own tag ws f ≡ add_block ws f
 unfolding add_own
 own_block tag ws f p r h = if_false (bytes_eq tag (codes "param")) (add_param ws f) _ p ∙ if_false (bytes_eq tag (codes "result")) (add_result ws f) _ r ∙ if_true (bytes_eq tag (codes "block")) (add_block ws f) _ h
 
-pub own_var : (tag : List ℕ) (ws : List (List ℕ)) (f : FuncCert) → bytes_eq tag (codes "param") ≡ false → bytes_eq tag (codes "result") ≡ false → bytes_eq tag (codes "block") ≡ false → bytes_eq tag (codes "var") ≡ true → add_own tag ws f ≡ add_var ws f
+pub own_var : (tag : List ℕ) (ws : List (List ℕ)) (f : FuncCert) → bytes_eq tag (codes "param") ≡ false → bytes_eq tag (codes "result") ≡ false
+    → bytes_eq tag (codes "block") ≡ false → bytes_eq tag (codes "var") ≡ true → add_own tag ws f ≡ add_var ws f
 unfolding add_own
 own_var tag ws f p r b h =
     if_false (bytes_eq tag (codes "param")) (add_param ws f) _ p ∙ if_false (bytes_eq tag (codes "result")) (add_result ws f) _ r ∙ if_false (bytes_eq tag (codes "block")) (add_block ws f) _ b ∙ if_true (bytes_eq tag (codes "var")) (add_var ws f) _ h
 
-pub own_make : (tag : List ℕ) (ws : List (List ℕ)) (f : FuncCert) → bytes_eq tag (codes "param") ≡ false → bytes_eq tag (codes "result") ≡ false → bytes_eq tag (codes "block") ≡ false → bytes_eq tag (codes "var") ≡ false → bytes_eq tag (codes "make") ≡ true → add_own tag ws f ≡ add_make ws f
+pub own_make : (tag : List ℕ) (ws : List (List ℕ)) (f : FuncCert) → bytes_eq tag (codes "param") ≡ false → bytes_eq tag (codes "result") ≡ false
+    → bytes_eq tag (codes "block") ≡ false → bytes_eq tag (codes "var") ≡ false → bytes_eq tag (codes "make") ≡ true
+    → add_own tag ws f ≡ add_make ws f
 unfolding add_own
 own_make tag ws f p r b v h =
     if_false (bytes_eq tag (codes "param")) (add_param ws f) _ p ∙ if_false (bytes_eq tag (codes "result")) (add_result ws f) _ r ∙ if_false (bytes_eq tag (codes "block")) (add_block ws f) _ b ∙ if_false (bytes_eq tag (codes "var")) (add_var ws f) _ v
     ∙ if_true (bytes_eq tag (codes "make")) (add_make ws f) None h
 
-pub own_none : (tag : List ℕ) (ws : List (List ℕ)) (f : FuncCert) → bytes_eq tag (codes "param") ≡ false → bytes_eq tag (codes "result") ≡ false → bytes_eq tag (codes "block") ≡ false → bytes_eq tag (codes "var") ≡ false → bytes_eq tag (codes "make") ≡ false → add_own tag ws f ≡ None
+pub own_none : (tag : List ℕ) (ws : List (List ℕ)) (f : FuncCert) → bytes_eq tag (codes "param") ≡ false → bytes_eq tag (codes "result") ≡ false
+    → bytes_eq tag (codes "block") ≡ false → bytes_eq tag (codes "var") ≡ false → bytes_eq tag (codes "make") ≡ false → add_own tag ws f ≡ None
 unfolding add_own
 own_none tag ws f p r b v h =
     if_false (bytes_eq tag (codes "param")) (add_param ws f) _ p ∙ if_false (bytes_eq tag (codes "result")) (add_result ws f) _ r ∙ if_false (bytes_eq tag (codes "block")) (add_block ws f) _ b ∙ if_false (bytes_eq tag (codes "var")) (add_var ws f) _ v
@@ -234,10 +250,12 @@ five_none rest e = ap is_five e
 pub five_one : (rest a r : List ℕ) → further rest ≡ a ∷ further r → further r ≡ [] → is_five (further rest) ≡ false
 five_one rest a r e f = ap is_five (e ∙ ap (λ l. a ∷ l) f)
 
-pub five_less : (rest a r b s : List ℕ) → further rest ≡ a ∷ further r → further r ≡ b ∷ further s → is_three (further s) ≡ false → is_five (further rest) ≡ false
+pub five_less : (rest a r b s : List ℕ) → further rest ≡ a ∷ further r → further r ≡ b ∷ further s → is_three (further s) ≡ false
+    → is_five (further rest) ≡ false
 five_less rest a r b s e f h = ap is_five (e ∙ ap (λ l. a ∷ l) f) ∙ h
 
-pub five_all : (rest a r b s x y z : List ℕ) → further rest ≡ a ∷ further r → further r ≡ b ∷ further s → further s ≡ x ∷ y ∷ z ∷ [] → further rest ≡ a ∷ b ∷ x ∷ y ∷ z ∷ []
+pub five_all : (rest a r b s x y z : List ℕ) → further rest ≡ a ∷ further r → further r ≡ b ∷ further s → further s ≡ x ∷ y ∷ z ∷ []
+    → further rest ≡ a ∷ b ∷ x ∷ y ∷ z ∷ []
 five_all rest a r b s x y z e f h = e ∙ ap (λ l. a ∷ l) (f ∙ ap (λ l. b ∷ l) h)
 
 pub function_none : (ws : List (List ℕ)) → is_five ws ≡ false → function_of_words ws ≡ None
@@ -254,18 +272,21 @@ function_none (a ∷ b ∷ c ∷ d ∷ e ∷ f ∷ ws) h = refl
 abbrev function_test : List ℕ → List ℕ → List ℕ → Bool
 function_test name w v = is_lower_name name && bytes_eq w (codes "need") && bytes_eq v (codes "back")
 
-pub function_no_need : (ws : List (List ℕ)) (name w n v b : List ℕ) → ws ≡ name ∷ w ∷ n ∷ v ∷ b ∷ [] → None ≡ option_map capped (number_of n) → function_of_words ws ≡ None
+pub function_no_need : (ws : List (List ℕ)) (name w n v b : List ℕ) → ws ≡ name ∷ w ∷ n ∷ v ∷ b ∷ [] → None ≡ option_map capped (number_of n)
+    → function_of_words ws ≡ None
 unfolding function_of_words
 function_no_need ws name w n v b e f =
     ap function_of_words e ∙ then_none (number_of n) (λ need. and_then (number_of b) (λ back. only_if (function_test name w v) (Some (bare_func name need back)))) (not_there (number_of n) f)
 
-function_one : (ws : List (List ℕ)) (name w n v b : List ℕ) (need : ℕ) → ws ≡ name ∷ w ∷ n ∷ v ∷ b ∷ [] → number_of n ≡ Some need → function_of_words ws ≡ and_then (number_of b) (λ back. only_if (function_test name w v) (Some (bare_func name need back)))
+function_one : (ws : List (List ℕ)) (name w n v b : List ℕ) (need : ℕ) → ws ≡ name ∷ w ∷ n ∷ v ∷ b ∷ [] → number_of n ≡ Some need
+    → function_of_words ws ≡ and_then (number_of b) (λ back. only_if (function_test name w v) (Some (bare_func name need back)))
 unfolding function_of_words
 function_one ws name w n v b need e f =
     ap function_of_words e ∙ then_is (number_of n) (λ need. and_then (number_of b) (λ back. only_if (function_test name w v) (Some (bare_func name need back)))) need
     (and_then (number_of b) (λ back. only_if (function_test name w v) (Some (bare_func name need back)))) f refl
 
-pub function_no_back : (ws : List (List ℕ)) (name w n v b : List ℕ) (c : ℕ) → ws ≡ name ∷ w ∷ n ∷ v ∷ b ∷ [] → Some c ≡ option_map capped (number_of n) → None ≡ option_map capped (number_of b) → function_of_words ws ≡ None
+pub function_no_back : (ws : List (List ℕ)) (name w n v b : List ℕ) (c : ℕ) → ws ≡ name ∷ w ∷ n ∷ v ∷ b ∷ []
+    → Some c ≡ option_map capped (number_of n) → None ≡ option_map capped (number_of b) → function_of_words ws ≡ None
 function_no_back ws name w n v b c e f g =
     let (need, need_is, shown) = there (number_of n) c f in
     function_one ws name w n v b need e need_is ∙ then_none (number_of b) (λ back. only_if (function_test name w v) (Some (bare_func name need back))) (not_there (number_of b) g)
@@ -278,7 +299,8 @@ pub record FunctionThere (ws : List (List ℕ)) (name w v : List ℕ) (c d : ℕ
   pub back_shown : d ≡ capped back
   pub is : function_of_words ws ≡ only_if (function_test name w v) (Some (bare_func name need back))
 
-pub function_there : (ws : List (List ℕ)) (name w n v b : List ℕ) (c d : ℕ) → ws ≡ name ∷ w ∷ n ∷ v ∷ b ∷ [] → Some c ≡ option_map capped (number_of n) → Some d ≡ option_map capped (number_of b) → FunctionThere ws name w v c d
+pub function_there : (ws : List (List ℕ)) (name w n v b : List ℕ) (c d : ℕ) → ws ≡ name ∷ w ∷ n ∷ v ∷ b ∷ []
+    → Some c ≡ option_map capped (number_of n) → Some d ≡ option_map capped (number_of b) → FunctionThere ws name w v c d
 function_there ws name w n v b c d e f g =
     let (need, need_is, need_shown) = there (number_of n) c f in
     let (back, back_is, back_shown) = there (number_of b) d g in
@@ -290,31 +312,39 @@ function_there ws name w n v b c d e f g =
       is = function_one ws name w n v b need e need_is ∙ then_is (number_of b) (λ back. only_if (function_test name w v) (Some (bare_func name need back))) back (only_if (function_test name w v) (Some (bare_func name need back))) back_is refl;
     }
 
-pub function_no_name : (ws : List (List ℕ)) (name w v : List ℕ) (c d : ℕ) → FunctionThere ws name w v c d → is_lower_name name ≡ false → function_of_words ws ≡ None
+pub function_no_name : (ws : List (List ℕ)) (name w v : List ℕ) (c d : ℕ) → FunctionThere ws name w v c d → is_lower_name name ≡ false
+    → function_of_words ws ≡ None
 function_no_name ws name w v c d r h =
     r.is ∙ only_none (function_test name w v) (Some (bare_func name r.need r.back)) (and_left (is_lower_name name && bytes_eq w (codes "need")) (bytes_eq v (codes "back")) (and_left (is_lower_name name) (bytes_eq w (codes "need")) h))
 
-pub function_no_first : (ws : List (List ℕ)) (name w v : List ℕ) (c d : ℕ) → FunctionThere ws name w v c d → bytes_eq w (codes "need") ≡ false → function_of_words ws ≡ None
+pub function_no_first : (ws : List (List ℕ)) (name w v : List ℕ) (c d : ℕ) → FunctionThere ws name w v c d → bytes_eq w (codes "need") ≡ false
+    → function_of_words ws ≡ None
 function_no_first ws name w v c d r h =
     r.is ∙ only_none (function_test name w v) (Some (bare_func name r.need r.back)) (and_left (is_lower_name name && bytes_eq w (codes "need")) (bytes_eq v (codes "back")) (and_right (is_lower_name name) (bytes_eq w (codes "need")) h))
 
-pub function_no_second : (ws : List (List ℕ)) (name w v : List ℕ) (c d : ℕ) → FunctionThere ws name w v c d → bytes_eq v (codes "back") ≡ false → function_of_words ws ≡ None
+pub function_no_second : (ws : List (List ℕ)) (name w v : List ℕ) (c d : ℕ) → FunctionThere ws name w v c d → bytes_eq v (codes "back") ≡ false
+    → function_of_words ws ≡ None
 function_no_second ws name w v c d r h =
     r.is ∙ only_none (function_test name w v) (Some (bare_func name r.need r.back)) (and_right (is_lower_name name && bytes_eq w (codes "need")) (bytes_eq v (codes "back")) h)
 
-function_tests : (name w v : List ℕ) → is_lower_name name ≡ true → bytes_eq w (codes "need") ≡ true → bytes_eq v (codes "back") ≡ true → function_test name w v ≡ true
+function_tests : (name w v : List ℕ) → is_lower_name name ≡ true → bytes_eq w (codes "need") ≡ true → bytes_eq v (codes "back") ≡ true
+    → function_test name w v ≡ true
 function_tests name w v h j k = and_both (is_lower_name name && bytes_eq w (codes "need")) (bytes_eq v (codes "back")) (and_both (is_lower_name name) (bytes_eq w (codes "need")) h j) k
 
-function_is : (ws : List (List ℕ)) (name w v : List ℕ) (c d : ℕ) (r : FunctionThere ws name w v c d) → function_test name w v ≡ true → function_of_words ws ≡ Some (bare_func name r.need r.back)
+function_is : (ws : List (List ℕ)) (name w v : List ℕ) (c d : ℕ) (r : FunctionThere ws name w v c d) → function_test name w v ≡ true
+    → function_of_words ws ≡ Some (bare_func name r.need r.back)
 function_is ws name w v c d r h = r.is ∙ only_is (function_test name w v) (Some (bare_func name r.need r.back)) (Some (bare_func name r.need r.back)) h refl
 
-pub function_much : (ws : List (List ℕ)) (name w v : List ℕ) (c d : ℕ) → FunctionThere ws name w v c d → is_lower_name name ≡ true → bytes_eq w (codes "need") ≡ true → bytes_eq v (codes "back") ≡ true → 1099511627776 < c → IsWide (function_of_words ws) FuncIsWithin
+pub function_much : (ws : List (List ℕ)) (name w v : List ℕ) (c d : ℕ) → FunctionThere ws name w v c d → is_lower_name name ≡ true
+    → bytes_eq w (codes "need") ≡ true → bytes_eq v (codes "back") ≡ true → 1099511627776 < c → IsWide (function_of_words ws) FuncIsWithin
 function_much ws name w v c d r h j k much = record { x = bare_func name r.need r.back; is = function_is ws name w v c d r (function_tests name w v h j k); wide = λ q. beyond r.need c 1099511627776 r.need_shown much q.need }
 
-pub function_more : (ws : List (List ℕ)) (name w v : List ℕ) (c d : ℕ) → FunctionThere ws name w v c d → is_lower_name name ≡ true → bytes_eq w (codes "need") ≡ true → bytes_eq v (codes "back") ≡ true → 1099511627776 < d → IsWide (function_of_words ws) FuncIsWithin
+pub function_more : (ws : List (List ℕ)) (name w v : List ℕ) (c d : ℕ) → FunctionThere ws name w v c d → is_lower_name name ≡ true
+    → bytes_eq w (codes "need") ≡ true → bytes_eq v (codes "back") ≡ true → 1099511627776 < d → IsWide (function_of_words ws) FuncIsWithin
 function_more ws name w v c d r h j k more = record { x = bare_func name r.need r.back; is = function_is ws name w v c d r (function_tests name w v h j k); wide = λ q. beyond r.back d 1099511627776 r.back_shown more q.back }
 
-pub function_read : (ws : List (List ℕ)) (name w v : List ℕ) (c d : ℕ) (f : FuncCert) → FunctionThere ws name w v c d → is_lower_name name ≡ true → bytes_eq w (codes "need") ≡ true → bytes_eq v (codes "back") ≡ true → c ≤ 1099511627776 → d ≤ 1099511627776
+pub function_read : (ws : List (List ℕ)) (name w v : List ℕ) (c d : ℕ) (f : FuncCert) → FunctionThere ws name w v c d → is_lower_name name ≡ true
+    → bytes_eq w (codes "need") ≡ true → bytes_eq v (codes "back") ≡ true → c ≤ 1099511627776 → d ≤ 1099511627776
     → f ≡ bare_func name c d → IsRead (function_of_words ws) FuncIsWithin f
 function_read ws name w v c d f r h j k much more e =
     let need_is : r.need ≡ c = exact r.need c 1099511627776 r.need_shown much (omega arith) in
@@ -326,22 +356,25 @@ function_read ws name w v c d f r h j k much more e =
 
 -- ---- all functions
 
-pub behind_stopped : (fs : List FuncCert) (o : Option FuncCert) (s : Stop) → IsStopped o FuncIsWithin s → IsStopped (put_behind fs o) AreWithin s
+pub behind_stopped : (fs : List FuncCert) (o : Option FuncCert) (s : LineStop) → IsStopped o FuncIsWithin s → IsStopped (put_behind fs o) AreWithin s
 behind_stopped fs o s r = stop_map (λ f. fs ++ f ∷ []) o FuncIsWithin AreWithin s (λ f w. all_last FuncIsWithin fs f w) r
 
-pub behind_read : (fs gs : List FuncCert) (o : Option FuncCert) (f : FuncCert) → AreWithin fs → IsRead o FuncIsWithin f → gs ≡ fs ++ f ∷ [] → IsRead (put_behind fs o) AreWithin gs
+pub behind_read : (fs gs : List FuncCert) (o : Option FuncCert) (f : FuncCert) → AreWithin fs → IsRead o FuncIsWithin f → gs ≡ fs ++ f ∷ []
+    → IsRead (put_behind fs o) AreWithin gs
 behind_read fs gs o f w r e = subst (IsRead (put_behind fs o) AreWithin) (sym e) (record { is = map_is (λ f. fs ++ f ∷ []) o f r.is; fits = all_end FuncIsWithin fs f w r.fits })
 
 pub last_none : (step : FuncCert → Option FuncCert) (fs : List FuncCert) → fs ≡ [] → at_last step fs ≡ None
 last_none step fs e = ap (at_last step) e
 
-pub last_stopped : (step : FuncCert → Option FuncCert) (fs front : List FuncCert) (f : FuncCert) (s : Stop) → fs ≡ front ++ f ∷ [] → IsStopped (step f) FuncIsWithin s → IsStopped (at_last step fs) AreWithin s
+pub last_stopped : (step : FuncCert → Option FuncCert) (fs front : List FuncCert) (f : FuncCert) (s : LineStop) → fs ≡ front ++ f ∷ []
+    → IsStopped (step f) FuncIsWithin s → IsStopped (at_last step fs) AreWithin s
 last_stopped step fs front f s e r = subst (λ o. IsStopped o AreWithin s) (sym (ap (at_last step) e ∙ at_end step front f)) (stop_map (λ g. front ++ g ∷ []) (step f) FuncIsWithin AreWithin s (λ g w. all_last FuncIsWithin front g w) r)
 
 pub last_within : (fs front : List FuncCert) (f : FuncCert) → fs ≡ front ++ f ∷ [] → AreWithin fs → FuncIsWithin f
 last_within fs front f e w = all_last FuncIsWithin front f (subst AreWithin e w)
 
-pub last_read : (step : FuncCert → Option FuncCert) (fs gs front : List FuncCert) (f g : FuncCert) → fs ≡ front ++ f ∷ [] → AreWithin fs → IsRead (step f) FuncIsWithin g → gs ≡ front ++ g ∷ [] → IsRead (at_last step fs) AreWithin gs
+pub last_read : (step : FuncCert → Option FuncCert) (fs gs front : List FuncCert) (f g : FuncCert) → fs ≡ front ++ f ∷ [] → AreWithin fs
+    → IsRead (step f) FuncIsWithin g → gs ≡ front ++ g ∷ [] → IsRead (at_last step fs) AreWithin gs
 last_read step fs gs front f g e w r k = subst (IsRead (at_last step fs) AreWithin) (sym k) (record {
   is = ap (at_last step) e ∙ last_end step front f g r.is;
   fits = all_end FuncIsWithin front g (all_front FuncIsWithin front f (subst AreWithin e w)) r.fits;
@@ -349,15 +382,17 @@ last_read step fs gs front f g e w r k = subst (IsRead (at_last step fs) AreWith
 
 -- ---- a line
 
-pub line_function : (line tag : List ℕ) (ws : List (List ℕ)) (fs : List FuncCert) → words line ≡ tag ∷ ws → bytes_eq tag (codes "function") ≡ true → add_line (words line) fs ≡ put_behind fs (function_of_words ws)
+pub line_function : (line tag : List ℕ) (ws : List (List ℕ)) (fs : List FuncCert) → words line ≡ tag ∷ ws → bytes_eq tag (codes "function") ≡ true
+    → add_line (words line) fs ≡ put_behind fs (function_of_words ws)
 unfolding add_line
 line_function line tag ws fs e h = ap (λ l. add_line l fs) e ∙ if_true (bytes_eq tag (codes "function")) (put_behind fs (function_of_words ws)) (at_last (add_own tag ws) fs) h
 
-pub line_own : (line tag : List ℕ) (ws : List (List ℕ)) (fs : List FuncCert) → words line ≡ tag ∷ ws → bytes_eq tag (codes "function") ≡ false → add_line (words line) fs ≡ at_last (add_own tag ws) fs
+pub line_own : (line tag : List ℕ) (ws : List (List ℕ)) (fs : List FuncCert) → words line ≡ tag ∷ ws → bytes_eq tag (codes "function") ≡ false
+    → add_line (words line) fs ≡ at_last (add_own tag ws) fs
 unfolding add_line
 line_own line tag ws fs e h = ap (λ l. add_line l fs) e ∙ if_false (bytes_eq tag (codes "function")) (put_behind fs (function_of_words ws)) (at_last (add_own tag ws) fs) h
 
-pub no_memory : (s : Stop) (o : Option FuncCert) → IsNoMemory s → IsStopped o FuncIsWithin s
+pub no_memory : (s : LineStop) (o : Option FuncCert) → IsNoMemory s → IsStopped o FuncIsWithin s
 no_memory stop.Line o h = absurd h
 no_memory stop.Number o h = absurd h
 no_memory stop.Memory o h = tt

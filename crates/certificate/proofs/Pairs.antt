@@ -6,7 +6,7 @@ use Rattle.std.proofs.lemmas.Bool.Decides.{nat_tests}
 use Rattle.annotations.specs.Vectors.{Vector, IsVector}
 use Rattle.certificate.specs.Certificates.{VectorIsWithin}
 use Rattle.certificate.specs.Reading.{and_then, only_if, upto, from, behind, further, words, capped, capped_pair, is_there, put_front, number_of, is_before, pair_of, vector_from, vector_of, IsRead, IsStopped, IsWide}
-use Rattle.certificate.specs.declared.stop.Stop.{Stop}
+use Rattle.certificate.specs.declared.stop.LineStop.{LineStop}
 use Rattle.certificate.specs.OptionLaws.{then_is, only_is, and_both, true_false, some_same}
 use Rattle.certificate.specs.CutLaws.{words_cut}
 use Rattle.certificate.specs.VectorLaws.{vector_found, behind_vector}
@@ -42,20 +42,23 @@ unfolding pair_of
 no_con prev con units e = ap (option_map capped_pair) (sym (then_none (number_of con) (λ c. and_then (number_of units) (λ u. only_if (is_before prev con && not (u == 0)) (Some (c, u)))) (not_there (number_of con) e)))
 
 -- the pair where both numbers are there
-pair_by : (prev con units : List ℕ) (c u : ℕ) → number_of con ≡ Some c → number_of units ≡ Some u → pair_of prev con units ≡ only_if (is_before prev con && not (u == 0)) (Some (c, u))
+pair_by : (prev con units : List ℕ) (c u : ℕ) → number_of con ≡ Some c → number_of units ≡ Some u
+    → pair_of prev con units ≡ only_if (is_before prev con && not (u == 0)) (Some (c, u))
 unfolding pair_of
 pair_by prev con units c u e f =
     then_is (number_of con) (λ c. and_then (number_of units) (λ u. only_if (is_before prev con && not (u == 0)) (Some (c, u)))) c (only_if (is_before prev con && not (u == 0)) (Some (c, u))) e
     (then_is (number_of units) (λ u. only_if (is_before prev con && not (u == 0)) (Some (c, u))) u (only_if (is_before prev con && not (u == 0)) (Some (c, u))) f refl)
 
-pub no_units : (prev con units : List ℕ) (c : ℕ) → Some c ≡ option_map capped (number_of con) → None ≡ option_map capped (number_of units) → None ≡ option_map capped_pair (pair_of prev con units)
+pub no_units : (prev con units : List ℕ) (c : ℕ) → Some c ≡ option_map capped (number_of con) → None ≡ option_map capped (number_of units)
+    → None ≡ option_map capped_pair (pair_of prev con units)
 unfolding pair_of
 no_units prev con units c e f =
     let (n, n_is, c_is) = there (number_of con) c e in
     ap (option_map capped_pair) (sym (then_is (number_of con) (λ c. and_then (number_of units) (λ u. only_if (is_before prev con && not (u == 0)) (Some (c, u)))) n None n_is
     (then_none (number_of units) (λ u. only_if (is_before prev con && not (u == 0)) (Some (n, u))) (not_there (number_of units) f))))
 
-pub zero_units : (prev con units : List ℕ) (c u : ℕ) → Some c ≡ option_map capped (number_of con) → Some u ≡ option_map capped (number_of units) → u ≡ 0 → None ≡ option_map capped_pair (pair_of prev con units)
+pub zero_units : (prev con units : List ℕ) (c u : ℕ) → Some c ≡ option_map capped (number_of con) → Some u ≡ option_map capped (number_of units)
+    → u ≡ 0 → None ≡ option_map capped_pair (pair_of prev con units)
 zero_units prev con units c u e f z =
     let (n, n_is, c_is) = there (number_of con) c e in
     let (m, m_is, u_is) = there (number_of units) u f in
@@ -63,13 +66,15 @@ zero_units prev con units c u e f z =
     let t : not (m == 0) ≡ false = grind (arith, nat_tests, zero_is) in
     ap (option_map capped_pair) (sym (pair_by prev con units n m n_is m_is ∙ only_none (is_before prev con && not (m == 0)) (Some (n, m)) (and_right (is_before prev con) (not (m == 0)) t)))
 
-pub not_behind : (prev con units : List ℕ) (c u : ℕ) → Some c ≡ option_map capped (number_of con) → Some u ≡ option_map capped (number_of units) → is_before prev con ≡ false → None ≡ option_map capped_pair (pair_of prev con units)
+pub not_behind : (prev con units : List ℕ) (c u : ℕ) → Some c ≡ option_map capped (number_of con) → Some u ≡ option_map capped (number_of units)
+    → is_before prev con ≡ false → None ≡ option_map capped_pair (pair_of prev con units)
 not_behind prev con units c u e f t =
     let (n, n_is, c_is) = there (number_of con) c e in
     let (m, m_is, u_is) = there (number_of units) u f in
     ap (option_map capped_pair) (sym (pair_by prev con units n m n_is m_is ∙ only_none (is_before prev con && not (m == 0)) (Some (n, m)) (and_left (is_before prev con) (not (m == 0)) t)))
 
-pub is_pair : (prev con units : List ℕ) (c u : ℕ) → Some c ≡ option_map capped (number_of con) → Some u ≡ option_map capped (number_of units) → (u ≡ 0 → ⊥) → is_before prev con ≡ true → Some (c, u) ≡ option_map capped_pair (pair_of prev con units)
+pub is_pair : (prev con units : List ℕ) (c u : ℕ) → Some c ≡ option_map capped (number_of con) → Some u ≡ option_map capped (number_of units)
+    → (u ≡ 0 → ⊥) → is_before prev con ≡ true → Some (c, u) ≡ option_map capped_pair (pair_of prev con units)
 is_pair prev con units c u e f z t =
     let (n, n_is, c_is) = there (number_of con) c e in
     let (m, m_is, u_is) = there (number_of units) u f in
@@ -92,12 +97,14 @@ pair_none None e = refl
 pair_none (Some q) e = absurd cc
 
 -- the words from this one on
-from_word : (prev : List ℕ) (rest word : List ℕ) (ws : List (List ℕ)) → further rest ≡ word ∷ ws → vector_from prev (further rest) ≡ and_then (pair_of prev (upto 61 word) (behind (from 61 word))) (λ p. option_map (λ v. p ∷ v) (vector_from (upto 61 word) ws))
+from_word : (prev : List ℕ) (rest word : List ℕ) (ws : List (List ℕ)) → further rest ≡ word ∷ ws
+    → vector_from prev (further rest) ≡ and_then (pair_of prev (upto 61 word) (behind (from 61 word))) (λ p. option_map (λ v. p ∷ v) (vector_from (upto 61 word) ws))
 unfolding vector_from
 from_word prev rest word ws e = ap (vector_from prev) e
 
 -- the next word is no pair
-wrong_word : (prev con units rest word : List ℕ) (ws : List (List ℕ)) → further rest ≡ word ∷ ws → con ≡ upto 61 word → units ≡ behind (from 61 word) → None ≡ option_map capped_pair (pair_of prev con units) → vector_from prev (further rest) ≡ None
+wrong_word : (prev con units rest word : List ℕ) (ws : List (List ℕ)) → further rest ≡ word ∷ ws → con ≡ upto 61 word → units ≡ behind (from 61 word)
+    → None ≡ option_map capped_pair (pair_of prev con units) → vector_from prev (further rest) ≡ None
 wrong_word prev con units rest word ws e c u h =
     from_word prev rest word ws e ∙ then_none (pair_of prev (upto 61 word) (behind (from 61 word))) (λ p. option_map (λ v. p ∷ v) (vector_from (upto 61 word) ws))
     (ap (λ k. pair_of prev k (behind (from 61 word))) (sym c) ∙ ap (pair_of prev con) (sym u) ∙ pair_none (pair_of prev con units) h)
@@ -108,7 +115,8 @@ pub record NextPair (prev con rest : List ℕ) (ws : List (List ℕ)) (p : ℕ �
   pub shown : p ≡ capped_pair pair
   pub is : vector_from prev (further rest) ≡ option_map (λ v. pair ∷ v) (vector_from con ws)
 
-next_pair : (prev con units rest word : List ℕ) (ws : List (List ℕ)) (p : ℕ × ℕ) → further rest ≡ word ∷ ws → con ≡ upto 61 word → units ≡ behind (from 61 word) → Some p ≡ option_map capped_pair (pair_of prev con units) → NextPair prev con rest ws p
+next_pair : (prev con units rest word : List ℕ) (ws : List (List ℕ)) (p : ℕ × ℕ) → further rest ≡ word ∷ ws → con ≡ upto 61 word
+    → units ≡ behind (from 61 word) → Some p ≡ option_map capped_pair (pair_of prev con units) → NextPair prev con rest ws p
 next_pair prev con units rest word ws p e c u h =
     let (q, q_is, shown) = pair_there (pair_of prev con units) p h in
     let found : pair_of prev (upto 61 word) (behind (from 61 word)) ≡ Some q = ap (λ k. pair_of prev k (behind (from 61 word))) (sym c) ∙ ap (pair_of prev con) (sym u) ∙ q_is in
@@ -123,11 +131,13 @@ there_cons : (p : ℕ × ℕ) (o : Option Vector) → is_there (option_map (λ v
 there_cons p None = refl
 there_cons p (Some v) = refl
 
-pub there_none : (prev con units rest word : List ℕ) (ws : List (List ℕ)) (all : Bool) → further rest ≡ word ∷ ws → con ≡ upto 61 word → units ≡ behind (from 61 word) → None ≡ option_map capped_pair (pair_of prev con units)
+pub there_none : (prev con units rest word : List ℕ) (ws : List (List ℕ)) (all : Bool) → further rest ≡ word ∷ ws → con ≡ upto 61 word
+    → units ≡ behind (from 61 word) → None ≡ option_map capped_pair (pair_of prev con units)
     → is_there (vector_from prev (further rest)) ≡ all → false ≡ all
 there_none prev con units rest word ws all e c u h g = sym (ap is_there (wrong_word prev con units rest word ws e c u h)) ∙ g
 
-pub there_more : (prev con units rest word after : List ℕ) (p : ℕ × ℕ) (all : Bool) → further rest ≡ word ∷ further after → con ≡ upto 61 word → units ≡ behind (from 61 word) → Some p ≡ option_map capped_pair (pair_of prev con units)
+pub there_more : (prev con units rest word after : List ℕ) (p : ℕ × ℕ) (all : Bool) → further rest ≡ word ∷ further after → con ≡ upto 61 word
+    → units ≡ behind (from 61 word) → Some p ≡ option_map capped_pair (pair_of prev con units)
     → is_there (vector_from prev (further rest)) ≡ all → is_there (vector_from con (further after)) ≡ all
 there_more prev con units rest word after p all e c u h g =
     let n = next_pair prev con units rest word (further after) p e c u h in
@@ -146,7 +156,8 @@ put_nothing (Some v) = refl
 pub pairs_first : (o : Option Vector) (ps : Vector) → ps ≡ [] → o ≡ put_front ps o
 pairs_first o ps e = sym (ap (λ l. put_front l o) e ∙ put_nothing o)
 
-pub pairs_wrong : (whole : Option Vector) (ps : Vector) (prev con units rest word : List ℕ) (ws : List (List ℕ)) → whole ≡ put_front ps (vector_from prev (further rest)) → further rest ≡ word ∷ ws → con ≡ upto 61 word → units ≡ behind (from 61 word)
+pub pairs_wrong : (whole : Option Vector) (ps : Vector) (prev con units rest word : List ℕ) (ws : List (List ℕ))
+    → whole ≡ put_front ps (vector_from prev (further rest)) → further rest ≡ word ∷ ws → con ≡ upto 61 word → units ≡ behind (from 61 word)
     → None ≡ option_map capped_pair (pair_of prev con units) → whole ≡ None
 pairs_wrong whole ps prev con units rest word ws g e c u h = g ∙ ap (put_front ps) (wrong_word prev con units rest word ws e c u h)
 
@@ -162,13 +173,16 @@ above_both : (n m c u : ℕ) → c ≡ capped n → u ≡ capped m → (42949672
 above_both n m c u e f (inl h) j k = omega (arith, e, h, j)
 above_both n m c u e f (inr h) j k = omega (arith, f, h, k)
 
-pub pairs_wide : (whole : Option Vector) (ps : Vector) (prev con units rest word after : List ℕ) (c u : ℕ) → whole ≡ put_front ps (vector_from prev (further rest)) → further rest ≡ word ∷ further after → con ≡ upto 61 word → units ≡ behind (from 61 word)
+pub pairs_wide : (whole : Option Vector) (ps : Vector) (prev con units rest word after : List ℕ) (c u : ℕ)
+    → whole ≡ put_front ps (vector_from prev (further rest)) → further rest ≡ word ∷ further after → con ≡ upto 61 word
+    → units ≡ behind (from 61 word)
     → Some (c, u) ≡ option_map capped_pair (pair_of prev con units) → (4294967295 < c) ⊎ (2147483648 < u) → true ≡ is_there (vector_from con (further after)) → IsWide whole VectorIsWithin
 pairs_wide whole ps prev con units rest word after c u g e f k h wide t =
     let n = next_pair prev con units rest word (further after) (c, u) e f k h in
     by_rest n (vector_from con (further after)) refl t
   where
-    by_rest : (n : NextPair prev con rest (further after) (c, u)) (o : Option Vector) → vector_from con (further after) ≡ o → true ≡ is_there o → IsWide whole VectorIsWithin
+    by_rest : (n : NextPair prev con rest (further after) (c, u)) (o : Option Vector) → vector_from con (further after) ≡ o → true ≡ is_there o
+        → IsWide whole VectorIsWithin
     by_rest n None q t = absurd cc
     by_rest n (Some v) q t = record {
       x = ps ++ n.pair ∷ v;
@@ -176,7 +190,9 @@ pairs_wide whole ps prev con units rest word after c u g e f k h wide t =
       wide = λ within. let r = all_middle ps n.pair v within in above_both n.pair.0 n.pair.1 c u (ap (λ (p : ℕ × ℕ). p.0) n.shown) (ap (λ (p : ℕ × ℕ). p.1) n.shown) wide r.0 r.1;
     }
 
-pub pairs_not : (whole : Option Vector) (ps : Vector) (prev con units rest word after : List ℕ) (p : ℕ × ℕ) → whole ≡ put_front ps (vector_from prev (further rest)) → further rest ≡ word ∷ further after → con ≡ upto 61 word → units ≡ behind (from 61 word)
+pub pairs_not : (whole : Option Vector) (ps : Vector) (prev con units rest word after : List ℕ) (p : ℕ × ℕ)
+    → whole ≡ put_front ps (vector_from prev (further rest)) → further rest ≡ word ∷ further after → con ≡ upto 61 word
+    → units ≡ behind (from 61 word)
     → Some p ≡ option_map capped_pair (pair_of prev con units) → false ≡ is_there (vector_from con (further after)) → whole ≡ None
 pairs_not whole ps prev con units rest word after p g e f k h t =
     let n = next_pair prev con units rest word (further after) p e f k h in
@@ -186,7 +202,9 @@ pairs_not whole ps prev con units rest word after p g e f k h t =
     nothing None t = refl
     nothing (Some v) t = absurd cc
 
-pub pairs_more : (whole : Option Vector) (ps qs : Vector) (prev con units rest word after : List ℕ) (c u : ℕ) → whole ≡ put_front ps (vector_from prev (further rest)) → further rest ≡ word ∷ further after → con ≡ upto 61 word → units ≡ behind (from 61 word)
+pub pairs_more : (whole : Option Vector) (ps qs : Vector) (prev con units rest word after : List ℕ) (c u : ℕ)
+    → whole ≡ put_front ps (vector_from prev (further rest)) → further rest ≡ word ∷ further after → con ≡ upto 61 word
+    → units ≡ behind (from 61 word)
     → Some (c, u) ≡ option_map capped_pair (pair_of prev con units) → c ≤ 4294967295 → u ≤ 2147483648 → qs ≡ ps ++ (c, u) ∷ [] → whole ≡ put_front qs (vector_from con (further after))
 pairs_more whole ps qs prev con units rest word after c u g e f k h low few q =
     let n = next_pair prev con units rest word (further after) (c, u) e f k h in
@@ -198,7 +216,8 @@ pairs_more whole ps qs prev con units rest word after c u g e f k h low few q =
 pub pairs_within : (ps qs : Vector) (c u : ℕ) → VectorIsWithin ps → c ≤ 4294967295 → u ≤ 2147483648 → qs ≡ ps ++ (c, u) ∷ [] → VectorIsWithin qs
 pairs_within ps qs c u h low few q = subst VectorIsWithin (sym q) (all_end (λ (p : ℕ × ℕ). (p.0 ≤ 4294967295) × (p.1 ≤ 2147483648)) ps (c, u) h (low, few))
 
-pub pairs_end : (whole : Option Vector) (ps : Vector) (prev rest : List ℕ) → whole ≡ put_front ps (vector_from prev (further rest)) → further rest ≡ [] → VectorIsWithin ps → IsRead whole VectorIsWithin ps
+pub pairs_end : (whole : Option Vector) (ps : Vector) (prev rest : List ℕ) → whole ≡ put_front ps (vector_from prev (further rest))
+    → further rest ≡ [] → VectorIsWithin ps → IsRead whole VectorIsWithin ps
 unfolding vector_from
 pairs_end whole ps prev rest g e h = record { is = g ∙ ap (λ l. put_front ps (vector_from prev l)) e ∙ ap Some (append-nil ps); fits = h }
 
@@ -221,10 +240,12 @@ unfolding vector_of
 vector_none [] h = refl
 vector_none (b ∷ rest) h = absurd (true_false (suc (length rest) == 0) h (grind (arith, nat_tests)))
 
-pub vector_some : (rest : List ℕ) (v ps : Vector) → (length rest == 0) ≡ false → v ≡ ps → IsRead (vector_from [] (further rest)) VectorIsWithin ps → IsRead (vector_of (further rest)) VectorIsWithin v
+pub vector_some : (rest : List ℕ) (v ps : Vector) → (length rest == 0) ≡ false → v ≡ ps → IsRead (vector_from [] (further rest)) VectorIsWithin ps
+    → IsRead (vector_of (further rest)) VectorIsWithin v
 vector_some rest v ps h e r = record { is = words_some rest h ∙ r.is ∙ ap Some (sym e); fits = subst VectorIsWithin (sym e) r.fits }
 
-pub vector_stop : (rest : List ℕ) (s : Stop) → (length rest == 0) ≡ false → IsStopped (vector_from [] (further rest)) VectorIsWithin s → IsStopped (vector_of (further rest)) VectorIsWithin s
+pub vector_stop : (rest : List ℕ) (s : LineStop) → (length rest == 0) ≡ false → IsStopped (vector_from [] (further rest)) VectorIsWithin s
+    → IsStopped (vector_of (further rest)) VectorIsWithin s
 vector_stop rest s h r = subst (λ o. IsStopped o VectorIsWithin s) (sym (words_some rest h)) r
 
 pub vector_form : (rest : List ℕ) (ps : Vector) → IsRead (vector_from [] (further rest)) VectorIsWithin ps → IsVector ps

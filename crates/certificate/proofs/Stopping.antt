@@ -35,7 +35,8 @@ no_text : (l r : List ℕ) → [] ≡ l ++ 10 ∷ r → ⊥
 no_text [] r e = absurd cc
 no_text (b ∷ l) r e = absurd cc
 
-early_end : (text : List ℕ) (before : List (List ℕ)) (rest : List ℕ) → text ≡ text_of_lines before ++ rest → Free 10 rest → Begins before → AllByRecursion (Free 10) before → NoWhole before rest → EndsEarly text before
+early_end : (text : List ℕ) (before : List (List ℕ)) (rest : List ℕ) → text ≡ text_of_lines before ++ rest → Free 10 rest → Begins before
+    → AllByRecursion (Free 10) before → NoWhole before rest → EndsEarly text before
 unfolding text_of
 early_end text before rest parts free good feed none = record { rest = rest; parts = parts; one = free; good = good; unfinished = λ c h e. by_front c h (fronts (lines_of c) before [] rest (cert_feed c h.formed) feed (append-nil (text_of c) ∙ e ∙ parts)) }
   where
@@ -101,7 +102,8 @@ goes_first : (text rest line after : List ℕ) → HasFirst text rest → HasLin
 goes_first text rest line after f h = record { rest = after; parts = first_parts text rest f ∙ ap (λ l. text_of_lines (spaced first_words ∷ []) ++ l) h.parts; one = h.one }
 
 -- the second line of a certificate is that of its unit
-second_line : (d : Cert) (line : List ℕ) (rest : List (List ℕ)) → IsFormed d → lines_of d ≡ (spaced first_words ∷ line ∷ []) ++ rest → unit_of (words line) ≡ Some d.unit
+second_line : (d : Cert) (line : List ℕ) (rest : List (List ℕ)) → IsFormed d → lines_of d ≡ (spaced first_words ∷ line ∷ []) ++ rest
+    → unit_of (words line) ≡ Some d.unit
 second_line d line rest h e =
     let p = same_cons (spaced first_words) (spaced first_words) (map spaced (unit_words d.unit ∷ (flat_map func_lines d.funcs ++ last_words ∷ []))) (line ∷ rest) e in
     let q = same_cons (spaced (unit_words d.unit)) line (map spaced (flat_map func_lines d.funcs ++ last_words ∷ [])) rest p.1 in
@@ -117,7 +119,8 @@ unit_wrong text rest line after f h w = record {
 line_is : (line : List ℕ) (unit : ℕ) → unit_of (words line) ≡ Some unit → line ≡ spaced (unit_words unit)
 line_is line unit u = sym (spaced_words line) ∙ ap spaced (unit_found (words line) unit u).0
 
-pub unit_wide : (text rest line after : List ℕ) (unit : ℕ) → HasFirst text rest → HasLine rest line after → unit_of (words line) ≡ Some unit → 2147483648 < unit → IsNumberFault text 2
+pub unit_wide : (text rest line after : List ℕ) (unit : ℕ) → HasFirst text rest → HasLine rest line after → unit_of (words line) ≡ Some unit
+    → 2147483648 < unit → IsNumberFault text 2
 unit_wide text rest line after unit f h u w = record {
   before = spaced first_words ∷ [];
   count = refl;
@@ -138,7 +141,8 @@ unit_wide text rest line after unit f h u w = record {
     above : (a b : ℕ) → a ≡ b → 2147483648 < a → b ≤ 2147483648 → ⊥
     above a b s h k = omega (arith, s, h, k)
 
-pub unit_begins : (text rest line after : List ℕ) (unit : ℕ) → HasFirst text rest → HasLine rest line after → unit_of (words line) ≡ Some unit → unit ≤ 2147483648 → Reading text unit [] after 3
+pub unit_begins : (text rest line after : List ℕ) (unit : ℕ) → HasFirst text rest → HasLine rest line after → unit_of (words line) ≡ Some unit
+    → unit ≤ 2147483648 → Reading text unit [] after 3
 unit_begins text rest line after unit f h u w = record {
   right = record { formed = record { some_units = (unit_found (words line) unit u).1; funcs = tt }; within = record { unit = w; funcs = tt } };
   parts = parts;
@@ -199,7 +203,8 @@ line_early text unit fs rest n r h = record {
   fault = inr (early_end text (map spaced (open_lines unit fs)) rest r.parts h (open_begins unit fs r.right) (open_feed unit fs r.right.formed.funcs) (open_none unit fs r.right rest));
 }
 
-goes_open : (text : List ℕ) (unit : ℕ) (fs : List FuncCert) (rest line after : List ℕ) (n : ℕ) → Reading text unit fs rest n → HasLine rest line after → GoesOn text (map spaced (open_lines unit fs)) line
+goes_open : (text : List ℕ) (unit : ℕ) (fs : List FuncCert) (rest line after : List ℕ) (n : ℕ) → Reading text unit fs rest n
+    → HasLine rest line after → GoesOn text (map spaced (open_lines unit fs)) line
 goes_open text unit fs rest line after n r h = record { rest = after; parts = r.parts ∙ ap (λ l. text_of_lines (map spaced (open_lines unit fs)) ++ l) h.parts; one = h.one }
 
 -- what begins with one line more
@@ -210,7 +215,8 @@ next_of d unit fs line rest h k e = continues d unit fs line rest h k (e ∙ app
 is_end : (line : List ℕ) → words line ≡ last_words → line ≡ codes "end"
 is_end line e = sym (spaced_words line) ∙ ap spaced e
 
-pub line_wrong : (text : List ℕ) (unit : ℕ) (fs : List FuncCert) (rest line after : List ℕ) (n : ℕ) → Reading text unit fs rest n → HasLine rest line after → (line ≡ codes "end" → ⊥) → add_line (words line) fs ≡ None → IsLineFault text n
+pub line_wrong : (text : List ℕ) (unit : ℕ) (fs : List FuncCert) (rest line after : List ℕ) (n : ℕ) → Reading text unit fs rest n
+    → HasLine rest line after → (line ≡ codes "end" → ⊥) → add_line (words line) fs ≡ None → IsLineFault text n
 line_wrong text unit fs rest line after n r h end none = record {
   before = map spaced (open_lines unit fs);
   count = counted unit fs n r.count;
@@ -233,11 +239,13 @@ last_line [] l r = first_line l [] r
 last_line (k ∷ ls) l r = first_line k (ls ++ l ∷ []) r ∙ ap (λ t. k ++ 10 ∷ t) (last_line ls l r) ∙ sym (first_line k ls (l ++ 10 ∷ r))
 
 -- one line more
-line_lines : (unit : ℕ) (fs gs : List FuncCert) (line : List ℕ) → add_line (words line) fs ≡ Some gs → map spaced (open_lines unit gs) ≡ map spaced (open_lines unit fs) ++ line ∷ []
+line_lines : (unit : ℕ) (fs gs : List FuncCert) (line : List ℕ) → add_line (words line) fs ≡ Some gs
+    → map spaced (open_lines unit gs) ≡ map spaced (open_lines unit fs) ++ line ∷ []
 line_lines unit fs gs line e =
     ap (λ l. spaced first_words ∷ spaced (unit_words unit) ∷ l) (ap (map spaced) (line_grown (words line) fs gs e).lines ∙ map-append spaced (flat_map func_lines fs) (words line ∷ []) ∙ ap (λ l. map spaced (flat_map func_lines fs) ++ l ∷ []) (spaced_words line))
 
-pub line_wide : (text : List ℕ) (unit : ℕ) (fs : List FuncCert) (rest line after : List ℕ) (n : ℕ) → Reading text unit fs rest n → HasLine rest line after → (line ≡ codes "end" → ⊥) → IsWide (add_line (words line) fs) AreWithin → IsNumberFault text n
+pub line_wide : (text : List ℕ) (unit : ℕ) (fs : List FuncCert) (rest line after : List ℕ) (n : ℕ) → Reading text unit fs rest n
+    → HasLine rest line after → (line ≡ codes "end" → ⊥) → IsWide (add_line (words line) fs) AreWithin → IsNumberFault text n
 line_wide text unit fs rest line after n r h end w = record {
   before = map spaced (open_lines unit fs);
   count = counted unit fs n r.count;
@@ -258,7 +266,8 @@ line_wide text unit fs rest line after n r h end w = record {
     by_next : (b : Begins (map spaced (open_lines unit fs) ++ line ∷ [])) → Continues b.cert unit fs line b.rest → ⊥
     by_next b c = elim c.next as (λ _. ⊥) [ inl p ↦ end (is_end line p.0) | inr p ↦ w.wide (subst AreWithin (some_same (p.1).new w.x (sym (p.1).found ∙ w.is)) (adds_back p.0 (p.1).new b.cert.funcs (p.1).others b.right.within.funcs)) ]
 
-pub line_more : (text : List ℕ) (unit : ℕ) (fs gs : List FuncCert) (rest line after : List ℕ) (n : ℕ) → Reading text unit fs rest n → HasLine rest line after → IsRead (add_line (words line) fs) AreWithin gs → Reading text unit gs after (n + 1)
+pub line_more : (text : List ℕ) (unit : ℕ) (fs gs : List FuncCert) (rest line after : List ℕ) (n : ℕ) → Reading text unit fs rest n
+    → HasLine rest line after → IsRead (add_line (words line) fs) AreWithin gs → Reading text unit gs after (n + 1)
 line_more text unit fs gs rest line after n r h g = record {
   right = record { formed = record { some_units = r.right.formed.some_units; funcs = grown.formed r.right.formed.funcs }; within = record { unit = r.right.within.unit; funcs = g.fits } };
   parts = r.parts ∙ ap (λ l. text_of_lines (map spaced (open_lines unit fs)) ++ l) h.parts ∙ sym (last_line (map spaced (open_lines unit fs)) line after) ∙ ap (λ l. text_of_lines l ++ after) (sym (line_lines unit fs gs line g.is));
@@ -277,15 +286,18 @@ line_more text unit fs gs rest line after n r h g = record {
 
 -- ---- the end
 
-end_parts : (text : List ℕ) (unit : ℕ) (fs : List FuncCert) (rest line after : List ℕ) (n : ℕ) → Reading text unit fs rest n → HasLine rest line after → line ≡ codes "end" → text ≡ text_of_lines (lines_of (cert_by unit fs)) ++ after
+end_parts : (text : List ℕ) (unit : ℕ) (fs : List FuncCert) (rest line after : List ℕ) (n : ℕ) → Reading text unit fs rest n
+    → HasLine rest line after → line ≡ codes "end" → text ≡ text_of_lines (lines_of (cert_by unit fs)) ++ after
 end_parts text unit fs rest line after n r h e =
     r.parts ∙ ap (λ l. text_of_lines (map spaced (open_lines unit fs)) ++ l) (h.parts ∙ ap (λ l. l ++ 10 ∷ after) e) ∙ sym (last_line (map spaced (open_lines unit fs)) (codes "end") after) ∙ ap (λ l. text_of_lines l ++ after) (sym (lines_all unit fs))
 
-pub end_read : (text : List ℕ) (unit : ℕ) (fs : List FuncCert) (rest line after : List ℕ) (n : ℕ) → Reading text unit fs rest n → HasLine rest line after → line ≡ codes "end" → after ≡ [] → IsWhole text unit fs
+pub end_read : (text : List ℕ) (unit : ℕ) (fs : List FuncCert) (rest line after : List ℕ) (n : ℕ) → Reading text unit fs rest n
+    → HasLine rest line after → line ≡ codes "end" → after ≡ [] → IsWhole text unit fs
 unfolding text_of
 end_read text unit fs rest line after n r h e a = record { right = r.right; is = sym (end_parts text unit fs rest line after n r h e ∙ ap (λ l. text_of (cert_by unit fs) ++ l) a ∙ append-nil (text_of (cert_by unit fs))) }
 
-pub end_more : (text : List ℕ) (unit : ℕ) (fs : List FuncCert) (rest line after : List ℕ) (n : ℕ) → Reading text unit fs rest n → HasLine rest line after → line ≡ codes "end" → (after ≡ [] → ⊥) → IsLineFault text (n + 1)
+pub end_more : (text : List ℕ) (unit : ℕ) (fs : List FuncCert) (rest line after : List ℕ) (n : ℕ) → Reading text unit fs rest n
+    → HasLine rest line after → line ≡ codes "end" → (after ≡ [] → ⊥) → IsLineFault text (n + 1)
 end_more text unit fs rest line after n r h e a = record {
   before = lines_of (cert_by unit fs);
   count = omega (arith, r.count, lengths);
@@ -307,7 +319,9 @@ end_more text unit fs rest line after n r h e a = record {
         no_cons : l ∷ ls ≡ [] → ⊥
         no_cons e = absurd cc
 
-    by_line : Free 10 after ⊎ ((l s : List ℕ) × HasLine after l s) → ((l : List ℕ) × GoesOn text (lines_of (cert_by unit fs)) l × IsWrongLine (lines_of (cert_by unit fs)) l) ⊎ EndsEarly text (lines_of (cert_by unit fs))
+    by_line : Free 10 after ⊎ ((l s : List ℕ) × HasLine after l s)
+        → ((l : List ℕ) × GoesOn text (lines_of (cert_by unit fs)) l × IsWrongLine (lines_of (cert_by unit fs)) l)
+        ⊎ EndsEarly text (lines_of (cert_by unit fs))
     by_line (inl free) = inr (early_end text (lines_of (cert_by unit fs)) after parts free good (cert_feed (cert_by unit fs) r.right.formed) (record { none = λ c k q z. a z }))
     by_line (inr (l, s, d)) = inl (
       l,

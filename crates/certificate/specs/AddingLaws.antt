@@ -31,7 +31,8 @@ last_end step [] f g e = map_is (λ y. y ∷ []) (step f) g e
 last_end step (x ∷ []) f g e = map_is (λ zs. x ∷ zs) (at_last step (f ∷ [])) (g ∷ []) (last_end step [] f g e)
 last_end step (x ∷ y ∷ fs) f g e = map_is (λ zs. x ∷ zs) (at_last step (y ∷ (fs ++ f ∷ []))) (y ∷ (fs ++ g ∷ [])) (last_end step (y ∷ fs) f g e)
 
-own_step : (tag : List ℕ) (ws : List (List ℕ)) (fs : List FuncCert) (f g : FuncCert) → bytes_eq tag (codes "function") ≡ false → add_own tag ws f ≡ Some g → add_line (tag ∷ ws) (fs ++ f ∷ []) ≡ Some (fs ++ g ∷ [])
+own_step : (tag : List ℕ) (ws : List (List ℕ)) (fs : List FuncCert) (f g : FuncCert) → bytes_eq tag (codes "function") ≡ false
+    → add_own tag ws f ≡ Some g → add_line (tag ∷ ws) (fs ++ f ∷ []) ≡ Some (fs ++ g ∷ [])
 unfolding add_line
 own_step tag ws fs f g h e = ap (λ t. if t then option_map (λ k. (fs ++ f ∷ []) ++ k ∷ []) (function_of_words ws) else at_last (add_own tag ws) (fs ++ f ∷ [])) h ∙ last_end (add_own tag ws) fs f g e
 
@@ -83,7 +84,8 @@ params_add f ps (v ∷ qs) rest fs h =
 
 -- ---- the result
 
-result_step : (f : FuncCert) (ps : List VarCert) (r : Vector) → IsNotZero r → add_own (codes "result") (vector_words r) (by_parts f ps [] [] []) ≡ Some (by_parts f ps r [] [])
+result_step : (f : FuncCert) (ps : List VarCert) (r : Vector) → IsNotZero r
+    → add_own (codes "result") (vector_words r) (by_parts f ps [] [] []) ≡ Some (by_parts f ps r [] [])
 unfolding add_own add_result
 result_step f ps r h = map_is (λ v. by_parts f ps v [] []) (vector_of (vector_words r)) r (some_read r h)
 
@@ -110,7 +112,8 @@ into_step : (b : BlockCert) (vs : List VarCert) (v : VarCert) → is_after (last
 unfolding var_into
 into_step b vs v h k = map_is (λ v. with_vars b (vs ++ v ∷ [])) (var_of_words (last_of (map (λ v. v.var) vs)) (number v.var ∷ vector_words v.vector)) v (var_read (last_of (map (λ v. v.var) vs)) v h k)
 
-var_step : (f : FuncCert) (ps : List VarCert) (r : Vector) (bs : List BlockCert) (b : BlockCert) (vs : List VarCert) (v : VarCert) → is_after (last_of (map (λ v. v.var) vs)) v.var ≡ true → IsNotZero v.vector
+var_step : (f : FuncCert) (ps : List VarCert) (r : Vector) (bs : List BlockCert) (b : BlockCert) (vs : List VarCert) (v : VarCert)
+    → is_after (last_of (map (λ v. v.var) vs)) v.var ≡ true → IsNotZero v.vector
     → add_own (codes "var") (number v.var ∷ vector_words v.vector) (by_parts f ps r (bs ++ with_vars b vs ∷ []) []) ≡ Some (by_parts f ps r (bs ++ with_vars b (vs ++ v ∷ []) ∷ []) [])
 unfolding add_own add_var
 var_step f ps r bs b vs v h k =
@@ -127,7 +130,8 @@ vars_add f ps r bs b vs (v ∷ ws) rest fs h =
     adds_step (var_words v) (map var_words ws ++ rest) (fs ++ by_parts f ps r (bs ++ with_vars b vs ∷ []) [] ∷ []) (fs ++ by_parts f ps r (bs ++ with_vars b (vs ++ v ∷ []) ∷ []) [] ∷ []) step
     ∙ vars_add f ps r bs b (vs ++ v ∷ []) ws rest fs (subst AreVars (sym assoc) h) ∙ ap (λ l. adds rest (fs ++ by_parts f ps r (bs ++ with_vars b l ∷ []) [] ∷ [])) assoc
 
-blocks_add : (f : FuncCert) (ps : List VarCert) (r : Vector) (bs cs : List BlockCert) (rest : List (List (List ℕ))) (fs : List FuncCert) → Ascend (map (λ b. b.block) (bs ++ cs)) → AllByRecursion (λ b. AreVars b.vars) cs
+blocks_add : (f : FuncCert) (ps : List VarCert) (r : Vector) (bs cs : List BlockCert) (rest : List (List (List ℕ))) (fs : List FuncCert)
+    → Ascend (map (λ b. b.block) (bs ++ cs)) → AllByRecursion (λ b. AreVars b.vars) cs
     → adds (flat_map block_lines cs ++ rest) (fs ++ by_parts f ps r bs [] ∷ []) ≡ adds rest (fs ++ by_parts f ps r (bs ++ cs) [] ∷ [])
 blocks_add f ps r bs [] rest fs h k = ap (λ l. adds rest (fs ++ by_parts f ps r l [] ∷ [])) (sym (append-nil bs))
 blocks_add f ps r bs (c ∷ cs) rest fs h k =
@@ -142,7 +146,8 @@ blocks_add f ps r bs (c ∷ cs) rest fs h k =
 
 -- ---- builds
 
-make_step : (f : FuncCert) (ps : List VarCert) (r : Vector) (bs : List BlockCert) (ms : List MakeCert) (m : MakeCert) → makes_on ms m.block m.place ≡ true → IsNotZero m.vector
+make_step : (f : FuncCert) (ps : List VarCert) (r : Vector) (bs : List BlockCert) (ms : List MakeCert) (m : MakeCert)
+    → makes_on ms m.block m.place ≡ true → IsNotZero m.vector
     → add_own (codes "make") (number m.block ∷ number m.place ∷ vector_words m.vector) (by_parts f ps r bs ms) ≡ Some (by_parts f ps r bs (ms ++ m ∷ []))
 unfolding add_own add_make
 make_step f ps r bs ms m h k = map_is (λ m. by_parts f ps r bs (ms ++ m ∷ [])) (make_of_words ms (number m.block ∷ number m.place ∷ vector_words m.vector)) m (make_read ms m h k)
@@ -166,7 +171,8 @@ func_add : (f : FuncCert) (rest : List (List (List ℕ))) (fs : List FuncCert) �
 func_add f rest fs h =
     let B : List (List (List ℕ)) = flat_map block_lines f.blocks in
     let M : List (List (List ℕ)) = map make_words f.makes in
-    let shape : (map param_words f.params ++ (result_lines f.result ++ (B ++ M))) ++ rest ≡ map param_words f.params ++ (result_lines f.result ++ (B ++ (M ++ rest))) =
+    let shape : (map param_words f.params ++ (result_lines f.result ++ (B ++ M))) ++ rest ≡ map param_words f.params
+    ++ (result_lines f.result ++ (B ++ (M ++ rest))) =
     append_assoc (map param_words f.params) (result_lines f.result ++ (B ++ M)) rest ∙ ap (λ l. map param_words f.params ++ l) (append_assoc (result_lines f.result) (B ++ M) rest ∙ ap (λ l. result_lines f.result ++ l) (append_assoc B M rest)) in
     ap (λ l. adds (function_words f ∷ l) fs) shape
     ∙ adds_step (function_words f) (map param_words f.params ++ (result_lines f.result ++ (B ++ (M ++ rest)))) fs (fs ++ bare_func f.name f.need f.back ∷ []) (function_step fs f h)
@@ -175,7 +181,8 @@ func_add f rest fs h =
     ∙ blocks_add f f.params f.result [] f.blocks (M ++ rest) fs h.blocks h.vars
     ∙ makes_add f f.params f.result f.blocks [] f.makes rest fs h.makes h.each_make
 
-funcs_add : (gs : List FuncCert) (rest : List (List (List ℕ))) (fs : List FuncCert) → AllByRecursion FuncIsFormed gs → adds (flat_map func_lines gs ++ rest) fs ≡ adds rest (fs ++ gs)
+funcs_add : (gs : List FuncCert) (rest : List (List (List ℕ))) (fs : List FuncCert) → AllByRecursion FuncIsFormed gs
+    → adds (flat_map func_lines gs ++ rest) fs ≡ adds rest (fs ++ gs)
 funcs_add [] rest fs h = ap (adds rest) (sym (append-nil fs))
 funcs_add (g ∷ gs) rest fs h =
     ap (λ l. adds l fs) (append_assoc (func_lines g) (flat_map func_lines gs) rest) ∙ func_add g (flat_map func_lines gs ++ rest) fs h.0
@@ -189,7 +196,8 @@ pub adds_whole : (gs : List FuncCert) → AllByRecursion FuncIsFormed gs → add
 adds_whole gs h = ap (λ l. adds l []) (sym (append-nil (flat_map func_lines gs))) ∙ adds_all gs [] h
 
 -- functions with the same lines are the same
-pub funcs_one : (fs gs : List FuncCert) → AllByRecursion FuncIsFormed fs → AllByRecursion FuncIsFormed gs → flat_map func_lines fs ≡ flat_map func_lines gs → fs ≡ gs
+pub funcs_one : (fs gs : List FuncCert) → AllByRecursion FuncIsFormed fs → AllByRecursion FuncIsFormed gs
+    → flat_map func_lines fs ≡ flat_map func_lines gs → fs ≡ gs
 funcs_one fs gs h k e = some_same fs gs (sym (adds_whole fs h) ∙ ap (λ l. adds l []) e ∙ adds_whole gs k)
 
 -- what comes behind the lines of these functions in those of others

@@ -89,7 +89,8 @@ pub words_cut : (text : List ℕ) → words text ≡ upto 32 text ∷ further (f
 words_cut [] = refl
 words_cut (b ∷ bs) = by_test (b == 32) (words_cut bs)
   where
-    by_test : (t : Bool) → words bs ≡ upto 32 bs ∷ further (from 32 bs) → (if t then [] ∷ words bs else onto_first b (words bs)) ≡ (if t then [] else b ∷ upto 32 bs) ∷ further (if t then b ∷ bs else from 32 bs)
+    by_test : (t : Bool) → words bs ≡ upto 32 bs ∷ further (from 32 bs)
+        → (if t then [] ∷ words bs else onto_first b (words bs)) ≡ (if t then [] else b ∷ upto 32 bs) ∷ further (if t then b ∷ bs else from 32 bs)
     by_test true h = refl
     by_test false h = ap (onto_first b) h
 
@@ -111,37 +112,43 @@ pub spaced_words : (text : List ℕ) → spaced (words text) ≡ text
 spaced_words [] = refl
 spaced_words (b ∷ bs) = by_test (b == 32) refl (words bs) (words_cut bs) (spaced_words bs)
   where
-    by_test : (t : Bool) → (b == 32) ≡ t → (ws : List (List ℕ)) → ws ≡ upto 32 bs ∷ further (from 32 bs) → spaced ws ≡ bs → spaced (if t then [] ∷ ws else onto_first b ws) ≡ b ∷ bs
+    by_test : (t : Bool) → (b == 32) ≡ t → (ws : List (List ℕ)) → ws ≡ upto 32 bs ∷ further (from 32 bs) → spaced ws ≡ bs
+        → spaced (if t then [] ∷ ws else onto_first b ws) ≡ b ∷ bs
     by_test t e [] k h = absurd cc
     by_test true e (w ∷ ws) k h = ap (λ x. x ∷ spaced (w ∷ ws)) (sym (byte_is b 32 e)) ∙ ap (λ l. b ∷ l) h
     by_test false e (w ∷ ws) k h = spaced_onto b w ws ∙ ap (λ l. b ∷ l) h
 
 -- ---- steps of the loop that cuts
 
-pub upto_here : (byte : ℕ) (text : List ℕ) (at : ℕ) → at < length text → get_or text at 0 ≡ byte → upto byte text ≡ take at text ++ upto byte (drop at text) → take at text ≡ upto byte text
+pub upto_here : (byte : ℕ) (text : List ℕ) (at : ℕ) → at < length text → get_or text at 0 ≡ byte
+    → upto byte text ≡ take at text ++ upto byte (drop at text) → take at text ≡ upto byte text
 upto_here byte text at h e g =
     let t : (get_or text at 0 == byte) ≡ true = grind (arith, nat_tests, e) in
     let none : upto byte (drop at text) ≡ [] = ap (upto byte) (drop-cons text at 0 h) ∙ ap (λ t. if t then [] else get_or text at 0 ∷ upto byte (drop (suc at) text)) t in
     sym (g ∙ ap (λ l. take at text ++ l) none ∙ append-nil (take at text))
 
-pub from_here : (byte : ℕ) (text : List ℕ) (at : ℕ) → at < length text → get_or text at 0 ≡ byte → from byte text ≡ from byte (drop at text) → drop at text ≡ from byte text
+pub from_here : (byte : ℕ) (text : List ℕ) (at : ℕ) → at < length text → get_or text at 0 ≡ byte → from byte text ≡ from byte (drop at text)
+    → drop at text ≡ from byte text
 from_here byte text at h e g =
     let t : (get_or text at 0 == byte) ≡ true = grind (arith, nat_tests, e) in
     sym (g ∙ ap (from byte) (drop-cons text at 0 h) ∙ ap (λ t. if t then get_or text at 0 ∷ drop (suc at) text else from byte (drop (suc at) text)) t ∙ sym (drop-cons text at 0 h))
 
-pub upto_next : (byte : ℕ) (text : List ℕ) (at : ℕ) → at < length text → (get_or text at 0 ≡ byte → ⊥) → upto byte text ≡ take at text ++ upto byte (drop at text) → upto byte text ≡ take (at + 1) text ++ upto byte (drop (at + 1) text)
+pub upto_next : (byte : ℕ) (text : List ℕ) (at : ℕ) → at < length text → (get_or text at 0 ≡ byte → ⊥)
+    → upto byte text ≡ take at text ++ upto byte (drop at text) → upto byte text ≡ take (at + 1) text ++ upto byte (drop (at + 1) text)
 upto_next byte text at h e g =
     let t : (get_or text at 0 == byte) ≡ false = grind (arith, nat_tests, e) in
     let more : upto byte (drop at text) ≡ get_or text at 0 ∷ upto byte (drop (suc at) text) = ap (upto byte) (drop-cons text at 0 h) ∙ ap (λ t. if t then [] else get_or text at 0 ∷ upto byte (drop (suc at) text)) t in
     g ∙ ap (λ l. take at text ++ l) more ∙ sym (append_assoc (take at text) (get_or text at 0 ∷ []) (upto byte (drop (suc at) text))) ∙ ap (λ l. l ++ upto byte (drop (suc at) text)) (sym (take-suc text at 0 h))
     ∙ ap (λ n. take n text ++ upto byte (drop n text)) (sym (add-one at))
 
-pub from_next : (byte : ℕ) (text : List ℕ) (at : ℕ) → at < length text → (get_or text at 0 ≡ byte → ⊥) → from byte text ≡ from byte (drop at text) → from byte text ≡ from byte (drop (at + 1) text)
+pub from_next : (byte : ℕ) (text : List ℕ) (at : ℕ) → at < length text → (get_or text at 0 ≡ byte → ⊥) → from byte text ≡ from byte (drop at text)
+    → from byte text ≡ from byte (drop (at + 1) text)
 from_next byte text at h e g =
     let t : (get_or text at 0 == byte) ≡ false = grind (arith, nat_tests, e) in
     g ∙ ap (from byte) (drop-cons text at 0 h) ∙ ap (λ t. if t then get_or text at 0 ∷ drop (suc at) text else from byte (drop (suc at) text)) t ∙ ap (λ n. from byte (drop n text)) (sym (add-one at))
 
-pub upto_end : (byte : ℕ) (text : List ℕ) (at : ℕ) → length text ≤ at → upto byte text ≡ take at text ++ upto byte (drop at text) → take at text ≡ upto byte text
+pub upto_end : (byte : ℕ) (text : List ℕ) (at : ℕ) → length text ≤ at → upto byte text ≡ take at text ++ upto byte (drop at text)
+    → take at text ≡ upto byte text
 upto_end byte text at h g = sym (g ∙ ap (λ l. take at text ++ upto byte l) (drop_of_length-le text {i = at} h) ∙ append-nil (take at text))
 
 pub from_end : (byte : ℕ) (text : List ℕ) (at : ℕ) → length text ≤ at → from byte text ≡ from byte (drop at text) → drop at text ≡ from byte text
@@ -149,7 +156,8 @@ from_end byte text at h g = drop_of_length-le text {i = at} h ∙ sym (g ∙ ap 
 
 -- ---- lines
 
-pub has_line : (text line rest after : List ℕ) → line ≡ upto 10 text → rest ≡ from 10 text → (length rest == 0) ≡ false → after ≡ behind rest → HasLine text line after
+pub has_line : (text line rest after : List ℕ) → line ≡ upto 10 text → rest ≡ from 10 text → (length rest == 0) ≡ false → after ≡ behind rest
+    → HasLine text line after
 has_line text line [] after e f h g = absurd cc
 has_line text line (b ∷ rest) after e f h g =
     record { parts = cut_parts 10 text ∙ ap (λ l. l ++ from 10 text) (sym e) ∙ ap (λ l. line ++ l) (sym f) ∙ ap (λ x. line ++ x ∷ rest) (from_first 10 b text rest (sym f)) ∙ ap (λ l. line ++ 10 ∷ l) (sym g); one = subst (Free 10) (sym e) (upto_free 10 text) }
@@ -162,7 +170,8 @@ pub no_words : (rest : List ℕ) → (length rest == 0) ≡ true → further res
 no_words [] h = refl
 no_words (b ∷ rest) h = absurd (true_false (suc (length rest) == 0) h (grind (arith, nat_tests)))
 
-pub further_cut : (rest text word after : List ℕ) → (length rest == 0) ≡ false → text ≡ behind rest → word ≡ upto 32 text → after ≡ from 32 text → further rest ≡ word ∷ further after
+pub further_cut : (rest text word after : List ℕ) → (length rest == 0) ≡ false → text ≡ behind rest → word ≡ upto 32 text → after ≡ from 32 text
+    → further rest ≡ word ∷ further after
 further_cut [] text word after h e f g = absurd cc
 further_cut (b ∷ rest) text word after h e f g = ap words (sym e) ∙ words_cut text ∙ ap (λ l. l ∷ further (from 32 text)) (sym f) ∙ ap (λ l. word ∷ further l) (sym g)
 

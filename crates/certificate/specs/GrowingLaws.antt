@@ -81,7 +81,8 @@ param_lines first ps v [] (x ∷ bs) ms h j k = absurd cc
 param_lines first ps v [] [] (x ∷ ms) h j k = absurd cc
 param_lines first ps v [] [] [] h j k = ap (λ l. first ∷ l) (append-nil (map param_words (ps ++ v ∷ [])) ∙ map_end param_words ps v ∙ ap (λ l. l ++ param_words v ∷ []) (sym (append-nil (map param_words ps))))
 
-var_words_are : (tag : List ℕ) (ws : List (List ℕ)) (v : VarCert) → ws ≡ number v.var ∷ vector_words v.vector → tag ∷ number v.var ∷ vector_words v.vector ≡ tag ∷ ws
+var_words_are : (tag : List ℕ) (ws : List (List ℕ)) (v : VarCert) → ws ≡ number v.var ∷ vector_words v.vector
+    → tag ∷ number v.var ∷ vector_words v.vector ≡ tag ∷ ws
 var_words_are tag ws v e = ap (λ l. tag ∷ l) (sym e)
 
 vars_end : (vs : List VarCert) (v : VarCert) → AreVars vs → is_after (last_of (map (λ v. v.var) vs)) v.var ≡ true → IsNotZero v.vector → AreVars (vs ++ v ∷ [])
@@ -106,7 +107,8 @@ param_grown ws f g e =
     } in
     subst (Grown f (codes "param" ∷ ws)) (sym same) all
 
-result_lines_more : (first : List (List ℕ)) (ps : List VarCert) (v r : Vector) (bs : List BlockCert) (ms : List MakeCert) → 1 ≤ length v → r ≡ [] → bs ≡ [] → ms ≡ []
+result_lines_more : (first : List (List ℕ)) (ps : List VarCert) (v r : Vector) (bs : List BlockCert) (ms : List MakeCert) → 1 ≤ length v → r ≡ []
+    → bs ≡ [] → ms ≡ []
     → lines_by first ps v bs ms ≡ lines_by first ps r bs ms ++ (codes "result" ∷ vector_words v) ∷ []
 result_lines_more first ps [] r bs ms s h j k = absurd (none s)
   where
@@ -272,7 +274,8 @@ if_tag P false x y f g = g refl
 record OwnGrown (tag : List ℕ) (ws : List (List ℕ)) (f : FuncCert) (o : Option FuncCert) : Type 0 where
   of : (g : FuncCert) → o ≡ Some g → Grown f (tag ∷ ws) g
 
-by_tag : (tag name : List ℕ) (ws : List (List ℕ)) (f : FuncCert) (o : Option FuncCert) → ((g : FuncCert) → o ≡ Some g → Grown f (name ∷ ws) g) → bytes_eq tag name ≡ true → OwnGrown tag ws f o
+by_tag : (tag name : List ℕ) (ws : List (List ℕ)) (f : FuncCert) (o : Option FuncCert) → ((g : FuncCert) → o ≡ Some g → Grown f (name ∷ ws) g)
+    → bytes_eq tag name ≡ true → OwnGrown tag ws f o
 by_tag tag name ws f o h t = record { of = λ g e. subst (λ n. Grown f (n ∷ ws) g) (sym (same_bytes tag name t)) (h g e) }
 
 pub own_grown : (tag : List ℕ) (ws : List (List ℕ)) (f g : FuncCert) → add_own tag ws f ≡ Some g → Grown f (tag ∷ ws) g
@@ -308,7 +311,8 @@ own_line tag ws fs gs e =
       back = λ h. let new = subst (AllByRecursion FuncIsWithin) ch.is h in subst (AllByRecursion FuncIsWithin) (sym ch.was) (all_end FuncIsWithin ch.front ch.old (all_front FuncIsWithin ch.front ch.new new) (d.back (all_last FuncIsWithin ch.front ch.new new)));
     }
 
-function_line : (tag : List ℕ) (ws : List (List ℕ)) (fs gs : List FuncCert) → bytes_eq tag (codes "function") ≡ true → option_map (λ f. fs ++ f ∷ []) (function_of_words ws) ≡ Some gs → AllGrown fs (tag ∷ ws) gs
+function_line : (tag : List ℕ) (ws : List (List ℕ)) (fs gs : List FuncCert) → bytes_eq tag (codes "function") ≡ true
+    → option_map (λ f. fs ++ f ∷ []) (function_of_words ws) ≡ Some gs → AllGrown fs (tag ∷ ws) gs
 function_line tag ws fs gs t e =
     let (f, f_is, same) = map_some (λ f. fs ++ f ∷ []) (function_of_words ws) gs e in
     let d = function_found ws f f_is in
@@ -325,6 +329,7 @@ unfolding add_line
 line_grown [] fs gs e = absurd cc
 line_grown (tag ∷ ws) fs gs e = by_test (bytes_eq tag (codes "function")) refl e
   where
-    by_test : (t : Bool) → bytes_eq tag (codes "function") ≡ t → (if t then option_map (λ f. fs ++ f ∷ []) (function_of_words ws) else at_last (add_own tag ws) fs) ≡ Some gs → AllGrown fs (tag ∷ ws) gs
+    by_test : (t : Bool) → bytes_eq tag (codes "function") ≡ t
+        → (if t then option_map (λ f. fs ++ f ∷ []) (function_of_words ws) else at_last (add_own tag ws) fs) ≡ Some gs → AllGrown fs (tag ∷ ws) gs
     by_test true h e = function_line tag ws fs gs h e
     by_test false h e = own_line tag ws fs gs e

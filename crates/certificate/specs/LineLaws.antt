@@ -213,7 +213,8 @@ continues d unit fs line rest h k e =
     no_words [] e = refl
     no_words (l ∷ ls) e = absurd cc
 
-    by_end : Ending (flat_map func_lines d.funcs) (flat_map func_lines fs) last_words (words line) (map words rest) ⊎ Among (flat_map func_lines d.funcs) (flat_map func_lines fs) (words line) (map words rest)
+    by_end : Ending (flat_map func_lines d.funcs) (flat_map func_lines fs) last_words (words line) (map words rest)
+        ⊎ Among (flat_map func_lines d.funcs) (flat_map func_lines fs) (words line) (map words rest)
         → ((words line ≡ last_words) × (rest ≡ [])) ⊎ ((others : List (List (List ℕ))) × Next (words line) others fs d.funcs)
     by_end (inl z) = inl (z.last, no_words rest z.none)
     by_end (inr z) = inr (z.more, next_line fs d.funcs (words line) z.more k h.funcs z.is)

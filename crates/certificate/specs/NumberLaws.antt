@@ -76,7 +76,8 @@ on_digit a b bs h = ap (λ t. if t then digits_on (a * 10 + (b - 48)) bs else No
 on_some : (a b n : ℕ) (bs : List ℕ) → digits_on a (b ∷ bs) ≡ Some n → (is_digit b ≡ true) × (digits_on (a * 10 + (b - 48)) bs ≡ Some n)
 on_some a b n bs e = by_test (is_digit b) refl e
   where
-    by_test : (t : Bool) → is_digit b ≡ t → (if t then digits_on (a * 10 + (b - 48)) bs else None) ≡ Some n → (is_digit b ≡ true) × (digits_on (a * 10 + (b - 48)) bs ≡ Some n)
+    by_test : (t : Bool) → is_digit b ≡ t → (if t then digits_on (a * 10 + (b - 48)) bs else None) ≡ Some n
+        → (is_digit b ≡ true) × (digits_on (a * 10 + (b - 48)) bs ≡ Some n)
     by_test true h e = (h, e)
     by_test false h e = absurd cc
 
@@ -229,7 +230,8 @@ below_same a m n (x ∷ xs) (y ∷ ys) k e f = by_test (x == y) refl (λ s. belo
     by_test false h g = by_order (cases_lt x y) h
 
 -- fewer digits
-fewer : (m n : ℕ) (xs : List ℕ) (y : ℕ) (ys : List ℕ) → length xs ≤ length ys → (y == 48) ≡ false → digits_on 0 xs ≡ Some m → digits_on 0 (y ∷ ys) ≡ Some n → m < n
+fewer : (m n : ℕ) (xs : List ℕ) (y : ℕ) (ys : List ℕ) → length xs ≤ length ys → (y == 48) ≡ false → digits_on 0 xs ≡ Some m
+    → digits_on 0 (y ∷ ys) ≡ Some n → m < n
 fewer m n xs y ys k h e f =
     let q = on_some 0 y n ys f in
     let r = digit_range y q.0 in
@@ -254,14 +256,17 @@ read_is (b ∷ c ∷ bs) n e = by_test (b == 48) refl e
     by_test true h e = absurd cc
     by_test false h e = record { first = b; others = c ∷ bs; is = refl; on = e; lead = λ k. h }
 
-order_is : (m n x y : ℕ) (xs ys : List ℕ) → digits_on 0 (x ∷ xs) ≡ Some m → digits_on 0 (y ∷ ys) ≡ Some n → (1 ≤ length xs → (x == 48) ≡ false) → (1 ≤ length ys → (y == 48) ≡ false) → is_before (x ∷ xs) (y ∷ ys) ≡ nat_lt m n
+order_is : (m n x y : ℕ) (xs ys : List ℕ) → digits_on 0 (x ∷ xs) ≡ Some m → digits_on 0 (y ∷ ys) ≡ Some n → (1 ≤ length xs → (x == 48) ≡ false)
+    → (1 ≤ length ys → (y == 48) ≡ false) → is_before (x ∷ xs) (y ∷ ys) ≡ nat_lt m n
 order_is m n x y xs ys e f h g = by_test (suc (length xs) == suc (length ys)) refl
   where
-    by_order : (length xs < length ys) ⊎ (length ys ≤ length xs) → (suc (length xs) == suc (length ys)) ≡ false → nat_lt (suc (length xs)) (suc (length ys)) ≡ nat_lt m n
+    by_order : (length xs < length ys) ⊎ (length ys ≤ length xs) → (suc (length xs) == suc (length ys)) ≡ false
+        → nat_lt (suc (length xs)) (suc (length ys)) ≡ nat_lt m n
     by_order (inl s) t = let r : m < n = fewer m n (x ∷ xs) y ys (omega (arith, s)) (g (omega (arith, s))) e f in grind (arith, nat_tests, r, s)
     by_order (inr s) t = let d : length ys < length xs = grind (arith, nat_tests, s, t) in let r : n < m = fewer n m (y ∷ ys) x xs (omega (arith, d)) (h (omega (arith, d))) f e in grind (arith, nat_tests, r, d)
 
-    by_test : (t : Bool) → (suc (length xs) == suc (length ys)) ≡ t → (if t then digits_below (x ∷ xs) (y ∷ ys) else nat_lt (suc (length xs)) (suc (length ys))) ≡ nat_lt m n
+    by_test : (t : Bool) → (suc (length xs) == suc (length ys)) ≡ t
+        → (if t then digits_below (x ∷ xs) (y ∷ ys) else nat_lt (suc (length xs)) (suc (length ys))) ≡ nat_lt m n
     by_test true t = below_same 0 m n (x ∷ xs) (y ∷ ys) (let s : suc (length xs) ≡ suc (length ys) = grind (arith, nat_tests, t) in s) e f
     by_test false t = by_order (cases_lt (length xs) (length ys)) t
 

@@ -23,7 +23,8 @@ bytes_same xs = (bytes_eq-Decides xs xs).1 refl
 
 -- ---- locals
 
-pub var_read : (last : Option ℕ) (v : VarCert) → is_after last v.var ≡ true → IsNotZero v.vector → var_of_words last (number v.var ∷ vector_words v.vector) ≡ Some v
+pub var_read : (last : Option ℕ) (v : VarCert) → is_after last v.var ≡ true → IsNotZero v.vector
+    → var_of_words last (number v.var ∷ vector_words v.vector) ≡ Some v
 unfolding var_of_words
 var_read last v h k =
     then_is (number_of (number v.var)) (λ n. only_if (is_after last n) (option_map (λ w. record { var = n; vector = w }) (vector_of (vector_words v.vector)))) v.var (Some v) (number_read v.var)
@@ -82,7 +83,8 @@ block_found last (x ∷ w ∷ y ∷ []) b e =
 
 -- ---- builds
 
-pub make_read : (makes : List MakeCert) (m : MakeCert) → makes_on makes m.block m.place ≡ true → IsNotZero m.vector → make_of_words makes (number m.block ∷ number m.place ∷ vector_words m.vector) ≡ Some m
+pub make_read : (makes : List MakeCert) (m : MakeCert) → makes_on makes m.block m.place ≡ true → IsNotZero m.vector
+    → make_of_words makes (number m.block ∷ number m.place ∷ vector_words m.vector) ≡ Some m
 unfolding make_of_words
 make_read makes m h k =
     then_is (number_of (number m.block)) (λ b. and_then (number_of (number m.place)) (λ p. only_if (makes_on makes b p) (option_map (λ v. record { block = b; place = p; vector = v }) (vector_of (vector_words m.vector))))) m.block (Some m) (number_read m.block)
@@ -120,7 +122,8 @@ name_test name h = name_passes is_lower name h
 test_name : (name : List ℕ) → is_lower_name name ≡ true → IsLowerName name
 test_name name h = passing_name is_lower name h
 
-pub function_read : (name : List ℕ) (need back : ℕ) → IsLowerName name → function_of_words (name ∷ codes "need" ∷ number need ∷ codes "back" ∷ number back ∷ []) ≡ Some (bare_func name need back)
+pub function_read : (name : List ℕ) (need back : ℕ) → IsLowerName name
+    → function_of_words (name ∷ codes "need" ∷ number need ∷ codes "back" ∷ number back ∷ []) ≡ Some (bare_func name need back)
 unfolding function_of_words
 function_read name need back h =
     let t : (is_lower_name name && bytes_eq (codes "need") (codes "need") && bytes_eq (codes "back") (codes "back")) ≡ true =

@@ -1,13 +1,14 @@
 -- Laws, for the proofs of this crate and of those above it.
--- The reader as functions on the words of a line: what comes of a function when one more line is added to it, the limits left out.
+-- The reader as functions on the words of a line: what comes of a function when one more line is added to it, the
+-- limits left out.
 use Rattle.std.specs.Prelude.{◌≡◌, ℕ, ◌+◌, ◌-◌, ◌*◌, ◌==◌, ◌&&◌, ◌||◌, not, nat_lt, Bool, true, false, if◌then◌else◌, Option, Some, None, List, [], ◌∷◌, ◌++◌, length, map, codes, min}
 use Rattle.std.specs.Option.{option_map}
 use Rattle.std.specs.Str.{bytes_eq}
 use Rattle.camelot_values.specs.Names.{is_digit, is_lower_name}
 use Rattle.annotations.specs.Vectors.{Vector}
 use Rattle.certificate.specs.Certificates.{VarCert, BlockCert, MakeCert, FuncCert}
-use Rattle.certificate.specs.declared.stop.Stop.{Stop}
-use Rattle.certificate.specs.declared.stop.Stop.TheVariants as stop
+use Rattle.certificate.specs.declared.stop.LineStop.{LineStop}
+use Rattle.certificate.specs.declared.stop.LineStop.TheVariants as stop
 
 abbrev pub and_then : {A B : Type 0} → Option A → (A → Option B) → Option B
 and_then None go = None
@@ -31,12 +32,12 @@ pub record IsWide {A : Type 0} (found : Option A) (Fits : A → Type 0) : Type 0
   pub wide : Fits x → ⊥
 
 -- why it isn't read
-abbrev pub IsStopped : {A : Type 0} → Option A → (A → Type 0) → Stop → Type 0
+abbrev pub IsStopped : {A : Type 0} → Option A → (A → Type 0) → LineStop → Type 0
 IsStopped found Fits stop.Line = found ≡ None
 IsStopped found Fits stop.Number = IsWide found Fits
 IsStopped found Fits stop.Memory = Unit {0}
 
-abbrev pub IsNoMemory : Stop → Type 0
+abbrev pub IsNoMemory : LineStop → Type 0
 IsNoMemory stop.Line = ⊥
 IsNoMemory stop.Number = ⊥
 IsNoMemory stop.Memory = Unit {0}

@@ -1,6 +1,6 @@
 -- Cited by contracts.
--- The text of certificates (`CERTIFICATES.md`): lines that end with a line feed, of words with one space between two. A certificate has
--- one text, and a text is that of one certificate at most.
+-- The text of certificates (`CERTIFICATES.md`): lines that end with a line feed, of words with one space between two. A
+-- certificate has one text, and a text is that of one certificate at most.
 use Rattle.std.specs.Prelude.{◌≡◌, ℕ, suc, List, [], ◌∷◌, ◌++◌, length, map, flat_map, codes, IsFalse, ◌⊎◌, ◌==◌}
 use Rattle.std.specs.List.{list_any}
 use Rattle.annotations.specs.Vectors.{Vector}
@@ -93,8 +93,8 @@ pub record BeginsLoosely (lines : List (List ℕ)) : Type 0 where
 abbrev pub IsOneLine : List ℕ → Type 0
 IsOneLine bytes = IsFalse (list_any (λ b. b == 10) bytes)
 
--- The lines before begin a certificate, and this line goes on with none: where the limits alone are in the way, that is a fault of a
--- number, and else one of the line.
+-- The lines before begin a certificate, and this line goes on with none: where the limits alone are in the way, that is
+-- a fault of a number, and else one of the line.
 pub record IsWrongLine (before : List (List ℕ)) (line : List ℕ) : Type 0 where
   pub good : Begins before
   pub wrong : BeginsLoosely (before ++ line ∷ []) → ⊥

@@ -31,7 +31,8 @@ pub record Further (xs ys : List (List ℕ)) (r s : List ℕ) : Type 0 where
   pub is : ys ≡ xs ++ more
   pub rest : r ≡ text_of_lines more ++ s
 
-pub fronts : (xs ys : List (List ℕ)) (r s : List ℕ) → AllByRecursion (Free 10) xs → AllByRecursion (Free 10) ys → text_of_lines xs ++ r ≡ text_of_lines ys ++ s → Further xs ys r s ⊎ Further ys xs s r
+pub fronts : (xs ys : List (List ℕ)) (r s : List ℕ) → AllByRecursion (Free 10) xs → AllByRecursion (Free 10) ys
+    → text_of_lines xs ++ r ≡ text_of_lines ys ++ s → Further xs ys r s ⊎ Further ys xs s r
 fronts [] ys r s h k e = inl (record { more = ys; is = refl; rest = e })
 fronts (x ∷ xs) [] r s h k e = inr (record { more = x ∷ xs; is = refl; rest = sym e })
 fronts (x ∷ xs) (y ∷ ys) r s h k e =
@@ -152,7 +153,8 @@ no_stop text before c h e d = by_why d.why
     no_lines [] line rest e = no_rest line rest (sym e)
     no_lines (l ∷ more) line rest e = no_rest l (text_of_lines more ++ (line ++ 10 ∷ rest)) (sym (e ∙ first_line l more (line ++ 10 ∷ rest)))
 
-    by_front : (line : List ℕ) (goes : GoesOn text before line) (r : Rest text before) → r.rest ≡ line ++ 10 ∷ goes.rest → Further before (lines_of c) r.rest [] ⊎ Further (lines_of c) before [] r.rest → ⊥
+    by_front : (line : List ℕ) (goes : GoesOn text before line) (r : Rest text before) → r.rest ≡ line ++ 10 ∷ goes.rest
+        → Further before (lines_of c) r.rest [] ⊎ Further (lines_of c) before [] r.rest → ⊥
     by_front line goes r q (inl f) =
         let same : before ≡ lines_of c = no_further text before (lines_of c) r all [] f in
         let none : r.rest ≡ [] = append_cancel_left (text_of_lines (lines_of c)) r.rest [] (ap (λ l. text_of_lines l ++ r.rest) (sym same) ∙ sym r.parts ∙ sym whole) in

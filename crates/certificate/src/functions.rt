@@ -8,7 +8,7 @@ use super::cutting::{first_word, next_word};
 use super::items::{MOST_NEED, read_block, read_make, read_var, three_words};
 use super::names::is_lower_name;
 use super::numbers::number;
-use super::stop::Stop;
+use super::stop::LineStop;
 use super::types::{BlockCert, FuncCert, VarCert};
 use super::vectors::read_vector;
 use annotations::Vector;
@@ -61,13 +61,14 @@ fn last_block(blocks: &[BlockCert]) -> Option<u32>
 
 // One parameter more.
 #[tactic(auto, using(crate::proofs::FuncSteps::param_not, crate::proofs::FuncSteps::param_stopped))]
-fn add_param(alloc: Global, f: FuncCert, rest: &[u8]) -> Result<FuncCert, Stop>
+fn add_param(alloc: Global, f: FuncCert, rest: &[u8]) -> Result<FuncCert, LineStop>
     requires { FuncIsWithin (func_of f) }
-    ensures { MatchResult result (λ g. IsRead (add_param (further rest.now) (func_of f)) FuncIsWithin (func_of g)) (λ stop. IsStopped (add_param (further rest.now) (func_of f)) FuncIsWithin stop) }
+    ensures { MatchResult result (λ g. IsRead (add_param (further rest.now) (func_of f)) FuncIsWithin (func_of g))
+        (λ stop. IsStopped (add_param (further rest.now) (func_of f)) FuncIsWithin stop) }
 {
     let mut f = f;
     if !only_params(&f) {
-        return Err(Stop::Line);
+        return Err(LineStop::Line);
     }
     let param = match read_var(alloc, last_var(&f.params), rest) {
         Ok(param) => param,
@@ -75,19 +76,20 @@ fn add_param(alloc: Global, f: FuncCert, rest: &[u8]) -> Result<FuncCert, Stop>
     };
     match f.params.push(param) {
         Ok(()) => Ok(f),
-        Err(_) => Err(Stop::Memory),
+        Err(_) => Err(LineStop::Memory),
     }
 }
 
 // The result's annotations.
 #[tactic(auto, using(crate::proofs::FuncSteps::result_not, crate::proofs::FuncSteps::result_stopped))]
-fn add_result(alloc: Global, f: FuncCert, rest: &[u8]) -> Result<FuncCert, Stop>
+fn add_result(alloc: Global, f: FuncCert, rest: &[u8]) -> Result<FuncCert, LineStop>
     requires { FuncIsWithin (func_of f) }
-    ensures { MatchResult result (λ g. IsRead (add_result (further rest.now) (func_of f)) FuncIsWithin (func_of g)) (λ stop. IsStopped (add_result (further rest.now) (func_of f)) FuncIsWithin stop) }
+    ensures { MatchResult result (λ g. IsRead (add_result (further rest.now) (func_of f)) FuncIsWithin (func_of g))
+        (λ stop. IsStopped (add_result (further rest.now) (func_of f)) FuncIsWithin stop) }
 {
     let mut f = f;
     if !only_params(&f) {
-        return Err(Stop::Line);
+        return Err(LineStop::Line);
     }
     let vector = match read_vector(alloc, rest) {
         Ok(vector) => vector,
@@ -99,13 +101,14 @@ fn add_result(alloc: Global, f: FuncCert, rest: &[u8]) -> Result<FuncCert, Stop>
 
 // One block more.
 #[tactic(auto, using(crate::proofs::FuncSteps::block_not, crate::proofs::FuncSteps::block_stopped))]
-fn add_block(alloc: Global, f: FuncCert, rest: &[u8]) -> Result<FuncCert, Stop>
+fn add_block(alloc: Global, f: FuncCert, rest: &[u8]) -> Result<FuncCert, LineStop>
     requires { FuncIsWithin (func_of f) }
-    ensures { MatchResult result (λ g. IsRead (add_block (further rest.now) (func_of f)) FuncIsWithin (func_of g)) (λ stop. IsStopped (add_block (further rest.now) (func_of f)) FuncIsWithin stop) }
+    ensures { MatchResult result (λ g. IsRead (add_block (further rest.now) (func_of f)) FuncIsWithin (func_of g))
+        (λ stop. IsStopped (add_block (further rest.now) (func_of f)) FuncIsWithin stop) }
 {
     let mut f = f;
     if !has_no_makes(&f) {
-        return Err(Stop::Line);
+        return Err(LineStop::Line);
     }
     let block = match read_block(alloc, last_block(&f.blocks), rest) {
         Ok(block) => block,
@@ -113,22 +116,23 @@ fn add_block(alloc: Global, f: FuncCert, rest: &[u8]) -> Result<FuncCert, Stop>
     };
     match f.blocks.push(block) {
         Ok(()) => Ok(f),
-        Err(_) => Err(Stop::Memory),
+        Err(_) => Err(LineStop::Memory),
     }
 }
 
 // One local more, of the last block.
 #[tactic(auto, using(crate::proofs::FuncSteps::var_not, crate::proofs::FuncSteps::var_no_block, crate::proofs::FuncSteps::var_stopped))]
-fn add_var(alloc: Global, f: FuncCert, rest: &[u8]) -> Result<FuncCert, Stop>
+fn add_var(alloc: Global, f: FuncCert, rest: &[u8]) -> Result<FuncCert, LineStop>
     requires { FuncIsWithin (func_of f) }
-    ensures { MatchResult result (λ g. IsRead (add_var (further rest.now) (func_of f)) FuncIsWithin (func_of g)) (λ stop. IsStopped (add_var (further rest.now) (func_of f)) FuncIsWithin stop) }
+    ensures { MatchResult result (λ g. IsRead (add_var (further rest.now) (func_of f)) FuncIsWithin (func_of g))
+        (λ stop. IsStopped (add_var (further rest.now) (func_of f)) FuncIsWithin stop) }
 {
     let mut f = f;
     if !has_no_makes(&f) {
-        return Err(Stop::Line);
+        return Err(LineStop::Line);
     }
     let Some(mut block) = f.blocks.pop() else {
-        return Err(Stop::Line);
+        return Err(LineStop::Line);
     };
     let var = match read_var(alloc, last_var(&block.vars), rest) {
         Ok(var) => var,
@@ -136,19 +140,20 @@ fn add_var(alloc: Global, f: FuncCert, rest: &[u8]) -> Result<FuncCert, Stop>
     };
     match block.vars.push(var) {
         Ok(()) => {}
-        Err(_) => return Err(Stop::Memory),
+        Err(_) => return Err(LineStop::Memory),
     }
     match f.blocks.push(block) {
         Ok(()) => Ok(f),
-        Err(_) => Err(Stop::Memory),
+        Err(_) => Err(LineStop::Memory),
     }
 }
 
 // One build more.
 #[tactic(auto, using(crate::proofs::FuncSteps::make_stopped))]
-fn add_make(alloc: Global, f: FuncCert, rest: &[u8]) -> Result<FuncCert, Stop>
+fn add_make(alloc: Global, f: FuncCert, rest: &[u8]) -> Result<FuncCert, LineStop>
     requires { FuncIsWithin (func_of f) }
-    ensures { MatchResult result (λ g. IsRead (add_make (further rest.now) (func_of f)) FuncIsWithin (func_of g)) (λ stop. IsStopped (add_make (further rest.now) (func_of f)) FuncIsWithin stop) }
+    ensures { MatchResult result (λ g. IsRead (add_make (further rest.now) (func_of f)) FuncIsWithin (func_of g))
+        (λ stop. IsStopped (add_make (further rest.now) (func_of f)) FuncIsWithin stop) }
 {
     let mut f = f;
     let make = match read_make(alloc, &f.makes, rest) {
@@ -157,15 +162,16 @@ fn add_make(alloc: Global, f: FuncCert, rest: &[u8]) -> Result<FuncCert, Stop>
     };
     match f.makes.push(make) {
         Ok(()) => Ok(f),
-        Err(_) => Err(Stop::Memory),
+        Err(_) => Err(LineStop::Memory),
     }
 }
 
 // The function with one line of its own more.
 #[tactic(auto, using(crate::proofs::FuncSteps::own_none))]
-fn add_own(alloc: Global, f: FuncCert, tag: &[u8], rest: &[u8]) -> Result<FuncCert, Stop>
+fn add_own(alloc: Global, f: FuncCert, tag: &[u8], rest: &[u8]) -> Result<FuncCert, LineStop>
     requires { FuncIsWithin (func_of f) }
-    ensures { MatchResult result (λ g. IsRead (add_own tag.now (further rest.now) (func_of f)) FuncIsWithin (func_of g)) (λ stop. IsStopped (add_own tag.now (further rest.now) (func_of f)) FuncIsWithin stop) }
+    ensures { MatchResult result (λ g. IsRead (add_own tag.now (further rest.now) (func_of f)) FuncIsWithin
+        (func_of g)) (λ stop. IsStopped (add_own tag.now (further rest.now) (func_of f)) FuncIsWithin stop) }
 {
     if tag == b"param".as_slice() {
         return add_param(alloc, f, rest);
@@ -182,7 +188,7 @@ fn add_own(alloc: Global, f: FuncCert, tag: &[u8], rest: &[u8]) -> Result<FuncCe
     if tag == b"make".as_slice() {
         return add_make(alloc, f, rest);
     }
-    Err(Stop::Line)
+    Err(LineStop::Line)
 }
 
 // Just five words.
@@ -203,7 +209,7 @@ fn five_words(rest: &[u8]) -> Option<(&[u8], &[u8], &[u8], &[u8], &[u8])>
 }
 
 // A function without annotations.
-fn bare_function(alloc: Global, name: &[u8], need: u64, back: u64) -> Result<FuncCert, Stop>
+fn bare_function(alloc: Global, name: &[u8], need: u64, back: u64) -> Result<FuncCert, LineStop>
     ensures { MatchResult result (λ f. func_of f ≡ bare_func name.now need back) (λ stop. IsNoMemory stop) }
 {
     match Vec::from_slice(alloc, name) {
@@ -216,46 +222,50 @@ fn bare_function(alloc: Global, name: &[u8], need: u64, back: u64) -> Result<Fun
             blocks: Vec::new(alloc),
             makes: Vec::new(alloc),
         }),
-        Err(_) => Err(Stop::Memory),
+        Err(_) => Err(LineStop::Memory),
     }
 }
 
 // A function without annotations: its name, its need and what it gives back.
 #[tactic(auto, using(crate::proofs::FuncSteps::function_none))]
-fn read_function(alloc: Global, rest: &[u8]) -> Result<FuncCert, Stop>
-    ensures { MatchResult result (λ f. IsRead (function_of_words (further rest.now)) FuncIsWithin (func_of f)) (λ stop. IsStopped (function_of_words (further rest.now)) FuncIsWithin stop) }
+fn read_function(alloc: Global, rest: &[u8]) -> Result<FuncCert, LineStop>
+    ensures { MatchResult result (λ f. IsRead (function_of_words (further rest.now)) FuncIsWithin (func_of f))
+        (λ stop. IsStopped (function_of_words (further rest.now)) FuncIsWithin stop) }
 {
     let Some((name, need_tag, need_word, back_tag, back_word)) = five_words(rest) else {
-        return Err(Stop::Line);
+        return Err(LineStop::Line);
     };
     let Some(need) = number(need_word) else {
-        return Err(Stop::Line);
+        return Err(LineStop::Line);
     };
     let Some(back) = number(back_word) else {
-        return Err(Stop::Line);
+        return Err(LineStop::Line);
     };
     if !is_lower_name(name) {
-        return Err(Stop::Line);
+        return Err(LineStop::Line);
     }
     if need_tag != b"need".as_slice() {
-        return Err(Stop::Line);
+        return Err(LineStop::Line);
     }
     if back_tag != b"back".as_slice() {
-        return Err(Stop::Line);
+        return Err(LineStop::Line);
     }
     if need > MOST_NEED {
-        return Err(Stop::Number);
+        return Err(LineStop::Number);
     }
     if back > MOST_NEED {
-        return Err(Stop::Number);
+        return Err(LineStop::Number);
     }
     bare_function(alloc, name, need, back)
 }
 
 // The functions and one that this line begins.
-fn add_function(alloc: Global, funcs: Vec<FuncCert>, rest: &[u8]) -> Result<Vec<FuncCert>, Stop>
+fn add_function(alloc: Global, funcs: Vec<FuncCert>, rest: &[u8]) -> Result<Vec<FuncCert>, LineStop>
     requires { AreWithin (map func_of funcs.items) }
-    ensures { MatchResult result (λ gs. IsRead (put_behind (map func_of funcs.items) (function_of_words (further rest.now))) AreWithin (map func_of gs.items)) (λ stop. IsStopped (put_behind (map func_of funcs.items) (function_of_words (further rest.now))) AreWithin stop) }
+    ensures { MatchResult result (λ gs. IsRead (put_behind (map func_of funcs.items)
+        (function_of_words (further rest.now))) AreWithin (map func_of gs.items))
+        (λ stop. IsStopped (put_behind (map func_of funcs.items)
+        (function_of_words (further rest.now))) AreWithin stop) }
 {
     let mut funcs = funcs;
     let func = match read_function(alloc, rest) {
@@ -264,7 +274,7 @@ fn add_function(alloc: Global, funcs: Vec<FuncCert>, rest: &[u8]) -> Result<Vec<
     };
     match funcs.push(func) {
         Ok(()) => Ok(funcs),
-        Err(_) => Err(Stop::Memory),
+        Err(_) => Err(LineStop::Memory),
     }
 }
 
@@ -274,13 +284,15 @@ fn extend_last(
     funcs: Vec<FuncCert>,
     tag: &[u8],
     rest: &[u8],
-) -> Result<Vec<FuncCert>, Stop>
+) -> Result<Vec<FuncCert>, LineStop>
     requires { AreWithin (map func_of funcs.items) }
-    ensures { MatchResult result (λ gs. IsRead (at_last (add_own tag.now (further rest.now)) (map func_of funcs.items)) AreWithin (map func_of gs.items)) (λ stop. IsStopped (at_last (add_own tag.now (further rest.now)) (map func_of funcs.items)) AreWithin stop) }
+    ensures { MatchResult result (λ gs. IsRead (at_last (add_own tag.now (further rest.now))
+        (map func_of funcs.items)) AreWithin (map func_of gs.items))
+        (λ stop. IsStopped (at_last (add_own tag.now (further rest.now)) (map func_of funcs.items)) AreWithin stop) }
 {
     let mut funcs = funcs;
     let Some(last) = funcs.pop() else {
-        return Err(Stop::Line);
+        return Err(LineStop::Line);
     };
     let func = match add_own(alloc, last, tag, rest) {
         Ok(func) => func,
@@ -288,7 +300,7 @@ fn extend_last(
     };
     match funcs.push(func) {
         Ok(()) => Ok(funcs),
-        Err(_) => Err(Stop::Memory),
+        Err(_) => Err(LineStop::Memory),
     }
 }
 
@@ -297,9 +309,11 @@ pub(crate) fn add_line(
     alloc: Global,
     funcs: Vec<FuncCert>,
     line: &[u8],
-) -> Result<Vec<FuncCert>, Stop>
+) -> Result<Vec<FuncCert>, LineStop>
     requires { AreWithin (map func_of funcs.items) }
-    ensures { MatchResult result (λ gs. IsRead (add_line (words line.now) (map func_of funcs.items)) AreWithin (map func_of gs.items)) (λ stop. IsStopped (add_line (words line.now) (map func_of funcs.items)) AreWithin stop) }
+    ensures { MatchResult result (λ gs. IsRead (add_line (words line.now) (map func_of funcs.items)) AreWithin
+        (map func_of gs.items)) (λ stop. IsStopped
+        (add_line (words line.now) (map func_of funcs.items)) AreWithin stop) }
 {
     let (tag, rest) = first_word(line);
     if tag == b"function".as_slice() {

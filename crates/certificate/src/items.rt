@@ -5,7 +5,7 @@ ghost use Rattle.certificate.specs.Reading.{further, capped, is_three, is_five, 
 
 use super::cutting::next_word;
 use super::numbers::{is_after, number};
-use super::stop::Stop;
+use super::stop::LineStop;
 use super::types::{BlockCert, MakeCert, VarCert};
 use super::vectors::{MOST_NUMBER, read_vector};
 use std::alloc::Global;
@@ -35,24 +35,25 @@ pub(crate) fn three_words(rest: &[u8]) -> Option<(&[u8], &[u8], &[u8])>
 
 /// A local behind this one, and its annotations.
 #[tactic(auto, using(crate::proofs::ItemSteps::var_none, crate::proofs::ItemSteps::var_no_number, crate::proofs::ItemSteps::var_not_after, crate::proofs::ItemSteps::var_stopped, crate::proofs::ItemSteps::var_wide, crate::proofs::ItemSteps::var_read))]
-pub(crate) fn read_var(alloc: Global, last: Option<u32>, rest: &[u8]) -> Result<VarCert, Stop>
-    ensures { MatchResult result (λ v. IsRead (var_of_words last (further rest.now)) VarIsWithin (var_of v)) (λ stop. IsStopped (var_of_words last (further rest.now)) VarIsWithin stop) }
+pub(crate) fn read_var(alloc: Global, last: Option<u32>, rest: &[u8]) -> Result<VarCert, LineStop>
+    ensures { MatchResult result (λ v. IsRead (var_of_words last (further rest.now)) VarIsWithin (var_of v))
+        (λ stop. IsStopped (var_of_words last (further rest.now)) VarIsWithin stop) }
 {
     let Some((word, after)) = next_word(rest) else {
-        return Err(Stop::Line);
+        return Err(LineStop::Line);
     };
     let Some(var) = number(word) else {
-        return Err(Stop::Line);
+        return Err(LineStop::Line);
     };
     if !is_after(last, var) {
-        return Err(Stop::Line);
+        return Err(LineStop::Line);
     }
     let vector = match read_vector(alloc, after) {
         Ok(vector) => vector,
         Err(stop) => return Err(stop),
     };
     if var > MOST_NUMBER {
-        return Err(Stop::Number);
+        return Err(LineStop::Number);
     }
     Ok(VarCert {
         var: var as u32,
@@ -62,29 +63,34 @@ pub(crate) fn read_var(alloc: Global, last: Option<u32>, rest: &[u8]) -> Result<
 
 /// A block behind this one, and its need.
 #[tactic(auto, using(crate::proofs::ItemSteps::block_none, crate::proofs::ItemSteps::block_no_number, crate::proofs::ItemSteps::block_no_need, crate::proofs::ItemSteps::block_tag, crate::proofs::ItemSteps::block_not_after, crate::proofs::ItemSteps::block_wide, crate::proofs::ItemSteps::block_much, crate::proofs::ItemSteps::block_read))]
-pub(crate) fn read_block(alloc: Global, last: Option<u32>, rest: &[u8]) -> Result<BlockCert, Stop>
-    ensures { MatchResult result (λ b. IsRead (block_of_words last (further rest.now)) BlockIsWithin (block_of b)) (λ stop. IsStopped (block_of_words last (further rest.now)) BlockIsWithin stop) }
+pub(crate) fn read_block(
+    alloc: Global,
+    last: Option<u32>,
+    rest: &[u8],
+) -> Result<BlockCert, LineStop>
+    ensures { MatchResult result (λ b. IsRead (block_of_words last (further rest.now)) BlockIsWithin (block_of b))
+        (λ stop. IsStopped (block_of_words last (further rest.now)) BlockIsWithin stop) }
 {
     let Some((block_word, tag, need_word)) = three_words(rest) else {
-        return Err(Stop::Line);
+        return Err(LineStop::Line);
     };
     let Some(block) = number(block_word) else {
-        return Err(Stop::Line);
+        return Err(LineStop::Line);
     };
     let Some(need) = number(need_word) else {
-        return Err(Stop::Line);
+        return Err(LineStop::Line);
     };
     if tag != b"need".as_slice() {
-        return Err(Stop::Line);
+        return Err(LineStop::Line);
     }
     if !is_after(last, block) {
-        return Err(Stop::Line);
+        return Err(LineStop::Line);
     }
     if block > MOST_NUMBER {
-        return Err(Stop::Number);
+        return Err(LineStop::Number);
     }
     if need > MOST_NEED {
-        return Err(Stop::Number);
+        return Err(LineStop::Number);
     }
     Ok(BlockCert {
         block: block as u32,
@@ -120,33 +126,39 @@ fn makes_on(makes: &[MakeCert], block: u64, place: u64) -> bool
 
 /// A build behind these, and its annotations.
 #[tactic(auto, using(crate::proofs::ItemSteps::make_none, crate::proofs::ItemSteps::make_one, crate::proofs::ItemSteps::make_no_block, crate::proofs::ItemSteps::make_no_place, crate::proofs::ItemSteps::make_not_on, crate::proofs::ItemSteps::make_stopped, crate::proofs::ItemSteps::make_wide, crate::proofs::ItemSteps::make_far, crate::proofs::ItemSteps::make_read))]
-pub(crate) fn read_make(alloc: Global, makes: &[MakeCert], rest: &[u8]) -> Result<MakeCert, Stop>
-    ensures { MatchResult result (λ m. IsRead (make_of_words (map make_of makes.now) (further rest.now)) MakeIsWithin (make_of m)) (λ stop. IsStopped (make_of_words (map make_of makes.now) (further rest.now)) MakeIsWithin stop) }
+pub(crate) fn read_make(
+    alloc: Global,
+    makes: &[MakeCert],
+    rest: &[u8],
+) -> Result<MakeCert, LineStop>
+    ensures { MatchResult result (λ m. IsRead (make_of_words (map make_of makes.now) (further rest.now)) MakeIsWithin
+        (make_of m)) (λ stop. IsStopped (make_of_words (map make_of makes.now)
+        (further rest.now)) MakeIsWithin stop) }
 {
     let Some((block_word, behind)) = next_word(rest) else {
-        return Err(Stop::Line);
+        return Err(LineStop::Line);
     };
     let Some((place_word, after)) = next_word(behind) else {
-        return Err(Stop::Line);
+        return Err(LineStop::Line);
     };
     let Some(block) = number(block_word) else {
-        return Err(Stop::Line);
+        return Err(LineStop::Line);
     };
     let Some(place) = number(place_word) else {
-        return Err(Stop::Line);
+        return Err(LineStop::Line);
     };
     if !makes_on(makes, block, place) {
-        return Err(Stop::Line);
+        return Err(LineStop::Line);
     }
     let vector = match read_vector(alloc, after) {
         Ok(vector) => vector,
         Err(stop) => return Err(stop),
     };
     if block > MOST_NUMBER {
-        return Err(Stop::Number);
+        return Err(LineStop::Number);
     }
     if place > MOST_NUMBER {
-        return Err(Stop::Number);
+        return Err(LineStop::Number);
     }
     Ok(MakeCert {
         block: block as u32,

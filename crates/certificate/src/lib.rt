@@ -13,6 +13,7 @@ mod types;
 mod vectors;
 mod writing;
 
+pub use numbers::{NUMBER_CAP, number};
 pub use reading::{CertFault, read_cert};
 pub use types::{BlockCert, Cert, FuncCert, MakeCert, VarCert};
 pub use writing::write_cert;

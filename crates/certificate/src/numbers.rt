@@ -3,8 +3,8 @@ ghost use Rattle.std.specs.Option.{option_map};
 ghost use Rattle.camelot_values.specs.Names.{is_digit};
 ghost use Rattle.certificate.specs.Reading.{capped, digits_on, number_of, digits_below, is_before, is_after};
 
-/// More than each limit of a certificate's numbers. Larger numbers are read as this one.
-pub(crate) const MOST: u64 = 2_199_023_255_552;
+/// 2^41, more than each limit of a certificate's or a script's numbers. Larger numbers are read as this one.
+pub const NUMBER_CAP: u64 = 2_199_023_255_552;
 
 // Whether the byte is a digit.
 fn is_digit(byte: u8) -> bool
@@ -20,7 +20,7 @@ fn add_digit(value: u64, digit: u8) -> u64
     requires digit { is_digit digit ≡ true }
     ensures { result ≡ capped (value * 10 + (digit - 48)) }
 {
-    (value * 10 + (digit - b'0') as u64).min(MOST)
+    (value * 10 + (digit - b'0') as u64).min(NUMBER_CAP)
 }
 
 // The number of these digits; None where there is another byte.
@@ -40,9 +40,10 @@ fn read_digits(word: &[u8]) -> Option<u64>
     Some(value)
 }
 
-/// The number that is written so, without leading zeros; `MOST` where it is larger. None where it is no number.
+/// The number that is written so, in digits without leading zeros; [`NUMBER_CAP`] where it is larger. None where it is
+/// no number. It takes no memory.
 #[tactic(auto, using(crate::proofs::Caps::no_digits, crate::proofs::Caps::leading_zero, crate::proofs::Caps::other_digits))]
-pub(crate) fn number(word: &[u8]) -> Option<u64>
+pub fn number(word: &[u8]) -> Option<u64>
     ensures { result ≡ option_map capped (number_of word.now) }
 {
     if word.is_empty() {

@@ -1,4 +1,5 @@
 ghost use Rattle.std.specs.Prelude.{◌≡◌, ℕ, ◌<◌, [], length, map, MatchResult};
+ghost use Rattle.stops.specs.Stopping.{FaultIs};
 ghost use Rattle.certificate.specs.Certificates.{Cert as PlainCert, IsCert};
 ghost use Rattle.certificate.specs.Text.{text_of, IsLineFault, IsNumberFault};
 ghost use Rattle.certificate.specs.Answers.{IsFault, IsMemory, IsLineAt, IsNumberAt};
@@ -11,34 +12,34 @@ ghost use Rattle.certificate.specs.Faults.{fault_of};
 use super::cutting::{first_word, next_line, next_word};
 use super::functions::add_line;
 use super::numbers::number;
-use super::stop::Stop;
+use super::stop::LineStop;
 use super::types::{Cert, FuncCert};
 use super::vectors::MOST_UNITS;
 use std::alloc::Global;
+use stops::Stop;
 use thiserror::Error;
 
 /// Why a text isn't read as a certificate.
 #[derive(Clone, Copy, Debug, PartialEq, Eq, Error)]
 pub enum CertFault {
-    /// The line of this number, counted from 1, is the first that isn't of the text form; or the text ends in it, or before it where it is needed.
+    /// The line of this number, counted from 1, is the first that isn't of the text form; or the text ends in it, or
+    /// before it where it is needed.
     #[error("line {number}")]
     Line { number: u64 },
-    /// The line of this number is the first that isn't of the text form, and that only because a number is above its limit.
+    /// The line of this number is the first that isn't of the text form, and that only because a number is above its
+    /// limit.
     #[error("number line {line}")]
     Number { line: u64 },
-    /// Memory ran out.
-    #[error("out of memory")]
-    Memory,
 }
 
-// The fault of a stop at this line.
-fn fault_at(stop: Stop, line: u64) -> CertFault
+// The stop of the reader, of this one at this line.
+fn fault_at(stop: LineStop, line: u64) -> Stop<CertFault>
     ensures { result ≡ fault_of stop line }
 {
     match stop {
-        Stop::Line => CertFault::Line { number: line },
-        Stop::Number => CertFault::Number { line },
-        Stop::Memory => CertFault::Memory,
+        LineStop::Line => Stop::Fault(CertFault::Line { number: line }),
+        LineStop::Number => Stop::Fault(CertFault::Number { line }),
+        LineStop::Memory => Stop::Memory,
     }
 }
 
@@ -56,7 +57,7 @@ fn read_first(text: &[u8]) -> Result<&[u8], CertFault>
     Ok(rest)
 }
 
-// The unit of the second line; `MOST` of `number` where it is larger.
+// The unit of the second line; `NUMBER_CAP` where it is larger.
 #[tactic(auto, using(crate::proofs::Starting::no_second, crate::proofs::Starting::no_unit, crate::proofs::Starting::zero_unit, crate::proofs::Starting::other_tag, crate::proofs::Starting::more_words, crate::proofs::Starting::unit_there))]
 fn read_unit(line: &[u8]) -> Option<u64>
     ensures { result ≡ option_map capped (unit_of (words line.now)) }
@@ -105,10 +106,10 @@ fn read_functions(
     text: &[u8],
     unit: u64,
     behind: &[u8],
-) -> Result<Vec<FuncCert>, CertFault>
+) -> Result<Vec<FuncCert>, Stop<CertFault>>
     requires short { length text.now < 4294967296 }
     requires reading { Reading text.now unit [] behind.now 3 }
-    ensures { MatchResult result (λ funcs. IsWhole text.now unit (map func_of funcs.items)) (λ fault. IsFault text.now fault) }
+    ensures { MatchResult result (λ funcs. IsWhole text.now unit (map func_of funcs.items)) (λ stop. FaultIs (IsFault text.now) stop) }
 {
     let mut funcs = Vec::new(alloc);
     let mut rest = behind;
@@ -116,7 +117,7 @@ fn read_functions(
     'lines: while let Some((line, after)) = next_line(rest) {
         if line == b"end".as_slice() {
             if !after.is_empty() {
-                return Err(CertFault::Line { number: number + 1 });
+                return Err(Stop::Fault(CertFault::Line { number: number + 1 }));
             }
             return Ok(funcs);
         }
@@ -127,44 +128,50 @@ fn read_functions(
         rest = after;
         number += 1;
     }
-    Err(CertFault::Line { number })
+    Err(Stop::Fault(CertFault::Line { number }))
 }
 
 // The certificate of the text, or why there is none.
-fn read_whole(alloc: Global, text: &[u8]) -> Result<Cert, CertFault>
+fn read_whole(alloc: Global, text: &[u8]) -> Result<Cert, Stop<CertFault>>
     requires { length text.now < 4294967296 }
-    ensures { MatchResult result (λ cert. text_of cert ≡ text.now) (λ fault. IsFault text.now fault) }
+    ensures { MatchResult result (λ cert. text_of cert ≡ text.now) (λ stop. FaultIs (IsFault text.now) stop) }
 {
     let rest = match read_first(text) {
         Ok(rest) => rest,
-        Err(fault) => return Err(fault),
+        Err(fault) => return Err(Stop::Fault(fault)),
     };
     let (unit, behind) = match read_second(text, rest) {
         Ok(second) => second,
-        Err(fault) => return Err(fault),
+        Err(fault) => return Err(Stop::Fault(fault)),
     };
     match read_functions(alloc, text, unit, behind) {
         Ok(funcs) => Ok(Cert::new(unit, funcs)),
-        Err(fault) => Err(fault),
+        Err(stop) => Err(stop),
     }
 }
 
-/// Reads the text of a certificate (`CERTIFICATES.md`), in time that is linear in its bytes. `Ok` comes exactly where the text is a certificate's,
-/// and is this certificate; `Line` exactly at the first line that isn't of the text form with numbers of any size, and `Number` exactly at the first
-/// line that is, but has a number above its limit. The text has fewer than 2^32 bytes.
-#[tactic(auto, using(crate::proofs::Answering::cert_same, crate::proofs::Answering::cert_fault, crate::proofs::Answering::line_found, crate::proofs::Answering::line_fault, crate::proofs::Answering::number_found, crate::proofs::Answering::number_fault))]
-pub fn read_cert(alloc: Global, bytes: &[u8]) -> Result<Cert, CertFault>
+/// Reads the text of a certificate (`CERTIFICATES.md`), in time that is linear in its bytes. `Ok` comes exactly where
+/// the text is a certificate's, and is this certificate; `Line` exactly at the first line that isn't of the text form
+/// with numbers of any size, and `Number` exactly at the first line that is, but has a number above its limit.
+/// [`Stop::Memory`] is no answer about the text, which has fewer than 2^32 bytes.
+#[tactic(auto, using(crate::proofs::Answering::cert_same, crate::proofs::Answering::cert_fault))]
+pub fn read_cert(alloc: Global, bytes: &[u8]) -> Result<Cert, Stop<CertFault>>
     requires { length bytes.now < 4294967296 }
-    ensures found { MatchResult result (λ cert. text_of cert ≡ bytes.now) (λ fault. IsFault bytes.now fault) }
-    ensures read { (cert : PlainCert) → IsCert cert → text_of cert ≡ bytes.now → MatchResult result (λ found. found ≡ cert) (λ fault. IsMemory fault) }
-    ensures line { (number : ℕ) → IsLineFault bytes.now number → MatchResult result (λ found. ⊥) (λ fault. IsLineAt number fault) }
-    ensures number { (line : ℕ) → IsNumberFault bytes.now line → MatchResult result (λ found. ⊥) (λ fault. IsNumberAt line fault) }
+    // What stands behind each answer.
+    ensures found { MatchResult result (λ cert. text_of cert ≡ bytes.now) (λ stop. FaultIs (IsFault bytes.now) stop) }
+    // The text of a certificate is read as this certificate.
+    ensures read { (cert : PlainCert) → IsCert cert → text_of cert ≡ bytes.now →
+        MatchResult result (λ found. found ≡ cert) (λ stop. IsMemory stop) }
+    // A text with a wrong line is answered with the number of the first one.
+    ensures line { (number : ℕ) → IsLineFault bytes.now number → MatchResult result (λ found. ⊥) (λ stop. IsLineAt number stop) }
+    // A text with a number above its limit is answered with its line.
+    ensures number { (line : ℕ) → IsNumberFault bytes.now line → MatchResult result (λ found. ⊥) (λ stop. IsNumberAt line stop) }
 {
     match read_whole(alloc, bytes) {
         Ok(cert) => {
             cert.limits();
             Ok(cert)
         }
-        Err(fault) => Err(fault),
+        Err(stop) => Err(stop),
     }
 }

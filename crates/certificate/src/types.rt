@@ -11,8 +11,8 @@ pub struct VarCert {
     pub vector: Vector,
 }
 
-/// What is needed at the beginning of a block besides what its parameters carry, in units, and what these carry. Parameters ascend; those without
-/// units aren't there.
+/// What is needed at the beginning of a block besides what its parameters carry, in units, and what these carry.
+/// Parameters ascend; those without units aren't there.
 #[derive(Drop)]
 pub struct BlockCert {
     pub block: u32,
@@ -28,8 +28,9 @@ pub struct MakeCert {
     pub vector: Vector,
 }
 
-/// What a function needs besides what its arguments carry, and what it gives back besides what its result carries, in units, and the annotations of
-/// parameters, result, blocks and builds. Each list ascends; what has no units isn't there.
+/// What a function needs besides what its arguments carry, and what it gives back besides what its result carries, in
+/// units, and the annotations of parameters, result, blocks and builds. Each list ascends; what has no units isn't
+/// there.
 #[derive(Drop)]
 pub struct FuncCert {
     pub name: Word,
@@ -41,7 +42,8 @@ pub struct FuncCert {
     pub makes: Vec<MakeCert>,
 }
 
-/// A certificate of linear heap bounds (Hofmann and Jost 2003): so many units are one cell, and what each function needs.
+/// A certificate of linear heap bounds (Hofmann and Jost 2003): so many units are one cell, and what each function
+/// needs.
 #[derive(Drop)]
 pub struct Cert {
     unit: u64,
@@ -85,7 +87,8 @@ impl Cert {
         &self.funcs
     }
 
-    /// The order and the limits that the type keeps. It does nothing; its clause is what whoever holds a `Cert` can use.
+    /// The order and the limits that the type keeps. It does nothing; its clause is what whoever holds a `Cert` can
+    /// use.
     pub fn limits(&self)
         ensures { plain.IsCert self.now }
     {

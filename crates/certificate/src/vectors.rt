@@ -5,7 +5,7 @@ ghost use Rattle.certificate.specs.Reading.{upto, from, behind, further, capped,
 
 use super::cutting::{behind, cut, next_word};
 use super::numbers::{is_before, number};
-use super::stop::Stop;
+use super::stop::LineStop;
 use annotations::Vector;
 use std::alloc::Global;
 
@@ -64,8 +64,9 @@ fn are_pairs(prev: &[u8], rest: &[u8]) -> bool
 
 // The pairs of a vector.
 #[tactic(auto, using(crate::proofs::Pairs::pairs_first, crate::proofs::Pairs::pairs_wrong, crate::proofs::Pairs::pairs_wide, crate::proofs::Pairs::pairs_not, crate::proofs::Pairs::pairs_more, crate::proofs::Pairs::pairs_within, crate::proofs::Pairs::pairs_end))]
-fn read_pairs(alloc: Global, rest: &[u8]) -> Result<Vec<(u32, u64)>, Stop>
-    ensures { MatchResult result (λ pairs. IsRead (vector_from [] (further rest.now)) VectorIsWithin pairs.items) (λ stop. IsStopped (vector_from [] (further rest.now)) VectorIsWithin stop) }
+fn read_pairs(alloc: Global, rest: &[u8]) -> Result<Vec<(u32, u64)>, LineStop>
+    ensures { MatchResult result (λ pairs. IsRead (vector_from [] (further rest.now)) VectorIsWithin pairs.items)
+        (λ stop. IsStopped (vector_from [] (further rest.now)) VectorIsWithin stop) }
 {
     let mut pairs = Vec::new(alloc);
     let mut last: &[u8] = &[];
@@ -73,18 +74,18 @@ fn read_pairs(alloc: Global, rest: &[u8]) -> Result<Vec<(u32, u64)>, Stop>
     'pairs: while let Some((word, after)) = next_word(left) {
         let (con, units) = cut_pair(word);
         let (con_number, unit_count) = match read_pair(last, con, units) {
-            None => return Err(Stop::Line),
+            None => return Err(LineStop::Line),
             Some(pair) => pair,
         };
         if con_number > MOST_NUMBER || unit_count > MOST_UNITS {
             if are_pairs(con, after) {
-                return Err(Stop::Number);
+                return Err(LineStop::Number);
             }
-            return Err(Stop::Line);
+            return Err(LineStop::Line);
         }
         match pairs.push((con_number as u32, unit_count)) {
             Ok(()) => {}
-            Err(_) => return Err(Stop::Memory),
+            Err(_) => return Err(LineStop::Memory),
         }
         last = con;
         left = after;
@@ -94,11 +95,12 @@ fn read_pairs(alloc: Global, rest: &[u8]) -> Result<Vec<(u32, u64)>, Stop>
 
 /// The annotations of a line: at least one pair `con=units`, constructors ascending.
 #[tactic(auto, using(crate::proofs::Pairs::vector_none, crate::proofs::Pairs::vector_some, crate::proofs::Pairs::vector_stop, crate::proofs::Pairs::vector_form))]
-pub(crate) fn read_vector(alloc: Global, rest: &[u8]) -> Result<Vector, Stop>
-    ensures { MatchResult result (λ vector. IsRead (vector_of (further rest.now)) VectorIsWithin vector) (λ stop. IsStopped (vector_of (further rest.now)) VectorIsWithin stop) }
+pub(crate) fn read_vector(alloc: Global, rest: &[u8]) -> Result<Vector, LineStop>
+    ensures { MatchResult result (λ vector. IsRead (vector_of (further rest.now)) VectorIsWithin vector)
+        (λ stop. IsStopped (vector_of (further rest.now)) VectorIsWithin stop) }
 {
     if rest.is_empty() {
-        return Err(Stop::Line);
+        return Err(LineStop::Line);
     }
     match read_pairs(alloc, rest) {
         Ok(pairs) => Ok(Vector::of(pairs)),

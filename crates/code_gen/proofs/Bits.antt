@@ -79,13 +79,15 @@ next_some word from small some = record {
     at : ℕ
     at = trailing_zeros w128 (word / 2 ^ from)
 
-    found : (trailing_zeros w128 (word / 2 ^ from) < 128) × (bit_at (word / 2 ^ from) (trailing_zeros w128 (word / 2 ^ from)) ≡ 1) × ((i : ℕ) → i < trailing_zeros w128 (word / 2 ^ from) → bit_at (word / 2 ^ from) i ≡ 0)
+    found : (trailing_zeros w128 (word / 2 ^ from) < 128) × (bit_at (word / 2 ^ from) (trailing_zeros w128 (word / 2 ^ from)) ≡ 1)
+        × ((i : ℕ) → i < trailing_zeros w128 (word / 2 ^ from) → bit_at (word / 2 ^ from) i ≡ 0)
     found = let less = div-le_self word (2 ^ from) in bit_at-trailing_zeros w128 (word / 2 ^ from) some (omega (arith, small, less))
 
     set : bit_at word (from + trailing_zeros w128 (word / 2 ^ from)) ≡ 1
     set = sym (shifted word from (trailing_zeros w128 (word / 2 ^ from))) ∙ found.1
 
-    within : (from + trailing_zeros w128 (word / 2 ^ from) < 128) ⊎ (128 ≤ from + trailing_zeros w128 (word / 2 ^ from)) → from + trailing_zeros w128 (word / 2 ^ from) ≤ 128
+    within : (from + trailing_zeros w128 (word / 2 ^ from) < 128) ⊎ (128 ≤ from + trailing_zeros w128 (word / 2 ^ from))
+        → from + trailing_zeros w128 (word / 2 ^ from) ≤ 128
     within (inl less) = omega (arith, less)
     within (inr more) = let none = bit_at_above word 128 (from + trailing_zeros w128 (word / 2 ^ from)) small more in let one = set in absurd (omega (arith, none, one))
 
@@ -118,7 +120,8 @@ test_above x y h k = either (same_or_not x y)
     either (inl e) = same_test (x - 128) (y - 128) (omega (arith, e)) ∙ sym (same_test x y e)
     either (inr n) = other_test (x - 128) (y - 128) (λ e. n (omega (arith, e, h, k))) ∙ sym (other_test x y n)
 
-pub inserted_low : (s t : LocalSet) (x : ℕ) (live : Marks) → x < 128 → ((y : ℕ) → is_set t.low y ≡ ((x == y) || is_set s.low y)) → t.high ≡ s.high → IsMarked s live → IsMarked t (with_one x live)
+pub inserted_low : (s t : LocalSet) (x : ℕ) (live : Marks) → x < 128 → ((y : ℕ) → is_set t.low y ≡ ((x == y) || is_set s.low y)) → t.high ≡ s.high
+    → IsMarked s live → IsMarked t (with_one x live)
 inserted_low s t x live there low high m = record { each = λ y h. either y h (cases_lt y 128) }
   where
     either : (y : ℕ) → y < 256 → (y < 128) ⊎ (128 ≤ y) → has t y ≡ ((x == y) || live y)
@@ -126,7 +129,8 @@ inserted_low s t x live there low high m = record { each = λ y h. either y h (c
     either y h (inr more) =
         has_high t y more ∙ ap (λ w. is_set w (y - 128)) high ∙ sym (has_high s y more) ∙ m.each y h ∙ sym (ap (λ b. b || live y) (other_test x y (λ e. omega (arith, e, there, more))))
 
-pub inserted_high : (s t : LocalSet) (x : ℕ) (live : Marks) → 128 ≤ x → t.low ≡ s.low → ((y : ℕ) → is_set t.high y ≡ ((x - 128 == y) || is_set s.high y)) → IsMarked s live → IsMarked t (with_one x live)
+pub inserted_high : (s t : LocalSet) (x : ℕ) (live : Marks) → 128 ≤ x → t.low ≡ s.low
+    → ((y : ℕ) → is_set t.high y ≡ ((x - 128 == y) || is_set s.high y)) → IsMarked s live → IsMarked t (with_one x live)
 inserted_high s t x live there low high m = record { each = λ y h. either y h (cases_lt y 128) }
   where
     either : (y : ℕ) → y < 256 → (y < 128) ⊎ (128 ≤ y) → has t y ≡ ((x == y) || live y)
@@ -137,7 +141,8 @@ inserted_high s t x live there low high m = record { each = λ y h. either y h (
 pub inserted_beyond : (s : LocalSet) (x : ℕ) (live : Marks) → 256 ≤ x → IsMarked s live → IsMarked s (with_one x live)
 inserted_beyond s x live beyond m = record { each = λ y h. m.each y h ∙ sym (ap (λ b. b || live y) (other_test x y (λ e. omega (arith, e, h, beyond)))) }
 
-pub removed_low : (s t : LocalSet) (x : ℕ) (live : Marks) → x < 128 → ((y : ℕ) → y < 128 → is_set t.low y ≡ (not (x == y) && is_set s.low y)) → t.high ≡ s.high → IsMarked s live → IsMarked t (unless_bound x live)
+pub removed_low : (s t : LocalSet) (x : ℕ) (live : Marks) → x < 128 → ((y : ℕ) → y < 128 → is_set t.low y ≡ (not (x == y) && is_set s.low y))
+    → t.high ≡ s.high → IsMarked s live → IsMarked t (unless_bound x live)
 removed_low s t x live there low high m = record { each = λ y h. either y h (cases_lt y 128) }
   where
     either : (y : ℕ) → y < 256 → (y < 128) ⊎ (128 ≤ y) → has t y ≡ (not (x == y) && live y)
@@ -145,7 +150,8 @@ removed_low s t x live there low high m = record { each = λ y h. either y h (ca
     either y h (inr more) =
         has_high t y more ∙ ap (λ w. is_set w (y - 128)) high ∙ sym (has_high s y more) ∙ m.each y h ∙ sym (ap (λ b. not b && live y) (other_test x y (λ e. omega (arith, e, there, more))))
 
-pub removed_high : (s t : LocalSet) (x : ℕ) (live : Marks) → 128 ≤ x → t.low ≡ s.low → ((y : ℕ) → y < 128 → is_set t.high y ≡ (not (x - 128 == y) && is_set s.high y)) → IsMarked s live → IsMarked t (unless_bound x live)
+pub removed_high : (s t : LocalSet) (x : ℕ) (live : Marks) → 128 ≤ x → t.low ≡ s.low
+    → ((y : ℕ) → y < 128 → is_set t.high y ≡ (not (x - 128 == y) && is_set s.high y)) → IsMarked s live → IsMarked t (unless_bound x live)
 removed_high s t x live there low high m = record { each = λ y h. either y h (cases_lt y 128) }
   where
     either : (y : ℕ) → y < 256 → (y < 128) ⊎ (128 ≤ y) → has t y ≡ (not (x == y) && live y)
@@ -156,7 +162,8 @@ removed_high s t x live there low high m = record { each = λ y h. either y h (c
 pub removed_beyond : (s : LocalSet) (x : ℕ) (live : Marks) → 256 ≤ x → IsMarked s live → IsMarked s (unless_bound x live)
 removed_beyond s x live beyond m = record { each = λ y h. m.each y h ∙ sym (ap (λ b. not b && live y) (other_test x y (λ e. omega (arith, e, h, beyond)))) }
 
-pub joined : (s t other : LocalSet) (live : Marks) → ((y : ℕ) → is_set t.low y ≡ (is_set other.low y || is_set s.low y)) → ((y : ℕ) → is_set t.high y ≡ (is_set other.high y || is_set s.high y)) → IsMarked s live
+pub joined : (s t other : LocalSet) (live : Marks) → ((y : ℕ) → is_set t.low y ≡ (is_set other.low y || is_set s.low y))
+    → ((y : ℕ) → is_set t.high y ≡ (is_set other.high y || is_set s.high y)) → IsMarked s live
     → IsMarked t (either_live (has other) live)
 joined s t other live low high m = record { each = λ y h. either y h (cases_lt y 128) }
   where
@@ -183,7 +190,8 @@ next_above s from at above n = record {
   passing = λ h. has_high s (128 + at) (omega arith) ∙ ap (is_set s.high) (omega arith) ∙ n.passing (omega (arith, h));
 }
 
-pub next_behind : (s : LocalSet) (from at after : ℕ) → from < 128 → IsNext (is_set s.low) from 128 at → 128 ≤ at → IsNext (is_set s.high) 0 128 after → IsNext (has s) from 256 (128 + after)
+pub next_behind : (s : LocalSet) (from at after : ℕ) → from < 128 → IsNext (is_set s.low) from 128 at → 128 ≤ at → IsNext (is_set s.high) 0 128 after
+    → IsNext (has s) from 256 (128 + after)
 next_behind s from at after below n over m = record {
   since = omega (arith, below);
   until = (let until = m.until in omega (arith, until));

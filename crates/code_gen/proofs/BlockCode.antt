@@ -25,11 +25,13 @@ one_local_more n =
     let same : 0 + n ≡ n = omega arith in
     ap (range_with_len 0) more ∙ ends_with 0 n ∙ ap (λ k. range_with_len 0 n ++ k ∷ []) same
 
-pub first_params : (own size : ℕ) (seen : List LocalSet) (number : ℕ) (xs : List ℕ) → number ≡ 0 → xs ≡ range_with_len 0 own → xs ≡ told_params own size seen number
+pub first_params : (own size : ℕ) (seen : List LocalSet) (number : ℕ) (xs : List ℕ) → number ≡ 0 → xs ≡ range_with_len 0 own
+    → xs ≡ told_params own size seen number
 first_params own size seen zero xs e h = h
 first_params own size seen (suc n) xs e h = absurd (omega (arith, e))
 
-pub later_params : (own size : ℕ) (seen : List LocalSet) (number count : ℕ) (marks : LocalSet) (xs : List ℕ) → (number ≡ 0 → ⊥) → count ≡ length seen → marks ≡ marks_at seen count number
+pub later_params : (own size : ℕ) (seen : List LocalSet) (number count : ℕ) (marks : LocalSet) (xs : List ℕ) → (number ≡ 0 → ⊥) → count ≡ length seen
+    → marks ≡ marks_at seen count number
     → xs ≡ filter (has marks) (range_with_len 0 size) → xs ≡ told_params own size seen number
 later_params own size seen zero count marks xs n full is h = absurd (n refl)
 later_params own size seen (suc k) count marks xs n full is h = h ∙ ap (λ ms. filter (has ms) (range_with_len 0 size)) (is ∙ ap (λ c. marks_at seen c (suc k)) full)
@@ -39,7 +41,9 @@ later_params own size seen (suc k) count marks xs n full is h = h ∙ ap (λ ms.
 abbrev pub code_for : DeclaredFunction → code.Func
 code_for f = coded live_params (normal_function_of f)
 
-few_back : (takes : ℕ → List ℕ) (number : ℕ) (bs : List NormalBlock) → AllByRecursion (λ (b : code.Block). length b.lets ≤ 256) (coded_blocks takes number bs) → AllByRecursion (λ (b : NormalBlock). length b.lets ≤ 256) bs
+few_back : (takes : ℕ → List ℕ) (number : ℕ) (bs : List NormalBlock)
+    → AllByRecursion (λ (b : code.Block). length b.lets ≤ 256) (coded_blocks takes number bs)
+    → AllByRecursion (λ (b : NormalBlock). length b.lets ≤ 256) bs
 few_back takes number [] h = tt
 few_back takes number (b ∷ bs) h = (h.0, few_back takes (suc number) bs h.1)
 
@@ -59,7 +63,8 @@ pub few_locals_of : (f : DeclaredFunction) → FuncIsWithin (code_for f) → len
 few_locals_of f w = let params = w.few_params in let locals = w.few_locals in omega (arith, params, locals)
 
 -- the function with these blocks is its code
-pub is_coded : (f : DeclaredFunction) (blocks : List code.Block) (seen : List LocalSet) (own size : ℕ) → own ≡ length f.params.items → size ≡ length f.params.items + length f.locals.items → FuncIsWithin (code_for f)
+pub is_coded : (f : DeclaredFunction) (blocks : List code.Block) (seen : List LocalSet) (own size : ℕ) → own ≡ length f.params.items
+    → size ≡ length f.params.items + length f.locals.items → FuncIsWithin (code_for f)
     → AreSeen (map block_of f.blocks.items) 0 seen → blocks ≡ coded_blocks (told_params own size seen) 0 (map block_of f.blocks.items)
     → ◌≡◌ {A = code.Func} (record { name = f.name; params = f.params.items; result = f.result; locals = f.locals.items; blocks = blocks }) (code_for f)
 is_coded f blocks seen own size first all within s e =
@@ -69,7 +74,8 @@ is_coded f blocks seen own size first all within s e =
     λ i. record { name = f.name; params = f.params.items; result = f.result; locals = f.locals.items; blocks = same i }
 
 -- how many blocks are made
-pub as_many : (blocks : List DeclaredCodeBlock) (takes : ℕ → List ℕ) (bs : List DeclaredBlock) → map code.block_of blocks ≡ coded_blocks takes 0 (map block_of bs) → length blocks ≡ length bs
+pub as_many : (blocks : List DeclaredCodeBlock) (takes : ℕ → List ℕ) (bs : List DeclaredBlock)
+    → map code.block_of blocks ≡ coded_blocks takes 0 (map block_of bs) → length blocks ≡ length bs
 as_many blocks takes bs e = sym (map_length code.block_of blocks) ∙ ap length e ∙ length_coded takes 0 (map block_of bs) ∙ map_length block_of bs
 
 pub some_blocks_of : (f : DeclaredFunction) → FuncIsWithin (code_for f) → 1 ≤ length f.blocks.items

@@ -98,7 +98,8 @@ and_second : (a b : Bool) → (not a && b) ≡ true → b ≡ true
 and_second true b h = absurd cc
 and_second false b h = h
 
-lets_there : (p : Code) (f : Func) (ls : List Let) (after : Marks) (x : ℕ) → AllByRecursion (LetFits p f) ls → (after x ≡ true → IsThere f x) → lets_live ls after x ≡ true → IsThere f x
+lets_there : (p : Code) (f : Func) (ls : List Let) (after : Marks) (x : ℕ) → AllByRecursion (LetFits p f) ls → (after x ≡ true → IsThere f x)
+    → lets_live ls after x ≡ true → IsThere f x
 lets_there p f [] after x fit rest e = rest e
 lets_there p f (l ∷ ls) after x fit rest e =
     either (λ k. let_there p f l x fit.0 k) (λ k. lets_there p f ls after x fit.1 rest (and_second (l.target == x) (lets_live ls after x) k)) (or_split (is_among (operands_of l.op) x) (unless_bound l.target (lets_live ls after) x) e)
@@ -122,7 +123,8 @@ term_there p f n (Case y arms) x fit e = by_kind (kind_of f y) refl fit
     by_kind None is h = absurd h
     by_kind (Some k) is h = one_there f y x k is (or_none (y == x) e)
 
-arms_there : (later : LaterMarks) (x : ℕ) (Q : Type 0) → ((b : ℕ) → later b x ≡ true → Q) → (arms : List CaseArm) → list_any (λ a. not (is_among (bound_by a) x) && later a.target x) arms ≡ true → Q
+arms_there : (later : LaterMarks) (x : ℕ) (Q : Type 0) → ((b : ℕ) → later b x ≡ true → Q) → (arms : List CaseArm)
+    → list_any (λ a. not (is_among (bound_by a) x) && later a.target x) arms ≡ true → Q
 arms_there later x Q h [] e = absurd cc
 arms_there later x Q h (a ∷ arms) e =
     either (λ k. h a.target (and_second (is_among (bound_by a) x) (later a.target x) k)) (λ k. arms_there later x Q h arms k)
@@ -143,7 +145,8 @@ onward_there later x Q h (If y first second) e = either (or_split (later first x
     either (inr k) = h second k
 onward_there later x Q h (Case y arms) e = arms_there later x Q h arms e
 
-block_there : (p : Code) (f : Func) (n : ℕ) (b : NormalBlock) (later : LaterMarks) (x : ℕ) → AllByRecursion (LetFits p f) b.lets → TermFits p f n b.term → ((m : ℕ) → later m x ≡ true → IsThere f x) → block_live later b x ≡ true → IsThere f x
+block_there : (p : Code) (f : Func) (n : ℕ) (b : NormalBlock) (later : LaterMarks) (x : ℕ) → AllByRecursion (LetFits p f) b.lets
+    → TermFits p f n b.term → ((m : ℕ) → later m x ≡ true → IsThere f x) → block_live later b x ≡ true → IsThere f x
 block_there p f n b later x lets term h e = lets_there p f b.lets (term_live later b.term) x lets (λ k. either (or_split (is_among (term_uses b.term) x) (onward_live later b.term x) k)) e
   where
     either : (is_among (term_uses b.term) x ≡ true) ⊎ (onward_live later b.term x ≡ true) → IsThere f x
@@ -155,7 +158,8 @@ pub live_there : (p : Code) (f : Func) (first : ℕ) (bs : List NormalBlock) (b 
 live_there p f first [] b x fit e = absurd cc
 live_there p f first (body ∷ bs) b x fit e = by_test (b == first) (λ m k. live_there p f (suc first) bs m x fit.2 k) e
   where
-    by_test : (t : Bool) → ((m : ℕ) → live_from (suc first) bs m x ≡ true → IsThere f x) → (if t then block_live (live_from (suc first) bs) body x else live_from (suc first) bs b x) ≡ true → IsThere f x
+    by_test : (t : Bool) → ((m : ℕ) → live_from (suc first) bs m x ≡ true → IsThere f x)
+        → (if t then block_live (live_from (suc first) bs) body x else live_from (suc first) bs b x) ≡ true → IsThere f x
     by_test true rest e = block_there p f first body (live_from (suc first) bs) x fit.0 fit.1 rest e
     by_test false rest e = rest b e
 
@@ -184,7 +188,8 @@ pub length_coded : (takes : ℕ → List ℕ) (number : ℕ) (bs : List NormalBl
 length_coded takes number [] = refl
 length_coded takes number (b ∷ bs) = ap suc (length_coded takes (suc number) bs)
 
-params_coded : (takes : ℕ → List ℕ) (number : ℕ) (bs : List NormalBlock) (i : ℕ) → i < length bs → params_at (coded_blocks takes number bs) i ≡ takes (number + i)
+params_coded : (takes : ℕ → List ℕ) (number : ℕ) (bs : List NormalBlock) (i : ℕ) → i < length bs
+    → params_at (coded_blocks takes number bs) i ≡ takes (number + i)
 params_coded takes number [] i h = absurd (omega (arith, h))
 params_coded takes number (b ∷ bs) zero h = let same : number ≡ number + 0 = omega arith in ap takes same
 params_coded takes number (b ∷ bs) (suc i) h = let same : suc number + i ≡ number + suc i = omega arith in params_coded takes (suc number) bs i (omega (arith, h)) ∙ ap takes same
@@ -198,12 +203,14 @@ rest_next f n body bs h b x more =
     let test : (b == n) ≡ false = grind (arith, nat_tests, more) in
     h b x (omega (arith, more)) ∙ ap (λ t. if t then block_live (live_from (suc n) bs) body x else live_from (suc n) bs b x) test
 
-rest_here : (f : NormalFunction) (n : ℕ) (body : NormalBlock) (bs : List NormalBlock) → IsRest f n (body ∷ bs) → (x : ℕ) → live_from 0 f.blocks n x ≡ block_live (live_from (suc n) bs) body x
+rest_here : (f : NormalFunction) (n : ℕ) (body : NormalBlock) (bs : List NormalBlock) → IsRest f n (body ∷ bs) → (x : ℕ)
+    → live_from 0 f.blocks n x ≡ block_live (live_from (suc n) bs) body x
 rest_here f n body bs h x =
     let test : (n == n) ≡ true = grind (arith, nat_tests) in
     h n x (omega arith) ∙ ap (λ t. if t then block_live (live_from (suc n) bs) body x else live_from (suc n) bs n x) test
 
-params_live : (f : NormalFunction) (n : ℕ) (bs : List NormalBlock) → IsRest f (suc n) bs → (b : ℕ) → JumpFits (coded live_params f) n b → ParamsLive (coded_blocks (live_params f) 0 f.blocks) (live_from (suc n) bs) b
+params_live : (f : NormalFunction) (n : ℕ) (bs : List NormalBlock) → IsRest f (suc n) bs → (b : ℕ) → JumpFits (coded live_params f) n b
+    → ParamsLive (coded_blocks (live_params f) 0 f.blocks) (live_from (suc n) bs) b
 params_live f n bs rest zero jump = absurd (let less = jump.0 in omega (arith, less))
 params_live f n bs rest (suc b) jump =
     let size = length_coded (live_params f) 0 f.blocks in
@@ -219,7 +226,8 @@ params_live f n bs rest (suc b) jump =
     }
 
 -- what is live at a block is among its parameters
-holds_live : (p : Code) (f : NormalFunction) (types : List DataType) (n : ℕ) (x : ℕ) → UsesFairly types f → BodyFits p (coded live_params f) 0 f.blocks → live_from 0 f.blocks n x ≡ true → is_among (live_params f n) x ≡ true
+holds_live : (p : Code) (f : NormalFunction) (types : List DataType) (n : ℕ) (x : ℕ) → UsesFairly types f
+    → BodyFits p (coded live_params f) 0 f.blocks → live_from 0 f.blocks n x ≡ true → is_among (live_params f n) x ≡ true
 holds_live p f types zero x fair fit e =
     ap (λ l. is_among l x) (sym (range_passes 0 (length f.params))) ∙ among_passing (λ y. true) 0 (length f.params) x (omega arith) (let less = fair.bound x e in omega (arith, less)) refl
 holds_live p f types (suc n) x fair fit e =
@@ -241,7 +249,8 @@ params_ascend f (suc n) = passing_ascend (live_from 0 f.blocks (suc n)) 0 (local
 
 -- ---- blocks
 
-block_fits : (p : NormalProgram) (f : NormalFunction) (n : ℕ) (body : NormalBlock) (bs : List NormalBlock) → UsesFairly p.types f → BodyFits (code_of_normal p) (coded live_params f) 0 f.blocks
+block_fits : (p : NormalProgram) (f : NormalFunction) (n : ℕ) (body : NormalBlock) (bs : List NormalBlock) → UsesFairly p.types f
+    → BodyFits (code_of_normal p) (coded live_params f) 0 f.blocks
     → AllByRecursion (LetFits (code_of_normal p) (coded live_params f)) body.lets → TermFits (code_of_normal p) (coded live_params f) n body.term → BlocksOnce (is_owned p.types (coded live_params f)) n (body ∷ bs) → IsRest f n (body ∷ bs)
     → BlockFits (code_of_normal p) (coded live_params f) n (record { params = live_params f n; lets = body.lets; term = body.term })
 block_fits p f n body bs fair fit lets term once rest = record {
@@ -255,16 +264,19 @@ block_fits p f n body bs fair fit lets term once rest = record {
       (λ x e. holds_live (code_of_normal p) f p.types n x fair fit (rest_here f n body bs rest x ∙ e));
 }
 
-blocks_fit : (p : NormalProgram) (f : NormalFunction) (n : ℕ) (bs : List NormalBlock) → UsesFairly p.types f → BodyFits (code_of_normal p) (coded live_params f) 0 f.blocks → BodyFits (code_of_normal p) (coded live_params f) n bs
+blocks_fit : (p : NormalProgram) (f : NormalFunction) (n : ℕ) (bs : List NormalBlock) → UsesFairly p.types f
+    → BodyFits (code_of_normal p) (coded live_params f) 0 f.blocks → BodyFits (code_of_normal p) (coded live_params f) n bs
     → BlocksOnce (is_owned p.types (coded live_params f)) n bs → IsRest f n bs → BlocksFit (code_of_normal p) (coded live_params f) n (coded_blocks (live_params f) n bs)
 blocks_fit p f n [] fair whole fit once rest = tt
 blocks_fit p f n (body ∷ bs) fair whole fit once rest =
     (block_fits p f n body bs fair whole fit.0 fit.1 once rest, blocks_fit p f (suc n) bs fair whole fit.2 once.1 (rest_next f n body bs rest))
 
 -- A function that uses its locals fairly, and fits as code, is well formed with its live locals as parameters.
-pub function_well_formed : (p : NormalProgram) (f : NormalFunction) → UsesFairly p.types f → FitsAsCode live_params p f → FuncFits (code_of_normal p) (coded live_params f)
+pub function_well_formed : (p : NormalProgram) (f : NormalFunction) → UsesFairly p.types f → FitsAsCode live_params p f
+    → FuncFits (code_of_normal p) (coded live_params f)
 function_well_formed p f fair fit = record { kinds = fit.kinds; result = fit.result; blocks = blocks_fit p f 0 f.blocks fair fit.body fit.body fair.once (λ b x more. refl) }
 
-pub functions_well_formed : (p : NormalProgram) (fs : List NormalFunction) → AllByRecursion (UsesFairly p.types) fs → AllByRecursion (FitsAsCode live_params p) fs → AllByRecursion (FuncFits (code_of_normal p)) (map (coded live_params) fs)
+pub functions_well_formed : (p : NormalProgram) (fs : List NormalFunction) → AllByRecursion (UsesFairly p.types) fs
+    → AllByRecursion (FitsAsCode live_params p) fs → AllByRecursion (FuncFits (code_of_normal p)) (map (coded live_params) fs)
 functions_well_formed p [] fair fit = tt
 functions_well_formed p (f ∷ fs) fair fit = (function_well_formed p f fair.0 fit.0, functions_well_formed p fs fair.1 fit.1)

@@ -30,7 +30,8 @@ among_next (x ∷ xs) (suc i) (suc j) y e h = ap (λ b. (x == y) || b) (among_ne
     swapped true false c = refl
     swapped false b c = refl
 
-pub marked_more : (ms : LocalSet) (xs : List ℕ) (i : ℕ) (live : Marks) → i < length xs → IsMarked ms (with_one (get_or xs i 0) (with_these (take i xs) live)) → IsMarked ms (with_these (take (i + 1) xs) live)
+pub marked_more : (ms : LocalSet) (xs : List ℕ) (i : ℕ) (live : Marks) → i < length xs
+    → IsMarked ms (with_one (get_or xs i 0) (with_these (take i xs) live)) → IsMarked ms (with_these (take (i + 1) xs) live)
 marked_more ms xs i live h m = record { each = λ y less. m.each y less ∙ grouped (get_or xs i 0 == y) (is_among (take i xs) y) (live y) ∙ sym (ap (λ b. b || live y) (among_next xs i (i + 1) y (omega arith) h)) }
   where
     grouped : (a b c : Bool) → (a || (b || c)) ≡ ((a || b) || c)
@@ -41,7 +42,8 @@ take_whole : (xs : List ℕ) → take (length xs) xs ≡ xs
 take_whole [] = refl
 take_whole (x ∷ xs) = ap (λ l. x ∷ l) (take_whole xs)
 
-pub marked_all : (ms : LocalSet) (xs : List ℕ) (i : ℕ) (live : Marks) → length xs ≤ i → i ≤ length xs → IsMarked ms (with_these (take i xs) live) → IsMarked ms (with_these xs live)
+pub marked_all : (ms : LocalSet) (xs : List ℕ) (i : ℕ) (live : Marks) → length xs ≤ i → i ≤ length xs → IsMarked ms (with_these (take i xs) live)
+    → IsMarked ms (with_these xs live)
 marked_all ms xs i live h k m =
     let same : i ≡ length xs = omega (arith, h, k) in
     subst (λ l. IsMarked ms (with_these l live)) (ap (λ j. take j xs) same ∙ take_whole xs) m
@@ -74,10 +76,12 @@ marked_both ms xs ys live m = record { each = λ y h. m.each y h ∙ grouped (is
     grouped false b c = refl
 
 -- the operands of a build
-pub marked_made : (ms : LocalSet) (all xs slice ys : List ℕ) (live : Marks) → all ≡ xs ++ ys → slice ≡ xs → IsMarked ms (with_these slice (with_these ys live)) → IsMarked ms (with_these all live)
+pub marked_made : (ms : LocalSet) (all xs slice ys : List ℕ) (live : Marks) → all ≡ xs ++ ys → slice ≡ xs
+    → IsMarked ms (with_these slice (with_these ys live)) → IsMarked ms (with_these all live)
 marked_made ms all xs slice ys live is same m = subst (λ l. IsMarked ms (with_these l live)) (sym is) (marked_both ms xs ys live (subst (λ l. IsMarked ms (with_these l (with_these ys live))) same m))
 
-pub lets_next : (ls : List DeclaredLet) (n j : ℕ) (d : DeclaredLet) → j ≡ suc n → n < length ls → map let_of (drop n ls) ≡ let_of (get_or ls n d) ∷ map let_of (drop j ls)
+pub lets_next : (ls : List DeclaredLet) (n j : ℕ) (d : DeclaredLet) → j ≡ suc n → n < length ls
+    → map let_of (drop n ls) ≡ let_of (get_or ls n d) ∷ map let_of (drop j ls)
 lets_next [] n j d e h = absurd (omega (arith, h))
 lets_next (l ∷ ls) zero zero d e h = absurd (omega (arith, e))
 lets_next (l ∷ ls) zero (suc j) d e h = let same : j ≡ 0 = omega (arith, e) in ap (λ k. let_of l ∷ map let_of (drop k ls)) (sym same)
@@ -99,11 +103,13 @@ without : (a b c : Bool) → (not a && (not b && c)) ≡ (not (a || b) && c)
 without true b c = refl
 without false b c = refl
 
-pub cleared_more : (ms : LocalSet) (xs : List ℕ) (i : ℕ) (live : Marks) → i < length xs → IsMarked ms (unless_bound (get_or xs i 0) (unless_among (take i xs) live)) → IsMarked ms (unless_among (take (i + 1) xs) live)
+pub cleared_more : (ms : LocalSet) (xs : List ℕ) (i : ℕ) (live : Marks) → i < length xs
+    → IsMarked ms (unless_bound (get_or xs i 0) (unless_among (take i xs) live)) → IsMarked ms (unless_among (take (i + 1) xs) live)
 cleared_more ms xs i live h m =
     record { each = λ y less. m.each y less ∙ without (get_or xs i 0 == y) (is_among (take i xs) y) (live y) ∙ sym (ap (λ b. not b && live y) (among_next xs i (i + 1) y (omega arith) h)) }
 
-pub cleared_all : (ms : LocalSet) (xs : List ℕ) (i : ℕ) (live : Marks) → length xs ≤ i → i ≤ length xs → IsMarked ms (unless_among (take i xs) live) → IsMarked ms (unless_among xs live)
+pub cleared_all : (ms : LocalSet) (xs : List ℕ) (i : ℕ) (live : Marks) → length xs ≤ i → i ≤ length xs → IsMarked ms (unless_among (take i xs) live)
+    → IsMarked ms (unless_among xs live)
 cleared_all ms xs i live h k m =
     let same : i ≡ length xs = omega (arith, h, k) in
     subst (λ l. IsMarked ms (unless_among l live)) (ap (λ j. take j xs) same ∙ take_whole xs) m
@@ -112,7 +118,8 @@ pub itself_marked : (ms : LocalSet) → IsMarked ms (has ms)
 itself_marked ms = record { each = λ y h. refl }
 
 -- fields, and then a diamond or none
-pub cleared_kept : (ms : LocalSet) (xs : List ℕ) (d : ℕ) (live : Marks) → IsMarked ms (unless_among xs (unless_bound d live)) → IsMarked ms (unless_among (xs ++ d ∷ []) live)
+pub cleared_kept : (ms : LocalSet) (xs : List ℕ) (d : ℕ) (live : Marks) → IsMarked ms (unless_among xs (unless_bound d live))
+    → IsMarked ms (unless_among (xs ++ d ∷ []) live)
 cleared_kept ms xs d live m = record { each = λ y h. m.each y h ∙ grouped (is_among xs y) (d == y) (live y) ∙ sym (ap (λ b. not b && live y) (among_append xs (d ∷ []) y)) }
   where
     grouped : (a b c : Bool) → (not a && (not b && c)) ≡ (not (a || (b || false)) && c)
@@ -121,7 +128,8 @@ cleared_kept ms xs d live m = record { each = λ y h. m.each y h ∙ grouped (is
     grouped false false c = refl
 
 -- an arm whose cell is kept
-pub cleared_arm : (ms : LocalSet) (xs fields : List ℕ) (at : CaseCell) (d : ℕ) (live : Marks) → xs ≡ fields → at ≡ cell.Keep d → IsMarked ms (unless_among xs (unless_bound d live)) → IsMarked ms (unless_among (fields ++ kept_diamond at) live)
+pub cleared_arm : (ms : LocalSet) (xs fields : List ℕ) (at : CaseCell) (d : ℕ) (live : Marks) → xs ≡ fields → at ≡ cell.Keep d
+    → IsMarked ms (unless_among xs (unless_bound d live)) → IsMarked ms (unless_among (fields ++ kept_diamond at) live)
 cleared_arm ms xs fields at d live same is m =
     subst (λ k. IsMarked ms (unless_among (fields ++ kept_diamond k) live)) (sym is) (cleared_kept ms fields d live (subst (λ l. IsMarked ms (unless_among l (unless_bound d live))) same m))
 
@@ -129,7 +137,8 @@ pub cleared_plain : (ms : LocalSet) (xs : List ℕ) (live : Marks) → IsMarked 
 cleared_plain ms xs live m = subst (λ l. IsMarked ms (unless_among l live)) (sym (append-nil xs)) m
 
 -- what a set tells is wanted further on
-pub joined_as : (ms other : LocalSet) (wanted live : Marks) → IsMarked other wanted → IsMarked ms (either_live (has other) live) → IsMarked ms (either_live wanted live)
+pub joined_as : (ms other : LocalSet) (wanted live : Marks) → IsMarked other wanted → IsMarked ms (either_live (has other) live)
+    → IsMarked ms (either_live wanted live)
 joined_as ms other wanted live w m = record { each = λ y h. m.each y h ∙ ap (λ b. b || live y) (w.each y h) }
 
 -- ---- ways on
@@ -137,7 +146,8 @@ joined_as ms other wanted live w m = record { each = λ y h. m.each y h ∙ ap (
 pub no_arms : (ms : LocalSet) (later : LaterMarks) (live : Marks) → IsMarked ms live → IsMarked ms (either_live (arms_live later []) live)
 no_arms ms later live m = record { each = m.each }
 
-pub one_arm : (ms : LocalSet) (later : LaterMarks) (a : CaseArm) (arms : List CaseArm) (live : Marks) → IsMarked ms (either_live (unless_among (bound_by a) (later a.target)) (either_live (arms_live later arms) live))
+pub one_arm : (ms : LocalSet) (later : LaterMarks) (a : CaseArm) (arms : List CaseArm) (live : Marks)
+    → IsMarked ms (either_live (unless_among (bound_by a) (later a.target)) (either_live (arms_live later arms) live))
     → IsMarked ms (either_live (arms_live later (a ∷ arms)) live)
 one_arm ms later a arms live m = record { each = λ y h. m.each y h ∙ grouped (not (is_among (bound_by a) y) && later a.target y) (arms_live later arms y) (live y) }
   where
@@ -145,7 +155,8 @@ one_arm ms later a arms live m = record { each = λ y h. m.each y h ∙ grouped 
     grouped true b c = refl
     grouped false b c = refl
 
-pub arms_next : (ls : List DeclaredArm) (n j : ℕ) (d : DeclaredArm) → j ≡ suc n → n < length ls → map arm_of (drop n ls) ≡ arm_of (get_or ls n d) ∷ map arm_of (drop j ls)
+pub arms_next : (ls : List DeclaredArm) (n j : ℕ) (d : DeclaredArm) → j ≡ suc n → n < length ls
+    → map arm_of (drop n ls) ≡ arm_of (get_or ls n d) ∷ map arm_of (drop j ls)
 arms_next [] n j d e h = absurd (omega (arith, h))
 arms_next (l ∷ ls) zero zero d e h = absurd (omega (arith, e))
 arms_next (l ∷ ls) zero (suc j) d e h = let same : j ≡ 0 = omega (arith, e) in ap (λ k. arm_of l ∷ map arm_of (drop k ls)) (sym same)
@@ -164,7 +175,8 @@ arms_more ms later count left arms arm set live some within here is m =
 
 -- ---- the marked locals
 
-passing_more : (p : ℕ → Bool) (a n : ℕ) (extra : List ℕ) → (p (a + n) ≡ true → extra ≡ (a + n) ∷ []) → (p (a + n) ≡ false → extra ≡ []) → passing p a (suc n) ≡ passing p a n ++ extra
+passing_more : (p : ℕ → Bool) (a n : ℕ) (extra : List ℕ) → (p (a + n) ≡ true → extra ≡ (a + n) ∷ []) → (p (a + n) ≡ false → extra ≡ [])
+    → passing p a (suc n) ≡ passing p a n ++ extra
 passing_more p a zero extra given left = by_test (p a) refl
   where
     here : a + 0 ≡ a
@@ -179,7 +191,8 @@ passing_more p a (suc n) extra given left =
     same : a + suc n ≡ (a + 1) + n
     same = omega arith
 
-    by_test : (b : Bool) → passing p (a + 1) (suc n) ≡ passing p (a + 1) n ++ extra → cond b (a ∷ passing p (a + 1) (suc n)) (passing p (a + 1) (suc n)) ≡ cond b (a ∷ passing p (a + 1) n) (passing p (a + 1) n) ++ extra
+    by_test : (b : Bool) → passing p (a + 1) (suc n) ≡ passing p (a + 1) n ++ extra
+        → cond b (a ∷ passing p (a + 1) (suc n)) (passing p (a + 1) (suc n)) ≡ cond b (a ∷ passing p (a + 1) n) (passing p (a + 1) n) ++ extra
     by_test true e = ap (λ l. a ∷ l) e
     by_test false e = e
 
@@ -196,7 +209,8 @@ listed_none p end next n =
     let same : 0 + next ≡ next = omega arith in
     sym (gap p 0 0 next (λ y h k. n.none y h (omega (arith, k)))) ∙ ap (passing p 0) same
 
-pub listed_more : (p : ℕ → Bool) (end next more : ℕ) (xs : List ℕ) → xs ≡ filter p (range_with_len 0 next) → p next ≡ true → IsNext p (next + 1) end more → xs ++ next ∷ [] ≡ filter p (range_with_len 0 more)
+pub listed_more : (p : ℕ → Bool) (end next more : ℕ) (xs : List ℕ) → xs ≡ filter p (range_with_len 0 next) → p next ≡ true
+    → IsNext p (next + 1) end more → xs ++ next ∷ [] ≡ filter p (range_with_len 0 more)
 listed_more p end next more xs e passes n =
     let since = n.since in
     let one : next + 1 ≡ suc next = omega arith in

@@ -28,7 +28,8 @@ or_split false b h = inr h
 
 -- ---- uses
 
-used_holds : (h : ℕ → Bool) (s : State) (x : ℕ) (xs : List ℕ) (live : Marks) → Once h (x ∷ xs) live → Holds s (λ y. is_among (x ∷ xs) y || live y) → Holds (use_of h s x) (λ y. is_among xs y || live y)
+used_holds : (h : ℕ → Bool) (s : State) (x : ℕ) (xs : List ℕ) (live : Marks) → Once h (x ∷ xs) live → Holds s (λ y. is_among (x ∷ xs) y || live y)
+    → Holds (use_of h s x) (λ y. is_among xs y || live y)
 used_holds h s x xs live once holds y e = by_test (x == y) (h x) refl refl
   where
     before : s y ≡ Ready
@@ -79,7 +80,8 @@ bound_holds s t live holds y e = by_test (t == y) refl
     by_test true k = refl
     by_test false k = holds y (ap (λ b. not b && live y) k ∙ e)
 
-let_went : (h : ℕ → Bool) (s : State) (l : Let) (live : Marks) → Once h (operands_of l.op) (unless_bound l.target live) → Holds s (λ y. is_among (operands_of l.op) y || unless_bound l.target live y)
+let_went : (h : ℕ → Bool) (s : State) (l : Let) (live : Marks) → Once h (operands_of l.op) (unless_bound l.target live)
+    → Holds s (λ y. is_among (operands_of l.op) y || unless_bound l.target live y)
     → Went h s (let_events no_reads l) live
 let_went h s l live once holds =
     let behind = unless_bound l.target live in
@@ -115,7 +117,8 @@ pub record ParamsLive (blocks : List Block) (later : LaterMarks) (b : ℕ) : Typ
   pub live : (x : ℕ) → is_among (params_at blocks b) x ≡ true → later b x ≡ true
   pub once : (x : ℕ) → times x (params_at blocks b) ≤ 1
 
-jump_ready : (h : ℕ → Bool) (s : State) (blocks : List Block) (later : LaterMarks) (b : ℕ) → ParamsLive blocks later b → Holds s (later b) → AreReady h s (jump_events blocks b)
+jump_ready : (h : ℕ → Bool) (s : State) (blocks : List Block) (later : LaterMarks) (b : ℕ) → ParamsLive blocks later b → Holds s (later b)
+    → AreReady h s (jump_events blocks b)
 jump_ready h s blocks later b p holds =
     (uses_went h s (params_at blocks b) (λ x. false) (λ x heap. (let k = p.once x in omega (arith, k))) (λ y e. either y (or_split (is_among (params_at blocks b) y) false e))).ready
   where
@@ -132,7 +135,8 @@ binds_hold h s (x ∷ xs) live holds = binds_hold h (bind s x) xs live (λ y e. 
     by_test y true t e = refl
     by_test y false t e = holds y (ap (λ b. not (b || is_among xs y) && live y) t ∙ e)
 
-arms_ready : (h : ℕ → Bool) (s : State) (blocks : List Block) (later : LaterMarks) (f : Func) (n : ℕ) (arms : List CaseArm) → ((b : ℕ) → JumpFits f n b → ParamsLive blocks later b) → AllByRecursion (λ a. JumpFits f n a.target) arms
+arms_ready : (h : ℕ → Bool) (s : State) (blocks : List Block) (later : LaterMarks) (f : Func) (n : ℕ) (arms : List CaseArm)
+    → ((b : ℕ) → JumpFits f n b → ParamsLive blocks later b) → AllByRecursion (λ a. JumpFits f n a.target) arms
     → Holds s (λ x. list_any (λ a. not (is_among (bound_by a) x) && later a.target x) arms) → AllByRecursion (AreReady h s) (map (λ a. map Bind (bound_by a) ++ jump_events blocks a.target) arms)
 arms_ready h s blocks later f n [] live ahead holds = tt
 arms_ready h s blocks later f n (a ∷ arms) live ahead holds = (
@@ -143,7 +147,8 @@ arms_ready h s blocks later f n (a ∷ arms) live ahead holds = (
   arms_ready h s blocks later f n arms live ahead.1 (λ y e. holds y (or_second (not (is_among (bound_by a) y) && later a.target y) (list_any (λ a. not (is_among (bound_by a) y) && later a.target y) arms) e)),
 )
 
-onward_ready : (h : ℕ → Bool) (s : State) (blocks : List Block) (later : LaterMarks) (f : Func) (n : ℕ) (t : Term) → ((b : ℕ) → JumpFits f n b → ParamsLive blocks later b) → Ahead f n t → Holds s (onward_live later t)
+onward_ready : (h : ℕ → Bool) (s : State) (blocks : List Block) (later : LaterMarks) (f : Func) (n : ℕ) (t : Term)
+    → ((b : ℕ) → JumpFits f n b → ParamsLive blocks later b) → Ahead f n t → Holds s (onward_live later t)
     → AllByRecursion (AreReady h s) (ways blocks t)
 onward_ready h s blocks later f n (Ret x) live ahead holds = tt
 onward_ready h s blocks later f n (Tail func args) live ahead holds = tt
@@ -157,7 +162,8 @@ onward_ready h s blocks later f n (Case x arms) live ahead holds = arms_ready h 
 -- ---- a block
 
 -- the parameters of a block are ready at its beginning
-start_holds : (h : ℕ → Bool) (params : List ℕ) (live : Marks) → ((x : ℕ) → live x ≡ true → is_among params x ≡ true) → Holds (after h nothing_bound (map Bind params)) live
+start_holds : (h : ℕ → Bool) (params : List ℕ) (live : Marks) → ((x : ℕ) → live x ≡ true → is_among params x ≡ true)
+    → Holds (after h nothing_bound (map Bind params)) live
 start_holds h params live has = binds_hold h nothing_bound params live (λ y e. absurd (none y (split (is_among params y) (live y) e)))
   where
     split : (a b : Bool) → (not a && b) ≡ true → (a ≡ false) × (b ≡ true)
@@ -168,7 +174,8 @@ start_holds h params live has = binds_hold h nothing_bound params live (λ y e. 
     none y p = let clash : false ≡ true = sym p.0 ∙ has y p.1 in absurd cc
 
 -- A block's uses find their locals ready, where its parameters hold what is live there.
-pub block_ready : (h : ℕ → Bool) (blocks : List Block) (later : LaterMarks) (f : Func) (n : ℕ) (params : List ℕ) (b : NormalBlock) → BlockOnce h later b → ((b : ℕ) → JumpFits f n b → ParamsLive blocks later b) → Ahead f n b.term
+pub block_ready : (h : ℕ → Bool) (blocks : List Block) (later : LaterMarks) (f : Func) (n : ℕ) (params : List ℕ) (b : NormalBlock)
+    → BlockOnce h later b → ((b : ℕ) → JumpFits f n b → ParamsLive blocks later b) → Ahead f n b.term
     → ((x : ℕ) → block_live later b x ≡ true → is_among params x ≡ true) → UsesReady no_reads h blocks (record { params = params; lets = b.lets; term = b.term })
 block_ready h blocks later f n params b once live ahead has =
     let s = after h nothing_bound (map Bind params) in

@@ -9,7 +9,7 @@ use Rattle.camelot_tree.specs.declared.tree.Param.{Param}
 use Rattle.camelot_tree.specs.declared.tree.Atom.TheVariants as atom
 use Rattle.camelot_tree.specs.declared.tree.ArmCell.TheVariants as cell
 use Rattle.camelot_tree.specs.Tree.{Expression, Var, Prim, Let, Match, Build, Call, Expressions, NoExpressions, AndExpression, NoArms, AndArm, DataType}
-use Rattle.typing_rules.specs.Typed.{Typing}
+use Rattle.camelot_typing.specs.Typed.{Typing}
 use Rattle.grail_code.specs.Spelling.{number, spelling}
 use Rattle.code_gen.specs.Generated.{compiled}
 

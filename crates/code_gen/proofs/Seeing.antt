@@ -81,16 +81,19 @@ marks_here seen marks count n e =
     let i : count - 1 - n ≡ length seen = omega (arith, e) in
     ap (λ c. if c then get_or (seen ++ marks ∷ []) (count - 1 - n) no_locals else no_locals) t ∙ ap (λ k. get_or (seen ++ marks ∷ []) k no_locals) i ∙ get_last seen marks no_locals
 
-marks_there : (seen : List LocalSet) (marks : LocalSet) (count n b : ℕ) → length seen + suc n ≡ count → (n ≡ b → ⊥) → marks_at (seen ++ marks ∷ []) count b ≡ marks_at seen count b
+marks_there : (seen : List LocalSet) (marks : LocalSet) (count n b : ℕ) → length seen + suc n ≡ count → (n ≡ b → ⊥)
+    → marks_at (seen ++ marks ∷ []) count b ≡ marks_at seen count b
 marks_there seen marks count n b e differ = by_test (nat_lt b count) refl
   where
-    by_test : (c : Bool) → nat_lt b count ≡ c → (if c then get_or (seen ++ marks ∷ []) (count - 1 - b) no_locals else no_locals) ≡ (if c then get_or seen (count - 1 - b) no_locals else no_locals)
+    by_test : (c : Bool) → nat_lt b count ≡ c
+        → (if c then get_or (seen ++ marks ∷ []) (count - 1 - b) no_locals else no_locals) ≡ (if c then get_or seen (count - 1 - b) no_locals else no_locals)
     by_test true t =
         let less : b < count = grind (arith, nat_tests, t) in
         get_others seen marks no_locals (count - 1 - b) (λ q. differ (omega (arith, e, less, q)))
     by_test false t = refl
 
-live_here : (n : ℕ) (body : NormalBlock) (rest : List NormalBlock) (y : ℕ) → live_from n (body ∷ rest) n y ≡ lets_live body.lets (term_live (live_from (suc n) rest) body.term) y
+live_here : (n : ℕ) (body : NormalBlock) (rest : List NormalBlock) (y : ℕ)
+    → live_from n (body ∷ rest) n y ≡ lets_live body.lets (term_live (live_from (suc n) rest) body.term) y
 live_here n body rest y =
     let t : (n == n) ≡ true = grind (arith, nat_tests) in
     ap (λ c. if c then lets_live body.lets (term_live (live_from (suc n) rest) body.term) y else live_from (suc n) rest n y) t
@@ -98,7 +101,8 @@ live_here n body rest y =
 live_there : (n b : ℕ) (body : NormalBlock) (rest : List NormalBlock) (y : ℕ) → (n ≡ b → ⊥) → live_from n (body ∷ rest) b y ≡ live_from (suc n) rest b y
 live_there n b body rest y differ = by_test (b == n) refl
   where
-    by_test : (c : Bool) → (b == n) ≡ c → (if c then lets_live body.lets (term_live (live_from (suc n) rest) body.term) y else live_from (suc n) rest b y) ≡ live_from (suc n) rest b y
+    by_test : (c : Bool) → (b == n) ≡ c
+        → (if c then lets_live body.lets (term_live (live_from (suc n) rest) body.term) y else live_from (suc n) rest b y) ≡ live_from (suc n) rest b y
     by_test true t = absurd (differ (grind (arith, nat_tests, t)))
     by_test false t = refl
 
@@ -125,7 +129,8 @@ one_more blocks n seen marks body is m s = record {
         ∙ sym (live_there n b body (drop (suc n) blocks) y differ)
         ∙ sym (ap (λ l. live_from n l b y) is)
 
-block_here : (bs : List DeclaredBlock) (n : ℕ) (d : DeclaredBlock) → n < length bs → drop n (map block_of bs) ≡ block_of (get_or bs n d) ∷ drop (suc n) (map block_of bs)
+block_here : (bs : List DeclaredBlock) (n : ℕ) (d : DeclaredBlock) → n < length bs
+    → drop n (map block_of bs) ≡ block_of (get_or bs n d) ∷ drop (suc n) (map block_of bs)
 block_here [] n d h = absurd (omega (arith, h))
 block_here (b ∷ bs) zero d h = refl
 block_here (b ∷ bs) (suc n) d h = block_here bs n d (omega (arith, h))
@@ -159,14 +164,16 @@ filter_same p q a (suc n) h =
     ap (λ b. cond b (a ∷ filter p (range_with_len (a + 1) n)) (filter p (range_with_len (a + 1) n))) (h a (omega arith))
     ∙ ap (λ l. cond (q a) (a ∷ l) l) (filter_same p q (a + 1) n (λ y less. h y (omega (arith, less))))
 
-params_same : (f : NormalFunction) (seen : List LocalSet) (n : ℕ) → local_count f ≤ 256 → AreSeen f.blocks 0 seen → told_params (length f.params) (local_count f) seen n ≡ live_params f n
+params_same : (f : NormalFunction) (seen : List LocalSet) (n : ℕ) → local_count f ≤ 256 → AreSeen f.blocks 0 seen
+    → told_params (length f.params) (local_count f) seen n ≡ live_params f n
 params_same f seen zero few s = refl
 params_same f seen (suc n) few s =
     let count = s.count in
     let full : length seen ≡ length f.blocks = omega (arith, count) in
     filter_same (has (marks_at seen (length seen) (suc n))) (live_from 0 f.blocks (suc n)) 0 (local_count f) (λ y less. ap (λ k. told seen k (suc n) y) full ∙ s.tells (suc n) y (omega (arith, less, few)))
 
-coded_same : (takes other : ℕ → List ℕ) (number : ℕ) (bs : List NormalBlock) → ((n : ℕ) → n < number + length bs → takes n ≡ other n) → coded_blocks takes number bs ≡ coded_blocks other number bs
+coded_same : (takes other : ℕ → List ℕ) (number : ℕ) (bs : List NormalBlock) → ((n : ℕ) → n < number + length bs → takes n ≡ other n)
+    → coded_blocks takes number bs ≡ coded_blocks other number bs
 coded_same takes other number [] h = refl
 coded_same takes other number (b ∷ bs) h =
     ap (λ ps. record { params = ps; lets = b.lets; term = b.term } ∷ coded_blocks takes (suc number) bs) (h number (omega arith))
@@ -182,5 +189,6 @@ pub seen_all : (left : ℕ) (bs : List DeclaredBlock) (seen : List LocalSet) →
 seen_all left bs seen e s = subst (λ k. AreSeen (map block_of bs) k seen) e s
 
 -- where nothing was live before
-pub block_alone : (ms : LocalSet) (ls : List Let) (live : Marks) (before : LocalSet) → IsMarked before none_live → ((given : Marks) → IsMarked before given → IsMarked ms (lets_live ls (either_live live given))) → IsMarked ms (lets_live ls live)
+pub block_alone : (ms : LocalSet) (ls : List Let) (live : Marks) (before : LocalSet) → IsMarked before none_live
+    → ((given : Marks) → IsMarked before given → IsMarked ms (lets_live ls (either_live live given))) → IsMarked ms (lets_live ls live)
 block_alone ms ls live before none made = marked_alone ms ls live (made none_live none)

@@ -75,7 +75,8 @@ times_passing p a (suc n) x = by_test (p a) refl (times_passing p (a + 1) n x) (
     none_above zero above same = refl
     none_above (suc k) above same = let q = above (omega arith) in absurd (omega (arith, q, same))
 
-    by_test : (b : Bool) → p a ≡ b → Stands p (a + 1) x (times x (passing p (a + 1) n)) → (a ≡ x) ⊎ (a ≡ x → ⊥) → Stands p a x (times x (chosen b a (passing p (a + 1) n)))
+    by_test : (b : Bool) → p a ≡ b → Stands p (a + 1) x (times x (passing p (a + 1) n)) → (a ≡ x) ⊎ (a ≡ x → ⊥)
+        → Stands p a x (times x (chosen b a (passing p (a + 1) n)))
     by_test false e r q = record { most = r.most; passes = r.passes; above = λ h. (let k = r.above h in omega (arith, k)) }
     by_test true e r (inl same) =
         let one = counted same in

@@ -12,10 +12,10 @@ use Rattle.camelot_tree.specs.Tree as tree
 use Rattle.camelot_tree.specs.Tree.{Function, Source}
 use Rattle.camelot_tree.specs.Shape.{is_nothing, con_is_whole, type_is_whole, fun_is_whole, is_whole}
 use Rattle.camelot_tree.specs.Tokens.{con_is_named, type_is_named, fun_is_named, is_named}
-use Rattle.typing_rules.specs.Kinds.{Globals, field_kind, constructor_kinds, data_kinds}
-use Rattle.typing_rules.specs.Typing.{Signature, ConstructorFits, FunctionsFit}
-use Rattle.typing_rules.specs.Typed.{Typing, IsTyping}
-use Rattle.typing_rules.specs.TypingLaws.{both_hold}
+use Rattle.camelot_typing.specs.Kinds.{Globals, field_kind, constructor_kinds, data_kinds}
+use Rattle.camelot_typing.specs.Typing.{Signature, ConstructorFits, FunctionsFit}
+use Rattle.camelot_typing.specs.Typed.{Typing, IsTyping}
+use Rattle.camelot_typing.specs.TypingLaws.{both_hold}
 use Rattle.grail_code.specs.Limits.{FuncIsWithin, IsWithinLimits, HaveParams, TypeIsNamed, IsNamed}
 use Rattle.normal_form.specs.declared.fault.NormalFault.{NormalFault}
 use Rattle.normal_form.specs.declared.fault.NormalFault.TheVariants.{TooManyLocals, TooManyBlocks}
@@ -41,7 +41,8 @@ bare p true [] h e = refl
 bare p true (a ∷ as') h e = absurd cc
 bare p false fields h e = absurd cc
 
-constructors_are : (p : Source) (cs : List tree.Constructor) → list_all con_is_whole cs ≡ true → AllByRecursion (ConstructorFits p) cs → AllByRecursion IsConstructor (map (constructor_kinds p) cs)
+constructors_are : (p : Source) (cs : List tree.Constructor) → list_all con_is_whole cs ≡ true → AllByRecursion (ConstructorFits p) cs
+    → AllByRecursion IsConstructor (map (constructor_kinds p) cs)
 constructors_are p [] whole fit = tt
 constructors_are p (c ∷ cs) whole fit =
     let both = both_hold (con_is_whole c) (list_all con_is_whole cs) whole in
@@ -53,7 +54,8 @@ front_all : {A : Type 0} (P : A → Type 0) (xs ys : List A) → AllByRecursion 
 front_all P [] ys h = (tt, h)
 front_all P (x ∷ xs) ys h = let r = front_all P xs ys h.1 in ((h.0, r.0), r.1)
 
-types_are : (p : Source) (ts : List tree.DataType) → list_all type_is_whole ts ≡ true → AllByRecursion (λ t. length t.cons ≤ 64) ts → AllByRecursion (ConstructorFits p) (flat_map (λ t. t.cons) ts) → AllByRecursion IsDataType (map (data_kinds p) ts)
+types_are : (p : Source) (ts : List tree.DataType) → list_all type_is_whole ts ≡ true → AllByRecursion (λ t. length t.cons ≤ 64) ts
+    → AllByRecursion (ConstructorFits p) (flat_map (λ t. t.cons) ts) → AllByRecursion IsDataType (map (data_kinds p) ts)
 types_are p [] whole few fit = tt
 types_are p (t ∷ ts) whole few fit =
     let both = both_hold (type_is_whole t) (list_all type_is_whole ts) whole in
@@ -64,7 +66,8 @@ types_are p (t ∷ ts) whole few fit =
     let most = few.0 in
     (record { some_cons = omega (arith, size, some); few_cons = omega (arith, size, most); each = constructors_are p t.cons own.1 parts.0 }, types_are p ts both.1 few.1 parts.1)
 
-cons_named : (p : Source) (cs : List tree.Constructor) → list_all con_is_named cs ≡ true → AllByRecursion (λ c. IsUpperName c.name) (map (constructor_kinds p) cs)
+cons_named : (p : Source) (cs : List tree.Constructor) → list_all con_is_named cs ≡ true
+    → AllByRecursion (λ c. IsUpperName c.name) (map (constructor_kinds p) cs)
 cons_named p [] named = tt
 cons_named p (c ∷ cs) named =
     let both = both_hold (con_is_named c) (list_all con_is_named cs) named in
@@ -99,11 +102,13 @@ no_fault p f h =
     let k : nat_lt 256 (tail_ends p f.body) ≡ false = r.1 in
     record { locals = grind (arith, nat_tests, e); blocks = grind (arith, nat_tests, k) }
 
-few_coded : (takes : ℕ → List ℕ) (number n : ℕ) (bs : List NormalBlock) → n ≤ 240 → AllByRecursion (λ b. length b.lets ≤ suc n) bs → AllByRecursion (λ b. length b.lets ≤ 256) (coded_blocks takes number bs)
+few_coded : (takes : ℕ → List ℕ) (number n : ℕ) (bs : List NormalBlock) → n ≤ 240 → AllByRecursion (λ b. length b.lets ≤ suc n) bs
+    → AllByRecursion (λ b. length b.lets ≤ 256) (coded_blocks takes number bs)
 few_coded takes number n [] h all = tt
 few_coded takes number n (b ∷ bs) h all = (let few = all.0 in omega (arith, few, h), few_coded takes (suc number) n bs h all.1)
 
-pub function_within : (p : Source) (f : Function) (n : NormalFunction) → IsCounted p f n → IsSmall p f → length f.params ≤ 16 → FuncIsWithin (coded live_params n)
+pub function_within : (p : Source) (f : Function) (n : NormalFunction) → IsCounted p f n → IsSmall p f → length f.params ≤ 16
+    → FuncIsWithin (coded live_params n)
 function_within p f n counted small few =
     let size = length_coded (live_params n) 0 n.blocks in
     let params = counted.params in
@@ -120,7 +125,8 @@ function_within p f n counted small few =
       few_lets = few_coded (live_params n) 0 (length n.locals) n.blocks (omega (arith, locals, most_locals)) counted.few_lets;
     }
 
-functions_within : (p : Source) (g : Globals _) (fs : List Function) (ss : List Signature) (ns : List NormalFunction) → FunctionsFit p g fs ss → AreCounted p fs ns → first_fault p fs ss ≡ None → AllByRecursion (λ f. length f.params ≤ 16) fs
+functions_within : (p : Source) (g : Globals _) (fs : List Function) (ss : List Signature) (ns : List NormalFunction) → FunctionsFit p g fs ss
+    → AreCounted p fs ns → first_fault p fs ss ≡ None → AllByRecursion (λ f. length f.params ≤ 16) fs
     → AllByRecursion FuncIsWithin (map (coded live_params) ns)
 functions_within p g [] ss [] fit counted none few = tt
 functions_within p g [] ss (n ∷ ns) fit counted none few = absurd counted
@@ -136,7 +142,8 @@ counted_length p [] (n ∷ ns) h = absurd h
 counted_length p (f ∷ fs) [] h = absurd h
 counted_length p (f ∷ fs) (n ∷ ns) h = ap suc (counted_length p fs ns h.1)
 
-have_params : (p : Source) (fs : List Function) (ns : List NormalFunction) → AreCounted p fs ns → list_all fun_is_whole fs ≡ true → AllByRecursion (λ f. 1 ≤ length f.params) (map (coded live_params) ns)
+have_params : (p : Source) (fs : List Function) (ns : List NormalFunction) → AreCounted p fs ns → list_all fun_is_whole fs ≡ true
+    → AllByRecursion (λ f. 1 ≤ length f.params) (map (coded live_params) ns)
 have_params p [] [] counted whole = tt
 have_params p [] (n ∷ ns) counted whole = absurd counted
 have_params p (f ∷ fs) [] counted whole = absurd counted
@@ -146,7 +153,8 @@ have_params p (f ∷ fs) (n ∷ ns) counted whole =
     let params = counted.0.params in
     (omega (arith, some, params), have_params p fs ns counted.1 both.1)
 
-functions_named : (p : Source) (fs : List Function) (ns : List NormalFunction) → AreCounted p fs ns → list_all fun_is_named fs ≡ true → AllByRecursion (λ f. IsLowerName f.name) (map (coded live_params) ns)
+functions_named : (p : Source) (fs : List Function) (ns : List NormalFunction) → AreCounted p fs ns → list_all fun_is_named fs ≡ true
+    → AllByRecursion (λ f. IsLowerName f.name) (map (coded live_params) ns)
 functions_named p [] [] counted named = tt
 functions_named p [] (n ∷ ns) counted named = absurd counted
 functions_named p (f ∷ fs) [] counted named = absurd counted
@@ -156,7 +164,8 @@ functions_named p (f ∷ fs) (n ∷ ns) counted named =
 
 -- ---- programs
 
-pub within_limits : (t : Typing) → IsTyping t → IsTrue (is_whole t.source) → program_fault t ≡ None → AreCounted t.source t.source.funs (normal_form t).functions → IsWithinLimits (compiled t)
+pub within_limits : (t : Typing) → IsTyping t → IsTrue (is_whole t.source) → program_fault t ≡ None
+    → AreCounted t.source t.source.funs (normal_form t).functions → IsWithinLimits (compiled t)
 within_limits t typing whole none counted =
     let both = both_hold (list_all type_is_whole t.source.types) (list_all fun_is_whole t.source.funs) whole in
     let types_size = length_map (data_kinds t.source) t.source.types in

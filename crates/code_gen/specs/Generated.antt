@@ -1,9 +1,9 @@
 -- Cited by contracts.
--- The code of a program in normal form: the same lets and ends of blocks. The first block of a function has the function's parameters, and
--- each other block has the locals that are live at its beginning, in ascending order.
+-- The code of a program in normal form: the same lets and ends of blocks. The first block of a function has the
+-- function's parameters, and each other block has the locals that are live at its beginning, in ascending order.
 use Rattle.std.specs.Prelude.{ℕ, zero, suc, ◌+◌, length}
 use Rattle.std.specs.List.{filter, range_with_len}
-use Rattle.typing_rules.specs.Typed.{Typing}
+use Rattle.camelot_typing.specs.Typed.{Typing}
 use Rattle.grail_code.specs.Code.{Code}
 use Rattle.normal_form.specs.Normal.{NormalFunction, NormalProgram, normal_form}
 use Rattle.normal_form.specs.Live.{live_from}

@@ -7,7 +7,7 @@ use Rattle.std.specs.List.{filter, list_any, range_with_len}
 use Rattle.grail_blocks.specs.Blocks.{CaseArm, Let}
 use Rattle.grail_blocks.specs.Events.{bound_by, operands_of}
 use Rattle.camelot_tree.specs.Tree.{Function, Source}
-use Rattle.typing_rules.specs.Typing.{Signature}
+use Rattle.camelot_typing.specs.Typing.{Signature}
 use Rattle.grail_code.specs.Limits.{FuncIsWithin}
 use Rattle.normal_form.specs.Answers.{fault_of}
 use Rattle.normal_form.specs.Coded.{coded}
@@ -58,8 +58,8 @@ unless_among bound live y = not (is_among bound y) && live y
 abbrev pub no_locals : LocalSet
 no_locals = record { low = 0; high = 0 }
 
--- The sets of later blocks, the last one's first: that of this block, where a function has `count` blocks. Of a block that isn't later there is
--- none.
+-- The sets of later blocks, the last one's first: that of this block, where a function has `count` blocks. Of a block
+-- that isn't later there is none.
 abbrev pub marks_at : List LocalSet → ℕ → ℕ → LocalSet
 marks_at seen count b = if nat_lt b count then get_or seen (count - 1 - b) no_locals else no_locals
 
@@ -75,13 +75,14 @@ arms_live later arms y = list_any (λ a. not (is_among (bound_by a) y) && later 
 abbrev pub none_live : Marks
 none_live y = false
 
--- Of the blocks from this number on, there is one set each, the last block's first. It tells of each local below 256 whether it is live at the
--- block's beginning.
+-- Of the blocks from this number on, there is one set each, the last block's first. It tells of each local below 256
+-- whether it is live at the block's beginning.
 pub record AreSeen (blocks : List NormalBlock) (number : ℕ) (seen : List LocalSet) : Type 0 where
   pub count : length seen + number ≡ length blocks
   pub tells : (b y : ℕ) → y < 256 → told seen (length blocks) b y ≡ live_from number (drop number blocks) b y
 
--- the parameters of a function's block of this number, where the function has so many, so many locals, and these sets for all its blocks
+-- the parameters of a function's block of this number, where the function has so many, so many locals, and these sets
+-- for all its blocks
 abbrev pub told_params : ℕ → ℕ → List LocalSet → ℕ → List ℕ
 told_params own size seen zero = range_with_len 0 own
 told_params own size seen (suc n) = filter (has (marks_at seen (length seen) (suc n))) (range_with_len 0 size)

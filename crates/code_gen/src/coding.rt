@@ -29,7 +29,8 @@ fn first_locals(alloc: Global, count: usize) -> Result<SmallVec<u32, 4>, AllocEr
     Ok(locals)
 }
 
-// The parameters of a block: the first one has the function's, and each other one the locals that are live at its beginning.
+// The parameters of a block: the first one has the function's, and each other one the locals that are live at its
+// beginning.
 #[tactic(auto, using(crate::proofs::BlockCode::first_params, crate::proofs::BlockCode::later_params))]
 fn block_params(
     alloc: Global,

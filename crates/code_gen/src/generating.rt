@@ -4,9 +4,9 @@ ghost use Rattle.camelot_values.specs.Typing.{ArgumentsFit};
 ghost use Rattle.camelot_tree.specs.Meaning as source;
 ghost use Rattle.camelot_tree.specs.Shape.{is_whole};
 ghost use Rattle.camelot_tree.specs.Tokens.{is_named};
-ghost use Rattle.typing_rules.specs.Kinds.{types_of};
-ghost use Rattle.typing_rules.specs.Typing.{Signature};
-ghost use Rattle.typing_rules.specs.Typed.{IsTyping, Typing};
+ghost use Rattle.camelot_typing.specs.Kinds.{types_of};
+ghost use Rattle.camelot_typing.specs.Typing.{Signature};
+ghost use Rattle.camelot_typing.specs.Typed.{IsTyping, Typing};
 ghost use Rattle.linear_use.specs.Answers.{KeepsRule};
 ghost use Rattle.grail_code.specs.Code.{code_of, func_of};
 ghost use Rattle.grail_code.specs.Limits.{IsWithinLimits};
@@ -37,9 +37,9 @@ fn code_program(alloc: Global, program: Normal) -> Result<Code, AllocError>
     Ok(Code { types, funcs })
 }
 
-/// The code of a program in normal form (`specs/Generated.antt`). The program is taken and not lent, as its lets and the ends of its blocks
-/// become those of the code. What is live comes from one pass over each function's blocks, from the last to the first (Aho, Lam, Sethi and
-/// Ullman 2006, section 9.2.5). An error is want of memory.
+/// The code of a program in normal form (`specs/Generated.antt`). The program is taken and not lent, as its lets and
+/// the ends of its blocks become those of the code. What is live comes from one pass over each function's blocks, from
+/// the last to the first (Aho, Lam, Sethi and Ullman 2006, section 9.2.5). An error is want of memory.
 pub fn generate(alloc: Global, program: Normal) -> Result<Code, AllocError>
     // No function is too large, as in what `normalise` makes (`laws::law_of_limits`).
     requires { IsWithinLimits (code_of_normal (normal_of program)) }
@@ -50,12 +50,17 @@ pub fn generate(alloc: Global, program: Normal) -> Result<Code, AllocError>
     // That of a typed program that keeps the rule of use is well formed.
     ensures well_formed { (t : Typing) → IsTyping t → KeepsRule t → normal_of program ≡ normal_form t → IfOk result (λ code. IsWellFormed (code_of code)) }
 
-    // It means what the program means, on fitting arguments: both come to the same value with the same calls, peak and net, or both stop alike.
-    ensures meaning { (t : Typing) (limit func fuel : ℕ) (args : List Value) (s : Signature) → IsTyping t → KeepsRule t → normal_of program ≡ normal_form t → slice_get t.signatures func ≡ Some s
-        → ArgumentsFit (types_of t.source) s.params args → IfOk result (λ code. run_of (code_of code) limit func fuel args ≡ source.run_of t.source limit func fuel args) }
+    // It means what the program means, on fitting arguments: both come to the same value with the same calls, peak and
+    // net, or both stop alike.
+    ensures meaning { (t : Typing) (limit func fuel : ℕ) (args : List Value) (s : Signature) → IsTyping t
+        → KeepsRule t → normal_of program ≡ normal_form t → slice_get t.signatures func ≡ Some s
+        → ArgumentsFit (types_of t.source) s.params args
+        → IfOk result (λ code. run_of (code_of code) limit func fuel args
+        ≡ source.run_of t.source limit func fuel args) }
 
     // It is within the ranges of the spelling, as the names of a program that was read have their forms.
-    ensures spelled { (t : Typing) → IsTyping t → KeepsRule t → IsTrue (is_whole t.source) → IsTrue (is_named t.source) → program_fault t ≡ None → normal_of program ≡ normal_form t
+    ensures spelled { (t : Typing) → IsTyping t → KeepsRule t → IsTrue (is_whole t.source)
+        → IsTrue (is_named t.source) → program_fault t ≡ None → normal_of program ≡ normal_form t
         → IfOk result (λ code. FitsCode (code_of code)) }
 {
     law_of_compiler();

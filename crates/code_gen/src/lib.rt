@@ -1,4 +1,5 @@
-//! The code of programs in normal form: blocks with the locals that are live at them as parameters (`specs/Generated.antt`).
+//! The code of programs in normal form: blocks with the locals that are live at them as parameters
+//! (`specs/Generated.antt`).
 #![tactic(auto)]
 
 mod coding;

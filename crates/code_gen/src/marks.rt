@@ -144,7 +144,9 @@ pub fn mark_term(marks: &mut LocalSet, term: &Term, later: &[LocalSet], count: u
 
 // What is live at the beginning of a block is marked, where nothing was.
 pub fn mark_block(marks: &mut LocalSet, block: &NormalBlock, later: &[LocalSet], count: usize)
-    ensures { (live : Marks) → IsMarked marks.old live → IsMarked marks.new (lets_live (block_of block.now).lets (either_live (term_live (told later.now count) (block_of block.now).term) live)) }
+    ensures { (live : Marks) → IsMarked marks.old live
+        → IsMarked marks.new (lets_live (block_of block.now).lets
+        (either_live (term_live (told later.now count) (block_of block.now).term) live)) }
 {
     mark_term(marks, &block.term, later, count);
     mark_lets(marks, &block.lets);

@@ -137,7 +137,8 @@ dot_zeros (f ∷ fs) (x ∷ xs) h =
     let z = ap (λ y. f *ℤ y) (h 0 (omega arith)) ∙ times_zero f in
     omega (arith, sums)
 
-all_hold_from : (val : ℕ → ℤ) (xs : List ℤ) (unit : ℤ) (es : List Equation) → ((i : ℕ) → i < length es → Holds (get_or es i no_line) (val (get_or es i no_line).variable) xs unit) → AllHold val xs unit es
+all_hold_from : (val : ℕ → ℤ) (xs : List ℤ) (unit : ℤ) (es : List Equation)
+    → ((i : ℕ) → i < length es → Holds (get_or es i no_line) (val (get_or es i no_line).variable) xs unit) → AllHold val xs unit es
 all_hold_from val xs unit [] h = tt
 all_hold_from val xs unit (e ∷ es) h = (h 0 (omega arith), all_hold_from val xs unit es (λ i p. h (suc i) (omega arith)))
 
@@ -228,7 +229,8 @@ dot_scaled p q (f ∷ fs) (x ∷ xs) (y ∷ ys) e h =
     let c = swap_times p f x ∙ ap (λ z. f *ℤ z) (h 0 (omega arith)) ∙ swap_times f q y in
     omega (arith, sums)
 
-slack_line_at : (n from : ℕ) (rows : List Inequality) (i : ℕ) → i < length rows → get_or (slack_lines n from rows) i no_line ≡ slack_line n (from + i) (get_or rows i no_row)
+slack_line_at : (n from : ℕ) (rows : List Inequality) (i : ℕ) → i < length rows
+    → get_or (slack_lines n from rows) i no_line ≡ slack_line n (from + i) (get_or rows i no_row)
 slack_line_at n from [] i q = absurd (omega arith)
 slack_line_at n from (row ∷ rows) zero q = let e : from ≡ from + 0 = omega arith in ap (λ k. slack_line n k row) e
 slack_line_at n from (row ∷ rows) (suc i) q =

@@ -62,7 +62,8 @@ dot_not_positive val (c ∷ cs) (w ∷ ws) h n =
     omega (arith, sums)
 
 -- a line with a negative constant that no column may enter: nothing is feasible
-pub nothing_feasible : (system : Inequalities) (t : Tableau) (c : Candidate) (unit : ℕ) (point : List ℕ) → IsProper system → NotNegative system.costs → Good system t
+pub nothing_feasible : (system : Inequalities) (t : Tableau) (c : Candidate) (unit : ℕ) (point : List ℕ) → IsProper system → NotNegative system.costs
+    → Good system t
     → leaving t ≡ Some c → entering t (line_at t c.place) ≡ None → IsFeasible system unit point → ⊥
 nothing_feasible system t c unit point proper costs g l e f =
     let gone = leaves_there t c l in
@@ -78,7 +79,8 @@ nothing_feasible system t c unit point proper costs g l e f =
     absurd (omega (arith, sums))
 
 -- the cost of each feasible solution is at least the cost line's constant
-pub cost_at_least : (system : Inequalities) (t : Tableau) (unit : ℕ) (point : List ℕ) → IsProper system → NotNegative system.costs → Good system t → IsFeasible system unit point
+pub cost_at_least : (system : Inequalities) (t : Tableau) (unit : ℕ) (point : List ℕ) → IsProper system → NotNegative system.costs → Good system t
+    → IsFeasible system unit point
     → (t.cost.constant *ℤ pos unit) ≤ℤ (t.cost.divisor *ℤ total system.costs point)
 cost_at_least system t unit point proper costs g f =
     let val = value_at system unit point in

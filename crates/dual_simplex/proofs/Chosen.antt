@@ -49,7 +49,8 @@ leaves_later lines k m c h g = record { inside = omega (arith, g.inside); variab
 record LeavesStep (lines : List Equation) (best : Option Candidate) (next : Candidate) (constant : ℤ) (now : Option Candidate) : Type 0 where
   kept : IfSome now (Leaves lines (suc next.place))
   -- whatever is at most the new one is at most both
-  least : (c : Candidate) → IfSome now (λ x. c.variable ≤ x.variable) → (constant <ℤ pos 0 → c.variable ≤ next.variable) × IfSome best (λ x. c.variable ≤ x.variable)
+  least : (c : Candidate) → IfSome now (λ x. c.variable ≤ x.variable)
+      → (constant <ℤ pos 0 → c.variable ≤ next.variable) × IfSome best (λ x. c.variable ≤ x.variable)
 
 module _ (lines : List Equation) (next : Candidate) (constant : ℤ) (own : constant <ℤ pos 0 → Leaves lines (suc next.place) next) where
   none_step : (b : Bool) → int_lt constant (pos 0) ≡ b → LeavesStep lines None next constant (cond b (Some next) None)
@@ -141,7 +142,8 @@ not_worse_trans a b c p q r x y = record {
       omega arith;
 }
 
-beats_by : (next best : Choice) (x y z : Bool) → int_lt (next.cost *ℤ best.factor) (best.cost *ℤ next.factor) ≡ x → int_le (next.cost *ℤ best.factor) (best.cost *ℤ next.factor) ≡ y
+beats_by : (next best : Choice) (x y z : Bool) → int_lt (next.cost *ℤ best.factor) (best.cost *ℤ next.factor) ≡ x
+    → int_le (next.cost *ℤ best.factor) (best.cost *ℤ next.factor) ≡ y
     → nat_lt next.variable best.variable ≡ z → (x || (y && z)) ≡ true → NotWorse next best
 beats_by next best true y z e f g h =
     let k = lt_of (next.cost *ℤ best.factor) (best.cost *ℤ next.factor) e in
@@ -152,7 +154,8 @@ beats_by next best false true true e f g h =
 beats_by next best false true false e f g h = absurd cc
 beats_by next best false false z e f g h = absurd cc
 
-beaten_by : (next best : Choice) (x y z : Bool) → int_lt (next.cost *ℤ best.factor) (best.cost *ℤ next.factor) ≡ x → int_le (next.cost *ℤ best.factor) (best.cost *ℤ next.factor) ≡ y
+beaten_by : (next best : Choice) (x y z : Bool) → int_lt (next.cost *ℤ best.factor) (best.cost *ℤ next.factor) ≡ x
+    → int_le (next.cost *ℤ best.factor) (best.cost *ℤ next.factor) ≡ y
     → nat_lt next.variable best.variable ≡ z → (x || (y && z)) ≡ false → NotWorse best next
 beaten_by next best true y z e f g h = absurd cc
 beaten_by next best false true true e f g h = absurd cc
@@ -187,11 +190,13 @@ module _ (columns : List ℕ) (costs factors : List ℤ) where
     kept : IfSome now (Enters (suc next.place))
     least : (c : Choice) → pos 0 <ℤ c.factor → IfSome now (NotWorse c) → (pos 0 <ℤ next.factor → NotWorse c next) × IfSome best (NotWorse c)
 
-  enters_none : (next : Choice) → (pos 0 <ℤ next.factor → Enters (suc next.place) next) → (b : Bool) → int_lt (pos 0) next.factor ≡ b → EntersStep None next (cond b (Some next) None)
+  enters_none : (next : Choice) → (pos 0 <ℤ next.factor → Enters (suc next.place) next) → (b : Bool) → int_lt (pos 0) next.factor ≡ b
+      → EntersStep None next (cond b (Some next) None)
   enters_none next own true e = record { kept = own (lt_of (pos 0) next.factor e); least = λ c q h. (λ p. h, tt) }
   enters_none next own false e = record { kept = tt; least = λ c q h. (λ p. (let k = not_lt_of (pos 0) next.factor e in absurd (omega (arith, sums))), tt) }
 
-  enters_some : (next best : Choice) → (pos 0 <ℤ next.factor → Enters (suc next.place) next) → (x y : Bool) → int_lt (pos 0) next.factor ≡ x → beats next best ≡ y → Enters next.place best
+  enters_some : (next best : Choice) → (pos 0 <ℤ next.factor → Enters (suc next.place) next) → (x y : Bool) → int_lt (pos 0) next.factor ≡ x
+      → beats next best ≡ y → Enters next.place best
       → EntersStep (Some best) next (cond (x && y) (Some next) (Some best))
   enters_some next best own true true e f g = record {
     kept = own (lt_of (pos 0) next.factor e);
@@ -206,7 +211,8 @@ module _ (columns : List ℕ) (costs factors : List ℤ) where
     least = λ c q h. (λ p. (let k = not_lt_of (pos 0) next.factor e in absurd (omega (arith, sums))), h);
   }
 
-  enters_step : (next : Choice) → (pos 0 <ℤ next.factor → Enters (suc next.place) next) → (best : Option Choice) → IfSome best (Enters next.place) → EntersStep best next (better best next)
+  enters_step : (next : Choice) → (pos 0 <ℤ next.factor → Enters (suc next.place) next) → (best : Option Choice) → IfSome best (Enters next.place)
+      → EntersStep best next (better best next)
   enters_step next own None h = enters_none next own (int_lt (pos 0) next.factor) refl
   enters_step next own (Some best) h = enters_some next best own (int_lt (pos 0) next.factor) (beats next best) refl refl h
 
@@ -228,7 +234,8 @@ module _ (columns : List ℕ) (costs factors : List ℤ) where
       by (inr k) = t j k (omega arith) f
 
   enters_found : (best : Option Choice) (place below : ℕ) (vs : List ℕ) (cs fs : List ℤ) (c : Choice)
-      → ((j : ℕ) → get_or vs j 0 ≡ get_or columns (place + j) 0) → ((j : ℕ) → get_or cs j (pos 0) ≡ get_or costs (place + j) (pos 0)) → ((j : ℕ) → get_or fs j (pos 0) ≡ get_or factors (place + j) (pos 0))
+      → ((j : ℕ) → get_or vs j 0 ≡ get_or columns (place + j) 0) → ((j : ℕ) → get_or cs j (pos 0) ≡ get_or costs (place + j) (pos 0))
+      → ((j : ℕ) → get_or fs j (pos 0) ≡ get_or factors (place + j) (pos 0))
       → place + length vs ≤ below → length cs ≡ length vs → length fs ≡ length vs
       → IfSome best (Enters place) → entering_from best place vs cs fs ≡ Some c → EntersFound below best place (length vs) c
   enters_found None place below [] cs fs c u a b k p q h e = absurd cc

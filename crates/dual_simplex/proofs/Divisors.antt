@@ -79,6 +79,27 @@ pub shares_at_one : (s t : ℤ) (os us : List ℤ) (i start shared : ℕ) → sh
 shares_at_one s t os us i start shared e before =
     before 1 (subst (λ n. SharesWith n (mixed_all s t (drop i os) (drop i us)) 1) (sym e) (shares_one (mixed_all s t (drop i os) (drop i us))))
 
+-- ---- the same for a list as it stands
+shares_next : (xs : List ℤ) (i : ℕ) → i < length xs → drop i xs ≡ get_or xs i (pos 0) ∷ drop (i + 1) xs
+shares_next xs i p = rw (add-one, drop-cons xs i (pos 0))
+
+pub list_turn : (xs : List ℤ) (i start shared next : ℕ) → i < length xs → IsGreatestCommon shared (unsigned_abs (get_or xs i (pos 0))) next
+    → ((k : ℕ) → SharesWith shared (drop i xs) k → SharesWith start xs k)
+    → (k : ℕ) → SharesWith next (drop (i + 1) xs) k → SharesWith start xs k
+list_turn xs i start shared next p c before k w =
+    before k (subst (λ ys. SharesWith shared ys k) (sym (shares_next xs i p)) (shares_cons shared next k (get_or xs i (pos 0)) (drop (i + 1) xs) c w))
+
+pub list_done : (xs : List ℤ) (i start shared : ℕ) → length xs ≤ i
+    → ((k : ℕ) → SharesWith shared (drop i xs) k → SharesWith start xs k) → SharesWith start xs shared
+list_done xs i start shared p before = before shared (rw (drop_of_length-le xs p) (shares_none shared))
+
+pub list_at_one : (xs : List ℤ) (i start shared : ℕ) → shared ≡ 1
+    → ((k : ℕ) → SharesWith shared (drop i xs) k → SharesWith start xs k) → SharesWith start xs 1
+list_at_one xs i start shared e before = before 1 (subst (λ n. SharesWith n (drop i xs) 1) (sym e) (shares_one (drop i xs)))
+
+pub greatest_swapped : (a b g : ℕ) → IsGreatestCommon a b g → IsGreatestCommon b a g
+greatest_swapped a b g s = record { left = s.right; right = s.left; greatest = λ h v p q. s.greatest h v q p }
+
 pub common_positive_right : (a b g : ℕ) → 0 < b → IsGreatestCommon a b g → 0 < g
 common_positive_right a b g some s = pos_of_dvd_of_pos s.right some
 

@@ -163,7 +163,8 @@ module _ (val : ℕ → ℤ) where
   term_by w x from k (inr p) (inl q) f g = let h = hit_in w x from k p q in omega (arith, sums)
   term_by w x from k (inr p) (inr q) f g = let h = hit_high w x from k q in let n = g q in omega (arith, sums)
 
-  outside_not_negative : (ws : List ℕ) (cs : List ℤ) (from k : ℕ) → NotNegative cs → ((v : ℕ) → v < from → pos 0 ≤ℤ val v) → ((v : ℕ) → from + k ≤ v → pos 0 ≤ℤ val v)
+  outside_not_negative : (ws : List ℕ) (cs : List ℤ) (from k : ℕ) → NotNegative cs → ((v : ℕ) → v < from → pos 0 ≤ℤ val v)
+      → ((v : ℕ) → from + k ≤ v → pos 0 ≤ℤ val v)
       → pos 0 ≤ℤ outside from k ws cs
   outside_not_negative [] cs from k n f g = omega (arith, ints)
   outside_not_negative (w ∷ ws) [] from k n f g = omega (arith, ints)
@@ -280,7 +281,8 @@ module _ (system : Inequalities) (proper : IsProper system) (costs : NotNegative
   prices_length = length-map (prices_of t) (in_unit price_unit) ∙ made_length (λ v. price_of v t.cost.divisor t.columns t.cost.factors) (length t.columns) (length t.lines) ∙ g.lines
 
   -- each price is its slack's factor in the cost over the cost's divisor
-  price_is : (i : ℕ) → i < length system.rows → t.cost.divisor *ℤ pos (get_or prices i 0) ≡ pos price_unit *ℤ cost_of (system.unknowns + i) t.columns t.cost.factors
+  price_is : (i : ℕ) → i < length system.rows
+      → t.cost.divisor *ℤ pos (get_or prices i 0) ≡ pos price_unit *ℤ cost_of (system.unknowns + i) t.columns t.cost.factors
   unfolding prices price_unit
   price_is i q =
       let f = λ (v : ℕ). price_of v t.cost.divisor t.columns t.cost.factors in
@@ -310,7 +312,8 @@ module _ (system : Inequalities) (proper : IsProper system) (costs : NotNegative
       ap (λ v. t.cost.divisor *ℤ v) (sym (ap val g.cost_variable ∙ value_cost system unit point)) ∙ m.cost.is
       ∙ ap (λ x. (t.cost.constant *ℤ pos unit) +ℤ x) (columns_sum val t.columns t.cost.factors system.unknowns (length system.rows) once)
 
-  pub prices_columns : (j : ℕ) → j < system.unknowns → priced j system.rows (map (in_unit (unit_of (prices_of t))) (prices_of t)) ≤ℤ (get_or system.costs j (pos 0) *ℤ pos (unit_of (prices_of t)))
+  pub prices_columns : (j : ℕ) → j < system.unknowns
+      → priced j system.rows (map (in_unit (unit_of (prices_of t))) (prices_of t)) ≤ℤ (get_or system.costs j (pos 0) *ℤ pos (unit_of (prices_of t)))
   unfolding prices price_unit
   prices_columns j p =
       let n = system.unknowns in

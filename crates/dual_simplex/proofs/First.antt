@@ -48,7 +48,8 @@ slack_turn n variable i rows d made next line all p e q before =
     ∙ sym (ap (λ xs. map plain_line made ++ slack_lines n variable (map plain_row xs)) (drop_next rows i d p))
     ∙ before
 
-pub row_at : (n : ℕ) (rows : List Row) (i : ℕ) (d : Row) → i < length rows → All (IsProperRow n) (map plain_row rows) → IsProperRow n (plain_row (get_or rows i d))
+pub row_at : (n : ℕ) (rows : List Row) (i : ℕ) (d : Row) → i < length rows → All (IsProperRow n) (map plain_row rows)
+    → IsProperRow n (plain_row (get_or rows i d))
 row_at n rows i d p h =
     subst (IsProperRow n) (get_or-map plain_row rows i d (plain_row d) p) (h i (plain_row d) (rw (length-map rows plain_row) p))
 
@@ -93,7 +94,8 @@ term_turn n low factors all ts i t x p is e h small before =
       ap (λ y. spread (set factors t.unknown y) (drop (i + 1) ts)) e ∙ ap (λ u. spread (set factors u.unknown u.factor) (drop (i + 1) ts)) is ∙ next,
     )
 
-pub row_item : (n : ℕ) (rows : List Row) (i : ℕ) (row : Row) → i < length rows → row ≡ get_or rows i row → All (IsProperRow n) (map plain_row rows) → IsProperRow n (plain_row row)
+pub row_item : (n : ℕ) (rows : List Row) (i : ℕ) (row : Row) → i < length rows → row ≡ get_or rows i row → All (IsProperRow n) (map plain_row rows)
+    → IsProperRow n (plain_row row)
 row_item n rows i row p is h = subst (λ r. IsProperRow n (plain_row r)) (sym is) (row_at n rows i row p h)
 
 pub rows_from : (n : ℕ) (rows : List Row) → All (λ row. IsProperRow n (plain_row row)) rows → All (IsProperRow n) (map plain_row rows)

@@ -156,7 +156,8 @@ enters_there system t i choice g p e =
     (λ j. ap (λ k. get_or t.cost.factors k (pos 0)) (sym (zero_plus j))) (λ j. ap (λ k. get_or (line_at t i).factors k (pos 0)) (sym (zero_plus j)))
     (omega arith) tt e g.cost_wide (wide_at (length t.columns) t.lines i p g.wide)
 
-pub good_turn : (system : Inequalities) (t : Tableau) (c : Candidate) (choice : Choice) → Good system t → leaving t ≡ Some c → entering t (line_at t c.place) ≡ Some choice
+pub good_turn : (system : Inequalities) (t : Tableau) (c : Candidate) (choice : Choice) → Good system t → leaving t ≡ Some c
+    → entering t (line_at t c.place) ≡ Some choice
     → Good system (pivoted t (line_at t c.place) choice.place)
 good_turn system t c choice g l e =
     let gone = leaves_there t c l in

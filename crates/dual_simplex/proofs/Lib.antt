@@ -1,4 +1,6 @@
 pub mod Wide
+pub mod Cut
+pub mod Exact
 pub mod Divisors
 pub mod Loops
 pub mod Units

@@ -80,7 +80,8 @@ divides_negated : (h : ℕ) (xs : List ℤ) → DividesAll h (map neg_ℤ xs) �
 divides_negated h [] d = tt
 divides_negated h (x ∷ xs) d = (subst (λ n. h ∣ n) (abs_neg x) d.0, divides_negated h xs d.1)
 
-divides_traded : (h : ℕ) (xs : List ℤ) (place : ℕ) (own : ℤ) → place < length xs → h ∣ unsigned_abs (get_or xs place (pos 0)) → DividesAll h (set (map neg_ℤ xs) place own)
+divides_traded : (h : ℕ) (xs : List ℤ) (place : ℕ) (own : ℤ) → place < length xs → h ∣ unsigned_abs (get_or xs place (pos 0))
+    → DividesAll h (set (map neg_ℤ xs) place own)
     → (h ∣ unsigned_abs own) × DividesAll h xs
 divides_traded h [] place own p k d = absurd (omega arith)
 divides_traded h (x ∷ xs) zero own p k d = (d.0, (k, divides_negated h xs d.1))
@@ -88,7 +89,8 @@ divides_traded h (x ∷ xs) (suc place) own p k d =
     let r = divides_traded h xs place own (omega arith) k d.1 in
     (r.0, (subst (λ n. h ∣ n) (abs_neg x) d.0, r.1))
 
-pub solved_reduced : (place entering : ℕ) (e : Equation) → place < length e.factors → pos 0 <ℤ factor_at place e → IsReduced e → IsReduced (solved_for place entering e)
+pub solved_reduced : (place entering : ℕ) (e : Equation) → place < length e.factors → pos 0 <ℤ factor_at place e → IsReduced e
+    → IsReduced (solved_for place entering e)
 solved_reduced place entering e p q r = record {
   positive = q;
   lowest = λ h k.
@@ -129,7 +131,8 @@ one_reduced e d = record {
   lowest = λ h k. eq-one_of_dvd-one (subst (λ x. h ∣ unsigned_abs x) d k.0);
 }
 
-slacks_reduced : (n variable : ℕ) (rows : List Inequality) (i : ℕ) → i < length (slack_lines n variable rows) → IsReduced (get_or (slack_lines n variable rows) i no_line)
+slacks_reduced : (n variable : ℕ) (rows : List Inequality) (i : ℕ) → i < length (slack_lines n variable rows)
+    → IsReduced (get_or (slack_lines n variable rows) i no_line)
 slacks_reduced n variable [] i p = absurd (omega arith)
 slacks_reduced n variable (row ∷ rows) zero p = one_reduced (slack_line n variable row) refl
 slacks_reduced n variable (row ∷ rows) (suc i) p = slacks_reduced n (suc variable) rows i (omega arith)

@@ -41,7 +41,8 @@ value_slack system unit point i p =
     ∙ ap (λ b. cond b (slack unit point (get_or system.rows (n + i - n) no_row)) (total system.costs point)) t
     ∙ ap (λ j. slack unit point (get_or system.rows j no_row)) e
 
-pub value_past : (system : Inequalities) (unit : ℕ) (point : List ℕ) (v : ℕ) → system.unknowns + length system.rows ≤ v → value_at system unit point v ≡ total system.costs point
+pub value_past : (system : Inequalities) (unit : ℕ) (point : List ℕ) (v : ℕ) → system.unknowns + length system.rows ≤ v
+    → value_at system unit point v ≡ total system.costs point
 unfolding value_at
 value_past system unit point v p =
     let f : nat_lt v system.unknowns ≡ false = grind arith in
@@ -49,7 +50,8 @@ value_past system unit point v p =
     ap (λ b. cond b (pos (get_or point v 0)) (cond (nat_lt v (system.unknowns + length system.rows)) (slack unit point (get_or system.rows (v - system.unknowns) no_row)) (total system.costs point))) f
     ∙ ap (λ b. cond b (slack unit point (get_or system.rows (v - system.unknowns) no_row)) (total system.costs point)) g
 
-pub value_cost : (system : Inequalities) (unit : ℕ) (point : List ℕ) → value_at system unit point (system.unknowns + length system.rows) ≡ total system.costs point
+pub value_cost : (system : Inequalities) (unit : ℕ) (point : List ℕ)
+    → value_at system unit point (system.unknowns + length system.rows) ≡ total system.costs point
 value_cost system unit point = value_past system unit point (system.unknowns + length system.rows) (omega arith)
 
 pub slack_is : (unit : ℕ) (point : List ℕ) (row : Inequality) → slack unit point row ≡ sum_at point row.terms +ℤ neg_ℤ (row.least *ℤ pos unit)
@@ -62,7 +64,8 @@ dot_total [] xs = refl
 dot_total (c ∷ cs) [] = refl
 dot_total (c ∷ cs) (x ∷ xs) = ap (λ r. (c *ℤ pos x) +ℤ r) (dot_total cs xs)
 
-set_one : (fs xs : List ℤ) (i : ℕ) (v : ℤ) → i < length fs → i < length xs → get_or fs i (pos 0) ≡ pos 0 → dot (set fs i v) xs ≡ dot fs xs +ℤ (v *ℤ get_or xs i (pos 0))
+set_one : (fs xs : List ℤ) (i : ℕ) (v : ℤ) → i < length fs → i < length xs → get_or fs i (pos 0) ≡ pos 0
+    → dot (set fs i v) xs ≡ dot fs xs +ℤ (v *ℤ get_or xs i (pos 0))
 set_one fs xs i v p q z =
     let k = set_dot fs xs i v (get_or xs i (pos 0)) p q in
     let e = ap (λ ys. dot (set fs i v) ys) (set-get_or xs i (pos 0)) in
@@ -108,7 +111,8 @@ row_dot n row point h p =
     let z = zeros_dot n (map pos point) in
     omega (arith, sums)
 
-range_values : (f : ℕ → ℤ) (xs : List ℕ) (a : ℕ) → ((j : ℕ) → j < length xs → f (a + j) ≡ pos (get_or xs j 0)) → map f (range_with_len a (length xs)) ≡ map pos xs
+range_values : (f : ℕ → ℤ) (xs : List ℕ) (a : ℕ) → ((j : ℕ) → j < length xs → f (a + j) ≡ pos (get_or xs j 0))
+    → map f (range_with_len a (length xs)) ≡ map pos xs
 range_values f [] a h = refl
 range_values f (x ∷ xs) a h =
     let e : a + 0 ≡ a = omega arith in
@@ -133,8 +137,10 @@ slack_holds system unit variable point row h p =
     let f = times_neg row.least (pos unit) in
     record { is = omega (arith, sums) }
 
-slacks_hold : (system : Inequalities) (unit : ℕ) (point : List ℕ) (xs : List ℤ) (i : ℕ) (rows : List Inequality) → length point ≡ system.unknowns → xs ≡ map pos point
-    → All (IsProperRow system.unknowns) rows → ((j : ℕ) → j < length rows → get_or rows j no_row ≡ get_or system.rows (i + j) no_row) → i + length rows ≡ length system.rows
+slacks_hold : (system : Inequalities) (unit : ℕ) (point : List ℕ) (xs : List ℤ) (i : ℕ) (rows : List Inequality) → length point ≡ system.unknowns
+    → xs ≡ map pos point
+    → All (IsProperRow system.unknowns) rows → ((j : ℕ) → j < length rows → get_or rows j no_row ≡ get_or system.rows (i + j) no_row)
+    → i + length rows ≡ length system.rows
     → AllHold (value_at system unit point) xs (pos unit) (slack_lines system.unknowns (system.unknowns + i) rows)
 slacks_hold system unit point xs i [] p x h a k = tt
 slacks_hold system unit point xs i (row ∷ rows) p x h a k =

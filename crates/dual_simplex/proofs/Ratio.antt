@@ -134,7 +134,8 @@ le_of a b h = omega (arith, ints)
 beats_at_most : (next best : Choice) → beats next best ≡ true → AtMost next best
 beats_at_most next best h = by (int_lt (next.cost *ℤ best.factor) (best.cost *ℤ next.factor)) refl (int_le (next.cost *ℤ best.factor) (best.cost *ℤ next.factor)) refl h
   where
-    by : (p : Bool) → int_lt (next.cost *ℤ best.factor) (best.cost *ℤ next.factor) ≡ p → (q : Bool) → int_le (next.cost *ℤ best.factor) (best.cost *ℤ next.factor) ≡ q
+    by : (p : Bool) → int_lt (next.cost *ℤ best.factor) (best.cost *ℤ next.factor) ≡ p → (q : Bool)
+        → int_le (next.cost *ℤ best.factor) (best.cost *ℤ next.factor) ≡ q
         → (p || (q && nat_lt next.variable best.variable)) ≡ true → AtMost next best
     by true e q f h = let k = lt_of (next.cost *ℤ best.factor) (best.cost *ℤ next.factor) e in omega (arith, sums)
     by false e true f h = le_of (next.cost *ℤ best.factor) (best.cost *ℤ next.factor) f
@@ -192,7 +193,8 @@ module _ (costs factors : List ℤ) (next : Choice) (fine : pos 0 <ℤ next.fact
     next_some b true false e f q h p = at_most_trans choice b next own q p h (not_beats_at_most next b f)
     next_some b false y e f q h p = let k = not_lt_of (pos 0) next.factor e in absurd (omega (arith, sums))
 
-    step_next : (best : Option Choice) → IfSome best (Fine costs factors next.place) → IfSome (better best next) (AtMost choice) → pos 0 <ℤ next.factor → AtMost choice next
+    step_next : (best : Option Choice) → IfSome best (Fine costs factors next.place) → IfSome (better best next) (AtMost choice)
+        → pos 0 <ℤ next.factor → AtMost choice next
     step_next None g h p = next_none (int_lt (pos 0) next.factor) refl h p
     step_next (Some b) g h p = next_some b (int_lt (pos 0) next.factor) (beats next b) refl refl g.positive h p
 
@@ -285,7 +287,8 @@ none_enters_by : (b : Bool) (v : ℕ) (c f : ℤ) (place : ℕ) (vs : List ℕ) 
 none_enters_by true v c f place vs cs fs t ih e = absurd (some_stays vs cs fs (suc place) (record { place = place; variable = v; cost = c; factor = f }) e)
 none_enters_by false v c f place vs cs fs t ih e = (not_lt_of (pos 0) f t, ih e)
 
-pub none_enters : (place : ℕ) (vs : List ℕ) (cs fs : List ℤ) → length cs ≡ length vs → length fs ≡ length vs → entering_from None place vs cs fs ≡ None → NotPositive fs
+pub none_enters : (place : ℕ) (vs : List ℕ) (cs fs : List ℤ) → length cs ≡ length vs → length fs ≡ length vs
+    → entering_from None place vs cs fs ≡ None → NotPositive fs
 none_enters place [] cs [] p q e = tt
 none_enters place [] cs (f ∷ fs) p q e = absurd (omega (arith, q))
 none_enters place (v ∷ vs) [] fs p q e = absurd (omega (arith, p))

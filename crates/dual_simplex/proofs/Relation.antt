@@ -97,7 +97,8 @@ module _ (system : Inequalities) (t : Tableau) (good : Good system t) where
   none_of : leaving t ≡ None → NoLeaving t
   none_of e = subst (λ o. MatchOption o (NoLeaving t) (λ x. IsLeaving t x.place)) e (leaves_rightly t)
 
-  column_of : (i : ℕ) → i < length t.lines → (o : Option Choice) → entering t (line_at t i) ≡ o → MatchOption o (NoEntering t (line_at t i)) (λ x. IsEntering t (line_at t i) x.place)
+  column_of : (i : ℕ) → i < length t.lines → (o : Option Choice) → entering t (line_at t i) ≡ o
+      → MatchOption o (NoEntering t (line_at t i)) (λ x. IsEntering t (line_at t i) x.place)
   column_of i p o e =
       subst (λ o. MatchOption o (NoEntering t (line_at t i)) (λ x. IsEntering t (line_at t i) x.place)) e
       (enters_rightly t (line_at t i) good.cost_wide (wide_at (length t.columns) t.lines i p good.wide))
@@ -181,7 +182,8 @@ module _ (system : Inequalities) (left pivot : ℕ) (t : Tableau) (good : Good s
       let l = leaves_of system t good c e in
       goes c.place d.place fit l (column_of system t good c.place l.inside (Some d) some) (f c d fit e some)
 
-  some_line : Goes → all_fit t ≡ true → (o : Option Candidate) → leaving t ≡ o → Turn pivot t (next_of left pivot) (pivot + pivots_from left t) (run_from left pivot t)
+  some_line : Goes → all_fit t ≡ true → (o : Option Candidate) → leaving t ≡ o
+      → Turn pivot t (next_of left pivot) (pivot + pivots_from left t) (run_from left pivot t)
   some_line f fit None e =
       let k = pivots_ends left t fit e in
       ends fit (none_of system t good e) (omega (arith, k)) (run_ends left pivot t fit e)
@@ -310,5 +312,6 @@ tableau_reduced system n t proper h = (all_fine system n t proper h).reduced
 pub tableau_line : (system : Inequalities) (n : ℕ) (t : Tableau) → IsProper system → IsTableauOf system n t → PicksLine t
 tableau_line system n t proper h = picks_line system t (all_fine system n t proper h).good
 
-pub tableau_column : (system : Inequalities) (n : ℕ) (t : Tableau) (i : ℕ) → IsProper system → IsTableauOf system n t → i < length t.lines → PicksColumn t (line_at t i)
+pub tableau_column : (system : Inequalities) (n : ℕ) (t : Tableau) (i : ℕ) → IsProper system → IsTableauOf system n t → i < length t.lines
+    → PicksColumn t (line_at t i)
 tableau_column system n t i proper h p = picks_column system t (all_fine system n t proper h).good i p

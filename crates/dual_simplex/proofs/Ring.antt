@@ -1,4 +1,5 @@
--- The ring of whole numbers: the laws by which products are taken apart, and sets for sums and orders that leave products alone.
+-- The ring of whole numbers: the laws by which products are taken apart, and sets for sums and orders that leave
+-- products alone.
 use Rattle.std.proofs.Common.{◌≡◌, suc, zero, ◌*◌, ℤ, pos, negsuc, ◌+ℤ◌, ◌*ℤ◌, arith, ap, sym, ◌∙◌, ◌⊎◌, inl, inr}
 use Rattle.std.specs.Prelude.{neg_ℤ, ◌<ℤ◌, ◌≤ℤ◌}
 use Rattle.std.proofs.lemmas.Int.{ints}

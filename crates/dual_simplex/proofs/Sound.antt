@@ -1,14 +1,14 @@
 -- What a pivot does keeps the equations sound.
-use Rattle.std.proofs.Common.{◌≡◌, ℕ, suc, zero, ◌*◌, ◌/◌, ◌<◌, ℤ, pos, negsuc, ◌*ℤ◌, List, [], ◌∷◌, map, length, set, get_or, Bool, true, false, ◌&&◌, nat_eq, arith, ap, sym, ◌∙◌, refl, subst, unsigned_abs, cond}
-use Rattle.std.proofs.lemmas.Int.{ints}
+use Rattle.std.proofs.Common.{◌≡◌, ℕ, suc, zero, ◌+◌, ◌*◌, ◌/◌, ◌^◌, ◌<◌, ◌≤◌, ℤ, pos, negsuc, ◌*ℤ◌, List, [], ◌∷◌, map, length, set, get_or, Bool, true, false, ◌&&◌, nat_eq, arith, ap, sym, ◌∙◌, refl, subst, unsigned_abs, cond, mul-le-mul}
+use Rattle.std.proofs.lemmas.Int.{ints, unsigned_abs-mul}
 use Rattle.std.proofs.lemmas.List.{length-map, length-set}
 use Rattle.std.proofs.lemmas.List.Recursion.{and_set}
 use Rattle.std.specs.Prelude.{Result, OnOk, OnErr, MatchResult, Ok, Err, ◌<ℤ◌, int_div, neg_ℤ}
 use Rattle.std.specs.List.{list_all}
-use native.Mathlib.Nat.{div-mul_cancel}
+use native.Mathlib.Nat.{div-mul_cancel, div-le_self}
 use Prim.Native.Nat.{◌∣◌}
 use Rattle.dual_simplex.specs.Division.{divides_all, greatest_up_to, common_divisor, DividesAll}
-use Rattle.dual_simplex.specs.Equation.{Equation, is_small, fits, factor_at, solved_for, mixed_all, without, combined, divided, put_in}
+use Rattle.dual_simplex.specs.Equation.{Equation, is_small, fits, factor_at, solved_for, mixed, mixed_all, without, combined, divided, put_in}
 use Rattle.std.proofs.lemmas.List.{get_or-map}
 use Rattle.std.specs.Prelude.{All}
 use Rattle.dual_simplex.specs.declared.line.Line.{Line}
@@ -16,6 +16,7 @@ use Rattle.dual_simplex.specs.declared.tableau.Tableau.{Tableau}
 use Rattle.dual_simplex.specs.Tableau.{all_fit, no_line}
 use Rattle.dual_simplex.specs.Lines.{plain_line, plain_tableau, IsSoundLine, IsSoundTableau}
 use Rattle.dual_simplex.proofs.Divisors.{one_divides_all, from_test}
+use Rattle.dual_simplex.proofs.Wide.{abs_sum}
 
 and_left : (a b : Bool) → (a && b) ≡ true → a ≡ true
 and_left true b p = refl
@@ -83,7 +84,8 @@ sound_without width place e s = record {
 }
 
 -- ---- the solved equation
-pub sound_solved : (width place entering : ℕ) (e : Equation) → IsSoundLine width e → pos 0 <ℤ factor_at place e → IsSoundLine width (solved_for place entering e)
+pub sound_solved : (width place entering : ℕ) (e : Equation) → IsSoundLine width e → pos 0 <ℤ factor_at place e
+    → IsSoundLine width (solved_for place entering e)
 sound_solved width place entering e s p = record {
   columns = length-set (map neg_ℤ e.factors) place e.divisor ∙ length-map e.factors neg_ℤ ∙ s.columns;
   positive = p;
@@ -102,7 +104,8 @@ length-mixed_all s t [] us h = refl
 length-mixed_all s t (o ∷ os) [] h = absurd (omega (arith, h))
 length-mixed_all s t (o ∷ os) (u ∷ us) h = ap suc (length-mixed_all s t os us (omega (arith, h)))
 
-greatest_divides_by : (b : Bool) (n : ℕ) (xs : List ℤ) → divides_all (suc n) xs ≡ b → DividesAll (greatest_up_to n xs) xs → DividesAll (cond b (suc n) (greatest_up_to n xs)) xs
+greatest_divides_by : (b : Bool) (n : ℕ) (xs : List ℤ) → divides_all (suc n) xs ≡ b → DividesAll (greatest_up_to n xs) xs
+    → DividesAll (cond b (suc n) (greatest_up_to n xs)) xs
 greatest_divides_by true n xs e d = from_test (suc n) xs e
 greatest_divides_by false n xs e d = d
 
@@ -143,6 +146,74 @@ sound_lowest width times solved own new shared s o g e small = record {
   small = small;
 }
 
+pub abs_positive : (x : ℤ) → pos 0 <ℤ x → 0 < unsigned_abs x
+abs_positive x h = omega (arith, ints)
+
+-- ---- an equation divided
+divided_small : (x : ℤ) (g : ℕ) → is_small x ≡ true → is_small (int_div x (pos g)) ≡ true
+divided_small (pos n) g h = let k = div-le_self n g in grind arith
+divided_small (negsuc n) g h = let k = div-le_self (suc n) g in grind arith
+
+all_divided_small : (xs : List ℤ) (g : ℕ) → list_all is_small xs ≡ true → list_all is_small (map (λ x. int_div x (pos g)) xs) ≡ true
+all_divided_small [] g h = refl
+all_divided_small (x ∷ xs) g h =
+    and_both (is_small (int_div x (pos g))) (list_all is_small (map (λ y. int_div y (pos g)) xs)) (divided_small x g (and_left (is_small x) (list_all is_small xs) h)) (all_divided_small xs g (and_right (is_small x) (list_all is_small xs) h))
+
+pub divided_fits : (g : ℕ) (e : Equation) → fits e ≡ true → fits (divided g e) ≡ true
+divided_fits g e h = fits_from (divided g e) (divided_small e.divisor g (fits_divisor e h)) (divided_small e.constant g (fits_constant e h)) (all_divided_small e.factors g (fits_factors e h))
+
+by_one : (x : ℤ) → int_div x (pos 1) ≡ x
+by_one (pos n) = omega (arith, ints)
+by_one (negsuc n) = omega (arith, ints)
+
+all_by_one : (xs : List ℤ) → map (λ x. int_div x (pos 1)) xs ≡ xs
+all_by_one [] = refl
+all_by_one (x ∷ xs) = λ i. by_one x i ∷ all_by_one xs i
+
+pub divided_by_one : (e : Equation) → divided 1 e ≡ e
+divided_by_one e = λ i. record { variable = e.variable; divisor = by_one e.divisor i; constant = by_one e.constant i; factors = all_by_one e.factors i }
+
+pub divided_is : (e : Equation) (g : ℕ) (x k : ℤ) (xs : List ℤ) → x ≡ int_div e.divisor (pos g) → k ≡ int_div e.constant (pos g)
+    → xs ≡ map (λ y. int_div y (pos g)) e.factors
+    → ◌≡◌ {A = Equation} (record { variable = e.variable; divisor = x; constant = k; factors = xs }) (divided g e)
+divided_is e g x k xs p q r = λ i. record { variable = e.variable; divisor = p i; constant = q i; factors = r i }
+
+-- ---- an equation whose numbers stay small
+mixed_small : (s t o u : ℤ) (a b : ℕ) → unsigned_abs o ≤ a → unsigned_abs u ≤ b → unsigned_abs s * a + unsigned_abs t * b ≤ 2 ^ 62
+    → is_small (mixed s t o u) ≡ true
+mixed_small s t o u a b p q h =
+    let r : unsigned_abs s ≤ unsigned_abs s = omega arith in
+    let v : unsigned_abs t ≤ unsigned_abs t = omega arith in
+    let j = mul-le-mul r p in
+    let k = mul-le-mul v q in
+    let all : unsigned_abs (mixed s t o u) ≤ 2 ^ 62 = omega (arith, abs_sum (s *ℤ o) (t *ℤ u), unsigned_abs-mul s o, unsigned_abs-mul t u, j, k, h) in
+    grind arith
+
+all_mixed_small : (s t : ℤ) (os us : List ℤ) (a b : ℕ) → All (λ x. unsigned_abs x ≤ a) os → All (λ x. unsigned_abs x ≤ b) us
+    → unsigned_abs s * a + unsigned_abs t * b ≤ 2 ^ 62 → list_all is_small (mixed_all s t os us) ≡ true
+all_mixed_small s t [] us a b p q h = refl
+all_mixed_small s t (o ∷ os) [] a b p q h = refl
+all_mixed_small s t (o ∷ os) (u ∷ us) a b p q h =
+    and_both (is_small (mixed s t o u)) (list_all is_small (mixed_all s t os us)) (mixed_small s t o u a b (p 0 o (omega arith)) (q 0 u (omega arith)) h)
+    (all_mixed_small s t os us a b (λ k d r. p (suc k) d (omega arith)) (λ k d r. q (suc k) d (omega arith)) h)
+
+pub combined_fits : (times : ℤ) (solved e : Equation) (a b : ℕ) → unsigned_abs e.divisor ≤ a → unsigned_abs e.constant ≤ a
+    → All (λ x. unsigned_abs x ≤ a) e.factors
+    → unsigned_abs solved.constant ≤ b → All (λ x. unsigned_abs x ≤ b) solved.factors
+    → unsigned_abs solved.divisor * a + unsigned_abs times * b ≤ 2 ^ 62 → fits (combined times solved e) ≡ true
+combined_fits times solved e a b p q r v w h =
+    let n : pos 0 ≡ times *ℤ pos 0 = omega (arith, ints) in
+    let one : mixed solved.divisor times e.divisor (pos 0) ≡ solved.divisor *ℤ e.divisor = omega (arith, ints, n) in
+    fits_from (combined times solved e)
+    (subst (λ x. is_small x ≡ true) one (mixed_small solved.divisor times e.divisor (pos 0) a b p (omega arith) h))
+    (mixed_small solved.divisor times e.constant solved.constant a b q v h)
+    (all_mixed_small solved.divisor times e.factors solved.factors a b r w h)
+
+pub plainly_combined : (times : ℤ) (solved e : Equation) (x k : ℤ) (xs : List ℤ) → x ≡ solved.divisor *ℤ e.divisor
+    → k ≡ mixed solved.divisor times e.constant solved.constant → xs ≡ mixed_all solved.divisor times e.factors solved.factors
+    → ◌≡◌ {A = Equation} (record { variable = e.variable; divisor = x; constant = k; factors = xs }) (combined times solved e)
+plainly_combined times solved e x k xs p q r = λ i. record { variable = e.variable; divisor = p i; constant = q i; factors = r i }
+
 -- ---- results
 pub on_ok : {A B : Type 0} {P Q : Type 0} (r : Result A B) → (P → Q) → OnOk r P → OnOk r Q
 on_ok (Ok x) f h = f h
@@ -175,7 +246,8 @@ zero_or_not place solved e other =
     not_zero (negsuc n) h = grind arith
 
 -- ---- equations, number by number
-pub solved_is : (place entering : ℕ) (e : Equation) (x k y : ℤ) (xs : List ℤ) → x ≡ factor_at place e → k ≡ neg_ℤ e.constant → y ≡ e.divisor → xs ≡ map neg_ℤ e.factors
+pub solved_is : (place entering : ℕ) (e : Equation) (x k y : ℤ) (xs : List ℤ) → x ≡ factor_at place e → k ≡ neg_ℤ e.constant → y ≡ e.divisor
+    → xs ≡ map neg_ℤ e.factors
     → ◌≡◌ {A = Equation} (record { variable = entering; divisor = x; constant = k; factors = set xs place y }) (solved_for place entering e)
 solved_is place entering e x k y xs p q s r = λ i. record { variable = entering; divisor = p i; constant = q i; factors = set (r i) place (s i) }
 

@@ -27,7 +27,8 @@ over_times val a x from (suc k) =
     let f = distrib_right (a from *ℤ val from) (over val a (suc from) k) x in
     omega (arith, sums)
 
-over_at_most : (val a b : ℕ → ℤ) (from k : ℕ) → ((v : ℕ) → pos 0 ≤ℤ val v) → ((v : ℕ) → from ≤ v → v < from + k → a v ≤ℤ b v) → over val a from k ≤ℤ over val b from k
+over_at_most : (val a b : ℕ → ℤ) (from k : ℕ) → ((v : ℕ) → pos 0 ≤ℤ val v) → ((v : ℕ) → from ≤ v → v < from + k → a v ≤ℤ b v)
+    → over val a from k ≤ℤ over val b from k
 over_at_most val a b from zero n h = omega (arith, ints)
 over_at_most val a b from (suc k) n h =
     let ih = over_at_most val a b (suc from) k n (λ v p q. h v (omega arith) (omega arith)) in
@@ -70,7 +71,8 @@ abbrev priced_sums : List ℕ → List Inequality → List ℕ → ℤ
 priced_sums point (row ∷ rows) (price ∷ prices) = (sum_at point row.terms *ℤ pos price) +ℤ priced_sums point rows prices
 priced_sums point rows prices = pos 0
 
-exchange : (point : List ℕ) (rows : List Inequality) (prices : List ℕ) → priced_sums point rows prices ≡ over (at_point point) (λ j. priced j rows prices) 0 (length point)
+exchange : (point : List ℕ) (rows : List Inequality) (prices : List ℕ)
+    → priced_sums point rows prices ≡ over (at_point point) (λ j. priced j rows prices) 0 (length point)
 exchange point [] prices = sym (over_nothing (at_point point) 0 (length point))
 exchange point (row ∷ rows) [] = sym (over_nothing (at_point point) 0 (length point))
 exchange point (row ∷ rows) (price ∷ prices) =
@@ -82,7 +84,8 @@ exchange point (row ∷ rows) (price ∷ prices) =
     let c = ap (λ x. x *ℤ pos price) (row_over point row.terms) in
     omega (arith, sums)
 
-worth_at_most : (unit : ℕ) (point : List ℕ) (rows : List Inequality) (prices : List ℕ) → All (IsMet unit point) rows → (worth rows prices *ℤ pos unit) ≤ℤ priced_sums point rows prices
+worth_at_most : (unit : ℕ) (point : List ℕ) (rows : List Inequality) (prices : List ℕ) → All (IsMet unit point) rows
+    → (worth rows prices *ℤ pos unit) ≤ℤ priced_sums point rows prices
 worth_at_most unit point [] prices h = omega (arith, ints)
 worth_at_most unit point (row ∷ rows) [] h = omega (arith, ints)
 worth_at_most unit point (row ∷ rows) (price ∷ prices) h =
@@ -97,7 +100,8 @@ total_none : (xs : List ℕ) → total [] xs ≡ pos 0
 total_none xs = refl
 
 -- what a point costs, unknown by unknown
-cost_over : (cs : List ℤ) (whole xs : List ℕ) (all : List ℤ) (from : ℕ) → ((j : ℕ) → get_or cs j (pos 0) ≡ get_or all (from + j) (pos 0)) → ((j : ℕ) → get_or xs j 0 ≡ get_or whole (from + j) 0)
+cost_over : (cs : List ℤ) (whole xs : List ℕ) (all : List ℤ) (from : ℕ) → ((j : ℕ) → get_or cs j (pos 0) ≡ get_or all (from + j) (pos 0))
+    → ((j : ℕ) → get_or xs j 0 ≡ get_or whole (from + j) 0)
     → total cs xs ≡ over (at_point whole) (λ j. get_or all j (pos 0)) from (length xs)
 cost_over [] whole [] all from f g = refl
 cost_over (c ∷ cs) whole [] all from f g = refl

@@ -5,14 +5,15 @@ use Rattle.dual_simplex.specs.Equation.{Equation}
 use Rattle.dual_simplex.specs.Tableau.{Tableau}
 use Rattle.dual_simplex.specs.declared.answer.Fraction.{Fraction}
 
--- the value of a variable: constant over divisor where it is basic, and 0 elsewhere. At the end no constant is negative.
+-- the value of a variable: constant over divisor where it is basic, and 0 elsewhere. At the end no constant is
+-- negative.
 abbrev pub value_of : ℕ → List Equation → Fraction
 value_of v [] = record { above = 0; below = 1 }
 value_of v (e ∷ es) =
     if e.variable == v then record { above = unsigned_abs e.constant; below = unsigned_abs e.divisor } else value_of v es
 
--- the price of a row: its slack's factor in the cost over the cost's divisor where the slack has a column, and 0 elsewhere.
--- No factor of the cost is ever negative.
+-- the price of a row: its slack's factor in the cost over the cost's divisor where the slack has a column, and 0
+-- elsewhere. No factor of the cost is ever negative.
 abbrev pub price_of : ℕ → ℤ → List ℕ → List ℤ → Fraction
 price_of v divisor (w ∷ ws) (c ∷ cs) =
     if w == v then record { above = unsigned_abs c; below = unsigned_abs divisor } else price_of v divisor ws cs
@@ -41,7 +42,8 @@ abbrev pub product_of : List Fraction → ℕ
 product_of [] = 1
 product_of (f ∷ fs) = f.below * product_of fs
 
--- the least unit that makes all of them whole. The code takes the least common multiple of the denominators in lowest terms.
+-- the least unit that makes all of them whole. The code takes the least common multiple of the denominators in lowest
+-- terms.
 abbrev pub unit_of : List Fraction → ℕ
 unit_of fs = least_from 1 (product_of fs) fs
 

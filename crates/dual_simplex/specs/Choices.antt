@@ -3,8 +3,8 @@ use Rattle.std.specs.Prelude.{◌≡◌, ℕ, pos, ◌*ℤ◌, ◌<ℤ◌, ◌�
 use Rattle.dual_simplex.specs.Equation.{Equation, factor_at}
 use Rattle.dual_simplex.specs.Tableau.{Tableau, line_at}
 
--- The basic variable of this line leaves the basis: its constant is negative, and of the basic variables with a negative constant
--- none has a lesser number (Bland 1977).
+-- The basic variable of this line leaves the basis: its constant is negative, and of the basic variables with a
+-- negative constant none has a lesser number (Bland 1977).
 pub record IsLeaving (t : Tableau) (i : ℕ) : Type 0 where
   pub inside : i < length t.lines
   pub negative : (line_at t i).constant <ℤ pos 0
@@ -14,12 +14,13 @@ pub record IsLeaving (t : Tableau) (i : ℕ) : Type 0 where
 abbrev pub NoLeaving : Tableau → Type 0
 NoLeaving t = (i : ℕ) → i < length t.lines → pos 0 ≤ℤ (line_at t i).constant
 
--- The ratio of one column, its factor in the cost over that in the leaving line, is at most another's. Both factors in the line are positive.
+-- The ratio of one column, its factor in the cost over that in the leaving line, is at most another's. Both factors in
+-- the line are positive.
 abbrev pub RatioAtMost : Tableau → Equation → ℕ → ℕ → Type 0
 RatioAtMost t line i j = (factor_at i t.cost *ℤ factor_at j line) ≤ℤ (factor_at j t.cost *ℤ factor_at i line)
 
--- The variable of this column enters the basis: its factor in the leaving line is positive, of all such columns it has the least
--- ratio (Lemke 1954), and of those with the same ratio the least number (Bland 1977).
+-- The variable of this column enters the basis: its factor in the leaving line is positive, of all such columns it has
+-- the least ratio (Lemke 1954), and of those with the same ratio the least number (Bland 1977).
 pub record IsEntering (t : Tableau) (line : Equation) (j : ℕ) : Type 0 where
   pub inside : j < length t.columns
   pub positive : pos 0 <ℤ factor_at j line

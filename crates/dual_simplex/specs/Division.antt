@@ -12,7 +12,8 @@ abbrev pub greatest_up_to : ℕ → List ℤ → ℕ
 greatest_up_to zero xs = 1
 greatest_up_to (suc n) xs = if divides_all (suc n) xs then suc n else greatest_up_to n xs
 
--- the greatest common divisor of a number, which isn't 0, and of those of a list. The code takes it by Euclid's algorithm.
+-- the greatest common divisor of a number, which isn't 0, and of those of a list. The code takes it by Euclid's
+-- algorithm.
 abbrev pub common_divisor : ℤ → List ℤ → ℕ
 common_divisor first rest = greatest_up_to (unsigned_abs first) (first ∷ rest)
 

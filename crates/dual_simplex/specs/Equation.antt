@@ -1,4 +1,5 @@
--- Cited by contracts. Equations between variables, with whole numbers, and what a pivot does with them. The code keeps the same numbers, 64 bits each.
+-- Cited by contracts. Equations between variables, with whole numbers, and what a pivot does with them. The code keeps
+-- the same numbers, 64 bits each.
 use Rattle.std.specs.Prelude.{ℕ, ℤ, pos, ◌*ℤ◌, ◌+ℤ◌, neg_ℤ, int_div, List, [], ◌∷◌, map, Bool, ◌&&◌, nat_le, nat_eq, if◌then◌else◌, unsigned_abs, slice_index_or, slice_set, ◌^◌}
 use Rattle.std.specs.List.{list_all}
 use Rattle.dual_simplex.specs.Division.{common_divisor}

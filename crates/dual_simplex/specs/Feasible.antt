@@ -1,4 +1,5 @@
--- Cited by contracts. What solving a system of inequalities means. A rational point is given by natural numbers over one positive unit.
+-- Cited by contracts. What solving a system of inequalities means. A rational point is given by natural numbers over
+-- one positive unit.
 use Rattle.std.specs.Prelude.{◌≡◌, ℕ, ◌<◌, ℤ, pos, ◌+ℤ◌, ◌*ℤ◌, ◌≤ℤ◌, List, [], ◌∷◌, length, All, slice_index, slice_index_or, ◌==◌, if◌then◌else◌}
 use Rattle.dual_simplex.specs.declared.system.Summand.{Summand}
 use Rattle.dual_simplex.specs.Systems.{Inequality, Inequalities}

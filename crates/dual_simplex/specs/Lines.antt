@@ -1,5 +1,5 @@
 -- Private: words for functions of this crate. What the code's lines and tableau stand for, and what holds of them.
-use Rattle.std.specs.Prelude.{◌≡◌, ℕ, pos, ◌<ℤ◌, map, length, true, All}
+use Rattle.std.specs.Prelude.{◌≡◌, ℕ, ◌≤◌, pos, unsigned_abs, ◌<ℤ◌, map, length, true, All}
 use Rattle.dual_simplex.specs.Equation.{Equation, fits}
 use Rattle.dual_simplex.specs.Tableau.{Tableau as PlainTableau}
 use Rattle.dual_simplex.specs.declared.line.Line.{Line}
@@ -14,6 +14,12 @@ pub record IsSoundLine (width : ℕ) (e : Equation) : Type 0 where
   pub columns : length e.factors ≡ width
   pub positive : pos 0 <ℤ e.divisor
   pub small : fits e ≡ true
+
+-- no number of an equation is above `bound` in size
+pub record IsWithin (bound : ℕ) (e : Equation) : Type 0 where
+  pub divisor : unsigned_abs e.divisor ≤ bound
+  pub constant : unsigned_abs e.constant ≤ bound
+  pub factors : All (λ x. unsigned_abs x ≤ bound) e.factors
 
 -- the tableau that the code's one stands for
 abbrev pub plain_tableau : Tableau → PlainTableau

@@ -26,7 +26,8 @@ SaysNothing system (Nothing variable) = (unit : ℕ) (point : List ℕ) → ¬ I
 SaysNothing system (Wide pivot) = ⊤
 SaysNothing system Spent = ⊤
 
--- The count of pivots agrees with the outcome: all of them at Spent, the pivot that Wide names, and never more than 4,096.
+-- The count of pivots agrees with the outcome: all of them at Spent, the pivot that Wide names, and never more than
+-- 4,096.
 abbrev pub SaysPivots : ℕ → Outcome → Type 0
 SaysPivots pivots (Least unit values price_unit prices) = pivots ≤ 4096
 SaysPivots pivots (Nothing variable) = pivots ≤ 4096

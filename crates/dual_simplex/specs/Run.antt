@@ -1,4 +1,5 @@
--- Cited by contracts. The run of a system: the dual simplex method (Lemke 1954) by least indices (Bland 1977), for at most 4,096 pivots.
+-- Cited by contracts. The run of a system: the dual simplex method (Lemke 1954) by least indices (Bland 1977), for at
+-- most 4,096 pivots.
 use Rattle.std.specs.Prelude.{◌≡◌, ℕ, zero, suc, List, ◌&&◌, true, false, map, if◌then◌else◌}
 use Rattle.dual_simplex.specs.Tableau.{Tableau, all_fit, line_at, pivoted}
 use Rattle.dual_simplex.specs.Choices.{IsLeaving, NoLeaving, IsEntering, NoEntering}
@@ -7,8 +8,8 @@ use Rattle.dual_simplex.specs.Systems.{Inequalities, first_tableau}
 use Rattle.dual_simplex.specs.declared.system.Solved.{Solved}
 use Rattle.dual_simplex.specs.declared.system.Solved.TheVariants as code
 
--- How a run ends: with a solution and its prices, each over a unit; with the variable of a line that can't be met; after that
--- many pivots with a number above 2 to the 62 in size; or with its pivots spent.
+-- How a run ends: with a solution and its prices, each over a unit; with the variable of a line that can't be met;
+-- after that many pivots with a number above 2 to the 62 in size; or with its pivots spent.
 pub data Outcome : Type 0 where
   Least : ℕ → List ℕ → ℕ → List ℕ → Outcome
   Nothing : ℕ → Outcome
@@ -22,12 +23,13 @@ ended pivot t =
     then Least (unit_of (values_of t)) (map (in_unit (unit_of (values_of t))) (values_of t)) (unit_of (prices_of t)) (map (in_unit (unit_of (prices_of t))) (prices_of t))
     else Wide pivot
 
--- What a turn makes of a tableau after `pivot` pivots, in this order: how many pivots the whole run makes, and its outcome.
--- `next` says so of the pivoted tableau.
+-- What a turn makes of a tableau after `pivot` pivots, in this order: how many pivots the whole run makes, and its
+-- outcome. `next` says so of the pivoted tableau.
 pub data Turn (pivot : ℕ) (t : Tableau) (next : Tableau → ℕ → Outcome → Type 0) (pivots : ℕ) (o : Outcome) : Type 0 where
   too_wide : all_fit t ≡ false → pivots ≡ pivot → o ≡ Wide pivot → Turn pivot t next pivots o
   ends : all_fit t ≡ true → NoLeaving t → pivots ≡ pivot → o ≡ ended pivot t → Turn pivot t next pivots o
-  unmet : (i : ℕ) → all_fit t ≡ true → IsLeaving t i → NoEntering t (line_at t i) → pivots ≡ pivot → o ≡ Nothing (line_at t i).variable → Turn pivot t next pivots o
+  unmet : (i : ℕ) → all_fit t ≡ true → IsLeaving t i → NoEntering t (line_at t i) → pivots ≡ pivot → o ≡ Nothing (line_at t i).variable
+      → Turn pivot t next pivots o
   goes : (i j : ℕ) → all_fit t ≡ true → IsLeaving t i → IsEntering t (line_at t i) j → next (pivoted t (line_at t i) j) pivots o → Turn pivot t next pivots o
 
 -- the run from a tableau after `pivot` pivots, with `left` pivots to go

@@ -55,7 +55,8 @@ EntersRightly t line =
     length t.cost.factors ≡ length t.columns → length line.factors ≡ length t.columns
     → MatchOption (entering t line) (NoEntering t line) (λ c. IsEntering t line c.place)
 
--- a line leaves: no column may enter, and there is no solution, or one does, and `next` goes on with the pivoted tableau
+-- a line leaves: no column may enter, and there is no solution, or one does, and `next` goes on with the pivoted
+-- tableau
 abbrev pub after_entering : Tableau → Equation → (Tableau → Outcome) → Option Choice → Outcome
 after_entering t line next None = Nothing line.variable
 after_entering t line next (Some choice) = next (pivoted t line choice.place)

@@ -4,8 +4,8 @@ use Rattle.dual_simplex.specs.Equation.{factor_at}
 use Rattle.dual_simplex.specs.Tableau.{Tableau, line_at}
 use Rattle.dual_simplex.specs.Systems.{Inequalities}
 
--- A tableau of a system: a column for each unknown and a line for each row; a factor for each column in each equation; no variable in
--- two places; and no negative factor in the cost.
+-- A tableau of a system: a column for each unknown and a line for each row; a factor for each column in each equation;
+-- no variable in two places; and no negative factor in the cost.
 pub record IsWellShaped (system : Inequalities) (t : Tableau) : Type 0 where
   pub columns : length t.columns ≡ system.unknowns
   pub lines : length t.lines ≡ length system.rows

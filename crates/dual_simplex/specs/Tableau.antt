@@ -22,7 +22,8 @@ line_at t place = slice_index_or t.lines place no_line
 abbrev pub all_fit : Tableau → Bool
 all_fit t = fits t.cost && list_all fits t.lines
 
--- the equation of a line after a pivot: the leaving line is solved for the entering variable, and put into every other one
+-- the equation of a line after a pivot: the leaving line is solved for the entering variable, and put into every other
+-- one
 abbrev pub renewed : ℕ → ℕ → Equation → Equation → Equation
 renewed leaver place solved e = if e.variable == leaver then solved else put_in place solved e
 

@@ -22,7 +22,7 @@ pub struct Fraction {
 
 const ZERO: Fraction = Fraction { above: 0, below: 1 };
 
-/// The value of a variable.
+// The value of a variable.
 fn value_of(variable: u32, lines: &[Line]) -> Fraction
     ensures { result ≡ value_of variable (map plain_line lines.now) }
 {
@@ -37,7 +37,7 @@ fn value_of(variable: u32, lines: &[Line]) -> Fraction
     ZERO
 }
 
-/// The price of the row with this slack.
+// The price of the row with this slack.
 fn price_of(slack: u32, columns: &[u32], cost: &Line) -> Fraction
     requires { length cost.now.factors.items ≡ length columns.now }
     ensures { result ≡ price_of slack cost.now.divisor columns.now cost.now.factors.items }
@@ -53,7 +53,7 @@ fn price_of(slack: u32, columns: &[u32], cost: &Line) -> Fraction
     ZERO
 }
 
-/// The values of all unknowns.
+// The values of all unknowns.
 fn values_of(alloc: Global, tableau: &Tableau) -> Result<Vec<Fraction>, AllocError>
     requires sound { IsSoundTableau tableau.now }
     requires few { length tableau.now.columns.items + length tableau.now.lines.items < 2 ^ 32 }
@@ -68,7 +68,7 @@ fn values_of(alloc: Global, tableau: &Tableau) -> Result<Vec<Fraction>, AllocErr
     Ok(values)
 }
 
-/// The prices of all rows.
+// The prices of all rows.
 fn prices_of(alloc: Global, tableau: &Tableau) -> Result<Vec<Fraction>, AllocError>
     requires sound { IsSoundTableau tableau.now }
     requires few { length tableau.now.columns.items + length tableau.now.lines.items < 2 ^ 32 }
@@ -84,7 +84,7 @@ fn prices_of(alloc: Global, tableau: &Tableau) -> Result<Vec<Fraction>, AllocErr
     Ok(prices)
 }
 
-/// The least multiple of `unit` that makes a fraction whole, where that is at most 2^62.
+// The least multiple of `unit` that makes a fraction whole, where that is at most 2^62.
 fn unit_with(unit: u64, fraction: Fraction) -> Option<u64>
     requires unit { (0 < unit) × (unit ≤ 2 ^ 62) }
     requires below { 0 < fraction.below }
@@ -101,7 +101,7 @@ fn unit_with(unit: u64, fraction: Fraction) -> Option<u64>
     }
 }
 
-/// The least unit that makes all fractions whole, where that is at most 2^62.
+// The least unit that makes all fractions whole, where that is at most 2^62.
 fn unit_of(fractions: &[Fraction]) -> Option<u64>
     requires { All (λ f. 0 < f.below) fractions.now }
     ensures { MatchOption result (2 ^ 62 < unit_of fractions.now) (λ unit. (unit ≡ unit_of fractions.now) × (unit ≤ 2 ^ 62)) }
@@ -113,11 +113,12 @@ fn unit_of(fractions: &[Fraction]) -> Option<u64>
     Some(unit)
 }
 
-/// All fractions in one unit, where no number is above 2^62.
+// All fractions in one unit, where no number is above 2^62.
 fn in_unit(alloc: Global, unit: u64, fractions: &[Fraction]) -> Result<Option<Vec<u64>>, AllocError>
     requires unit { unit ≤ 2 ^ 62 }
     requires below { All (λ f. 0 < f.below) fractions.now }
-    ensures { IfOk result (λ o. MatchOption o (numbers_fit unit fractions.now ≡ false) (λ v. (v.items ≡ map (in_unit unit) fractions.now) × (numbers_fit unit fractions.now ≡ true))) }
+    ensures { IfOk result (λ o. MatchOption o (numbers_fit unit fractions.now ≡ false)
+        (λ v. (v.items ≡ map (in_unit unit) fractions.now) × (numbers_fit unit fractions.now ≡ true))) }
 {
     let mut numbers = Vec::new(alloc);
     for fraction in fractions {
@@ -137,10 +138,13 @@ struct Measured {
     numbers: Vec<u64>,
 }
 
-/// All fractions in the least unit that makes them whole, where no number is above 2^62.
+// All fractions in the least unit that makes them whole, where no number is above 2^62.
 fn in_least_unit(alloc: Global, fractions: &[Fraction]) -> Result<Option<Measured>, AllocError>
     requires { All (λ f. 0 < f.below) fractions.now }
-    ensures { IfOk result (λ o. MatchOption o (unit_fits (unit_of fractions.now) fractions.now ≡ false) (λ m. (m.unit ≡ unit_of fractions.now) × (m.numbers.items ≡ map (in_unit (unit_of fractions.now)) fractions.now) × (unit_fits (unit_of fractions.now) fractions.now ≡ true))) }
+    ensures { IfOk result (λ o. MatchOption o (unit_fits (unit_of fractions.now) fractions.now ≡ false)
+        (λ m. (m.unit ≡ unit_of fractions.now)
+        × (m.numbers.items ≡ map (in_unit (unit_of fractions.now)) fractions.now)
+        × (unit_fits (unit_of fractions.now) fractions.now ≡ true))) }
 {
     let Some(unit) = unit_of(fractions) else {
         return Ok(None);

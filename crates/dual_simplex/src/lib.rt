@@ -6,6 +6,7 @@
 mod answer;
 mod arithmetic;
 mod line;
+mod narrow;
 mod solver;
 mod system;
 mod tableau;

@@ -22,7 +22,7 @@ use std::alloc::{AllocError, Global};
 /// The most pivots of a run.
 const MOST_PIVOTS: u32 = 4096;
 
-/// The equation of a row's slack.
+// The equation of a row's slack.
 fn slack_line(alloc: Global, unknowns: u32, variable: u32, row: &Row) -> Result<Line, AllocError>
     requires { IsProperRow unknowns (plain_row row.now) }
     ensures value { IfOk result (λ line. plain_line line ≡ slack_line unknowns variable (plain_row row.now)) }
@@ -40,7 +40,7 @@ fn slack_line(alloc: Global, unknowns: u32, variable: u32, row: &Row) -> Result<
     })
 }
 
-/// The equations of all slacks.
+// The equations of all slacks.
 fn slack_lines(alloc: Global, unknowns: u32, rows: &[Row]) -> Result<Vec<Line>, AllocError>
     requires rows { All (IsProperRow unknowns) (map plain_row rows.now) }
     requires few { unknowns + length rows.now < 2 ^ 32 }
@@ -56,7 +56,7 @@ fn slack_lines(alloc: Global, unknowns: u32, rows: &[Row]) -> Result<Vec<Line>, 
     Ok(lines)
 }
 
-/// The numbers from 0 to `count`, without `count`.
+// The numbers from 0 to `count`, without `count`.
 fn numbers_below(alloc: Global, count: u32) -> Result<Vec<u32>, AllocError>
     ensures { IfOk result (λ v. v.items ≡ range_with_len 0 count) }
 {
@@ -67,7 +67,7 @@ fn numbers_below(alloc: Global, count: u32) -> Result<Vec<u32>, AllocError>
     Ok(numbers)
 }
 
-/// The first tableau of a system.
+// The first tableau of a system.
 fn first_tableau(alloc: Global, system: &System) -> Result<Tableau, AllocError>
     requires { IsProper (plain_system system.now) }
     ensures value { IfOk result (λ t. plain_tableau t ≡ first_tableau (plain_system system.now)) }
@@ -95,7 +95,7 @@ fn first_tableau(alloc: Global, system: &System) -> Result<Tableau, AllocError>
     })
 }
 
-/// The run from a tableau.
+// The run from a tableau.
 fn run(alloc: Global, mut tableau: Tableau) -> Result<Run, AllocError>
     requires sound { IsSoundTableau tableau }
     requires few { length tableau.columns.items + length tableau.lines.items < 2 ^ 32 }
@@ -133,7 +133,9 @@ pub fn weak_duality()
 
 /// Every line of every tableau is in lowest terms with a positive divisor: at the start, and after each pivot.
 pub fn lowest_terms()
+    // The lines of a system's first tableau are in lowest terms, with positive divisors.
     ensures first { (system : Inequalities) → AllReduced (first_tableau system) }
+    // They stay so behind each pivot.
     ensures pivots { (tableau : PlainTableau) → StaysReduced tableau }
 {}
 
@@ -143,25 +145,32 @@ pub fn one_run()
     ensures { (system : Inequalities) → IsProper system → HasOneRun system }
 {}
 
-/// The outcome of a run is true of its system, whoever ran it: at Least no feasible solution costs less, and at Nothing there is none.
+/// The outcome of a run is true of its system, whoever ran it: at Least no feasible solution costs less, and at Nothing
+/// there is none.
 #[tactic(auto, using(crate::proofs::Relation::says_least, crate::proofs::Relation::says_nothing))]
 pub fn law_of_outcomes()
+    // Where the outcome is Least, its values are a feasible solution, and no other costs less.
     ensures least { (system : Inequalities) (o : Outcome) → IsProper system → IsOutcome system o → SaysLeast system o }
+    // Where the outcome is Nothing, there is no feasible solution.
     ensures nothing { (system : Inequalities) (o : Outcome) → IsProper system → IsOutcome system o → SaysNothing system o }
 {}
 
-/// Every tableau of a run is well shaped, its equations are in lowest terms with positive divisors, and at most one variable can
-/// leave the basis, and for it at most one enter.
+/// Every tableau of a run is well shaped, its equations are in lowest terms with positive divisors, and at most one
+/// variable can leave the basis, and for it at most one enter.
 #[tactic(auto, using(crate::proofs::Relation::tableau_shaped, crate::proofs::Relation::tableau_reduced, crate::proofs::Relation::tableau_line, crate::proofs::Relation::tableau_column))]
 pub fn tableaus_of_runs()
+    // Every tableau of a run has the shape of its system.
     ensures shape { (system : Inequalities) (pivots : ℕ) (t : PlainTableau) → IsProper system → IsTableauOf system pivots t → IsWellShaped system t }
+    // Its lines are in lowest terms, with positive divisors.
     ensures lowest { (system : Inequalities) (pivots : ℕ) (t : PlainTableau) → IsProper system → IsTableauOf system pivots t → AllReduced t }
+    // At most one variable can leave the basis.
     ensures leaves { (system : Inequalities) (pivots : ℕ) (t : PlainTableau) → IsProper system → IsTableauOf system pivots t → PicksLine t }
+    // For a line that leaves, at most one variable can enter the basis.
     ensures enters { (system : Inequalities) (pivots : ℕ) (t : PlainTableau) (i : ℕ) → IsProper system → IsTableauOf system pivots t → i < length t.lines
         → PicksColumn t (line_at t i) }
 {}
 
-/// The run of a system, by the scans.
+// The run of a system, by the scans.
 fn run_system(alloc: Global, system: &System) -> Result<Run, AllocError>
     requires { IsProper (plain_system system.now) }
     ensures exact { IfOk result (λ r. plain_answer r.solved ≡ outcome_of (plain_system system.now)) }
@@ -176,7 +185,9 @@ fn run_system(alloc: Global, system: &System) -> Result<Run, AllocError>
 #[tactic(auto, using(crate::proofs::Relation::is_run))]
 pub fn solve_counted(alloc: Global, system: &System) -> Result<Run, AllocError>
     requires { IsProper (plain_system system.now) }
+    // The answer is the outcome of the system's run, which has just so many pivots.
     ensures exact { IfOk result (λ r. IsRun (plain_system system.now) r.pivots (plain_answer r.solved)) }
+    // There are at most 4,096 pivots: just so many at Spent, and as many as the answer names at Wide.
     ensures agrees { IfOk result (λ r. SaysPivots r.pivots (plain_answer r.solved)) }
 {
     Ok(run_system(alloc, system)?)
@@ -186,9 +197,13 @@ pub fn solve_counted(alloc: Global, system: &System) -> Result<Run, AllocError>
 #[tactic(auto, using(crate::proofs::Relation::is_outcome))]
 pub fn solve(alloc: Global, system: &System) -> Result<Solved, AllocError>
     requires { IsProper (plain_system system.now) }
+    // Each of the four answers comes exactly where it is the outcome of the system's run.
     ensures exact { IfOk result (λ s. IsOutcome (plain_system system.now) (plain_answer s)) }
+    // At Least the values over the unit are a feasible solution, and no other costs less.
     ensures least { IfOk result (λ s. SaysLeast (plain_system system.now) (plain_answer s)) }
+    // At Least the prices over their unit are a feasible solution of the dual system, of equal value.
     ensures prices { IfOk result (λ s. SaysPrices (plain_system system.now) (plain_answer s)) }
+    // At Nothing there is no feasible solution.
     ensures nothing { IfOk result (λ s. SaysNothing (plain_system system.now) (plain_answer s)) }
 {
     Ok(run_system(alloc, system)?.solved)

@@ -66,7 +66,7 @@ pub struct Run {
     pub solved: Solved,
 }
 
-/// Whether the unknowns of a row's terms ascend and are below `unknowns`, and its numbers are in range.
+// Whether the unknowns of a row's terms ascend and are below `unknowns`, and its numbers are in range.
 fn is_proper_row(unknowns: u32, row: &Row) -> bool
     ensures { IsTrue result ↔ IsProperRow unknowns (plain_row row.now) }
 {
@@ -83,7 +83,7 @@ fn is_proper_row(unknowns: u32, row: &Row) -> bool
     row.least.unsigned_abs() <= MOST
 }
 
-/// Whether a cost is in range.
+// Whether a cost is in range.
 fn are_proper_costs(costs: &[i64]) -> bool
     ensures { IsTrue result ↔ All (λ cost. (pos 0 ≤ℤ cost) × (unsigned_abs cost ≤ 2 ^ 31)) costs.now }
 {
@@ -95,7 +95,7 @@ fn are_proper_costs(costs: &[i64]) -> bool
     true
 }
 
-/// Whether all rows are in range.
+// Whether all rows are in range.
 fn are_proper_rows(unknowns: u32, rows: &[Row]) -> bool
     ensures { IsTrue result ↔ All (IsProperRow unknowns) (map plain_row rows.now) }
 {

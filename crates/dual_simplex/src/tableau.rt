@@ -8,7 +8,7 @@ ghost use Rattle.dual_simplex.specs.Tableau.{all_fit, renewed, pivoted, line_at}
 ghost use Rattle.dual_simplex.specs.Scans.{earlier, leaving, beats, better, entering, entering_from};
 
 use crate::arithmetic::TooWide;
-use crate::line::{Line, put_in, renew, solve_for};
+use crate::line::{Line, bound_of_line, put_in, renew, solve_for};
 
 /// A line that may leave the basis.
 #[derive(Clone, Copy)]
@@ -26,7 +26,8 @@ pub struct Choice {
     pub factor: i64,
 }
 
-/// The equations of the basic variables and of the cost over the variables of the columns, with room for one more equation.
+/// The equations of the basic variables and of the cost over the variables of the columns, with room for one more
+/// equation.
 #[derive(Drop)]
 pub struct Tableau {
     pub columns: Vec<u32>,
@@ -35,7 +36,7 @@ pub struct Tableau {
     pub solved: Line,
 }
 
-/// The candidate to leave after one more line.
+// The candidate to leave after one more line.
 fn earlier(best: Option<Candidate>, next: Candidate, constant: i64) -> Option<Candidate>
     ensures { result ≡ earlier best next constant }
 {
@@ -54,7 +55,7 @@ fn earlier(best: Option<Candidate>, next: Candidate, constant: i64) -> Option<Ca
     }
 }
 
-/// Whether one choice of a column is better than another.
+// Whether one choice of a column is better than another.
 #[tactic(auto, using(crate::proofs::Wide::product_read))]
 fn beats(next: &Choice, best: &Choice) -> bool
     ensures { result ≡ beats next.now best.now }
@@ -64,7 +65,7 @@ fn beats(next: &Choice, best: &Choice) -> bool
     own < other || (own <= other && next.variable < best.variable)
 }
 
-/// The best choice after one more column.
+// The best choice after one more column.
 fn better(best: Option<Choice>, next: Choice) -> Option<Choice>
     ensures { result ≡ better best next }
 {
@@ -83,7 +84,7 @@ fn better(best: Option<Choice>, next: Choice) -> Option<Choice>
     }
 }
 
-/// Does a pivot's work on each line.
+// Does a pivot's work on each line.
 fn renew_all(lines: &mut [Line], solved: &Line, leaving: u32, place: usize) -> Result<(), TooWide>
     requires place { place < length solved.now.factors.items }
     requires own { All (λ line. IsSoundLine (length solved.now.factors.items) (plain_line line)) lines.old }
@@ -92,8 +93,9 @@ fn renew_all(lines: &mut [Line], solved: &Line, leaving: u32, place: usize) -> R
     ensures sound { OnOk result (All (λ line. IsSoundLine (length solved.now.factors.items) (plain_line line)) lines.new) }
     ensures wide { OnErr result (list_all fits (map (renewed leaving place (plain_line solved.now)) (map plain_line lines.old)) ≡ false) }
 {
+    let bound = bound_of_line(solved);
     for line in lines.iter_mut() {
-        renew(line, solved, leaving, place)?;
+        renew(line, solved, leaving, place, bound)?;
     }
     Ok(())
 }
@@ -153,7 +155,7 @@ impl Tableau {
     }
 }
 
-/// The best column, for the factors of the cost and of the leaving line.
+// The best column, for the factors of the cost and of the leaving line.
 fn best_column(columns: &[u32], costs: &[i64], factors: &[i64]) -> Option<Choice>
     requires costs { length costs.now ≡ length columns.now }
     requires factors { length factors.now ≡ length columns.now }

@@ -24,7 +24,8 @@ Binds x events = (before after : List Event) × (events ≡ before ++ Bind x ∷
 
 -- ---- calls
 
--- Which parameters of each function are only looked at: a mark for each, in order. Where the marks end, all further ones are taken.
+-- Which parameters of each function are only looked at: a mark for each, in order. Where the marks end, all further
+-- ones are taken.
 abbrev pub Reads : Type 0
 Reads = ℕ → List Bool
 

@@ -1,6 +1,6 @@
 -- Laws, for the proofs of this crate and of those above it.
--- What isn't ready isn't looked at: two environments that agree on the ready locals give the same outcome, so that narrowing a jump to the
--- target's parameters changes nothing where each block's uses are ready.
+-- What isn't ready isn't looked at: two environments that agree on the ready locals give the same outcome, so that
+-- narrowing a jump to the target's parameters changes nothing where each block's uses are ready.
 use Rattle.std.proofs.Common.{◌≡◌, ℕ, zero, suc, ◌+◌, Bool, true, false, List, [], ◌∷◌, ◌++◌, map, Option, Some, None, refl, sym, ap, ◌∙◌, subst, arith, inl, inr}
 use Rattle.std.specs.Prelude.{◌==◌, ◌||◌, if◌then◌else◌, slice_get, ◌⊎◌}
 use Rattle.std.specs.List.{AllByRecursion}
@@ -80,18 +80,21 @@ op_same enter k w env env' (Make con args p) a =
     ∙ given_same (values_of env' args) (λ vs. built con vs p env) (λ vs. built con vs p env') (λ vs. built_agree con vs p env env' (all_second (λ x. env x ≡ env' x) args (taken p) a))
 op_same enter k w env env' (Call func args) a = ap (λ o. given o (λ vs. enter k w false func vs)) (values_agree args env env' a)
 
-op_agree : (reads : Reads) (h : ℕ → Bool) (s : State) (enter : Enter) (k w : ℕ) (env env' : Locals) (op : Op) → AreReady h s (uses_of reads op) → Agree s env env' → op_run enter k w env op ≡ op_run enter k w env' op
+op_agree : (reads : Reads) (h : ℕ → Bool) (s : State) (enter : Enter) (k w : ℕ) (env env' : Locals) (op : Op) → AreReady h s (uses_of reads op)
+    → Agree s env env' → op_run enter k w env op ≡ op_run enter k w env' op
 op_agree reads h s enter k w env env' op r a = op_same enter k w env env' op (agree_on s (operands_of op) env env' (operands_ready reads h s op r) a)
 
 -- ---- lets
 
-let_agree : (reads : Reads) (h : ℕ → Bool) (s : State) (l : Let) (v : Value) (env env' : Locals) → Agree s env env' → Agree (after_let reads h s l) (put env l.target v) (put env' l.target v)
+let_agree : (reads : Reads) (h : ℕ → Bool) (s : State) (l : Let) (v : Value) (env env' : Locals) → Agree s env env'
+    → Agree (after_let reads h s l) (put env l.target v) (put env' l.target v)
 let_agree reads h s l v env env' a =
     subst (λ t. Agree t (put env l.target v) (put env' l.target v)) (sym (after_append h s (uses_of reads l.op) (Bind l.target ∷ [])))
     (put_agree (after h s (uses_of reads l.op)) l.target v env env' (λ x e. a x (operands_were_ready reads h s l.op x e)))
 
 lets_agree : (reads : Reads) (h : ℕ → Bool) (s : State) (enter : Enter) (ls : List Let) (k w : ℕ) (env env' : Locals) (next next' : ℕ → Locals → Outcome Value) → LetsReady reads h s ls → Agree s env env'
-    → ((j : ℕ) (last last' : Locals) → Agree (after_lets reads h s ls) last last' → next j last ≡ next' j last') → lets_run enter ls k w env next ≡ lets_run enter ls k w env' next'
+    → ((j : ℕ) (last last' : Locals) → Agree (after_lets reads h s ls) last last' → next j last ≡ next' j last')
+    → lets_run enter ls k w env next ≡ lets_run enter ls k w env' next'
 lets_agree reads h s enter [] k w env env' next next' r a f = f k env env' a
 lets_agree reads h s enter (l ∷ ls) k w env env' next next' r a f =
     ap (λ o. first_then k o (λ left v. lets_run enter ls left w (put env l.target v) next)) (op_agree reads h s enter k w env env' l.op (ready_first h s (uses_of reads l.op) (Bind l.target ∷ []) r.0) a)
@@ -104,12 +107,14 @@ lets_agree reads h s enter (l ∷ ls) k w env env' next next' r a f =
 abbrev LaterAgree : List Block → Later → Later → Type 0
 LaterAgree blocks later later' = (b j w : ℕ) (env env' : Locals) → ((x : ℕ) → is_among (params_at blocks b) x ≡ true → env x ≡ env' x) → later b j w env ≡ later' b j w env'
 
-jump_agree : (h : ℕ → Bool) (blocks : List Block) (later later' : Later) → LaterAgree blocks later later' → (s : State) (b j w : ℕ) (env env' : Locals) → AreReady h s (jump_events blocks b) → Agree s env env'
+jump_agree : (h : ℕ → Bool) (blocks : List Block) (later later' : Later) → LaterAgree blocks later later'
+    → (s : State) (b j w : ℕ) (env env' : Locals) → AreReady h s (jump_events blocks b) → Agree s env env'
     → later b j w env ≡ later' b j w env'
 jump_agree h blocks later later' f s b j w env env' r a = f b j w env env' (among_agree (params_at blocks b) env env' (agree_on s (params_at blocks b) env env' (all_used_ready h s (params_at blocks b) r) a))
 
 put_all_agree : (h : ℕ → Bool) (s : State) (xs : List ℕ) (vs : Values) (env env' : Locals) (next next' : Locals → Outcome Value) → Agree s env env'
-    → ((last last' : Locals) → Agree (after h s (map Bind xs)) last last' → next last ≡ next' last') → given (put_all env xs vs) next ≡ given (put_all env' xs vs) next'
+    → ((last last' : Locals) → Agree (after h s (map Bind xs)) last last' → next last ≡ next' last')
+    → given (put_all env xs vs) next ≡ given (put_all env' xs vs) next'
 put_all_agree h s [] value.End env env' next next' a f = f env env' a
 put_all_agree h s [] (value.And v vs) env env' next next' a f = refl
 put_all_agree h s (x ∷ xs) value.End env env' next next' a f = refl
@@ -124,7 +129,8 @@ cell_agree h s (cell.Keep d) env env' next next' a f = f (put env d value.Dia) (
 abbrev arm_way : List Block → CaseArm → List Event
 arm_way blocks a = map Bind (bound_by a) ++ jump_events blocks a.target
 
-arm_agree : (h : ℕ → Bool) (blocks : List Block) (later later' : Later) → LaterAgree blocks later later' → (s : State) (m : CaseArm) (vs : Values) (k w : ℕ) (env env' : Locals)
+arm_agree : (h : ℕ → Bool) (blocks : List Block) (later later' : Later) → LaterAgree blocks later later'
+    → (s : State) (m : CaseArm) (vs : Values) (k w : ℕ) (env env' : Locals)
     → AreReady h s (arm_way blocks m) → Agree s env env' → arm_run later (Some m) vs k w env ≡ arm_run later' (Some m) vs k w env'
 arm_agree h blocks later later' f s m vs k w env env' r a =
     put_all_agree h s m.fields vs env env' (λ bound. cell_run m.cell bound (λ last. later m.target k w last)) (λ bound. cell_run m.cell bound (λ last. later' m.target k w last)) a
@@ -132,14 +138,16 @@ arm_agree h blocks later later' f s m vs k w env env' r a =
     (λ last last' c. jump_agree h blocks later later' f (after h s (map Bind (bound_by m))) m.target k w last last' (ready_second h s (map Bind (bound_by m)) (jump_events blocks m.target) r)
     (subst (λ t. Agree t last last') (sym (ap (after h s) (map_append Bind m.fields (kept_diamond m.cell)) ∙ after_append h s (map Bind m.fields) (map Bind (kept_diamond m.cell)))) c)))
 
-arms_agree : (h : ℕ → Bool) (blocks : List Block) (later later' : Later) → LaterAgree blocks later later' → (s : State) (arms : List CaseArm) (o : Option ℕ) (vs : Values) (k w : ℕ) (env env' : Locals)
+arms_agree : (h : ℕ → Bool) (blocks : List Block) (later later' : Later) → LaterAgree blocks later later'
+    → (s : State) (arms : List CaseArm) (o : Option ℕ) (vs : Values) (k w : ℕ) (env env' : Locals)
     → AllByRecursion (AreReady h s) (map (arm_way blocks) arms) → Agree s env env' → arm_run later (arm_at arms o) vs k w env ≡ arm_run later' (arm_at arms o) vs k w env'
 arms_agree h blocks later later' f s arms None vs k w env env' r a = refl
 arms_agree h blocks later later' f s [] (Some i) vs k w env env' r a = refl
 arms_agree h blocks later later' f s (m ∷ arms) (Some zero) vs k w env env' r a = arm_agree h blocks later later' f s m vs k w env env' r.0 a
 arms_agree h blocks later later' f s (m ∷ arms) (Some (suc i)) vs k w env env' r a = arms_agree h blocks later later' f s arms (Some i) vs k w env env' r.1 a
 
-case_agree : (h : ℕ → Bool) (types : List DataType) (blocks : List Block) (later later' : Later) → LaterAgree blocks later later' → (s : State) (v : Value) (arms : List CaseArm) (k w : ℕ) (env env' : Locals)
+case_agree : (h : ℕ → Bool) (types : List DataType) (blocks : List Block) (later later' : Later) → LaterAgree blocks later later'
+    → (s : State) (v : Value) (arms : List CaseArm) (k w : ℕ) (env env' : Locals)
     → AllByRecursion (AreReady h s) (map (arm_way blocks) arms) → Agree s env env' → case_run types later v arms k w env ≡ case_run types later' v arms k w env'
 case_agree h types blocks later later' f s (value.Con con vs) arms k w env env' r a = arms_agree h blocks later later' f s arms (place_of types con) vs k w env env' r a
 case_agree h types blocks later later' f s (value.Int z) arms k w env env' r a = refl
@@ -149,13 +157,15 @@ case_agree h types blocks later later' f s value.Dia arms k w env env' r a = ref
 chosen_same : (v : Value) (a b a' b' : Outcome Value) → a ≡ a' → b ≡ b' → chosen v a b ≡ chosen v a' b'
 chosen_same v a b a' b' e q = ap (λ x. chosen v x b) e ∙ ap (chosen v a') q
 
-term_agree : (reads : Reads) (h : ℕ → Bool) (types : List DataType) (enter : Enter) (blocks : List Block) (later later' : Later) → LaterAgree blocks later later' → (s : State) (t : Term) (k w : ℕ) (env env' : Locals)
+term_agree : (reads : Reads) (h : ℕ → Bool) (types : List DataType) (enter : Enter) (blocks : List Block) (later later' : Later)
+    → LaterAgree blocks later later' → (s : State) (t : Term) (k w : ℕ) (env env' : Locals)
     → AreReady h s (term_events reads t) → AllByRecursion (AreReady h (after h s (term_events reads t))) (ways blocks t) → Agree s env env'
     → term_run types enter later t k w env ≡ term_run types enter later' t k w env'
 term_agree reads h types enter blocks later later' f s t k w env env' r q a =
     by_end t (agree_on s (term_uses t) env env' (term_operands_ready reads h s t r) a) q (λ x e. a x (term_operands_were_ready reads h s t x e))
   where
-    by_end : (t : Term) → AgreeOn (term_uses t) env env' → AllByRecursion (AreReady h (after h s (term_events reads t))) (ways blocks t) → Agree (after h s (term_events reads t)) env env'
+    by_end : (t : Term) → AgreeOn (term_uses t) env env' → AllByRecursion (AreReady h (after h s (term_events reads t))) (ways blocks t)
+        → Agree (after h s (term_events reads t)) env env'
         → term_run types enter later t k w env ≡ term_run types enter later' t k w env'
     by_end (Ret x) o q b = ap known o.0
     by_end (Tail func args) o q b = ap (λ o. given o (λ vs. enter k w true func vs)) (values_agree args env env' o)
@@ -172,7 +182,8 @@ term_agree reads h types enter blocks later later' f s t k w env env' r q a =
 
 -- ---- blocks
 
-block_agree : (reads : Reads) (h : ℕ → Bool) (types : List DataType) (enter : Enter) (blocks : List Block) (later later' : Later) → LaterAgree blocks later later' → (b : Block) → UsesReady reads h blocks b → (k w : ℕ) (env env' : Locals)
+block_agree : (reads : Reads) (h : ℕ → Bool) (types : List DataType) (enter : Enter) (blocks : List Block) (later later' : Later)
+    → LaterAgree blocks later later' → (b : Block) → UsesReady reads h blocks b → (k w : ℕ) (env env' : Locals)
     → Agree (at_start h b) env env' → block_run types enter later (narrow b) k w env ≡ block_run types enter later' (whole b) k w env'
 block_agree reads h types enter blocks later later' f b u k w env env' a =
     lets_agree reads h (at_start h b) enter b.lets k w env env' (λ left last. term_run types enter later b.term left w last) (λ left last. term_run types enter later' b.term left w last) u.lets a
@@ -199,15 +210,18 @@ bound_among h s (y ∷ xs) x e = either (bound_among h (bind s y) xs x e)
     either (inl k) = inl (orb (y == x) _ k)
     either (inr k) = here (bind_ready s y x k)
 
-narrowed_agree : (h : ℕ → Bool) (b : Block) (env env' : Locals) → ((x : ℕ) → is_among b.params x ≡ true → env x ≡ env' x) → Agree (at_start h b) (narrowed b.params env) env'
+narrowed_agree : (h : ℕ → Bool) (b : Block) (env env' : Locals) → ((x : ℕ) → is_among b.params x ≡ true → env x ≡ env' x)
+    → Agree (at_start h b) (narrowed b.params env) env'
 narrowed_agree h b env env' f x e = either (bound_among h nothing_bound b.params x e)
   where
     either : (is_among b.params x ≡ true) ⊎ (Unbound ≡ Ready) → narrowed b.params env x ≡ env' x
     either (inl k) = ap (λ t. if t then env x else None) k ∙ f x k
     either (inr k) = absurd cc
 
-later_agree : (reads : Reads) (h : ℕ → Bool) (types : List DataType) (enter : Enter) (blocks : List Block) → ((number : ℕ) (b : Block) → slice_get blocks number ≡ Some b → UsesReady reads h blocks b)
-    → (first : ℕ) (bs : List Block) → ((i : ℕ) → slice_get bs i ≡ slice_get blocks (first + i)) → LaterAgree blocks (jump_run types enter first (map narrow bs)) (jump_run types enter first (map whole bs))
+later_agree : (reads : Reads) (h : ℕ → Bool) (types : List DataType) (enter : Enter) (blocks : List Block)
+    → ((number : ℕ) (b : Block) → slice_get blocks number ≡ Some b → UsesReady reads h blocks b)
+    → (first : ℕ) (bs : List Block) → ((i : ℕ) → slice_get bs i ≡ slice_get blocks (first + i))
+    → LaterAgree blocks (jump_run types enter first (map narrow bs)) (jump_run types enter first (map whole bs))
 later_agree reads h types enter blocks each first [] at = λ b j w env env' f. refl
 later_agree reads h types enter blocks each first (block ∷ bs) at = λ b j w env env' f. by_test (later_agree reads h types enter blocks each (suc first) bs behind) b j w env env' f (b == first) refl
   where
@@ -217,7 +231,8 @@ later_agree reads h types enter blocks each first (block ∷ bs) at = λ b j w e
     here : slice_get blocks first ≡ Some block
     here = let e : first ≡ first + 0 = omega arith in ap (slice_get blocks) e ∙ sym (at 0)
 
-    by_test : LaterAgree blocks (jump_run types enter (suc first) (map narrow bs)) (jump_run types enter (suc first) (map whole bs)) → (b j w : ℕ) (env env' : Locals)
+    by_test : LaterAgree blocks (jump_run types enter (suc first) (map narrow bs)) (jump_run types enter (suc first) (map whole bs))
+        → (b j w : ℕ) (env env' : Locals)
         → ((x : ℕ) → is_among (params_at blocks b) x ≡ true → env x ≡ env' x) → (t : Bool) → (b == first) ≡ t
         → (if t then block_run types enter (jump_run types enter (suc first) (map narrow bs)) (narrow block) j w (narrowed block.params env) else jump_run types enter (suc first) (map narrow bs) b j w env)
         ≡ (if t then block_run types enter (jump_run types enter (suc first) (map whole bs)) (whole block) j w env' else jump_run types enter (suc first) (map whole bs) b j w env')
@@ -229,7 +244,8 @@ later_agree reads h types enter blocks each first (block ∷ bs) at = λ b j w e
     by_test l b j w env env' f false e = l b j w env env' f
 
 -- Narrowing jumps to the parameters of their targets changes nothing, where each block's uses are ready.
-pub narrowing_is_free : (reads : Reads) (h : ℕ → Bool) (types : List DataType) (enter : Enter) (blocks : List Block) → ((number : ℕ) (b : Block) → slice_get blocks number ≡ Some b → UsesReady reads h blocks b)
+pub narrowing_is_free : (reads : Reads) (h : ℕ → Bool) (types : List DataType) (enter : Enter) (blocks : List Block)
+    → ((number : ℕ) (b : Block) → slice_get blocks number ≡ Some b → UsesReady reads h blocks b)
     → (k w : ℕ) (env : Locals) → blocks_run types enter (map narrow blocks) k w env ≡ blocks_run types enter (map whole blocks) k w env
 narrowing_is_free reads h types enter [] each k w env = refl
 narrowing_is_free reads h types enter (b ∷ bs) each k w env =

@@ -162,7 +162,8 @@ spent_was h s (Use y ∷ es) x e = either (spent_was h (use_of h s y) es x e)
     split true b h = (refl, h)
     split false b h = absurd cc
 
-    by_test : (Binds x es → ⊥) → (b : Bool) → ((y == x) && h y) ≡ b → (if b then Spent else s x) ≡ Spent → ((s x ≡ Spent) × (Binds x (Use y ∷ es) → ⊥)) ⊎ WasUsed h (Use y ∷ es) x
+    by_test : (Binds x es → ⊥) → (b : Bool) → ((y == x) && h y) ≡ b → (if b then Spent else s x) ≡ Spent
+        → ((s x ≡ Spent) × (Binds x (Use y ∷ es) → ⊥)) ⊎ WasUsed h (Use y ∷ es) x
     by_test n true t e = let p = split (y == x) (h y) t in let same : y ≡ x = grind (arith, nat_tests, p.0) in
         inr (record { before = []; between = es; is = ap (λ z. Use z ∷ es) same; owned = ap h (sym same) ∙ p.1; never = n })
     by_test n false t e = inl (e, λ b. n (binds_use x y es b))
@@ -214,7 +215,8 @@ ready_is_affine h events r = record { bound = bound; once = once }
     spent_here : (s : State) (x : ℕ) → h x ≡ true → use_of h s x x ≡ Spent
     spent_here s x k = let t : (x == x) ≡ true = grind (arith, nat_tests) in ap (λ b. if b && h x then Spent else s x) t ∙ ap (λ b. if b then Spent else s x) k
 
-    once : (x : ℕ) (want : Event) (before between rest : List Event) → h x ≡ true → Wants x want → events ≡ before ++ Use x ∷ (between ++ want ∷ rest) → Binds x between
+    once : (x : ℕ) (want : Event) (before between rest : List Event) → h x ≡ true → Wants x want
+        → events ≡ before ++ Use x ∷ (between ++ want ∷ rest) → Binds x between
     once x want before between rest k n e = either (ready_was h (use_of h (after h nothing_bound before) x) between x
         (wanted_ready h (after h (use_of h (after h nothing_bound before) x) between) x want rest n
         (ready_second h (use_of h (after h nothing_bound before) x) between (want ∷ rest) (ready_second h nothing_bound before (Use x ∷ (between ++ want ∷ rest)) (subst (λ l. AreReady h nothing_bound l) e r)).1)))
@@ -224,7 +226,8 @@ ready_is_affine h events r = record { bound = bound; once = once }
         either (inr b) = b
 
 -- what is wanted at a place is ready there
-ready_here : (h : ℕ → Bool) (events before es : List Event) (x : ℕ) (want : Event) → IsAffine h events → Wants x want → events ≡ before ++ want ∷ es → after h nothing_bound before x ≡ Ready
+ready_here : (h : ℕ → Bool) (events before es : List Event) (x : ℕ) (want : Event) → IsAffine h events → Wants x want → events ≡ before ++ want ∷ es
+    → after h nothing_bound before x ≡ Ready
 ready_here h events before es x want w n e = ready (after h nothing_bound before x) refl
   where
     used : WasUsed h before x → ⊥
@@ -297,7 +300,8 @@ all_looks_ready h s [] r = tt
 all_looks_ready h s (x ∷ xs) r = (r.0, all_looks_ready h s xs r.1)
 
 -- the arguments that a call takes and those that it looks at are all of them
-all_arguments : (P : ℕ → Type 0) (marks : List Bool) (xs : List ℕ) → AllByRecursion P (taken_by marks xs) → AllByRecursion P (read_by marks xs) → AllByRecursion P xs
+all_arguments : (P : ℕ → Type 0) (marks : List Bool) (xs : List ℕ) → AllByRecursion P (taken_by marks xs) → AllByRecursion P (read_by marks xs)
+    → AllByRecursion P xs
 all_arguments P [] xs r q = r
 all_arguments P (mark ∷ marks) [] r q = tt
 all_arguments P (true ∷ marks) (x ∷ xs) r q = (q.0, all_arguments P marks xs r q.1)
@@ -386,7 +390,8 @@ take_next (y ∷ xs) zero x e = let k : y ≡ x = cc in ap (λ z. z ∷ []) k
 take_next (y ∷ xs) (suc n) x e = ap (λ l. y ∷ l) (take_next xs n x e)
 
 -- The state behind a let is that before the next.
-pub state_next : (reads : Reads) (h : ℕ → Bool) (b : Block) (n : ℕ) (l : Let) → slice_get b.lets n ≡ Some l → state_at reads h b (suc n) ≡ after_let reads h (state_at reads h b n) l
+pub state_next : (reads : Reads) (h : ℕ → Bool) (b : Block) (n : ℕ) (l : Let) → slice_get b.lets n ≡ Some l
+    → state_at reads h b (suc n) ≡ after_let reads h (state_at reads h b n) l
 state_next reads h b n l e = ap (after_lets reads h (at_start h b)) (take_next b.lets n l e) ∙ lets_append reads h (at_start h b) (take n b.lets) (l ∷ [])
 
 take_whole : {A : Type 0} (xs : List A) → take (length xs) xs ≡ xs
@@ -397,13 +402,15 @@ take_whole (x ∷ xs) = ap (λ l. x ∷ l) (take_whole xs)
 pub state_last : (reads : Reads) (h : ℕ → Bool) (b : Block) → state_at reads h b (length b.lets) ≡ at_term reads h b
 state_last reads h b = ap (after_lets reads h (at_start h b)) (take_whole b.lets)
 
-ready_there : (reads : Reads) (h : ℕ → Bool) (s : State) (ls : List Let) (n : ℕ) (l : Let) → LetsReady reads h s ls → slice_get ls n ≡ Some l → AreReady h (after_lets reads h s (take n ls)) (let_events reads l)
+ready_there : (reads : Reads) (h : ℕ → Bool) (s : State) (ls : List Let) (n : ℕ) (l : Let) → LetsReady reads h s ls → slice_get ls n ≡ Some l
+    → AreReady h (after_lets reads h s (take n ls)) (let_events reads l)
 ready_there reads h s [] n l r e = let k : None ≡ Some l = e in absurd cc
 ready_there reads h s (m ∷ ls) zero l r e = let k : m ≡ l = cc in subst (λ x. AreReady h s (let_events reads x)) k r.0
 ready_there reads h s (m ∷ ls) (suc n) l r e = ready_there reads h (after_let reads h s m) ls n l r.1 e
 
 -- What a let uses is ready before it.
-pub ready_at : (reads : Reads) (h : ℕ → Bool) (blocks : List Block) (b : Block) (n : ℕ) (l : Let) → UsesReady reads h blocks b → slice_get b.lets n ≡ Some l → AreReady h (state_at reads h b n) (let_events reads l)
+pub ready_at : (reads : Reads) (h : ℕ → Bool) (blocks : List Block) (b : Block) (n : ℕ) (l : Let) → UsesReady reads h blocks b
+    → slice_get b.lets n ≡ Some l → AreReady h (state_at reads h b n) (let_events reads l)
 ready_at reads h blocks b n l u e = ready_there reads h (at_start h b) b.lets n l u.lets e
 
 -- The states of a block say the same as its uses in words.
@@ -415,7 +422,8 @@ uses_affinely reads h blocks b u = record { inside = ready_is_affine h (block_ev
         (ready_both h (at_start h b) (flat_map (let_events reads) b.lets) (term_events reads b.term) (ready_lets reads h (at_start h b) b.lets u.lets)
         (subst (λ s. AreReady h s (term_events reads b.term)) (sym (lets_after reads h (at_start h b) b.lets)) u.term)))
 
-    each : (ws : List (List Event)) → AllByRecursion (AreReady h (behind_term reads h b)) ws → AllByRecursion (λ way. IsAffine h (block_events reads b ++ way)) ws
+    each : (ws : List (List Event)) → AllByRecursion (AreReady h (behind_term reads h b)) ws
+        → AllByRecursion (λ way. IsAffine h (block_events reads b ++ way)) ws
     each [] k = tt
     each (way ∷ ws) k = (ready_is_affine h (block_events reads b ++ way) (ready_both h nothing_bound (block_events reads b) way whole (subst (λ s. AreReady h s way) (sym (block_after reads h b)) k.0)), each ws k.1)
 
@@ -429,6 +437,7 @@ affinely_used reads h blocks b u = record {
     behind : AreReady h (at_start h b) (flat_map (let_events reads) b.lets ++ term_events reads b.term)
     behind = ready_second h nothing_bound (map Bind b.params) (flat_map (let_events reads) b.lets ++ term_events reads b.term) (subst (AreReady h nothing_bound) (events_grouped reads b) (affine_is_ready h (block_events reads b) u.inside))
 
-    each : (ws : List (List Event)) → AllByRecursion (λ way. IsAffine h (block_events reads b ++ way)) ws → AllByRecursion (AreReady h (behind_term reads h b)) ws
+    each : (ws : List (List Event)) → AllByRecursion (λ way. IsAffine h (block_events reads b ++ way)) ws
+        → AllByRecursion (AreReady h (behind_term reads h b)) ws
     each [] k = tt
     each (way ∷ ws) k = (subst (λ s. AreReady h s way) (block_after reads h b) (ready_second h nothing_bound (block_events reads b) way (affine_is_ready h (block_events reads b ++ way) k.0)), each ws k.1)

@@ -1,7 +1,8 @@
 -- Cited by contracts.
--- The state of locals at each place of a block: a local isn't bound, is ready, or is spent, by the events before the place. A use spends a
--- local that is owned, a look spends none, and a binding makes a local ready, whatever it was before. That is the bookkeeping of the affine
--- rule of LFPL (Hofmann 2000): well-formed code, its check, and what is known of a running machine all speak of these states.
+-- The state of locals at each place of a block: a local isn't bound, is ready, or is spent, by the events before the
+-- place. A use spends a local that is owned, a look spends none, and a binding makes a local ready, whatever it was
+-- before. That is the bookkeeping of the affine rule of LFPL (Hofmann 2000): well-formed code, its check, and what is
+-- known of a running machine all speak of these states.
 use Rattle.std.specs.Prelude.{◌≡◌, ℕ, Bool, ◌&&◌, ◌==◌, if◌then◌else◌, List, [], ◌∷◌, ◌++◌, map, take, IsTrue}
 use Rattle.std.specs.List.{AllByRecursion}
 use Rattle.grail_blocks.specs.Blocks.{Let, Block}
@@ -81,7 +82,8 @@ pub record UsesReady (reads : Reads) (is_owned : ℕ → Bool) (blocks : List Bl
 -- What is used or looked at was bound before, and what is owned is bound anew between a use and a further use or look.
 pub record IsAffine (is_owned : ℕ → Bool) (events : List Event) : Type 0 where
   pub bound : (x : ℕ) (want : Event) (before rest : List Event) → Wants x want → events ≡ before ++ want ∷ rest → Binds x before
-  pub once : (x : ℕ) (want : Event) (before between rest : List Event) → IsTrue (is_owned x) → Wants x want → events ≡ before ++ Use x ∷ (between ++ want ∷ rest) → Binds x between
+  pub once : (x : ℕ) (want : Event) (before between rest : List Event) → IsTrue (is_owned x) → Wants x want
+      → events ≡ before ++ Use x ∷ (between ++ want ∷ rest) → Binds x between
 
 -- up to the block's end, and on each way on
 pub record UsesAffinely (reads : Reads) (is_owned : ℕ → Bool) (blocks : List Block) (b : Block) : Type 0 where

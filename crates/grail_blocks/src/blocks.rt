@@ -1,5 +1,5 @@
-/// An operator on two ints. `Add`, `Sub` and `Mul` wrap to 32 bits in two's complement and give an int; the others compare and give a
-/// truth value.
+/// An operator on two ints. `Add`, `Sub` and `Mul` wrap to 32 bits in two's complement and give an int; the others
+/// compare and give a truth value.
 #[derive(Clone, Copy, Debug, PartialEq, Eq)]
 pub enum PrimCode {
     Add,
@@ -24,8 +24,8 @@ pub enum Place {
     Reuse(u32),
 }
 
-/// What a let binds. Locals, constructors and functions go by their numbers. Operands are used in the order in which they stand; an
-/// operand of a heap kind is spent by its use.
+/// What a let binds. Locals, constructors and functions go by their numbers. Operands are used in the order in which
+/// they stand; an operand of a heap kind is spent by its use.
 #[derive(Debug, Drop)]
 pub enum Op {
     /// Uses nothing; gives this int.
@@ -40,14 +40,15 @@ pub enum Op {
         left: u32,
         right: u32,
     },
-    /// Uses one local for each field of the constructor, and then the diamond of its place; gives the constructor's value. `New` takes a
-    /// cell from the free list.
+    /// Uses one local for each field of the constructor, and then the diamond of its place; gives the constructor's
+    /// value. `New` takes a cell from the free list.
     Make {
         con: u32,
         args: Vec<u32>,
         place: Place,
     },
-    /// Uses one local for each parameter of the function; gives its result. It takes one unit of fuel, and waits while the function runs.
+    /// Uses one local for each parameter of the function; gives its result. It takes one unit of fuel, and waits while
+    /// the function runs.
     Call {
         func: u32,
         args: Vec<u32>,
@@ -72,7 +73,8 @@ pub enum CaseCell {
     Keep(u32),
 }
 
-/// An arm of a case: it binds one local for each field, in order, then that of a kept cell, and goes on in the block `target`.
+/// An arm of a case: it binds one local for each field, in order, then that of a kept cell, and goes on in the block
+/// `target`.
 #[derive(Debug, Drop)]
 pub struct CaseArm {
     pub fields: Vec<u32>,
@@ -85,14 +87,14 @@ pub struct CaseArm {
 pub enum Term {
     /// Uses a local of the function's result kind, which is the function's result.
     Ret(u32),
-    /// Uses one local for each parameter of another function, which takes the place of this one: it takes one unit of fuel, and nothing
-    /// waits.
+    /// Uses one local for each parameter of another function, which takes the place of this one: it takes one unit of
+    /// fuel, and nothing waits.
     Tail { func: u32, args: Vec<u32> },
     /// Uses nothing; goes on in this block.
     Goto(u32),
     /// Uses a truth value; goes on in block `yes` where it is true, and in `no` where it is false.
     If { cond: u32, yes: u32, no: u32 },
-    /// Uses a value of a data type, and goes on with the arm of its constructor; there is one arm for each constructor of the type, in
-    /// order.
+    /// Uses a value of a data type, and goes on with the arm of its constructor; there is one arm for each constructor
+    /// of the type, in order.
     Case { on: u32, arms: Vec<CaseArm> },
 }

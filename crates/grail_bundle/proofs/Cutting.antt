@@ -43,7 +43,8 @@ pub split : (bs : List ℕ) → IsOneLine bs ⊎ ((line : List ℕ) × (rest : L
 split [] = inl refl
 split (b ∷ bs) = by_test (b == 10) refl (split bs)
   where
-    by_test : (t : Bool) → (b == 10) ≡ t → IsOneLine bs ⊎ ((line : List ℕ) × (rest : List ℕ) × HasLine bs line rest) → IsOneLine (b ∷ bs) ⊎ ((line : List ℕ) × (rest : List ℕ) × HasLine (b ∷ bs) line rest)
+    by_test : (t : Bool) → (b == 10) ≡ t → IsOneLine bs ⊎ ((line : List ℕ) × (rest : List ℕ) × HasLine bs line rest)
+        → IsOneLine (b ∷ bs) ⊎ ((line : List ℕ) × (rest : List ℕ) × HasLine (b ∷ bs) line rest)
     by_test true e d = inr ([], bs, record { parts = ap (λ x. x ∷ bs) (byte_is b 10 e); one = refl })
     by_test false e (inl h) = inl (free_cons 10 b bs e h)
     by_test false e (inr (line, rest, h)) = inr (b ∷ line, rest, longer b bs line rest e h)

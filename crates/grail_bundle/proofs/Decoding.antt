@@ -30,7 +30,8 @@ none_other line n e other bytes is = other bytes is.fits (omega (arith, e, line_
 abbrev pub Wrote : (line : List ℕ) → (size : ℕ) → Result Unit FromHexError → List ℕ → Type 0
 Wrote line size r out = MatchResult (decode_sized line size) (λ bytes. (r ≡ Ok tt) × (out ≡ bytes)) (λ e. r ≡ Err e)
 
-wrote : (line bytes : List ℕ) (size : ℕ) (r : Result Unit FromHexError) (out : List ℕ) → Wrote line size r out → IsBytes bytes → length bytes ≡ size → encode_lower bytes ≡ line → (r ≡ Ok tt) × (out ≡ bytes)
+wrote : (line bytes : List ℕ) (size : ℕ) (r : Result Unit FromHexError) (out : List ℕ) → Wrote line size r out → IsBytes bytes → length bytes ≡ size
+    → encode_lower bytes ≡ line → (r ≡ Ok tt) × (out ≡ bytes)
 wrote line bytes size r out h fits len e =
     let d : decode_sized line size ≡ Ok bytes = ap (λ l. decode_sized l size) (sym e) ∙ decode_sized-encode_lower bytes size len fits in
     subst (λ d. MatchResult d (λ bytes. (r ≡ Ok tt) × (out ≡ bytes)) (λ e. r ≡ Err e)) d h
@@ -49,7 +50,8 @@ on_ok (Ok x) P h e = h
 on_ok (Err x) P h e = absurd cc
 
 -- the digits that are written for the bytes are compared with the line
-pub compared : (line : List ℕ) (size : ℕ) (r : Result Unit FromHexError) (out written : List ℕ) (t : Bool) → Wrote line size r out → written ≡ encode_lower out → t ≡ bytes_eq written line → MatchBool t (encode_lower out ≡ line) (IsOther size line)
+pub compared : (line : List ℕ) (size : ℕ) (r : Result Unit FromHexError) (out written : List ℕ) (t : Bool) → Wrote line size r out
+    → written ≡ encode_lower out → t ≡ bytes_eq written line → MatchBool t (encode_lower out ≡ line) (IsOther size line)
 compared line size r out written true h e f = sym e ∙ (bytes_eq-Decides written line).0 (sym f)
 compared line size r out written false h e f = λ bytes fits len is.
     let same : written ≡ line = e ∙ ap encode_lower (wrote line bytes size r out h fits len is).1 ∙ is in

@@ -31,7 +31,8 @@ record Same (xs ys c d : List ℕ) : Type 0 where
   digits : xs ≡ ys
   cert : c ≡ d
 
-same_parts : (fuel : ℕ) (xs ys c d : List ℕ) → length xs ≤ fuel → IsBytes xs → IsBytes ys → Starts c → Starts d → hex_lines xs ++ c ≡ hex_lines ys ++ d → Same xs ys c d
+same_parts : (fuel : ℕ) (xs ys c d : List ℕ) → length xs ≤ fuel → IsBytes xs → IsBytes ys → Starts c → Starts d
+    → hex_lines xs ++ c ≡ hex_lines ys ++ d → Same xs ys c d
 same_parts fuel [] [] c d few h k s t e = record { digits = refl; cert = e }
 same_parts fuel [] (y ∷ ys) c d few h k s t e =
     let cut = cut_of (y ∷ ys) (omega arith) in
@@ -46,7 +47,8 @@ same_parts fuel (x ∷ xs) [] c d few h k s t e =
 same_parts zero (x ∷ xs) (y ∷ ys) c d few h k s t e = absurd (omega arith)
 same_parts (suc fuel) (x ∷ xs) (y ∷ ys) c d few h k s t e = by_cuts (cut_of (x ∷ xs) (omega arith)) (cut_of (y ∷ ys) (omega arith)) (same_parts fuel)
   where
-    by_cuts : (a : Cut (x ∷ xs)) (b : Cut (y ∷ ys)) → ((xs ys c d : List ℕ) → length xs ≤ fuel → IsBytes xs → IsBytes ys → Starts c → Starts d → hex_lines xs ++ c ≡ hex_lines ys ++ d → Same xs ys c d) → Same (x ∷ xs) (y ∷ ys) c d
+    by_cuts : (a : Cut (x ∷ xs)) (b : Cut (y ∷ ys))
+        → ((xs ys c d : List ℕ) → length xs ≤ fuel → IsBytes xs → IsBytes ys → Starts c → Starts d → hex_lines xs ++ c ≡ hex_lines ys ++ d → Same xs ys c d) → Same (x ∷ xs) (y ∷ ys) c d
     by_cuts a b again =
         let good : IsBytes (a.front ++ a.rest) = subst IsBytes a.is h in
         let right : IsBytes (b.front ++ b.rest) = subst IsBytes b.is k in
@@ -126,7 +128,8 @@ line_is line = by_result (decode_of line) refl
     read : (bytes : List ℕ) → IsLineOf line bytes → decode_of line ≡ Ok bytes
     read bytes is = ap decode_of (sym is.is) ∙ decode_of-encode_lower bytes is.fits
 
-    by_tests : (bytes : List ℕ) → decode_of line ≡ Ok bytes → (0 < length bytes) ⊎ (length bytes ≤ 0) → (32 < length bytes) ⊎ (length bytes ≤ 32) → (encode_lower bytes ≡ line) ⊎ (encode_lower bytes ≡ line → ⊥) → ((bytes : List ℕ) × IsLineOf line bytes) ⊎ IsNoLine line
+    by_tests : (bytes : List ℕ) → decode_of line ≡ Ok bytes → (0 < length bytes) ⊎ (length bytes ≤ 0) → (32 < length bytes) ⊎ (length bytes ≤ 32)
+        → (encode_lower bytes ≡ line) ⊎ (encode_lower bytes ≡ line → ⊥) → ((bytes : List ℕ) × IsLineOf line bytes) ⊎ IsNoLine line
     by_tests bytes e (inl some) (inr few) (inl is) = inl (bytes, record { fits = (decode_of-ok line bytes e).3; some = omega (arith, some); few = few; is = is })
     by_tests bytes e (inr none) few is = inr (λ other o. omega (arith, none, o.some, ap length (decode_of-same line bytes other e (read other o))))
     by_tests bytes e some (inl many) is = inr (λ other o. omega (arith, many, o.few, ap length (decode_of-same line bytes other e (read other o))))
@@ -137,7 +140,8 @@ line_is line = by_result (decode_of line) refl
     by_result (Err x) e = inr (λ other o. let f : Ok other ≡ Err x = sym (read other o) ∙ e in absurd cc)
 
 -- from a line on, where it is known from each later line on
-judged_line : (text : List ℕ) (n : ℕ) (going : Bool) (code rest : List ℕ) → Reading text n going code rest → ((m : ℕ) (full : Bool) (new behind : List ℕ) → length behind < length rest → Reading text m full new behind → Judged text) → Judged text
+judged_line : (text : List ℕ) (n : ℕ) (going : Bool) (code rest : List ℕ) → Reading text n going code rest
+    → ((m : ℕ) (full : Bool) (new behind : List ℕ) → length behind < length rest → Reading text m full new behind → Judged text) → Judged text
 judged_line text n going code rest r again = by_end (ends code rest)
   where
     by_line : (HasParts (record { code = code; cert = rest }) → ⊥) → going ≡ true → (line behind : List ℕ) → HasLine rest line behind → ((bytes : List ℕ) × IsLineOf line bytes) ⊎ IsNoLine line → Judged text

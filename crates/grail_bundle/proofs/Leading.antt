@@ -62,17 +62,22 @@ first_is b right = record { parts = text_on b.code b.cert right.parts.code; one 
 
 -- ---- one line more
 
-longer_text : (before : List (List ℕ)) (line code bytes more cert : List ℕ) → bundle_text (code ++ (bytes ++ more)) cert ≡ text_of_lines before ++ (hex_lines (bytes ++ more) ++ cert) → hex_lines (bytes ++ more) ≡ line ++ 10 ∷ hex_lines more → bundle_text (code ++ bytes ++ more) cert ≡ text_of_lines (before ++ line ∷ []) ++ (hex_lines more ++ cert)
+longer_text : (before : List (List ℕ)) (line code bytes more cert : List ℕ)
+    → bundle_text (code ++ (bytes ++ more)) cert ≡ text_of_lines before ++ (hex_lines (bytes ++ more) ++ cert)
+    → hex_lines (bytes ++ more) ≡ line ++ 10 ∷ hex_lines more
+    → bundle_text (code ++ bytes ++ more) cert ≡ text_of_lines (before ++ line ∷ []) ++ (hex_lines more ++ cert)
 longer_text before line code bytes more cert e f =
     ap (λ l. bundle_text l cert) (append_assoc code bytes more) ∙ e ∙ ap (λ l. text_of_lines before ++ (l ++ cert)) f
     ∙ ap (λ l. text_of_lines before ++ l) (append_assoc line (10 ∷ hex_lines more) cert) ∙ sym (line_behind before line (hex_lines more ++ cert))
 
-lines_on : (line bytes more : List ℕ) (going : Bool) → IsLineOf line bytes → (going ≡ true → length bytes ≡ 32) → (going ≡ false → more ≡ []) → hex_lines (bytes ++ more) ≡ line ++ 10 ∷ hex_lines more
+lines_on : (line bytes more : List ℕ) (going : Bool) → IsLineOf line bytes → (going ≡ true → length bytes ≡ 32) → (going ≡ false → more ≡ [])
+    → hex_lines (bytes ++ more) ≡ line ++ 10 ∷ hex_lines more
 lines_on line bytes more true is full closed = full_line bytes more (full refl) ∙ ap (λ l. l ++ 10 ∷ hex_lines more) is.is
 lines_on line bytes more false is full closed = subst (λ more. hex_lines (bytes ++ more) ≡ line ++ 10 ∷ hex_lines more) (sym (closed refl)) (ap hex_lines (append-nil bytes) ∙ short_line bytes is.some is.few ∙ ap (λ l. l ++ 10 ∷ []) is.is)
 
 -- what was left began with this line, and goes on behind it
-left_on : (line code bytes rest : List ℕ) (going : Bool) (b : Bundle) → IsLineOf line bytes → (going ≡ false → length bytes < 32) → IsBundle b → Left true code b (line ++ 10 ∷ rest) → Left going (code ++ bytes) b rest
+left_on : (line code bytes rest : List ℕ) (going : Bool) (b : Bundle) → IsLineOf line bytes → (going ≡ false → length bytes < 32) → IsBundle b
+    → Left true code b (line ++ 10 ∷ rest) → Left going (code ++ bytes) b rest
 left_on line code bytes rest going b is short right left = by_more left.more left.whole left.left
   where
     one : IsOneLine line
@@ -98,7 +103,8 @@ left_on line code bytes rest going b is short right left = by_more left.more lef
         absurd (omega (arith, ap length same, ap length is.is, digits_twice bytes))
     by_more (m ∷ more) e f = by_cut (m ∷ more) e (cut_of (m ∷ more) (omega arith)) f
 
-pub step : (before : List (List ℕ)) (line code bytes : List ℕ) (going : Bool) → Leads before true code → IsLineOf line bytes → (going ≡ true → length bytes ≡ 32) → (going ≡ false → length bytes < 32) → Leads (before ++ line ∷ []) going (code ++ bytes)
+pub step : (before : List (List ℕ)) (line code bytes : List ℕ) (going : Bool) → Leads before true code → IsLineOf line bytes
+    → (going ≡ true → length bytes ≡ 32) → (going ≡ false → length bytes < 32) → Leads (before ++ line ∷ []) going (code ++ bytes)
 step before line code bytes going leads is full short = record {
   each = one_more before line leads.each (subst IsOneLine is.is (digits_line bytes is.fits));
   bytes = bytes_both code bytes leads.bytes is.fits;
@@ -128,5 +134,6 @@ begins before false code leads = record {
 }
 
 -- where the certificate begins
-pub done : (before : List (List ℕ)) (going : Bool) (code rest text : List ℕ) → Leads before going code → 1 ≤ length code → text ≡ text_of_lines before ++ rest → text ≡ bundle_text code rest
+pub done : (before : List (List ℕ)) (going : Bool) (code rest text : List ℕ) → Leads before going code → 1 ≤ length code
+    → text ≡ text_of_lines before ++ rest → text ≡ bundle_text code rest
 done before going code rest text leads some parts = parts ∙ sym (ap (λ l. bundle_text l rest) (sym (append-nil code)) ∙ leads.on [] rest (λ e. refl) (omega (arith, some, length-append code [])))

@@ -25,7 +25,9 @@ record Next (rest : List ℕ) (Is : List ℕ → Type 0) : Type 0 where
 abbrev GoOn : List (List ℕ) → (List ℕ → Type 0) → Type 0
 GoOn before Is = (b : Bundle) (rest : List ℕ) → IsBundle b → bundle_text b.code b.cert ≡ text_of_lines before ++ rest → Next rest Is
 
-stop : (text : List ℕ) (before : List (List ℕ)) (rest : List ℕ) (Is : List ℕ → Type 0) → text ≡ text_of_lines before ++ rest → AllByRecursion IsOneLine before → Begins before → GoOn before Is → ((line more : List ℕ) → HasLine rest line more → Is line → ⊥) → IsFault text (suc (length before))
+stop : (text : List ℕ) (before : List (List ℕ)) (rest : List ℕ) (Is : List ℕ → Type 0) → text ≡ text_of_lines before ++ rest
+    → AllByRecursion IsOneLine before → Begins before → GoOn before Is → ((line more : List ℕ) → HasLine rest line more → Is line → ⊥)
+    → IsFault text (suc (length before))
 stop text before rest Is parts each good go none = record {
   before = before;
   rest = rest;
@@ -77,7 +79,8 @@ IsNext going code line = ((1 ≤ length code) × (line ≡ cert_line)) ⊎ ((goi
 next_of : (going : Bool) (code : List ℕ) (b : Bundle) (rest : List ℕ) → IsBundle b → Left going code b rest → Next rest (IsNext going code)
 next_of going code b rest right left = by_more left.more left.closed left.whole left.left
   where
-    by_cut : (m : ℕ) (ms : List ℕ) → (going ≡ false → m ∷ ms ≡ []) → b.code ≡ code ++ m ∷ ms → rest ≡ hex_lines (m ∷ ms) ++ b.cert → (c : Cut (m ∷ ms)) → Next rest (IsNext going code)
+    by_cut : (m : ℕ) (ms : List ℕ) → (going ≡ false → m ∷ ms ≡ []) → b.code ≡ code ++ m ∷ ms → rest ≡ hex_lines (m ∷ ms) ++ b.cert
+        → (c : Cut (m ∷ ms)) → Next rest (IsNext going code)
     by_cut m ms closed e f c =
         let whole : b.code ≡ code ++ (c.front ++ c.rest) = e ∙ ap (λ l. code ++ l) c.is in
         let good : IsBytes c.front = bytes_left c.front c.rest (bytes_right code (c.front ++ c.rest) (subst IsBytes whole right.bytes)) in
@@ -127,7 +130,9 @@ line_stop text n going code rest line behind r end h other =
     (λ o l more k bytes is. other bytes (record { fits = is.fits; some = is.some; few = is.few; is = is.is ∙ sym (same_line rest line l behind more h k.one k.parts).0 }))
 
 -- a line of digits was read
-pub line_read : (text : List ℕ) (n : ℕ) (going full : Bool) (code new rest line behind : List ℕ) → Reading text n going code rest → going ≡ true → HasLine rest line behind → IsPushed code new line → (full ≡ true → length line ≡ 64) → (full ≡ false → length line ≡ 64 → ⊥) → Reading text (n + 1) full new behind
+pub line_read : (text : List ℕ) (n : ℕ) (going full : Bool) (code new rest line behind : List ℕ) → Reading text n going code rest → going ≡ true
+    → HasLine rest line behind → IsPushed code new line → (full ≡ true → length line ≡ 64) → (full ≡ false → length line ≡ 64 → ⊥)
+    → Reading text (n + 1) full new behind
 line_read text n going full code new rest line behind r o h p is_full is_short =
     let size : length line ≡ 2 * length p.bytes = sym (ap length p.is.is) ∙ digits_twice p.bytes in
     let few = p.is.few in
@@ -148,7 +153,8 @@ line_read text n going full code new rest line behind r o h p is_full is_short =
         by_size (inl k) = k
         by_size (inr k) = absurd (h (omega arith))
 
-pub line_next : (text : List ℕ) (n : ℕ) (going full : Bool) (code new rest line behind : List ℕ) → Reading text n going code rest → going ≡ true → HasLine rest line behind → IsPushed code new line → full ≡ (length line == 64) → Reading text (n + 1) full new behind
+pub line_next : (text : List ℕ) (n : ℕ) (going full : Bool) (code new rest line behind : List ℕ) → Reading text n going code rest → going ≡ true
+    → HasLine rest line behind → IsPushed code new line → full ≡ (length line == 64) → Reading text (n + 1) full new behind
 line_next text n going full code new rest line behind r o h p e =
     line_read text n going full code new rest line behind r o h p
     (λ t. let u : (length line == 64) ≡ true = sym e ∙ t in grind (arith, nat_tests, u))
@@ -163,7 +169,8 @@ pub all_read : (text : List ℕ) (n : ℕ) (going : Bool) (code rest : List ℕ)
 all_read text n going code rest r p = record { parts = p; bytes = r.leads.bytes; is = done r.before going code rest text r.leads p.code r.parts }
 
 -- there are fewer lines than bytes
-pub few_lines : (text : List ℕ) (n : ℕ) (going : Bool) (code rest behind : List ℕ) → Reading text n going code rest → length text < 2 ^ 32 → length behind < length rest → n + 1 < 2 ^ 32
+pub few_lines : (text : List ℕ) (n : ℕ) (going : Bool) (code rest behind : List ℕ) → Reading text n going code rest → length text < 2 ^ 32
+    → length behind < length rest → n + 1 < 2 ^ 32
 few_lines text n going code rest behind r short less = omega (arith, r.few, short, less)
 
 -- ---- what the loop's tests say

@@ -14,7 +14,8 @@ fitting room [] h = refl
 fitting zero (x ∷ xs) h = absurd (omega arith)
 fitting (suc room) (x ∷ xs) h = ap (λ l. x ∷ l) (fitting room xs (omega arith))
 
-pub one_line : (out written more rest line others all : List ℕ) → 64 < length rest → line ≡ take 64 rest → others ≡ drop 64 rest → written ≡ out ++ line → more ≡ written ++ 10 ∷ [] → out ++ digit_lines rest ≡ all → more ++ digit_lines others ≡ all
+pub one_line : (out written more rest line others all : List ℕ) → 64 < length rest → line ≡ take 64 rest → others ≡ drop 64 rest
+    → written ≡ out ++ line → more ≡ written ++ 10 ∷ [] → out ++ digit_lines rest ≡ all → more ++ digit_lines others ≡ all
 unfolding digit_lines
 one_line out written more rest line others all h front back e f g =
     ap (λ l. l ++ wrapped 64 others) (f ∙ ap (λ l. l ++ 10 ∷ []) (e ∙ ap (λ l. out ++ l) front))

@@ -49,7 +49,8 @@ pub record Leads (before : List (List ℕ)) (going : Bool) (code : List ℕ) : T
   pub each : AllByRecursion IsOneLine before
   pub bytes : IsBytes code
   pub some : going ≡ false → 1 ≤ length code
-  pub on : (more cert : List ℕ) → (going ≡ false → more ≡ []) → 1 ≤ length (code ++ more) → bundle_text (code ++ more) cert ≡ text_of_lines before ++ (hex_lines more ++ cert)
+  pub on : (more cert : List ℕ) → (going ≡ false → more ≡ []) → 1 ≤ length (code ++ more)
+      → bundle_text (code ++ more) cert ≡ text_of_lines before ++ (hex_lines more ++ cert)
   pub only : (b : Bundle) (rest : List ℕ) → IsBundle b → bundle_text b.code b.cert ≡ text_of_lines before ++ rest → Left going code b rest
 
 -- the text was read up to `rest`, which begins the line of this number

@@ -54,7 +54,9 @@ impl Bundle {
     /// What the type keeps: there is some code, and the certificate begins with its first line. It does nothing; its
     /// clauses are what whoever holds a `Bundle` can use.
     pub fn kept(&self)
+        // There is some code, and the certificate begins with its first line.
         ensures parts { HasParts self.now }
+        // The code is bytes.
         ensures bytes { IsBytes self.now.code }
     {
         let _ = &self.code;

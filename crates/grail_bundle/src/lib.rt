@@ -9,6 +9,6 @@ mod reading;
 mod writing;
 
 pub use bundle::Bundle;
-pub use fault::{BundleError, BundleFault};
+pub use fault::BundleFault;
 pub use reading::read_bundle;
 pub use writing::write_bundle;

@@ -47,7 +47,8 @@ are_locals types f xs h = true_all (is_local (locals_of types f)) xs (all_then (
 
 -- ---- operands
 
-front_operand : (types : List DataType) (f : Func) (marks : List Mark) (s : State) (x : ℕ) (q : Kind) → Tracks types f marks s → Front ⊤ (operand_fault (locals_of types f) marks x q) (operand_checks f s x q)
+front_operand : (types : List DataType) (f : Func) (marks : List Mark) (s : State) (x : ℕ) (q : Kind) → Tracks types f marks s
+    → Front ⊤ (operand_fault (locals_of types f) marks x q) (operand_checks f s x q)
 front_operand types f marks s x q t =
     front_weak (⊤ × (kind_of f x ≡ Some q)) ⊤ (operand_fault (locals_of types f) marks x q) (operand_checks f s x q) (λ p. tt)
     (front_then ⊤ (kind_of f x ≡ Some q) (mark_fault (slice_get marks x)) (option_or (unless (has_kind (locals_of types f) x q) fault.Kind) None) (use_checks s x) (Must (kind_of f x ≡ Some q) fault.Kind)
@@ -77,7 +78,8 @@ front_arguments types f marks s xs qs t =
 
 -- ---- lets
 
-front_taken : (types : List DataType) (f : Func) (marks : List Mark) (s : State) (at : Place) → Tracks types f marks s → Front ⊤ (taken_fault (locals_of types f) marks at) (taken_checks f s at)
+front_taken : (types : List DataType) (f : Func) (marks : List Mark) (s : State) (at : Place) → Tracks types f marks s
+    → Front ⊤ (taken_fault (locals_of types f) marks at) (taken_checks f s at)
 front_taken types f marks s place.Inline t = λ o rest go. go tt
 front_taken types f marks s place.New t = λ o rest go. go tt
 front_taken types f marks s (place.Reuse d) t = front_operand types f marks s d kind.Dia t
@@ -108,7 +110,8 @@ front_target : (types : List DataType) (f : Func) (x : ℕ) (q : Option Kind) (P
     → Agrees (option_or a (option_or (target_fault (locals_of types f) x q) None)) (c (target_check f x q))
 front_target types f x q P a c fa = fa (option_or (target_fault (locals_of types f) x q) None) (target_check f x q) (λ p. agrees_last (target_fault (locals_of types f) x q) (target_check f x q) (target_agrees types f x q))
 
-op_agrees : (p : Code) (f : Func) (marks : List Mark) (s : State) (x : ℕ) (op : Op) → Tracks p.types f marks s → Agrees (op_fault p (locals_of p.types f) marks x op) (op_checks p f (is_owned p.types f) s x op)
+op_agrees : (p : Code) (f : Func) (marks : List Mark) (s : State) (x : ℕ) (op : Op) → Tracks p.types f marks s
+    → Agrees (op_fault p (locals_of p.types f) marks x op) (op_checks p f (is_owned p.types f) s x op)
 op_agrees p f marks s x (Lit z) t = front_target p.types f x (Some kind.Int) (IsInt32 z) (unless (is_int32 z) fault.Kind) (Must (IsInt32 z) fault.Kind) (front_must (is_int32 z) fault.Kind (IsInt32 z) (passing_int z) (int_passes z))
 op_agrees p f marks s x (Flag b) t = target_agrees p.types f x (Some kind.Flag)
 op_agrees p f marks s x (Copy y) t =
@@ -142,13 +145,17 @@ op_agrees p f marks s x (Call func args) t = by_func (slice_get p.funcs func)
         front_target p.types f x (Some callee.result) ⊤ (arguments_fault (locals_of p.types f) marks args callee.params) (arguments_checks f (is_owned p.types f) s args callee.params)
         (front_arguments p.types f marks s args callee.params t)
 
-let_there : (types : List DataType) (f : Func) (l : Let) → (is_local (locals_of types f) l.target && list_all (is_local (locals_of types f)) (operands_of l.op)) ≡ true → AreThere f (l.target ∷ operands_of l.op)
+let_there : (types : List DataType) (f : Func) (l : Let)
+    → (is_local (locals_of types f) l.target && list_all (is_local (locals_of types f)) (operands_of l.op)) ≡ true
+    → AreThere f (l.target ∷ operands_of l.op)
 let_there types f l h = let (a, b) = both (is_local (locals_of types f) l.target) (list_all (is_local (locals_of types f)) (operands_of l.op)) h in (local_is types f l.target a, locals_are types f (operands_of l.op) b)
 
-there_let : (types : List DataType) (f : Func) (l : Let) → AreThere f (l.target ∷ operands_of l.op) → (is_local (locals_of types f) l.target && list_all (is_local (locals_of types f)) (operands_of l.op)) ≡ true
+there_let : (types : List DataType) (f : Func) (l : Let) → AreThere f (l.target ∷ operands_of l.op)
+    → (is_local (locals_of types f) l.target && list_all (is_local (locals_of types f)) (operands_of l.op)) ≡ true
 there_let types f l h = join (is_local (locals_of types f) l.target) (list_all (is_local (locals_of types f)) (operands_of l.op)) (is_a_local types f l.target h.0) (are_locals types f (operands_of l.op) h.1)
 
-let_agrees : (p : Code) (f : Func) (marks : List Mark) (s : State) (l : Let) → Tracks p.types f marks s → Agrees (let_fault p (locals_of p.types f) marks l) (let_checks p f (is_owned p.types f) s l)
+let_agrees : (p : Code) (f : Func) (marks : List Mark) (s : State) (l : Let) → Tracks p.types f marks s
+    → Agrees (let_fault p (locals_of p.types f) marks l) (let_checks p f (is_owned p.types f) s l)
 let_agrees p f marks s l t =
     front_must (is_local (locals_of p.types f) l.target && list_all (is_local (locals_of p.types f)) (operands_of l.op)) fault.NoSuchEntry (AreThere f (l.target ∷ operands_of l.op)) (let_there p.types f l) (there_let p.types f l)
     (option_or (op_fault p (locals_of p.types f) marks l.target l.op) None) (op_checks p f (is_owned p.types f) s l.target l.op)
@@ -164,7 +171,8 @@ track_let types f marks s l t there =
 
 -- ---- the end of a block
 
-front_jump : (types : List DataType) (f : Func) (h : ℕ → Bool) (marks : List Mark) (s : State) (bound xs : List ℕ) → Tracks types f marks s → Front ⊤ (uses_fault marks bound xs) (jump_checks (state_after h s (map Bind bound)) xs)
+front_jump : (types : List DataType) (f : Func) (h : ℕ → Bool) (marks : List Mark) (s : State) (bound xs : List ℕ) → Tracks types f marks s
+    → Front ⊤ (uses_fault marks bound xs) (jump_checks (state_after h s (map Bind bound)) xs)
 front_jump types f h marks s bound [] t = λ o rest go. go tt
 front_jump types f h marks s bound (x ∷ xs) t =
     front_weak (⊤ × ⊤) ⊤ (uses_fault marks bound (x ∷ xs)) (jump_checks (state_after h s (map Bind bound)) (x ∷ xs)) (λ p. tt)
@@ -236,7 +244,8 @@ is_kept types f cell.Inline h = refl
 is_kept types f cell.Free h = refl
 is_kept types f (cell.Keep d) h = the_kind_it_has (locals_of types f) d kind.Dia (kind_at_is types f d kind.Dia h)
 
-kinds_are_bound : (types : List DataType) (f : Func) (arms : List CaseArm) (cs : List Constructor) → FieldsCount arms cs → arms_have_kinds (locals_of types f) arms cs ≡ true → ArmsBindKinds f arms cs
+kinds_are_bound : (types : List DataType) (f : Func) (arms : List CaseArm) (cs : List Constructor) → FieldsCount arms cs
+    → arms_have_kinds (locals_of types f) arms cs ≡ true → ArmsBindKinds f arms cs
 kinds_are_bound types f [] cs n h = tt
 kinds_are_bound types f (a ∷ arms) [] n h = tt
 kinds_are_bound types f (a ∷ arms) (c ∷ cs) n h =
@@ -245,7 +254,8 @@ kinds_are_bound types f (a ∷ arms) (c ∷ cs) n h =
     let (x, y) = both (have_kinds locals a.fields c.fields) (kept_fits locals a.cell) front in
     ((have_the_kinds types f a.fields c.fields (the_kinds locals a.fields c.fields n.0 x), keeps_is types f a.cell y), kinds_are_bound types f arms cs n.1 rest)
 
-bound_are_kinds : (types : List DataType) (f : Func) (arms : List CaseArm) (cs : List Constructor) → ArmsBindKinds f arms cs → arms_have_kinds (locals_of types f) arms cs ≡ true
+bound_are_kinds : (types : List DataType) (f : Func) (arms : List CaseArm) (cs : List Constructor) → ArmsBindKinds f arms cs
+    → arms_have_kinds (locals_of types f) arms cs ≡ true
 bound_are_kinds types f [] cs h = refl
 bound_are_kinds types f (a ∷ arms) [] h = refl
 bound_are_kinds types f (a ∷ arms) (c ∷ cs) h =
@@ -254,7 +264,8 @@ bound_are_kinds types f (a ∷ arms) (c ∷ cs) h =
     (join (have_kinds locals a.fields c.fields) (kept_fits locals a.cell) (kinds_had locals a.fields c.fields (the_kinds_had types f a.fields c.fields h.0.0)).1 (is_kept types f a.cell h.0.1))
     (bound_are_kinds types f arms cs h.1)
 
-arms_jump_agrees : (types : List DataType) (f : Func) (marks : List Mark) (s : State) (arms : List CaseArm) → Tracks types f marks s → Agrees (arms_jump_fault f marks arms) (arms_jump_checks f (is_owned types f) s arms)
+arms_jump_agrees : (types : List DataType) (f : Func) (marks : List Mark) (s : State) (arms : List CaseArm) → Tracks types f marks s
+    → Agrees (arms_jump_fault f marks arms) (arms_jump_checks f (is_owned types f) s arms)
 arms_jump_agrees types f marks s [] t = tt
 arms_jump_agrees types f marks s (a ∷ arms) t =
     front_jump types f (is_owned types f) marks s (bound_by a) (params_at f.blocks a.target) t (arms_jump_fault f marks arms) (arms_jump_checks f (is_owned types f) s arms)
@@ -278,7 +289,8 @@ arms_agree types f marks s x (Some t) arms tr =
     are_all_distinct : AllByRecursion (λ a. AreDistinct (bound_by a)) arms → list_all (λ a. are_distinct (bound_by a)) arms ≡ true
     are_all_distinct h = true_all (λ a. are_distinct (bound_by a)) arms (all_then (λ a. AreDistinct (bound_by a)) (λ a. are_distinct (bound_by a) ≡ true) arms (λ a. is_distinct (bound_by a)) h)
 
-plain_jump : (types : List DataType) (f : Func) (marks : List Mark) (s : State) (b : ℕ) → Tracks types f marks s → Front ⊤ (jump_fault f marks [] b) (jump_checks s (params_at f.blocks b))
+plain_jump : (types : List DataType) (f : Func) (marks : List Mark) (s : State) (b : ℕ) → Tracks types f marks s
+    → Front ⊤ (jump_fault f marks [] b) (jump_checks s (params_at f.blocks b))
 plain_jump types f marks s b t = front_jump types f (is_owned types f) marks s [] (params_at f.blocks b) t
 
 term_agrees : (p : Code) (f : Func) (number : ℕ) (marks : List Mark) (s : State) (e : Term) → Tracks p.types f marks s
@@ -347,7 +359,8 @@ term_agrees p f number marks s (Case x arms) t =
 
 -- ---- headers and types
 
-header_agrees : (types : List DataType) (f : Func) (number : ℕ) (params : List ℕ) → Agrees (block_header_fault f (locals_of types f) number params) (header_checks f number params)
+header_agrees : (types : List DataType) (f : Func) (number : ℕ) (params : List ℕ)
+    → Agrees (block_header_fault f (locals_of types f) number params) (header_checks f number params)
 header_agrees types f number params =
     front_must (list_all (is_local (locals_of types f)) params) fault.NoSuchEntry (AreThere f params) (locals_are types f params) (are_locals types f params) _ _
     (λ q. agrees_last (unless (ascends_from 0 params && entry_fits f number params) fault.Header) _
@@ -359,7 +372,8 @@ header_agrees types f number params =
 new_is : (b : Bool) → not b ≡ true → b ≡ false
 new_is b h = not_true b h
 
-func_agrees : (types : List DataType) (earlier : List (List ℕ)) (f : Func) → Agrees (header_fault types (not (stands earlier f.name)) f) (func_checks types earlier f)
+func_agrees : (types : List DataType) (earlier : List (List ℕ)) (f : Func)
+    → Agrees (header_fault types (not (stands earlier f.name)) f) (func_checks types earlier f)
 func_agrees types earlier f =
     front_must (not (stands earlier f.name)) fault.Name (stands earlier f.name ≡ false) (not_true (stands earlier f.name)) (true_not (stands earlier f.name)) _ _
     (λ q. agrees_last (unless (list_all (is_known types) f.params && is_known types f.result && list_all (is_known types) f.locals) fault.NoSuchEntry) _
@@ -367,11 +381,13 @@ func_agrees types earlier f =
     (Must (AllByRecursion (IsKnownKind types) f.params × IsKnownKind types f.result × AllByRecursion (IsKnownKind types) f.locals) fault.NoSuchEntry)
     (front_must (list_all (is_known types) f.params && is_known types f.result && list_all (is_known types) f.locals) fault.NoSuchEntry (AllByRecursion (IsKnownKind types) f.params × IsKnownKind types f.result × AllByRecursion (IsKnownKind types) f.locals) to from)))
   where
-    to : (list_all (is_known types) f.params && is_known types f.result && list_all (is_known types) f.locals) ≡ true → AllByRecursion (IsKnownKind types) f.params × IsKnownKind types f.result × AllByRecursion (IsKnownKind types) f.locals
+    to : (list_all (is_known types) f.params && is_known types f.result && list_all (is_known types) f.locals) ≡ true
+        → AllByRecursion (IsKnownKind types) f.params × IsKnownKind types f.result × AllByRecursion (IsKnownKind types) f.locals
     to h = let (a, c) = both (list_all (is_known types) f.params && is_known types f.result) (list_all (is_known types) f.locals) h in let (d, e) = both (list_all (is_known types) f.params) (is_known types f.result) a in
         (all_known types f.params d, known_is types f.result e, all_known types f.locals c)
 
-    from : AllByRecursion (IsKnownKind types) f.params × IsKnownKind types f.result × AllByRecursion (IsKnownKind types) f.locals → (list_all (is_known types) f.params && is_known types f.result && list_all (is_known types) f.locals) ≡ true
+    from : AllByRecursion (IsKnownKind types) f.params × IsKnownKind types f.result × AllByRecursion (IsKnownKind types) f.locals
+        → (list_all (is_known types) f.params && is_known types f.result && list_all (is_known types) f.locals) ≡ true
     from h = join (list_all (is_known types) f.params && is_known types f.result) (list_all (is_known types) f.locals) (join (list_all (is_known types) f.params) (is_known types f.result) (known_all types f.params h.0) (is_known_kind types f.result h.1)) (known_all types f.locals h.2)
 
 front_con : (types : List DataType) (earlier : List (List ℕ)) (c : Constructor) → Front ⊤ (constructor_fault types (not (stands earlier c.name)) c)
@@ -384,7 +400,8 @@ front_con types earlier c =
     (λ p. front_last (AllByRecursion (IsKnownKind types) c.fields) (unless (list_all (is_known types) c.fields) fault.NoSuchEntry) (Must (AllByRecursion (IsKnownKind types) c.fields) fault.NoSuchEntry)
     (front_must (list_all (is_known types) c.fields) fault.NoSuchEntry (AllByRecursion (IsKnownKind types) c.fields) (all_known types c.fields) (known_all types c.fields))))
 
-front_cons : (types : List DataType) (earlier : List (List ℕ)) (cs : List Constructor) → Front ⊤ (constructors_fault types earlier cs) (cons_checks types earlier cs)
+front_cons : (types : List DataType) (earlier : List (List ℕ)) (cs : List Constructor)
+    → Front ⊤ (constructors_fault types earlier cs) (cons_checks types earlier cs)
 front_cons types earlier [] = λ o rest go. go tt
 front_cons types earlier (c ∷ cs) =
     front_weak (⊤ × ⊤) ⊤ (constructors_fault types earlier (c ∷ cs)) (cons_checks types earlier (c ∷ cs)) (λ p. tt)
@@ -392,14 +409,16 @@ front_cons types earlier (c ∷ cs) =
     (λ rest. Must (stands earlier c.name ≡ false) fault.Name (Must (AllByRecursion (IsKnownKind types) c.fields) fault.NoSuchEntry rest)) (cons_checks types (earlier ++ c.name ∷ []) cs)
     (front_con types earlier c) (λ p. front_cons types (earlier ++ c.name ∷ []) cs))
 
-front_type : (types : List DataType) (earlier cons : List (List ℕ)) (t : DataType) → Front ⊤ (type_fault types (not (stands earlier t.name)) cons t) (λ rest. Must (stands earlier t.name ≡ false) fault.Name (cons_checks types cons t.cons rest))
+front_type : (types : List DataType) (earlier cons : List (List ℕ)) (t : DataType)
+    → Front ⊤ (type_fault types (not (stands earlier t.name)) cons t) (λ rest. Must (stands earlier t.name ≡ false) fault.Name (cons_checks types cons t.cons rest))
 front_type types earlier cons t =
     front_weak ((stands earlier t.name ≡ false) × ⊤) ⊤ (type_fault types (not (stands earlier t.name)) cons t) _ (λ p. tt)
     (front_then (stands earlier t.name ≡ false) ⊤ (unless (not (stands earlier t.name)) fault.Name) (option_or (constructors_fault types cons t.cons) None) (Must (stands earlier t.name ≡ false) fault.Name) (cons_checks types cons t.cons)
     (front_must (not (stands earlier t.name)) fault.Name (stands earlier t.name ≡ false) (not_true (stands earlier t.name)) (true_not (stands earlier t.name)))
     (λ p. front_last ⊤ (constructors_fault types cons t.cons) (cons_checks types cons t.cons) (front_cons types cons t.cons)))
 
-types_agree : (types : List DataType) (earlier cons : List (List ℕ)) (ts : List DataType) → Agrees (types_fault types earlier cons ts) (types_checks types earlier cons ts)
+types_agree : (types : List DataType) (earlier cons : List (List ℕ)) (ts : List DataType)
+    → Agrees (types_fault types earlier cons ts) (types_checks types earlier cons ts)
 types_agree types earlier cons [] = tt
 types_agree types earlier cons (t ∷ ts) =
     front_type types earlier cons t (types_fault types (earlier ++ t.name ∷ []) (cons ++ map (λ c. c.name) t.cons) ts) (types_checks types (earlier ++ t.name ∷ []) (cons ++ map (λ c. c.name) t.cons) ts)
@@ -411,7 +430,8 @@ abbrev pub WalkAgrees : Option CodeFault → Walk → Type 0
 WalkAgrees None w = AllPass w
 WalkAgrees (Some e) w = FirstFault w e
 
-at_agrees : (func number place : ℕ) (o : Option CodeKind) (checks : Checks) (r : Option CodeFault) (rest : Walk) → Agrees o checks → (Pass checks → WalkAgrees r rest) → WalkAgrees (option_or (at_place func number place o) r) (At func number place checks rest)
+at_agrees : (func number place : ℕ) (o : Option CodeKind) (checks : Checks) (r : Option CodeFault) (rest : Walk) → Agrees o checks
+    → (Pass checks → WalkAgrees r rest) → WalkAgrees (option_or (at_place func number place o) r) (At func number place checks rest)
 at_agrees func number place (Some k) checks r rest a go = inl (a, refl)
 at_agrees func number place None checks None rest a go = (a, go a)
 at_agrees func number place None checks (Some e) rest a go = inr (a, go a)

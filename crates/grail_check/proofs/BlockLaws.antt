@@ -39,7 +39,8 @@ header_passes types f number params h =
     let b = both (ascends_from 0 params) (entry_fits f number params) (unless_true (ascends_from 0 params && entry_fits f number params) fault.Header a.1.0) in
     (there_below locals params (unless_true (list_all (is_local locals) params) fault.NoSuchEntry a.0), ascends_is 0 params b.0, (λ e. entry_is f number params b.1 e))
 
-pass_header : (types : List DataType) (f : Func) (number : ℕ) (params : List ℕ) → AreBelow (length (locals_of types f)) params → Ascend params → (number ≡ 0 → params ≡ range_with_len 0 (length f.params))
+pass_header : (types : List DataType) (f : Func) (number : ℕ) (params : List ℕ) → AreBelow (length (locals_of types f)) params → Ascend params
+    → (number ≡ 0 → params ≡ range_with_len 0 (length f.params))
     → block_header_fault f (locals_of types f) number params ≡ None
 pass_header types f number params w a e =
     let locals = locals_of types f in
@@ -50,7 +51,8 @@ pass_header types f number params w a e =
 
 -- ---- lets
 
-lets_pass : (p : Code) (f : Func) (func number place : ℕ) (marks : List Mark) (ls : List Let) → lets_fault p (locals_of p.types f) func number place marks ls ≡ None
+lets_pass : (p : Code) (f : Func) (func number place : ℕ) (marks : List Mark) (ls : List Let)
+    → lets_fault p (locals_of p.types f) func number place marks ls ≡ None
     → AllByRecursion (LetFits p f) ls × Plays (locals_of p.types f) marks (flat_map (let_events no_reads) ls)
 lets_pass p f func number place marks [] h = (tt, tt)
 lets_pass p f func number place marks (l ∷ ls) h =
@@ -59,7 +61,8 @@ lets_pass p f func number place marks (l ∷ ls) h =
     let b = lets_pass p f func number (suc place) (after_let locals marks l) ls (or_second (at_place func number place (let_fault p locals marks l)) _ h) in
     ((a.0, b.0), plays_both locals marks (let_events no_reads l) (flat_map (let_events no_reads) ls) a.1 (subst (λ m. Plays locals m (flat_map (let_events no_reads) ls)) (sym (after_a_let locals marks l)) b.1))
 
-pass_lets : (p : Code) (f : Func) (func number place : ℕ) (marks : List Mark) (ls : List Let) → AllByRecursion (LetFits p f) ls → Plays (locals_of p.types f) marks (flat_map (let_events no_reads) ls)
+pass_lets : (p : Code) (f : Func) (func number place : ℕ) (marks : List Mark) (ls : List Let) → AllByRecursion (LetFits p f) ls
+    → Plays (locals_of p.types f) marks (flat_map (let_events no_reads) ls)
     → lets_fault p (locals_of p.types f) func number place marks ls ≡ None
 pass_lets p f func number place marks [] fits h = refl
 pass_lets p f func number place marks (l ∷ ls) fits h =
@@ -69,7 +72,8 @@ pass_lets p f func number place marks (l ∷ ls) fits h =
     (pass_lets p f func number (suc place) (after_let locals marks l) ls fits.1
     (subst (λ m. Plays locals m (flat_map (let_events no_reads) ls)) (after_a_let locals marks l) (plays_back locals marks (let_events no_reads l) (flat_map (let_events no_reads) ls) h)))
 
-pub after_all_lets : (locals : List Local) (marks : List Mark) (ls : List Let) → after locals marks (flat_map (let_events no_reads) ls) ≡ after_lets locals marks ls
+pub after_all_lets : (locals : List Local) (marks : List Mark) (ls : List Let)
+    → after locals marks (flat_map (let_events no_reads) ls) ≡ after_lets locals marks ls
 after_all_lets locals marks [] = refl
 after_all_lets locals marks (l ∷ ls) = after_both locals marks (let_events no_reads l) (flat_map (let_events no_reads) ls)
     ∙ ap (λ m. after locals m (flat_map (let_events no_reads) ls)) (after_a_let locals marks l) ∙ after_all_lets locals (after_let locals marks l) ls
@@ -83,11 +87,13 @@ after_front : (locals : List Local) (b : Block) → after locals (unbound locals
 after_front locals b = after_both locals (unbound locals) (map Bind b.params) (flat_map (let_events no_reads) b.lets)
     ∙ ap (λ m. after locals m (flat_map (let_events no_reads) b.lets)) (after_binds locals (unbound locals) b.params) ∙ after_all_lets locals (at_start locals b) b.lets
 
-front_plays : (locals : List Local) (b : Block) → Plays locals (at_start locals b) (flat_map (let_events no_reads) b.lets) → Plays locals (unbound locals) (front_events b)
+front_plays : (locals : List Local) (b : Block) → Plays locals (at_start locals b) (flat_map (let_events no_reads) b.lets)
+    → Plays locals (unbound locals) (front_events b)
 front_plays locals b h = plays_both locals (unbound locals) (map Bind b.params) (flat_map (let_events no_reads) b.lets) (binds_play locals (unbound locals) b.params)
     (subst (λ m. Plays locals m (flat_map (let_events no_reads) b.lets)) (sym (after_binds locals (unbound locals) b.params)) h)
 
-plays_lets : (locals : List Local) (b : Block) → Plays locals (unbound locals) (front_events b) → Plays locals (at_start locals b) (flat_map (let_events no_reads) b.lets)
+plays_lets : (locals : List Local) (b : Block) → Plays locals (unbound locals) (front_events b)
+    → Plays locals (at_start locals b) (flat_map (let_events no_reads) b.lets)
 plays_lets locals b h = subst (λ m. Plays locals m (flat_map (let_events no_reads) b.lets)) (after_binds locals (unbound locals) b.params)
     (plays_back locals (unbound locals) (map Bind b.params) (flat_map (let_events no_reads) b.lets) h)
 
@@ -95,13 +101,15 @@ plays_lets locals b h = subst (λ m. Plays locals m (flat_map (let_events no_rea
 abbrev pub at_end : List Local → Block → List Mark
 at_end locals b = after_lets locals (at_start locals b) b.lets
 
-end_events : (locals : List Local) (b : Block) (es : List Event) → Plays locals (unbound locals) (front_events b) → Plays locals (at_end locals b) es → Plays locals (unbound locals) (front_events b ++ es)
+end_events : (locals : List Local) (b : Block) (es : List Event) → Plays locals (unbound locals) (front_events b) → Plays locals (at_end locals b) es
+    → Plays locals (unbound locals) (front_events b ++ es)
 end_events locals b es h k = plays_both locals (unbound locals) (front_events b) es h (subst (λ m. Plays locals m es) (sym (after_front locals b)) k)
 
 events_end : (locals : List Local) (b : Block) (es : List Event) → Plays locals (unbound locals) (front_events b ++ es) → Plays locals (at_end locals b) es
 events_end locals b es h = subst (λ m. Plays locals m es) (after_front locals b) (plays_back locals (unbound locals) (front_events b) es h)
 
-after_block : (locals : List Local) (b : Block) → after locals (unbound locals) (block_events no_reads b) ≡ after locals (at_end locals b) (term_events no_reads b.term)
+after_block : (locals : List Local) (b : Block)
+    → after locals (unbound locals) (block_events no_reads b) ≡ after locals (at_end locals b) (term_events no_reads b.term)
 after_block locals b = after_both locals (unbound locals) (front_events b) (term_events no_reads b.term) ∙ ap (λ m. after locals m (term_events no_reads b.term)) (after_front locals b)
 
 heap_path : (types : List DataType) (f : Func) → is_heap_at (locals_of types f) ≡ is_owned types f
@@ -112,7 +120,8 @@ end_length locals b = ap length (sym (after_front locals b)) ∙ length_after lo
 
 -- ---- a block
 
-all_ways : (types : List DataType) (f : Func) (b : Block) (ws : List (List Event)) → Plays (locals_of types f) (unbound (locals_of types f)) (block_events no_reads b)
+all_ways : (types : List DataType) (f : Func) (b : Block) (ws : List (List Event))
+    → Plays (locals_of types f) (unbound (locals_of types f)) (block_events no_reads b)
     → AllByRecursion (λ w. Plays (locals_of types f) (after (locals_of types f) (at_end (locals_of types f) b) (term_events no_reads b.term)) w) ws
     → AllByRecursion (λ w. IsAffine (is_owned types f) (block_events no_reads b ++ w)) ws
 all_ways types f b [] h k = tt
@@ -123,7 +132,8 @@ all_ways types f b (w ∷ ws) h k =
       all_ways types f b ws h k.1,
     )
 
-pub block_passes : (p : Code) (f : Func) (func number : ℕ) (b : Block) → ((n : ℕ) → Ascend (params_at f.blocks n)) → block_fault p f (locals_of p.types f) func number b ≡ None → BlockFits p f number b
+pub block_passes : (p : Code) (f : Func) (func number : ℕ) (b : Block) → ((n : ℕ) → Ascend (params_at f.blocks n))
+    → block_fault p f (locals_of p.types f) func number b ≡ None → BlockFits p f number b
 block_passes p f func number b asc h =
     let locals = locals_of p.types f in
     let end = at_end locals b in
@@ -156,7 +166,8 @@ binds_within : (n : ℕ) (xs : List ℕ) → AreWithin n (map Bind xs)
 binds_within n [] = tt
 binds_within n (x ∷ xs) = (tt, binds_within n xs)
 
-lets_within : (p : Code) (f : Func) (ls : List Let) → AllByRecursion (LetFits p f) ls → AreWithin (length (locals_of p.types f)) (flat_map (let_events no_reads) ls)
+lets_within : (p : Code) (f : Func) (ls : List Let) → AllByRecursion (LetFits p f) ls
+    → AreWithin (length (locals_of p.types f)) (flat_map (let_events no_reads) ls)
 lets_within p f [] h = tt
 lets_within p f (l ∷ ls) h =
     let locals = locals_of p.types f in
@@ -192,7 +203,8 @@ ways_within f n (Goto b) h = (uses_within n (params_at f.blocks b) (h b), tt)
 ways_within f n (If x first second) h = (uses_within n (params_at f.blocks first) (h first), (uses_within n (params_at f.blocks second) (h second), tt))
 ways_within f n (Case x arms) h = arm_ways_within f n arms h
 
-ways_all : (types : List DataType) (f : Func) (b : Block) (ws : List (List Event)) → AreWithin (length (locals_of types f)) (block_events no_reads b) → AllByRecursion (AreWithin (length (locals_of types f))) ws
+ways_all : (types : List DataType) (f : Func) (b : Block) (ws : List (List Event)) → AreWithin (length (locals_of types f)) (block_events no_reads b)
+    → AllByRecursion (AreWithin (length (locals_of types f))) ws
     → AllByRecursion (λ w. IsAffine (is_owned types f) (block_events no_reads b ++ w)) ws
     → AllByRecursion (λ w. Plays (locals_of types f) (after (locals_of types f) (at_end (locals_of types f) b) (term_events no_reads b.term)) w) ws
 ways_all types f b [] i k h = tt
@@ -201,7 +213,8 @@ ways_all types f b (w ∷ ws) i k h =
     let plays = plays_well locals (block_events no_reads b ++ w) (all_both (IsWithin (length locals)) (block_events no_reads b) w i k.0) (subst (λ t. IsAffine t (block_events no_reads b ++ w)) (sym (heap_path types f)) h.0) in
     (subst (λ m. Plays locals m w) (after_block locals b) (plays_back locals (unbound locals) (block_events no_reads b) w plays), ways_all types f b ws i k.1 h.1)
 
-pub pass_block : (p : Code) (f : Func) (func number : ℕ) (b : Block) → ((n : ℕ) → AreBelow (length (locals_of p.types f)) (params_at f.blocks n)) → BlockFits p f number b → block_fault p f (locals_of p.types f) func number b ≡ None
+pub pass_block : (p : Code) (f : Func) (func number : ℕ) (b : Block) → ((n : ℕ) → AreBelow (length (locals_of p.types f)) (params_at f.blocks n))
+    → BlockFits p f number b → block_fault p f (locals_of p.types f) func number b ≡ None
 pass_block p f func number b params fits =
     let locals = locals_of p.types f in
     let n = length locals in
@@ -227,12 +240,14 @@ pass_block p f func number b params fits =
 
 -- ---- the blocks of a function
 
-params_got : (Q : List ℕ → Type 0) (bs : List Block) (n : ℕ) → Q [] → AllByRecursion (λ b. Q b.params) bs → Q (option_map_or (λ block. block.params) (slice_get bs n) [])
+params_got : (Q : List ℕ → Type 0) (bs : List Block) (n : ℕ) → Q [] → AllByRecursion (λ b. Q b.params) bs
+    → Q (option_map_or (λ block. block.params) (slice_get bs n) [])
 params_got Q [] n e h = e
 params_got Q (b ∷ bs) zero e h = h.0
 params_got Q (b ∷ bs) (suc n) e h = params_got Q bs n e h.1
 
-blocks_ascend : (p : Code) (f : Func) (func number : ℕ) (bs : List Block) → blocks_fault p f (locals_of p.types f) func number bs ≡ None → AllByRecursion (λ b. Ascend b.params) bs
+blocks_ascend : (p : Code) (f : Func) (func number : ℕ) (bs : List Block) → blocks_fault p f (locals_of p.types f) func number bs ≡ None
+    → AllByRecursion (λ b. Ascend b.params) bs
 blocks_ascend p f func number [] h = tt
 blocks_ascend p f func number (b ∷ bs) h =
     let locals = locals_of p.types f in
@@ -241,7 +256,8 @@ blocks_ascend p f func number (b ∷ bs) h =
       blocks_ascend p f func (suc number) bs (or_second (block_fault p f locals func number b) _ h),
     )
 
-each_passes : (p : Code) (f : Func) (func number : ℕ) (bs : List Block) → ((n : ℕ) → Ascend (params_at f.blocks n)) → blocks_fault p f (locals_of p.types f) func number bs ≡ None → BlocksFit p f number bs
+each_passes : (p : Code) (f : Func) (func number : ℕ) (bs : List Block) → ((n : ℕ) → Ascend (params_at f.blocks n))
+    → blocks_fault p f (locals_of p.types f) func number bs ≡ None → BlocksFit p f number bs
 each_passes p f func number [] asc h = tt
 each_passes p f func number (b ∷ bs) asc h = (
   block_passes p f func number b asc (or_first _ (blocks_fault p f (locals_of p.types f) func (suc number) bs) h),
@@ -251,11 +267,13 @@ each_passes p f func number (b ∷ bs) asc h = (
 pub blocks_pass : (p : Code) (f : Func) (func : ℕ) → blocks_fault p f (locals_of p.types f) func 0 f.blocks ≡ None → BlocksFit p f 0 f.blocks
 blocks_pass p f func h = each_passes p f func 0 f.blocks (λ n. params_got Ascend f.blocks n tt (blocks_ascend p f func 0 f.blocks h)) h
 
-params_below : (p : Code) (f : Func) (number : ℕ) (bs : List Block) → BlocksFit p f number bs → AllByRecursion (λ b. AreBelow (length (locals_of p.types f)) b.params) bs
+params_below : (p : Code) (f : Func) (number : ℕ) (bs : List Block) → BlocksFit p f number bs
+    → AllByRecursion (λ b. AreBelow (length (locals_of p.types f)) b.params) bs
 params_below p f number [] h = tt
 params_below p f number (b ∷ bs) h = (subst (λ m. AreBelow m b.params) (sym (count_is p.types f)) h.0.params, params_below p f (suc number) bs h.1)
 
-pass_each : (p : Code) (f : Func) (func number : ℕ) (bs : List Block) → ((n : ℕ) → AreBelow (length (locals_of p.types f)) (params_at f.blocks n)) → BlocksFit p f number bs → blocks_fault p f (locals_of p.types f) func number bs ≡ None
+pass_each : (p : Code) (f : Func) (func number : ℕ) (bs : List Block) → ((n : ℕ) → AreBelow (length (locals_of p.types f)) (params_at f.blocks n))
+    → BlocksFit p f number bs → blocks_fault p f (locals_of p.types f) func number bs ≡ None
 pass_each p f func number [] w h = refl
 pass_each p f func number (b ∷ bs) w h = or_none (block_fault p f (locals_of p.types f) func number b) _ (pass_block p f func number b w h.0) (pass_each p f func (suc number) bs w h.1)
 

@@ -40,7 +40,8 @@ among_ready : (xs : List ℕ) (marks : List Mark) (x : ℕ) → AreBelow (length
 among_ready [] marks x w h = cc
 among_ready (y ∷ ys) marks x w h = by_first (λ k. among_ready ys (bind marks y) x (subst (λ n. AreBelow n ys) (sym (length-set marks y mark.Ready)) w.1) k) (y == x) refl h
   where
-    by_first : (is_among ys x ≡ true → IsReady (bind_all (bind marks y) ys) x) → (b : Bool) → (y == x) ≡ b → (b || is_among ys x) ≡ true → IsReady (bind_all (bind marks y) ys) x
+    by_first : (is_among ys x ≡ true → IsReady (bind_all (bind marks y) ys) x) → (b : Bool) → (y == x) ≡ b → (b || is_among ys x) ≡ true
+        → IsReady (bind_all (bind marks y) ys) x
     by_first f true e k = still_ready ys (bind marks y) x (subst (λ z. IsReady (bind marks z) x) (sym (same y x e)) (set_same marks x mark.Ready (subst (λ z. z < length marks) (same y x e) w.0)))
     by_first f false e k = f k
 
@@ -77,7 +78,8 @@ after_binds locals marks (x ∷ xs) = after_binds locals (bind marks x) xs
 abbrev AreReady : List Mark → List ℕ → Type 0
 AreReady marks xs = AllByRecursion (λ x. IsReady marks x) xs
 
-pub use_passes : (marks : List Mark) (bound : List ℕ) (x : ℕ) → AreBelow (length marks) bound → use_fault marks bound x ≡ None → IsReady (bind_all marks bound) x
+pub use_passes : (marks : List Mark) (bound : List ℕ) (x : ℕ) → AreBelow (length marks) bound → use_fault marks bound x ≡ None
+    → IsReady (bind_all marks bound) x
 use_passes marks bound x w h = by_test (is_among bound x) refl h
   where
     by_test : (b : Bool) → is_among bound x ≡ b → (if b then None else mark_fault (slice_get marks x)) ≡ None → IsReady (bind_all marks bound) x
@@ -103,7 +105,8 @@ pass_uses marks bound (x ∷ xs) h = or_none (use_fault marks bound x) _ (pass_u
 other_ready : (locals : List Local) (marks : List Mark) (x y : ℕ) → x < y → IsReady marks y → IsReady (spend locals marks x) y
 other_ready locals marks x y h r = elim (spend_one locals marks x y r) as (λ c. IsReady (spend locals marks x) y) [ inl s ↦ s | inr (e, heap) ↦ absurd (omega arith) ]
 
-others_ready : (locals : List Local) (marks : List Mark) (x : ℕ) (xs : List ℕ) → AllByRecursion (λ y. x < y) xs → AreReady marks xs → AreReady (spend locals marks x) xs
+others_ready : (locals : List Local) (marks : List Mark) (x : ℕ) (xs : List ℕ) → AllByRecursion (λ y. x < y) xs → AreReady marks xs
+    → AreReady (spend locals marks x) xs
 others_ready locals marks x [] h r = tt
 others_ready locals marks x (y ∷ ys) h r = (other_ready locals marks x y h.0 r.0, others_ready locals marks x ys h.1 r.1)
 
@@ -127,13 +130,15 @@ jump_passes : (f : Func) (locals : List Local) (marks : List Mark) (bound : List
 jump_passes f locals marks bound b a w h = plays_both locals marks (map Bind bound) (jump_events f.blocks b) (binds_play locals marks bound)
     (subst (λ m. Plays locals m (jump_events f.blocks b)) (sym (after_binds locals marks bound)) (ready_play locals (bind_all marks bound) (params_at f.blocks b) a (uses_pass marks bound (params_at f.blocks b) w h)))
 
-pass_jump : (f : Func) (locals : List Local) (marks : List Mark) (bound : List ℕ) (b : ℕ) → Plays locals marks (way f bound b) → jump_fault f marks bound b ≡ None
+pass_jump : (f : Func) (locals : List Local) (marks : List Mark) (bound : List ℕ) (b : ℕ) → Plays locals marks (way f bound b)
+    → jump_fault f marks bound b ≡ None
 pass_jump f locals marks bound b h = pass_uses marks bound (params_at f.blocks b)
     (play_ready locals (bind_all marks bound) (params_at f.blocks b) (subst (λ m. Plays locals m (jump_events f.blocks b)) (after_binds locals marks bound) (plays_back locals marks (map Bind bound) (jump_events f.blocks b) h)))
 
 -- ---- arms
 
-pub the_kinds : (locals : List Local) (xs : List ℕ) (ks : List Kind) → length xs ≡ length ks → have_kinds locals xs ks ≡ true → map (kind_at locals) xs ≡ map Some ks
+pub the_kinds : (locals : List Local) (xs : List ℕ) (ks : List Kind) → length xs ≡ length ks → have_kinds locals xs ks ≡ true
+    → map (kind_at locals) xs ≡ map Some ks
 the_kinds locals [] [] e h = refl
 the_kinds locals [] (k ∷ ks) e h = absurd (omega arith)
 the_kinds locals (x ∷ xs) [] e h = absurd (omega arith)
@@ -143,7 +148,8 @@ the_kinds locals (x ∷ xs) (k ∷ ks) e h =
     let b : map (kind_at locals) xs ≡ map Some ks = the_kinds locals xs ks (omega arith) parts.1 in
     cc
 
-pub kinds_had : (locals : List Local) (xs : List ℕ) (ks : List Kind) → map (kind_at locals) xs ≡ map Some ks → (length xs ≡ length ks) × (have_kinds locals xs ks ≡ true)
+pub kinds_had : (locals : List Local) (xs : List ℕ) (ks : List Kind) → map (kind_at locals) xs ≡ map Some ks
+    → (length xs ≡ length ks) × (have_kinds locals xs ks ≡ true)
 kinds_had locals [] [] h = (refl, refl)
 kinds_had locals [] (k ∷ ks) h = cc
 kinds_had locals (x ∷ xs) [] h = cc
@@ -153,7 +159,8 @@ kinds_had locals (x ∷ xs) (k ∷ ks) h =
     let c = kinds_had locals xs ks b in
     (ap suc c.0, join (has_kind locals x k) (have_kinds locals xs ks) (the_kind_it_has locals x k a) c.1)
 
-cell_is : (types : List DataType) (f : Func) (inline : Bool) (c : CaseCell) → cell_fits inline c ≡ true → kept_fits (locals_of types f) c ≡ true → CellFits f inline c
+cell_is : (types : List DataType) (f : Func) (inline : Bool) (c : CaseCell) → cell_fits inline c ≡ true → kept_fits (locals_of types f) c ≡ true
+    → CellFits f inline c
 cell_is types f inline cell.Inline h k = h
 cell_is types f inline cell.Free h k = not_true inline h
 cell_is types f inline (cell.Keep d) h k = (not_true inline h, kind_of_is types f d kind.Dia (has_the_kind (locals_of types f) d kind.Dia k))
@@ -187,7 +194,8 @@ bound_below f locals a h =
 abbrev pub arm_way : Func → CaseArm → List Event
 arm_way f a = way f (bound_by a) a.target
 
-arms_jump : (f : Func) (locals : List Local) (marks : List Mark) (arms : List CaseArm) → ((b : ℕ) → Ascend (params_at f.blocks b)) → length marks ≡ length locals
+arms_jump : (f : Func) (locals : List Local) (marks : List Mark) (arms : List CaseArm) → ((b : ℕ) → Ascend (params_at f.blocks b))
+    → length marks ≡ length locals
     → AllByRecursion (λ a. arm_is_there f locals a ≡ true) arms → arms_jump_fault f marks arms ≡ None → AllByRecursion (λ w. Plays locals marks w) (map (arm_way f) arms)
 arms_jump f locals marks [] asc e t h = tt
 arms_jump f locals marks (a ∷ arms) asc e t h = (
@@ -195,7 +203,8 @@ arms_jump f locals marks (a ∷ arms) asc e t h = (
   arms_jump f locals marks arms asc e t.1 (or_second (jump_fault f marks (bound_by a) a.target) _ h),
 )
 
-jump_arms : (f : Func) (locals : List Local) (marks : List Mark) (arms : List CaseArm) → AllByRecursion (λ w. Plays locals marks w) (map (arm_way f) arms) → arms_jump_fault f marks arms ≡ None
+jump_arms : (f : Func) (locals : List Local) (marks : List Mark) (arms : List CaseArm)
+    → AllByRecursion (λ w. Plays locals marks w) (map (arm_way f) arms) → arms_jump_fault f marks arms ≡ None
 jump_arms f locals marks [] h = refl
 jump_arms f locals marks (a ∷ arms) h = or_none (jump_fault f marks (bound_by a) a.target) _ (pass_jump f locals marks (bound_by a) a.target h.0) (jump_arms f locals marks arms h.1)
 
@@ -209,7 +218,8 @@ record Tests (types : List DataType) (f : Func) (number : ℕ) (arms : List Case
   named : list_all (arm_is_there f (locals_of types f)) arms ≡ true
   forward : list_all (λ a. nat_lt number a.target) arms ≡ true
 
-arms_are : (types : List DataType) (f : Func) (number : ℕ) (arms : List CaseArm) (cs : List Constructor) → Tests types f number arms cs → ArmsFit f number cs arms
+arms_are : (types : List DataType) (f : Func) (number : ℕ) (arms : List CaseArm) (cs : List Constructor) → Tests types f number arms cs
+    → ArmsFit f number cs arms
 arms_are types f number [] [] t = tt
 arms_are types f number [] (c ∷ cs) t = let e = t.count in absurd (omega arith)
 arms_are types f number (a ∷ arms) [] t = let e = t.count in absurd (omega arith)
@@ -232,7 +242,8 @@ arms_are types f number (a ∷ arms) (c ∷ cs) t =
       arms_are types f number arms cs (record { count = omega arith; fields = n.1; cells = l.1; kinds = k.1; distinct = d.1; named = w.1; forward = g.1 }),
     )
 
-are_arms : (types : List DataType) (f : Func) (number : ℕ) (arms : List CaseArm) (cs : List Constructor) → ArmsFit f number cs arms → Tests types f number arms cs
+are_arms : (types : List DataType) (f : Func) (number : ℕ) (arms : List CaseArm) (cs : List Constructor) → ArmsFit f number cs arms
+    → Tests types f number arms cs
 are_arms types f number [] [] h = record { count = refl; fields = refl; cells = refl; kinds = refl; distinct = refl; named = refl; forward = refl }
 are_arms types f number [] (c ∷ cs) h = absurd h
 are_arms types f number (a ∷ arms) [] h = absurd h
@@ -262,7 +273,8 @@ are_arms types f number (a ∷ arms) (c ∷ cs) h =
 abbrev WaysPlay : List Local → List Mark → List (List Event) → Type 0
 WaysPlay locals marks ws = AllByRecursion (λ w. Plays locals marks w) ws
 
-arms_pass : (p : Code) (f : Func) (number : ℕ) (marks : List Mark) (x : ℕ) (o : Option DataType) (arms : List CaseArm) → ((b : ℕ) → Ascend (params_at f.blocks b)) → length marks ≡ length (locals_of p.types f)
+arms_pass : (p : Code) (f : Func) (number : ℕ) (marks : List Mark) (x : ℕ) (o : Option DataType) (arms : List CaseArm)
+    → ((b : ℕ) → Ascend (params_at f.blocks b)) → length marks ≡ length (locals_of p.types f)
     → list_all (arm_is_there f (locals_of p.types f)) arms ≡ true → list_all (λ a. nat_lt number a.target) arms ≡ true → arms_fault f (locals_of p.types f) marks x o arms ≡ None
     → IsSomeAnd o (λ t. ArmsFit f number t.cons arms) × IsReady marks x × WaysPlay (locals_of p.types f) (spend (locals_of p.types f) marks x) (map (arm_way f) arms)
 arms_pass p f number marks x None arms asc e named forward h = cc
@@ -329,7 +341,8 @@ pass_callee p f marks (Some callee) args h w =
     )
 
 -- a jump that binds nothing
-plain_jump : (f : Func) (locals : List Local) (marks : List Mark) (b : ℕ) → Ascend (params_at f.blocks b) → jump_fault f marks [] b ≡ None → Plays locals marks (jump_events f.blocks b)
+plain_jump : (f : Func) (locals : List Local) (marks : List Mark) (b : ℕ) → Ascend (params_at f.blocks b) → jump_fault f marks [] b ≡ None
+    → Plays locals marks (jump_events f.blocks b)
 plain_jump f locals marks b a h = jump_passes f locals marks [] b a tt h
 
 jump_plain : (f : Func) (locals : List Local) (marks : List Mark) (b : ℕ) → Plays locals marks (jump_events f.blocks b) → jump_fault f marks [] b ≡ None
@@ -339,7 +352,8 @@ abbrev pub ExitPlays : Code → Func → ℕ → List Mark → Term → Type 0
 ExitPlays p f number marks e = TermFits p f number e × Plays (locals_of p.types f) marks (term_events no_reads e)
     × WaysPlay (locals_of p.types f) (after (locals_of p.types f) marks (term_events no_reads e)) (ways f.blocks e)
 
-pub exit_passes : (p : Code) (f : Func) (number : ℕ) (marks : List Mark) (e : Term) → ((b : ℕ) → Ascend (params_at f.blocks b)) → length marks ≡ length (locals_of p.types f)
+pub exit_passes : (p : Code) (f : Func) (number : ℕ) (marks : List Mark) (e : Term) → ((b : ℕ) → Ascend (params_at f.blocks b))
+    → length marks ≡ length (locals_of p.types f)
     → term_fault p f (locals_of p.types f) number marks e ≡ None → ExitPlays p f number marks e
 exit_passes p f number marks (Ret x) asc q h =
     let locals = locals_of p.types f in
@@ -379,7 +393,8 @@ pub data_there : (types : List DataType) (o : Option Kind) (t : DataType) → da
 data_there types None t h = cc
 data_there types (Some k) t h = (k, refl)
 
-pub pass_exit : (p : Code) (f : Func) (number : ℕ) (marks : List Mark) (e : Term) → ExitPlays p f number marks e → term_fault p f (locals_of p.types f) number marks e ≡ None
+pub pass_exit : (p : Code) (f : Func) (number : ℕ) (marks : List Mark) (e : Term) → ExitPlays p f number marks e
+    → term_fault p f (locals_of p.types f) number marks e ≡ None
 pass_exit p f number marks (Ret x) (fits, plays, onward) =
     let locals = locals_of p.types f in
     let k = kind_at_is p.types f x f.result fits in

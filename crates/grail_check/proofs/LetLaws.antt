@@ -125,16 +125,19 @@ pub after_uses : (locals : List Local) (marks : List Mark) (xs : List ℕ) → a
 after_uses locals marks [] = refl
 after_uses locals marks (x ∷ xs) = after_uses locals (spend locals marks x) xs
 
-pub operand_passes : (locals : List Local) (marks : List Mark) (x : ℕ) (k : Kind) → operand_fault locals marks x k ≡ None → IsReady marks x × (kind_at locals x ≡ Some k)
+pub operand_passes : (locals : List Local) (marks : List Mark) (x : ℕ) (k : Kind) → operand_fault locals marks x k ≡ None
+    → IsReady marks x × (kind_at locals x ≡ Some k)
 operand_passes locals marks x k h =
     let a = none_fails (mark_fault (slice_get marks x) ∷ unless (has_kind locals x k) fault.Kind ∷ []) h in
     (mark_ready (slice_get marks x) a.0, has_the_kind locals x k (unless_true (has_kind locals x k) fault.Kind a.1.0))
 
-pub pass_operand : (locals : List Local) (marks : List Mark) (x : ℕ) (k : Kind) → IsReady marks x → kind_at locals x ≡ Some k → operand_fault locals marks x k ≡ None
+pub pass_operand : (locals : List Local) (marks : List Mark) (x : ℕ) (k : Kind) → IsReady marks x → kind_at locals x ≡ Some k
+    → operand_fault locals marks x k ≡ None
 pass_operand locals marks x k r e = all_pass (mark_fault (slice_get marks x) ∷ unless (has_kind locals x k) fault.Kind ∷ [])
     (ready_mark (slice_get marks x) r, (true_unless (has_kind locals x k) fault.Kind (the_kind_it_has locals x k e), tt))
 
-operands_pass : (locals : List Local) (marks : List Mark) (xs : List ℕ) (ks : List Kind) → length xs ≡ length ks → operands_fault locals marks xs ks ≡ None → (map (kind_at locals) xs ≡ map Some ks) × Plays locals marks (uses xs)
+operands_pass : (locals : List Local) (marks : List Mark) (xs : List ℕ) (ks : List Kind) → length xs ≡ length ks
+    → operands_fault locals marks xs ks ≡ None → (map (kind_at locals) xs ≡ map Some ks) × Plays locals marks (uses xs)
 operands_pass locals marks [] [] e h = (refl, tt)
 operands_pass locals marks [] (k ∷ ks) e h = absurd (omega arith)
 operands_pass locals marks (x ∷ xs) [] e h = absurd (omega arith)
@@ -146,7 +149,8 @@ operands_pass locals marks (x ∷ xs) (k ∷ ks) e h =
     let s : map (kind_at locals) (x ∷ xs) ≡ map Some (k ∷ ks) = cc in
     (s, (a.0, b.1))
 
-pass_operands : (locals : List Local) (marks : List Mark) (xs : List ℕ) (ks : List Kind) → map (kind_at locals) xs ≡ map Some ks → Plays locals marks (uses xs) → (length xs ≡ length ks) × (operands_fault locals marks xs ks ≡ None)
+pass_operands : (locals : List Local) (marks : List Mark) (xs : List ℕ) (ks : List Kind) → map (kind_at locals) xs ≡ map Some ks
+    → Plays locals marks (uses xs) → (length xs ≡ length ks) × (operands_fault locals marks xs ks ≡ None)
 pass_operands locals marks [] [] e h = (refl, refl)
 pass_operands locals marks [] (k ∷ ks) e h = cc
 pass_operands locals marks (x ∷ xs) [] e h = cc
@@ -156,12 +160,14 @@ pass_operands locals marks (x ∷ xs) (k ∷ ks) e h =
     let c = pass_operands locals (spend locals marks x) xs ks b h.1 in
     (ap suc c.0, or_none (operand_fault locals marks x k) _ (pass_operand locals marks x k h.0 a) c.1)
 
-pub arguments_pass : (locals : List Local) (marks : List Mark) (xs : List ℕ) (ks : List Kind) → arguments_fault locals marks xs ks ≡ None → (map (kind_at locals) xs ≡ map Some ks) × Plays locals marks (uses xs)
+pub arguments_pass : (locals : List Local) (marks : List Mark) (xs : List ℕ) (ks : List Kind) → arguments_fault locals marks xs ks ≡ None
+    → (map (kind_at locals) xs ≡ map Some ks) × Plays locals marks (uses xs)
 arguments_pass locals marks xs ks h =
     let a = none_fails (unless (length xs == length ks) fault.Arms ∷ operands_fault locals marks xs ks ∷ []) h in
     operands_pass locals marks xs ks (same (length xs) (length ks) (unless_true (length xs == length ks) fault.Arms a.0)) a.1.0
 
-pub pass_arguments : (locals : List Local) (marks : List Mark) (xs : List ℕ) (ks : List Kind) → map (kind_at locals) xs ≡ map Some ks → Plays locals marks (uses xs) → arguments_fault locals marks xs ks ≡ None
+pub pass_arguments : (locals : List Local) (marks : List Mark) (xs : List ℕ) (ks : List Kind) → map (kind_at locals) xs ≡ map Some ks
+    → Plays locals marks (uses xs) → arguments_fault locals marks xs ks ≡ None
 pass_arguments locals marks xs ks e h =
     let a = pass_operands locals marks xs ks e h in
     all_pass (unless (length xs == length ks) fault.Arms ∷ operands_fault locals marks xs ks ∷ [])
@@ -171,11 +177,13 @@ uses_both : (xs ys : List ℕ) → uses (xs ++ ys) ≡ uses xs ++ uses ys
 uses_both [] ys = refl
 uses_both (x ∷ xs) ys = ap (λ l. Use x ∷ l) (uses_both xs ys)
 
-play_both : (locals : List Local) (marks : List Mark) (xs ys : List ℕ) → Plays locals marks (uses xs) → Plays locals (spend_all locals marks xs) (uses ys) → Plays locals marks (uses (xs ++ ys))
+play_both : (locals : List Local) (marks : List Mark) (xs ys : List ℕ) → Plays locals marks (uses xs)
+    → Plays locals (spend_all locals marks xs) (uses ys) → Plays locals marks (uses (xs ++ ys))
 play_both locals marks xs ys h k = subst (Plays locals marks) (sym (uses_both xs ys))
     (plays_both locals marks (uses xs) (uses ys) h (subst (λ m. Plays locals m (uses ys)) (sym (after_uses locals marks xs)) k))
 
-both_play : (locals : List Local) (marks : List Mark) (xs ys : List ℕ) → Plays locals marks (uses (xs ++ ys)) → Plays locals marks (uses xs) × Plays locals (spend_all locals marks xs) (uses ys)
+both_play : (locals : List Local) (marks : List Mark) (xs ys : List ℕ) → Plays locals marks (uses (xs ++ ys))
+    → Plays locals marks (uses xs) × Plays locals (spend_all locals marks xs) (uses ys)
 both_play locals marks xs ys h =
     let k = subst (Plays locals marks) (uses_both xs ys) h in
     (plays_front locals marks (uses xs) (uses ys) k, subst (λ m. Plays locals m (uses ys)) (after_uses locals marks xs) (plays_back locals marks (uses xs) (uses ys) k))
@@ -234,7 +242,8 @@ MakeFits f args at owner k c = HaveKinds f args c.fields × PlaceFits f c.inline
 
 make_passes : (types : List DataType) (f : Func) (marks : List Mark) (x : ℕ) (o : Option Constructor) (owner : Option Kind) (args : List ℕ) (at : Place)
     → make_fault (locals_of types f) marks x o owner args at ≡ None
-    → (k : Kind) × (kind_at (locals_of types f) x ≡ Some k) × IsSomeAnd o (MakeFits f args at owner k) × Plays (locals_of types f) marks (uses (args ++ taken at))
+    → (k : Kind) × (kind_at (locals_of types f) x ≡ Some k) × IsSomeAnd o (MakeFits f args at owner k)
+    × Plays (locals_of types f) marks (uses (args ++ taken at))
 make_passes types f marks x None owner args at h = cc
 make_passes types f marks x (Some c) owner args at h =
     let locals = locals_of types f in
@@ -337,12 +346,14 @@ pass_operation p f marks x (Make con args at) (k, e, g) h = pass_make p.types f 
 pass_operation p f marks x (Call func args) (k, e, g) h = pass_call p.types f marks x (slice_get p.funcs func) args k e g h
 
 -- what is used is there
-taken_there : (types : List DataType) (f : Func) (inline : Bool) (at : Place) → PlaceFits f inline at → list_all (is_local (locals_of types f)) (taken at) ≡ true
+taken_there : (types : List DataType) (f : Func) (inline : Bool) (at : Place) → PlaceFits f inline at
+    → list_all (is_local (locals_of types f)) (taken at) ≡ true
 taken_there types f inline place.Inline h = refl
 taken_there types f inline place.New h = refl
 taken_there types f inline (place.Reuse d) h = kinds_there (locals_of types f) (d ∷ []) (kind.Dia ∷ []) (ap (λ o. o ∷ []) (kind_at_is types f d kind.Dia h.1))
 
-all_there : (locals : List Local) (xs ys : List ℕ) → list_all (is_local locals) xs ≡ true → list_all (is_local locals) ys ≡ true → list_all (is_local locals) (xs ++ ys) ≡ true
+all_there : (locals : List Local) (xs ys : List ℕ) → list_all (is_local locals) xs ≡ true → list_all (is_local locals) ys ≡ true
+    → list_all (is_local locals) (xs ++ ys) ≡ true
 all_there locals [] ys h k = k
 all_there locals (x ∷ xs) ys h k = let a : (is_local locals x ≡ true) × (list_all (is_local locals) xs ≡ true) = both (is_local locals x) (list_all (is_local locals) xs) h in join (is_local locals x) (list_all (is_local locals) (xs ++ ys)) a.0 (all_there locals xs ys a.1 k)
 
@@ -366,7 +377,8 @@ pub after_a_let : (locals : List Local) (marks : List Mark) (l : Let) → after 
 after_a_let locals marks l =
     ap (after locals marks) (let_uses l) ∙ after_both locals marks (uses (operands_of l.op)) (Bind l.target ∷ []) ∙ ap (λ m. bind m l.target) (after_uses locals marks (operands_of l.op))
 
-pub let_passes : (p : Code) (f : Func) (marks : List Mark) (l : Let) → let_fault p (locals_of p.types f) marks l ≡ None → LetFits p f l × Plays (locals_of p.types f) marks (let_events no_reads l)
+pub let_passes : (p : Code) (f : Func) (marks : List Mark) (l : Let) → let_fault p (locals_of p.types f) marks l ≡ None
+    → LetFits p f l × Plays (locals_of p.types f) marks (let_events no_reads l)
 let_passes p f marks l h =
     let locals = locals_of p.types f in
     let a = or_second (unless (is_local locals l.target && list_all (is_local locals) (operands_of l.op)) fault.NoSuchEntry) _ h in
@@ -375,7 +387,8 @@ let_passes p f marks l h =
       subst (Plays locals marks) (sym (let_uses l)) (plays_both locals marks (uses (operands_of l.op)) (Bind l.target ∷ []) plays (tt, tt)),
     )
 
-pub pass_let : (p : Code) (f : Func) (marks : List Mark) (l : Let) → LetFits p f l → Plays (locals_of p.types f) marks (let_events no_reads l) → let_fault p (locals_of p.types f) marks l ≡ None
+pub pass_let : (p : Code) (f : Func) (marks : List Mark) (l : Let) → LetFits p f l → Plays (locals_of p.types f) marks (let_events no_reads l)
+    → let_fault p (locals_of p.types f) marks l ≡ None
 pass_let p f marks l fits plays =
     let locals = locals_of p.types f in
     let (k, e, g) = some_and (kind_of f l.target) (Gives p f l.op) fits in

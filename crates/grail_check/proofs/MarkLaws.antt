@@ -10,7 +10,8 @@ use Rattle.grail_check.specs.declared.locals.Local.{Local}
 use Rattle.grail_check.specs.declared.locals.Mark.{Mark}
 use Rattle.grail_check.specs.declared.locals.Mark.TheVariants as mark
 
-pub spend_both : (locals : List Local) (marks : List Mark) (xs ys : List ℕ) → spend_all locals marks (xs ++ ys) ≡ spend_all locals (spend_all locals marks xs) ys
+pub spend_both : (locals : List Local) (marks : List Mark) (xs ys : List ℕ)
+    → spend_all locals marks (xs ++ ys) ≡ spend_all locals (spend_all locals marks xs) ys
 spend_both locals marks [] ys = refl
 spend_both locals marks (x ∷ xs) ys = spend_both locals (spend locals marks x) xs ys
 
@@ -19,7 +20,8 @@ no_kinds locals [] = refl
 no_kinds locals (x ∷ xs) = refl
 
 -- behind the last kind nothing is asked
-pub kinds_end : (locals : List Local) (xs : List ℕ) (ks : List Kind) (i : ℕ) (b : Bool) → length ks ≤ i → have_kinds locals (drop i xs) (drop i ks) ≡ b → true ≡ b
+pub kinds_end : (locals : List Local) (xs : List ℕ) (ks : List Kind) (i : ℕ) (b : Bool) → length ks ≤ i
+    → have_kinds locals (drop i xs) (drop i ks) ≡ b → true ≡ b
 kinds_end locals xs ks i b h e = sym (no_kinds locals (drop i xs)) ∙ ap (have_kinds locals (drop i xs)) (sym (drop_of_length-le ks h)) ∙ e
 
 -- ---- there are as many marks as before
@@ -47,7 +49,8 @@ length_after_lets locals marks (l ∷ ls) =
     ∙ length_spend_all locals marks (operands_of l.op)
 
 -- behind the lets of a block that begins with all locals unbound
-pub length_at_end : (locals : List Local) (n : ℕ) (params : List ℕ) (ls : List Let) → length (after_lets locals (bind_all (replicate n mark.Unbound) params) ls) ≡ n
+pub length_at_end : (locals : List Local) (n : ℕ) (params : List ℕ) (ls : List Let)
+    → length (after_lets locals (bind_all (replicate n mark.Unbound) params) ls) ≡ n
 length_at_end locals n params ls =
     length_after_lets locals (bind_all (replicate n mark.Unbound) params) ls
     ∙ length_bind_all (replicate n mark.Unbound) params

@@ -37,7 +37,8 @@ is_use fault.Spent = true
 is_use k = false
 
 -- the second of two checks, where the first one refuses with another kind
-behind_test : (b : Bool) (j k : CodeKind) (o : Option CodeKind) → is_use j ≡ false → is_use k ≡ true → option_or (unless b j) o ≡ Some k → (b ≡ true) × (o ≡ Some k)
+behind_test : (b : Bool) (j k : CodeKind) (o : Option CodeKind) → is_use j ≡ false → is_use k ≡ true → option_or (unless b j) o ≡ Some k
+    → (b ≡ true) × (o ≡ Some k)
 behind_test true j k o u v h = (refl, h)
 behind_test false j k o u v h = let e : j ≡ k = cc in let q : is_use k ≡ false = subst (λ l. is_use l ≡ false) e u in cc
 
@@ -62,10 +63,12 @@ record Hit (locals : List Local) (marks : List Mark) (xs : List ℕ) (k : CodeKi
   is : xs ≡ front ++ local ∷ rest
   marked : mark_fault (slice_get (spend_all locals marks front) local) ≡ Some k
 
-hit_first : (locals : List Local) (marks : List Mark) (x : ℕ) (xs : List ℕ) (k : CodeKind) → mark_fault (slice_get marks x) ≡ Some k → Hit locals marks (x ∷ xs) k
+hit_first : (locals : List Local) (marks : List Mark) (x : ℕ) (xs : List ℕ) (k : CodeKind) → mark_fault (slice_get marks x) ≡ Some k
+    → Hit locals marks (x ∷ xs) k
 hit_first locals marks x xs k h = record { front = []; local = x; rest = xs; is = refl; marked = h }
 
-hit_later : (locals : List Local) (marks : List Mark) (x : ℕ) (xs : List ℕ) (k : CodeKind) → Hit locals (spend locals marks x) xs k → Hit locals marks (x ∷ xs) k
+hit_later : (locals : List Local) (marks : List Mark) (x : ℕ) (xs : List ℕ) (k : CodeKind) → Hit locals (spend locals marks x) xs k
+    → Hit locals marks (x ∷ xs) k
 hit_later locals marks x xs k h = record { front = x ∷ h.front; local = h.local; rest = h.rest; is = ap (λ l. x ∷ l) h.is; marked = h.marked }
 
 hit_front : (locals : List Local) (marks : List Mark) (xs ys : List ℕ) (k : CodeKind) → Hit locals marks xs k → Hit locals marks (xs ++ ys) k
@@ -77,7 +80,8 @@ hit_front locals marks xs ys k h = record {
   marked = h.marked;
 }
 
-hit_back : (locals : List Local) (marks : List Mark) (xs ys : List ℕ) (k : CodeKind) → Hit locals (spend_all locals marks xs) ys k → Hit locals marks (xs ++ ys) k
+hit_back : (locals : List Local) (marks : List Mark) (xs ys : List ℕ) (k : CodeKind) → Hit locals (spend_all locals marks xs) ys k
+    → Hit locals marks (xs ++ ys) k
 hit_back locals marks xs ys k h = record {
   front = xs ++ h.front;
   local = h.local;
@@ -86,13 +90,15 @@ hit_back locals marks xs ys k h = record {
   marked = subst (λ m. mark_fault (slice_get m h.local) ≡ Some k) (sym (spend_both locals marks xs h.front)) h.marked;
 }
 
-operand_hit : (locals : List Local) (marks : List Mark) (x : ℕ) (q : Kind) (k : CodeKind) → is_use k ≡ true → operand_fault locals marks x q ≡ Some k → mark_fault (slice_get marks x) ≡ Some k
+operand_hit : (locals : List Local) (marks : List Mark) (x : ℕ) (q : Kind) (k : CodeKind) → is_use k ≡ true → operand_fault locals marks x q ≡ Some k
+    → mark_fault (slice_get marks x) ≡ Some k
 operand_hit locals marks x q k u h = elim (either (mark_fault (slice_get marks x)) (option_or (unless (has_kind locals x q) fault.Kind) None) k h) as (λ c. mark_fault (slice_get marks x) ≡ Some k) [
   | inl a ↦ a
   | inr (a, b) ↦ (let c = behind_test (has_kind locals x q) fault.Kind k None refl u b in cc (c.1))
 ]
 
-operands_hit : (locals : List Local) (marks : List Mark) (xs : List ℕ) (ks : List Kind) (k : CodeKind) → is_use k ≡ true → operands_fault locals marks xs ks ≡ Some k → Hit locals marks xs k
+operands_hit : (locals : List Local) (marks : List Mark) (xs : List ℕ) (ks : List Kind) (k : CodeKind) → is_use k ≡ true
+    → operands_fault locals marks xs ks ≡ Some k → Hit locals marks xs k
 operands_hit locals marks [] ks k u h = cc
 operands_hit locals marks (x ∷ xs) [] k u h = cc
 operands_hit locals marks (x ∷ xs) (q ∷ ks) k u h =
@@ -110,15 +116,18 @@ alone_fault : (o : Option CodeFault) (e : CodeFault) → option_or o None ≡ So
 alone_fault None e h = cc
 alone_fault (Some j) e h = h
 
-arguments_hit : (locals : List Local) (marks : List Mark) (xs : List ℕ) (ks : List Kind) (k : CodeKind) → is_use k ≡ true → arguments_fault locals marks xs ks ≡ Some k → Hit locals marks xs k
+arguments_hit : (locals : List Local) (marks : List Mark) (xs : List ℕ) (ks : List Kind) (k : CodeKind) → is_use k ≡ true
+    → arguments_fault locals marks xs ks ≡ Some k → Hit locals marks xs k
 arguments_hit locals marks xs ks k u h =
     let c = behind_test (length xs == length ks) fault.Arms k (option_or (operands_fault locals marks xs ks) None) refl u h in
     operands_hit locals marks xs ks k u (alone (operands_fault locals marks xs ks) k c.1)
 
-no_target : {P : Type 0} (locals : List Local) (x : ℕ) (o : Option Kind) (k : CodeKind) → is_use k ≡ true → option_or (target_fault locals x o) None ≡ Some k → P
+no_target : {P : Type 0} (locals : List Local) (x : ℕ) (o : Option Kind) (k : CodeKind) → is_use k ≡ true
+    → option_or (target_fault locals x o) None ≡ Some k → P
 no_target locals x o k u h = no_test (same_kinds (kind_at locals x) o) fault.Kind k refl u (alone (target_fault locals x o) k h)
 
-taken_hit : (locals : List Local) (marks : List Mark) (at : Place) (k : CodeKind) → is_use k ≡ true → taken_fault locals marks at ≡ Some k → Hit locals marks (taken at) k
+taken_hit : (locals : List Local) (marks : List Mark) (at : Place) (k : CodeKind) → is_use k ≡ true → taken_fault locals marks at ≡ Some k
+    → Hit locals marks (taken at) k
 taken_hit locals marks place.Inline k u h = cc
 taken_hit locals marks place.New k u h = cc
 taken_hit locals marks (place.Reuse d) k u h = hit_first locals marks d [] k (operand_hit locals marks d kind.Dia k u h)
@@ -137,7 +146,8 @@ make_hit locals marks x (Some c) owner args at k u h =
       ]
     ]
 
-call_hit : (locals : List Local) (marks : List Mark) (x : ℕ) (o : Option Func) (args : List ℕ) (k : CodeKind) → is_use k ≡ true → call_fault locals marks x o args ≡ Some k → Hit locals marks args k
+call_hit : (locals : List Local) (marks : List Mark) (x : ℕ) (o : Option Func) (args : List ℕ) (k : CodeKind) → is_use k ≡ true
+    → call_fault locals marks x o args ≡ Some k → Hit locals marks args k
 call_hit locals marks x None args k u h = no_other fault.NoSuchEntry k refl u h
 call_hit locals marks x (Some callee) args k u h =
     elim (either (arguments_fault locals marks args callee.params) (option_or (target_fault locals x (Some callee.result)) None) k h) as (λ z. Hit locals marks args k) [
@@ -145,7 +155,8 @@ call_hit locals marks x (Some callee) args k u h =
       | inr (a, b) ↦ no_target locals x (Some callee.result) k u b
     ]
 
-operation_hit : (p : Code) (locals : List Local) (marks : List Mark) (x : ℕ) (op : Op) (k : CodeKind) → is_use k ≡ true → op_fault p locals marks x op ≡ Some k → Hit locals marks (operands_of op) k
+operation_hit : (p : Code) (locals : List Local) (marks : List Mark) (x : ℕ) (op : Op) (k : CodeKind) → is_use k ≡ true
+    → op_fault p locals marks x op ≡ Some k → Hit locals marks (operands_of op) k
 operation_hit p locals marks x (Lit z) k u h = no_target locals x (Some kind.Int) k u (behind_test (is_int32 z) fault.Kind k (option_or (target_fault locals x (Some kind.Int)) None) refl u h).1
 operation_hit p locals marks x (Flag b) k u h = no_test (same_kinds (kind_at locals x) (Some kind.Flag)) fault.Kind k refl u h
 operation_hit p locals marks x (Copy y) k u h =
@@ -165,7 +176,8 @@ operation_hit p locals marks x (Prim op left right) k u h =
 operation_hit p locals marks x (Make con args at) k u h = make_hit locals marks x (constructor p.types con) (option_map kind.Of (type_of p.types con)) args at k u h
 operation_hit p locals marks x (Call func args) k u h = call_hit locals marks x (slice_get p.funcs func) args k u h
 
-let_hit : (p : Code) (locals : List Local) (marks : List Mark) (l : Let) (k : CodeKind) → is_use k ≡ true → let_fault p locals marks l ≡ Some k → Hit locals marks (operands_of l.op) k
+let_hit : (p : Code) (locals : List Local) (marks : List Mark) (l : Let) (k : CodeKind) → is_use k ≡ true → let_fault p locals marks l ≡ Some k
+    → Hit locals marks (operands_of l.op) k
 let_hit p locals marks l k u h =
     let c = behind_test (is_local locals l.target && list_all (is_local locals) (operands_of l.op)) fault.NoSuchEntry k (option_or (op_fault p locals marks l.target l.op) None) refl u h in
     operation_hit p locals marks l.target l.op k u (alone (op_fault p locals marks l.target l.op) k c.1)
@@ -210,7 +222,8 @@ hit_strikes locals marks xs k h = record {
   inside = uses_bind_nothing (length locals) h.front;
 }
 
-strikes_back : (locals : List Local) (marks : List Mark) (xs ys : List Event) (k : CodeKind) → BindWithin (length locals) xs → Strikes locals (after locals marks xs) ys k → Strikes locals marks (xs ++ ys) k
+strikes_back : (locals : List Local) (marks : List Mark) (xs ys : List Event) (k : CodeKind) → BindWithin (length locals) xs
+    → Strikes locals (after locals marks xs) ys k → Strikes locals marks (xs ++ ys) k
 strikes_back locals marks xs ys k w h = record {
   front = xs ++ h.front;
   local = h.local;
@@ -234,7 +247,8 @@ other_spent locals marks x y h =
     let P : Bool → Type 0 = λ b. slice_get (if b then slice_set marks x mark.Spent else marks) y ≡ slice_get marks y in
     elim (is_heap_at locals x) as P [ true ↦ other_mark marks x y mark.Spent h | false ↦ refl ]
 
-others_spent : (locals : List Local) (marks : List Mark) (xs : List ℕ) (y : ℕ) → AllByRecursion (λ x. x ≡ y → ⊥) xs → slice_get (spend_all locals marks xs) y ≡ slice_get marks y
+others_spent : (locals : List Local) (marks : List Mark) (xs : List ℕ) (y : ℕ) → AllByRecursion (λ x. x ≡ y → ⊥) xs
+    → slice_get (spend_all locals marks xs) y ≡ slice_get marks y
 others_spent locals marks [] y h = refl
 others_spent locals marks (x ∷ xs) y h = others_spent locals (spend locals marks x) xs y h.1 ∙ other_spent locals marks x y h.0
 
@@ -246,10 +260,12 @@ unbound_stays (y ∷ ys) marks x h =
     let differs : y ≡ x → ⊥ = λ e. (let t : (y == x) ≡ true = is_same y x e in grind arith) in
     unbound_stays ys (bind marks y) x rest ∙ other_mark marks y x mark.Ready differs
 
-use_hit : (marks : List Mark) (bound : List ℕ) (x : ℕ) (k : CodeKind) → use_fault marks bound x ≡ Some k → mark_fault (slice_get (bind_all marks bound) x) ≡ Some k
+use_hit : (marks : List Mark) (bound : List ℕ) (x : ℕ) (k : CodeKind) → use_fault marks bound x ≡ Some k
+    → mark_fault (slice_get (bind_all marks bound) x) ≡ Some k
 use_hit marks bound x k h = by_test (is_among bound x) refl h
   where
-    by_test : (b : Bool) → is_among bound x ≡ b → (if b then None else mark_fault (slice_get marks x)) ≡ Some k → mark_fault (slice_get (bind_all marks bound) x) ≡ Some k
+    by_test : (b : Bool) → is_among bound x ≡ b → (if b then None else mark_fault (slice_get marks x)) ≡ Some k
+        → mark_fault (slice_get (bind_all marks bound) x) ≡ Some k
     by_test true e q = cc
     by_test false e q = ap mark_fault (unbound_stays bound marks x e) ∙ q
 
@@ -262,7 +278,8 @@ record First (marks : List Mark) (xs : List ℕ) (k : CodeKind) : Type 0 where
   marked : mark_fault (slice_get marks local) ≡ Some k
   ready : AllByRecursion (λ x. IsReady marks x) front
 
-first_use : (marks : List Mark) (bound xs : List ℕ) (k : CodeKind) → AreBelow (length marks) bound → uses_fault marks bound xs ≡ Some k → First (bind_all marks bound) xs k
+first_use : (marks : List Mark) (bound xs : List ℕ) (k : CodeKind) → AreBelow (length marks) bound → uses_fault marks bound xs ≡ Some k
+    → First (bind_all marks bound) xs k
 first_use marks bound [] k w h = cc
 first_use marks bound (x ∷ xs) k w h =
     elim (either (use_fault marks bound x) (uses_fault marks bound xs) k h) as (λ z. First (bind_all marks bound) (x ∷ xs) k) [
@@ -287,7 +304,8 @@ binds_within_are : (n : ℕ) (xs : List ℕ) → AreBelow n xs → BindWithin n 
 binds_within_are n [] h = tt
 binds_within_are n (x ∷ xs) h = (h.0, binds_within_are n xs h.1)
 
-jump_strikes : (f : Func) (locals : List Local) (marks : List Mark) (bound : List ℕ) (b : ℕ) (k : CodeKind) → length marks ≡ length locals → AreBelow (length locals) bound
+jump_strikes : (f : Func) (locals : List Local) (marks : List Mark) (bound : List ℕ) (b : ℕ) (k : CodeKind) → length marks ≡ length locals
+    → AreBelow (length locals) bound
     → jump_fault f marks bound b ≡ Some k → Strikes locals marks (way f bound b) k
 jump_strikes f locals marks bound b k e w h =
     strikes_back locals marks (map Bind bound) (jump_events f.blocks b) k (binds_within_are (length locals) bound w)
@@ -303,7 +321,8 @@ record Ahead (locals : List Local) (marks : List Mark) (ws : List (List Event)) 
   is : slice_get ws index ≡ Some way_on
   strikes : Strikes locals marks way_on k
 
-arms_hit : (f : Func) (locals : List Local) (marks : List Mark) (arms : List CaseArm) (k : CodeKind) → length marks ≡ length locals → AllByRecursion (λ a. arm_is_there f locals a ≡ true) arms
+arms_hit : (f : Func) (locals : List Local) (marks : List Mark) (arms : List CaseArm) (k : CodeKind) → length marks ≡ length locals
+    → AllByRecursion (λ a. arm_is_there f locals a ≡ true) arms
     → arms_jump_fault f marks arms ≡ Some k → Ahead locals marks (map (arm_way f) arms) k
 arms_hit f locals marks [] k e t h = cc
 arms_hit f locals marks (a ∷ arms) k e t h =
@@ -316,7 +335,8 @@ arms_hit f locals marks (a ∷ arms) k e t h =
 abbrev EndHit : Func → List Local → List Mark → Term → CodeKind → Type 0
 EndHit f locals marks e k = Hit locals marks (term_uses e) k ⊎ Ahead locals (after locals marks (uses (term_uses e))) (ways f.blocks e) k
 
-callee_hit : (f : Func) (locals : List Local) (marks : List Mark) (o : Option Func) (args : List ℕ) (k : CodeKind) → is_use k ≡ true → callee_fault f locals marks o args ≡ Some k → Hit locals marks args k
+callee_hit : (f : Func) (locals : List Local) (marks : List Mark) (o : Option Func) (args : List ℕ) (k : CodeKind) → is_use k ≡ true
+    → callee_fault f locals marks o args ≡ Some k → Hit locals marks args k
 callee_hit f locals marks None args k u h = no_other fault.NoSuchEntry k refl u h
 callee_hit f locals marks (Some callee) args k u h =
     elim (either (arguments_fault locals marks args callee.params) (option_or (unless (same_kind callee.result f.result) fault.Kind) None) k h) as (λ z. Hit locals marks args k) [
@@ -324,7 +344,8 @@ callee_hit f locals marks (Some callee) args k u h =
       | inr (a, b) ↦ no_test (same_kind callee.result f.result) fault.Kind k refl u (alone (unless (same_kind callee.result f.result) fault.Kind) k b)
     ]
 
-case_hit : (f : Func) (locals : List Local) (marks : List Mark) (x : ℕ) (o : Option DataType) (arms : List CaseArm) (k : CodeKind) → length marks ≡ length locals → is_use k ≡ true
+case_hit : (f : Func) (locals : List Local) (marks : List Mark) (x : ℕ) (o : Option DataType) (arms : List CaseArm) (k : CodeKind)
+    → length marks ≡ length locals → is_use k ≡ true
     → AllByRecursion (λ a. arm_is_there f locals a ≡ true) arms → arms_fault f locals marks x o arms ≡ Some k → EndHit f locals marks (Case x arms) k
 case_hit f locals marks x None arms k e u t h = no_other fault.Kind k refl u h
 case_hit f locals marks x (Some d) arms k e u t h =
@@ -342,10 +363,12 @@ case_hit f locals marks x (Some d) arms k e u t h =
           inr (arms_hit f locals (spend locals marks x) arms k (length_step locals marks (Use x) ∙ e) t (alone jumps k g.1)))
     ]
 
-jump_ahead : (f : Func) (locals : List Local) (marks : List Mark) (b : ℕ) (k : CodeKind) → length marks ≡ length locals → jump_fault f marks [] b ≡ Some k → Strikes locals marks (jump_events f.blocks b) k
+jump_ahead : (f : Func) (locals : List Local) (marks : List Mark) (b : ℕ) (k : CodeKind) → length marks ≡ length locals
+    → jump_fault f marks [] b ≡ Some k → Strikes locals marks (jump_events f.blocks b) k
 jump_ahead f locals marks b k e h = jump_strikes f locals marks [] b k e tt h
 
-exit_hit : (p : Code) (f : Func) (locals : List Local) (number : ℕ) (marks : List Mark) (e : Term) (k : CodeKind) → length marks ≡ length locals → is_use k ≡ true
+exit_hit : (p : Code) (f : Func) (locals : List Local) (number : ℕ) (marks : List Mark) (e : Term) (k : CodeKind) → length marks ≡ length locals
+    → is_use k ≡ true
     → term_fault p f locals number marks e ≡ Some k → EndHit f locals marks e k
 exit_hit p f locals number marks (Ret x) k q u h =
     let a = behind_test (is_local locals x) fault.NoSuchEntry k (option_or (operand_fault locals marks x f.result) None) refl u h in
@@ -444,11 +467,13 @@ record Struck (f : Func) (locals : List Local) (b : Block) (func block : ℕ) (e
   block_is : e.block ≡ block
   func_is : e.func ≡ func
 
-after_events : (locals : List Local) (b : Block) (ls : List Let) → after locals (unbound locals) (events_of no_reads b ls) ≡ after_lets locals (at_start locals b) ls
+after_events : (locals : List Local) (b : Block) (ls : List Let)
+    → after locals (unbound locals) (events_of no_reads b ls) ≡ after_lets locals (at_start locals b) ls
 after_events locals b ls = after_both locals (unbound locals) (map Bind b.params) (flat_map (let_events no_reads) ls)
     ∙ ap (λ m. after locals m (flat_map (let_events no_reads) ls)) (after_binds locals (unbound locals) b.params) ∙ after_all_lets locals (at_start locals b) ls
 
-all_lets_inside : (p : Code) (locals : List Local) (func number place : ℕ) (marks : List Mark) (ls : List Let) → lets_fault p locals func number place marks ls ≡ None → BindWithin (length locals) (flat_map (let_events no_reads) ls)
+all_lets_inside : (p : Code) (locals : List Local) (func number place : ℕ) (marks : List Mark) (ls : List Let)
+    → lets_fault p locals func number place marks ls ≡ None → BindWithin (length locals) (flat_map (let_events no_reads) ls)
 all_lets_inside p locals func number place marks [] h = tt
 all_lets_inside p locals func number place marks (l ∷ ls) h =
     let a = nothing_there func number place (let_fault p locals marks l) (or_first _ _ h) in
@@ -458,7 +483,8 @@ all_lets_inside p locals func number place marks (l ∷ ls) h =
     (let_binds (length locals) l (below l.target (length locals) t.0))
     (all_lets_inside p locals func number (suc place) (after_let locals marks l) ls (or_second (at_place func number place (let_fault p locals marks l)) _ h))
 
-at_the_let : (f : Func) (locals : List Local) (b : Block) (func number : ℕ) (e : CodeFault) → AreBelow (length locals) b.params → LetHit locals (at_start locals b) b.lets func number 1 e → Struck f locals b func number e
+at_the_let : (f : Func) (locals : List Local) (b : Block) (func number : ℕ) (e : CodeFault) → AreBelow (length locals) b.params
+    → LetHit locals (at_start locals b) b.lets func number 1 e → Struck f locals b func number e
 at_the_let f locals b func number e w h = record {
   before = events_of no_reads b h.earlier;
   here = uses (operands_of h.l.op);
@@ -469,7 +495,8 @@ at_the_let f locals b func number e w h = record {
   func_is = h.func_is;
 }
 
-at_the_end : (f : Func) (locals : List Local) (b : Block) (func number : ℕ) (e : CodeFault) → BindWithin (length locals) (events_of no_reads b b.lets) → e.place ≡ suc (length b.lets) → e.block ≡ number → e.func ≡ func
+at_the_end : (f : Func) (locals : List Local) (b : Block) (func number : ℕ) (e : CodeFault)
+    → BindWithin (length locals) (events_of no_reads b b.lets) → e.place ≡ suc (length b.lets) → e.block ≡ number → e.func ≡ func
     → EndHit f locals (after_lets locals (at_start locals b) b.lets) b.term e.kind → Struck f locals b func number e
 at_the_end f locals b func number e w place block in_func (inl h) = record {
   before = events_of no_reads b b.lets;
@@ -491,7 +518,8 @@ at_the_end f locals b func number e w place block in_func (inr h) = record {
   func_is = in_func;
 }
 
-block_hit : (p : Code) (f : Func) (func number : ℕ) (b : Block) (e : CodeFault) → is_use e.kind ≡ true → block_fault p f (locals_of p.types f) func number b ≡ Some e → Struck f (locals_of p.types f) b func number e
+block_hit : (p : Code) (f : Func) (func number : ℕ) (b : Block) (e : CodeFault) → is_use e.kind ≡ true
+    → block_fault p f (locals_of p.types f) func number b ≡ Some e → Struck f (locals_of p.types f) b func number e
 block_hit p f func number b e u h =
     let locals = locals_of p.types f in
     let end = after_lets locals (at_start locals b) b.lets in
@@ -524,7 +552,8 @@ record BlockHit (p : Code) (f : Func) (func number : ℕ) (bs : List Block) (e :
   is : slice_get bs index ≡ Some b
   fault : block_fault p f (locals_of p.types f) func (number + index) b ≡ Some e
 
-blocks_hit : (p : Code) (f : Func) (func number : ℕ) (bs : List Block) (e : CodeFault) → blocks_fault p f (locals_of p.types f) func number bs ≡ Some e → BlockHit p f func number bs e
+blocks_hit : (p : Code) (f : Func) (func number : ℕ) (bs : List Block) (e : CodeFault)
+    → blocks_fault p f (locals_of p.types f) func number bs ≡ Some e → BlockHit p f func number bs e
 blocks_hit p f func number [] e h = cc
 blocks_hit p f func number (b ∷ bs) e h =
     let locals = locals_of p.types f in
@@ -540,7 +569,8 @@ record FunctionHit (p : Code) (func : ℕ) (fs : List Func) (e : CodeFault) : Ty
   is : slice_get fs index ≡ Some f
   fault : blocks_fault p f (locals_of p.types f) (func + index) 0 f.blocks ≡ Some e
 
-function_hit : (p : Code) (func : ℕ) (new : Bool) (f : Func) (e : CodeFault) → is_use e.kind ≡ true → function_fault p func new f ≡ Some e → blocks_fault p f (locals_of p.types f) func 0 f.blocks ≡ Some e
+function_hit : (p : Code) (func : ℕ) (new : Bool) (f : Func) (e : CodeFault) → is_use e.kind ≡ true → function_fault p func new f ≡ Some e
+    → blocks_fault p f (locals_of p.types f) func 0 f.blocks ≡ Some e
 function_hit p func new f e u h =
     let types = p.types in
     let known = list_all (is_known types) f.params && is_known types f.result && list_all (is_known types) f.locals in
@@ -553,7 +583,8 @@ function_hit p func new f e u h =
       | inr (a, c) ↦ alone_fault blocks e c
     ]
 
-functions_hit : (p : Code) (func : ℕ) (earlier : List (List ℕ)) (fs : List Func) (e : CodeFault) → is_use e.kind ≡ true → functions_fault p func earlier fs ≡ Some e → FunctionHit p func fs e
+functions_hit : (p : Code) (func : ℕ) (earlier : List (List ℕ)) (fs : List Func) (e : CodeFault) → is_use e.kind ≡ true
+    → functions_fault p func earlier fs ≡ Some e → FunctionHit p func fs e
 functions_hit p func earlier [] e u h = cc
 functions_hit p func earlier (f ∷ fs) e u h =
     elim (either (function_fault p func (not (stands earlier f.name)) f) (functions_fault p (suc func) (earlier ++ f.name ∷ []) fs) e h) as (λ z. FunctionHit p func (f ∷ fs) e) [
@@ -563,7 +594,8 @@ functions_hit p func earlier (f ∷ fs) e u h =
     ]
 
 -- a fault of the types is none of use
-cons_hit : {P : Type 0} (types : List DataType) (earlier : List (List ℕ)) (cs : List Constructor) (k : CodeKind) → is_use k ≡ true → constructors_fault types earlier cs ≡ Some k → P
+cons_hit : {P : Type 0} (types : List DataType) (earlier : List (List ℕ)) (cs : List Constructor) (k : CodeKind) → is_use k ≡ true
+    → constructors_fault types earlier cs ≡ Some k → P
 cons_hit types earlier [] k u h = cc
 cons_hit {P} types earlier (c ∷ cs) k u h =
     let new = not (stands earlier c.name) in
@@ -573,7 +605,8 @@ cons_hit {P} types earlier (c ∷ cs) k u h =
       | inr (a, b) ↦ cons_hit types (earlier ++ c.name ∷ []) cs k u b
     ]
 
-types_hit : {P : Type 0} (types : List DataType) (earlier cons : List (List ℕ)) (ts : List DataType) (k : CodeKind) → is_use k ≡ true → types_fault types earlier cons ts ≡ Some k → P
+types_hit : {P : Type 0} (types : List DataType) (earlier cons : List (List ℕ)) (ts : List DataType) (k : CodeKind) → is_use k ≡ true
+    → types_fault types earlier cons ts ≡ Some k → P
 types_hit types earlier cons [] k u h = cc
 types_hit {P} types earlier cons (t ∷ ts) k u h =
     let new = not (stands earlier t.name) in
@@ -618,26 +651,30 @@ is_set (Some mark.Ready) = true
 is_set (Some mark.Spent) = true
 is_set m = false
 
-set_stays : (marks : List Mark) (x y : ℕ) (m : Mark) → is_set (Some m) ≡ true → is_set (slice_get marks y) ≡ true → is_set (slice_get (slice_set marks x m) y) ≡ true
+set_stays : (marks : List Mark) (x y : ℕ) (m : Mark) → is_set (Some m) ≡ true → is_set (slice_get marks y) ≡ true
+    → is_set (slice_get (slice_set marks x m) y) ≡ true
 set_stays [] x y m u h = h
 set_stays (n ∷ marks) zero zero m u h = u
 set_stays (n ∷ marks) zero (suc y) m u h = h
 set_stays (n ∷ marks) (suc x) zero m u h = h
 set_stays (n ∷ marks) (suc x) (suc y) m u h = set_stays marks x y m u h
 
-step_keeps : (locals : List Local) (marks : List Mark) (e : Event) (y : ℕ) → is_set (slice_get marks y) ≡ true → is_set (slice_get (step locals marks e) y) ≡ true
+step_keeps : (locals : List Local) (marks : List Mark) (e : Event) (y : ℕ) → is_set (slice_get marks y) ≡ true
+    → is_set (slice_get (step locals marks e) y) ≡ true
 step_keeps locals marks (Bind x) y h = set_stays marks x y mark.Ready refl h
 step_keeps locals marks (Look x) y h = h
 step_keeps locals marks (Use x) y h =
     let P : Bool → Type 0 = λ b. is_set (slice_get (if b then slice_set marks x mark.Spent else marks) y) ≡ true in
     elim (is_heap_at locals x) as P [ true ↦ set_stays marks x y mark.Spent refl h | false ↦ h ]
 
-after_keeps : (locals : List Local) (marks : List Mark) (es : List Event) (y : ℕ) → is_set (slice_get marks y) ≡ true → is_set (slice_get (after locals marks es) y) ≡ true
+after_keeps : (locals : List Local) (marks : List Mark) (es : List Event) (y : ℕ) → is_set (slice_get marks y) ≡ true
+    → is_set (slice_get (after locals marks es) y) ≡ true
 after_keeps locals marks [] y h = h
 after_keeps locals marks (e ∷ es) y h = after_keeps locals (step locals marks e) es y (step_keeps locals marks e y h)
 
 -- what is bound in these events is set after them
-bound_is_set : (locals : List Local) (marks : List Mark) (es : List Event) (x : ℕ) → BindWithin (length marks) es → Binds x es → is_set (slice_get (after locals marks es) x) ≡ true
+bound_is_set : (locals : List Local) (marks : List Mark) (es : List Event) (x : ℕ) → BindWithin (length marks) es → Binds x es
+    → is_set (slice_get (after locals marks es) x) ≡ true
 bound_is_set locals marks [] x w h = absurd (not_bound x h)
 bound_is_set locals marks (Use y ∷ es) x w h = bound_is_set locals (spend locals marks y) es x (subst (λ n. BindWithin n es) (sym (length_step locals marks (Use y))) w.1) (behind_use x y es h)
 bound_is_set locals marks (Look y ∷ es) x w h = bound_is_set locals marks es x w.1 (behind_look x y es h)
@@ -653,7 +690,8 @@ unbound_unset (Some mark.Ready) h k = cc
 unbound_unset (Some mark.Spent) h k = cc
 unbound_unset (Some mark.Unbound) h k = cc
 
-uses_unbound : (locals : List Local) (before here : List Event) → BindWithin (length locals) before → Strikes locals (after locals (unbound locals) before) here fault.Unbound → UsesUnbound before here
+uses_unbound : (locals : List Local) (before here : List Event) → BindWithin (length locals) before
+    → Strikes locals (after locals (unbound locals) before) here fault.Unbound → UsesUnbound before here
 uses_unbound locals before here w s = record {
   local = s.local;
   want = Use s.local;
@@ -688,10 +726,12 @@ spent_by_set (m ∷ marks) zero (suc x) h = inl h
 spent_by_set (m ∷ marks) (suc y) zero h = inl h
 spent_by_set (m ∷ marks) (suc y) (suc x) h = elim (spent_by_set marks y x h) as (λ z. IsSpent marks x ⊎ (suc y ≡ suc x)) [ inl s ↦ inl s | inr e ↦ inr (ap suc e) ]
 
-spent_by_use : (locals : List Local) (marks : List Mark) (y x : ℕ) → IsSpent (spend locals marks y) x → IsSpent marks x ⊎ ((y ≡ x) × (is_heap_at locals y ≡ true))
+spent_by_use : (locals : List Local) (marks : List Mark) (y x : ℕ) → IsSpent (spend locals marks y) x
+    → IsSpent marks x ⊎ ((y ≡ x) × (is_heap_at locals y ≡ true))
 spent_by_use locals marks y x h = by_test (is_heap_at locals y) refl h
   where
-    by_test : (b : Bool) → is_heap_at locals y ≡ b → IsSpent (if b then slice_set marks y mark.Spent else marks) x → IsSpent marks x ⊎ ((y ≡ x) × (is_heap_at locals y ≡ true))
+    by_test : (b : Bool) → is_heap_at locals y ≡ b → IsSpent (if b then slice_set marks y mark.Spent else marks) x
+        → IsSpent marks x ⊎ ((y ≡ x) × (is_heap_at locals y ≡ true))
     by_test true q k = elim (spent_by_set marks y x k) as (λ z. IsSpent marks x ⊎ ((y ≡ x) × (is_heap_at locals y ≡ true))) [ inl s ↦ inl s | inr e ↦ inr (e, q) ]
     by_test false q k = inl k
 
@@ -703,7 +743,8 @@ spent_by_bind (m ∷ marks) (suc y) zero h = (h, (λ e. absurd (omega arith)))
 spent_by_bind (m ∷ marks) (suc y) (suc x) h = let a = spent_by_bind marks y x h in (a.0, (λ e. a.1 (omega arith)))
 
 -- a local that is spent was so at the beginning and isn't bound since, or was used since it was bound
-spent_since : (locals : List Local) (marks : List Mark) (es : List Event) (x : ℕ) → IsSpent (after locals marks es) x → (IsSpent marks x × (Binds x es → ⊥)) ⊎ Since locals es x
+spent_since : (locals : List Local) (marks : List Mark) (es : List Event) (x : ℕ) → IsSpent (after locals marks es) x
+    → (IsSpent marks x × (Binds x es → ⊥)) ⊎ Since locals es x
 spent_since locals marks [] x h = inl (h, not_bound x)
 spent_since locals marks (Use y ∷ es) x h =
     elim (spent_since locals (spend locals marks y) es x h) as (λ z. (IsSpent marks x × (Binds x (Use y ∷ es) → ⊥)) ⊎ Since locals (Use y ∷ es) x) [
@@ -737,7 +778,9 @@ spent_mark (Some mark.Unbound) h = cc
 was_used : (locals : List Local) (es : List Event) (x : ℕ) → IsSpent (after locals (unbound locals) es) x → Since locals es x
 was_used locals es x h = elim (spent_since locals (unbound locals) es x h) as (λ z. Since locals es x) [ inl (s, n) ↦ absurd (never_spent (length locals) x s) | inr s ↦ s ]
 
-uses_again : (types : List DataType) (f : Func) (before here : List Event) → Strikes (locals_of types f) (after (locals_of types f) (unbound (locals_of types f)) before) here fault.Spent → UsesAgain (is_owned types f) before here
+uses_again : (types : List DataType) (f : Func) (before here : List Event)
+    → Strikes (locals_of types f) (after (locals_of types f) (unbound (locals_of types f)) before) here fault.Spent
+    → UsesAgain (is_owned types f) before here
 uses_again types f before here s =
     let locals = locals_of types f in
     let d = was_used locals (before ++ s.front) s.local
@@ -746,7 +789,8 @@ uses_again types f before here s =
 
 -- ---- what the faults of use say
 
-pub unbound_misuse : (p : Code) (e : CodeFault) → e.kind ≡ fault.Unbound → first_fault p ≡ Some e → Happens p e.func e.block e.place (λ f before here. UsesUnbound before here)
+pub unbound_misuse : (p : Code) (e : CodeFault) → e.kind ≡ fault.Unbound → first_fault p ≡ Some e
+    → Happens p e.func e.block e.place (λ f before here. UsesUnbound before here)
 unbound_misuse p e k h =
     let g = program_hit p e (ap is_use k) h in
     let s = g.struck in
@@ -761,7 +805,8 @@ unbound_misuse p e k h =
       bad = uses_unbound (locals_of p.types g.f) s.before s.here s.inside (subst (λ q. Strikes (locals_of p.types g.f) (after (locals_of p.types g.f) (unbound (locals_of p.types g.f)) s.before) s.here q) k s.strikes);
     }
 
-pub spent_misuse : (p : Code) (e : CodeFault) → e.kind ≡ fault.Spent → first_fault p ≡ Some e → Happens p e.func e.block e.place (λ f before here. UsesAgain (is_owned p.types f) before here)
+pub spent_misuse : (p : Code) (e : CodeFault) → e.kind ≡ fault.Spent → first_fault p ≡ Some e
+    → Happens p e.func e.block e.place (λ f before here. UsesAgain (is_owned p.types f) before here)
 spent_misuse p e k h =
     let g = program_hit p e (ap is_use k) h in
     let s = g.struck in

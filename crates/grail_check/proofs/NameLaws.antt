@@ -10,7 +10,8 @@ stands_among : (words : List (Bor (List ℕ))) (name : List ℕ) → list_any (�
 stands_among [] name = refl
 stands_among (w ∷ ws) name = ap (λ b. bytes_eq name w.now || b) (stands_among ws name)
 
-pub added_is : (b : Bool) (words : List (Bor (List ℕ))) (w : Bor (List ℕ)) → b ≡ not (list_any (λ y. bytes_eq w.now y.now) words) → b ≡ not (stands (map (λ word. word.now) words) w.now)
+pub added_is : (b : Bool) (words : List (Bor (List ℕ))) (w : Bor (List ℕ)) → b ≡ not (list_any (λ y. bytes_eq w.now y.now) words)
+    → b ≡ not (stands (map (λ word. word.now) words) w.now)
 added_is b words w h = h ∙ ap not (stands_among words w.now)
 
 last_of : (words : List (Bor (List ℕ))) (w : Bor (List ℕ)) → map {B = List ℕ} (λ word. word.now) (words ++ w ∷ []) ≡ map (λ word. word.now) words ++ w.now ∷ []

@@ -42,7 +42,8 @@ pub plays_back : (locals : List Local) (marks : List Mark) (xs ys : List Event) 
 plays_back locals marks [] ys h = h
 plays_back locals marks (x ∷ xs) ys h = plays_back locals (step locals marks x) xs ys h.1
 
-pub plays_both : (locals : List Local) (marks : List Mark) (xs ys : List Event) → Plays locals marks xs → Plays locals (after locals marks xs) ys → Plays locals marks (xs ++ ys)
+pub plays_both : (locals : List Local) (marks : List Mark) (xs ys : List Event) → Plays locals marks xs → Plays locals (after locals marks xs) ys
+    → Plays locals marks (xs ++ ys)
 plays_both locals marks [] ys h k = k
 plays_both locals marks (x ∷ xs) ys h k = (h.0, plays_both locals (step locals marks x) xs ys h.1 k)
 
@@ -133,7 +134,8 @@ wanted_ready marks x (Bind y) (inl k) h = absurd cc
 wanted_ready marks x (Bind y) (inr k) h = absurd cc
 
 -- a local that is wanted was ready at the beginning, or is bound in between
-was_bound : (locals : List Local) (x : ℕ) (want : Event) → Wants x want → (marks : List Mark) (before rest : List Event) → Plays locals marks (before ++ want ∷ rest) → IsReady marks x ⊎ Binds x before
+was_bound : (locals : List Local) (x : ℕ) (want : Event) → Wants x want → (marks : List Mark) (before rest : List Event)
+    → Plays locals marks (before ++ want ∷ rest) → IsReady marks x ⊎ Binds x before
 was_bound locals x want n marks [] rest h = inl (wanted_ready marks x want n h.0)
 was_bound locals x want n marks (Use y ∷ before) rest h =
     elim (was_bound locals x want n (spend locals marks y) before rest h.1) as (λ c. IsReady marks x ⊎ Binds x (Use y ∷ before))
@@ -209,7 +211,8 @@ behind_bind x y es ([], rest, q) = let k : y ≡ x = cc in inl k
 behind_bind x y es (e ∷ before, rest, q) = let k : es ≡ before ++ Bind x ∷ rest = cc in inr (before, rest, k)
 
 -- after a use, a local is still ready, or it was this one and is of a heap kind
-pub spend_one : (locals : List Local) (marks : List Mark) (x y : ℕ) → IsReady marks y → IsReady (spend locals marks x) y ⊎ ((x ≡ y) × (is_heap_at locals x ≡ true))
+pub spend_one : (locals : List Local) (marks : List Mark) (x y : ℕ) → IsReady marks y
+    → IsReady (spend locals marks x) y ⊎ ((x ≡ y) × (is_heap_at locals x ≡ true))
 spend_one locals marks x y h =
     let P : Bool → Type 0 = λ b. is_heap_at locals x ≡ b → IsReady (if b then slice_set marks x mark.Spent else marks) y ⊎ ((x ≡ y) × (is_heap_at locals x ≡ true)) in
     (elim (is_heap_at locals x) as P [
@@ -217,7 +220,8 @@ spend_one locals marks x y h =
       | false ↦ (λ q. inl h)
     ]) refl
 
-fine_use : (locals : List Local) (marks : List Mark) (x : ℕ) (es : List Event) → Fine marks (Use x ∷ es) → Once locals (Use x ∷ es) → Fine (spend locals marks x) es
+fine_use : (locals : List Local) (marks : List Mark) (x : ℕ) (es : List Event) → Fine marks (Use x ∷ es) → Once locals (Use x ∷ es)
+    → Fine (spend locals marks x) es
 fine_use locals marks x es fine once y want before rest n q =
     let whole : Use x ∷ es ≡ (Use x ∷ before) ++ want ∷ rest = ap (λ l. Use x ∷ l) q in
     elim (fine y want (Use x ∷ before) rest n whole) as (λ c. IsReady (spend locals marks x) y ⊎ Binds y before) [
@@ -264,7 +268,8 @@ goes_on locals marks (Bind x ∷ es) inside fine once = (
   goes_on locals (bind marks x) es (subst (λ n. AreWithin n es) (sym (length_step locals marks (Bind x))) inside.1) (fine_bind marks x es fine inside.1) (once_behind locals (Bind x) es once),
 )
 
-pub plays_well : (locals : List Local) (events : List Event) → AreWithin (length locals) events → IsAffine (is_heap_at locals) events → Plays locals (unbound locals) events
+pub plays_well : (locals : List Local) (events : List Event) → AreWithin (length locals) events → IsAffine (is_heap_at locals) events
+    → Plays locals (unbound locals) events
 plays_well locals events inside well =
     goes_on locals (unbound locals) events (subst (λ n. AreWithin n events) (sym (length-replicate (length locals) mark.Unbound)) inside)
     (λ x want before rest n q. inr (well.bound x want before rest n q)) (λ x want before between rest heap n q. well.once x want before between rest heap n q)

@@ -74,14 +74,16 @@ pass_function p func new f e fits =
 abbrev names : List Func → List (List ℕ)
 names fs = map (λ f. f.name) fs
 
-functions_pass : (p : Code) (func : ℕ) (earlier : List (List ℕ)) (fs : List Func) → functions_fault p func earlier fs ≡ None → AreNew earlier (names fs) × AllByRecursion (FuncFits p) fs
+functions_pass : (p : Code) (func : ℕ) (earlier : List (List ℕ)) (fs : List Func) → functions_fault p func earlier fs ≡ None
+    → AreNew earlier (names fs) × AllByRecursion (FuncFits p) fs
 functions_pass p func earlier [] h = (tt, tt)
 functions_pass p func earlier (f ∷ fs) h =
     let a = function_passes p func (not (stands earlier f.name)) f (or_first _ _ h) in
     let b = functions_pass p (suc func) (earlier ++ f.name ∷ []) fs (or_second (function_fault p func (not (stands earlier f.name)) f) _ h) in
     ((a.0, b.0), (a.1, b.1))
 
-pass_functions : (p : Code) (func : ℕ) (earlier : List (List ℕ)) (fs : List Func) → AreNew earlier (names fs) → AllByRecursion (FuncFits p) fs → functions_fault p func earlier fs ≡ None
+pass_functions : (p : Code) (func : ℕ) (earlier : List (List ℕ)) (fs : List Func) → AreNew earlier (names fs) → AllByRecursion (FuncFits p) fs
+    → functions_fault p func earlier fs ≡ None
 pass_functions p func earlier [] h k = refl
 pass_functions p func earlier (f ∷ fs) h k = or_none (function_fault p func (not (stands earlier f.name)) f) _
     (pass_function p func (not (stands earlier f.name)) f h.0 k.0) (pass_functions p (suc func) (earlier ++ f.name ∷ []) fs h.1 k.1)
@@ -109,7 +111,8 @@ names_both (c ∷ cs) ds = ap (λ l. c.name ∷ l) (names_both cs ds)
 abbrev IsKnownCon : List DataType → Constructor → Type 0
 IsKnownCon types c = AllByRecursion (IsKnownKind types) c.fields
 
-cons_pass : (types : List DataType) (earlier : List (List ℕ)) (cs : List Constructor) → constructors_fault types earlier cs ≡ None → AreNew earlier (con_names cs) × AllByRecursion (IsKnownCon types) cs
+cons_pass : (types : List DataType) (earlier : List (List ℕ)) (cs : List Constructor) → constructors_fault types earlier cs ≡ None
+    → AreNew earlier (con_names cs) × AllByRecursion (IsKnownCon types) cs
 cons_pass types earlier [] h = (tt, tt)
 cons_pass types earlier (c ∷ cs) h =
     let new = not (stands earlier c.name) in
@@ -117,7 +120,8 @@ cons_pass types earlier (c ∷ cs) h =
     let b = cons_pass types (earlier ++ c.name ∷ []) cs (or_second (constructor_fault types new c) _ h) in
     ((unless_true new fault.Name a.0, b.0), (all_known types c.fields (unless_true (list_all (is_known types) c.fields) fault.NoSuchEntry a.1.0), b.1))
 
-pass_cons : (types : List DataType) (earlier : List (List ℕ)) (cs : List Constructor) → AreNew earlier (con_names cs) → AllByRecursion (IsKnownCon types) cs → constructors_fault types earlier cs ≡ None
+pass_cons : (types : List DataType) (earlier : List (List ℕ)) (cs : List Constructor) → AreNew earlier (con_names cs)
+    → AllByRecursion (IsKnownCon types) cs → constructors_fault types earlier cs ≡ None
 pass_cons types earlier [] h k = refl
 pass_cons types earlier (c ∷ cs) h k =
     let new = not (stands earlier c.name) in

@@ -24,14 +24,16 @@ pub none_ready : (marks : List Mark) (words : List ℕ) → ((x : ℕ) → Has w
 unfolding AreReady
 none_ready marks words none x has = absurd (none x has)
 
-pub more_ready : (marks : List Mark) (x : ℕ) (old new : List ℕ) → x < length marks → AreReady marks old → ((y : ℕ) → Has new y → (y ≡ x) ⊎ Has old y) → AreReady (slice_set marks x mark.Ready) new
+pub more_ready : (marks : List Mark) (x : ℕ) (old new : List ℕ) → x < length marks → AreReady marks old → ((y : ℕ) → Has new y → (y ≡ x) ⊎ Has old y)
+    → AreReady (slice_set marks x mark.Ready) new
 unfolding AreReady
 more_ready marks x old new less ready only y has = elim (only y has) [
   | inl e ↦ subst (λ z. IsReady (slice_set marks x mark.Ready) z) (sym e) (set_same marks x mark.Ready less)
   | inr h ↦ ready_after_bind marks x y (ready y h)
 ]
 
-pub fewer_ready : (marks : List Mark) (x : ℕ) (old new : List ℕ) → AreReady marks old → ((y : ℕ) → Has new y → Has old y × (y ≡ x → ⊥)) → AreReady (slice_set marks x mark.Spent) new
+pub fewer_ready : (marks : List Mark) (x : ℕ) (old new : List ℕ) → AreReady marks old → ((y : ℕ) → Has new y → Has old y × (y ≡ x → ⊥))
+    → AreReady (slice_set marks x mark.Spent) new
 unfolding AreReady
 fewer_ready marks x old new ready only y has =
     let (before, apart) = only y has in
@@ -79,7 +81,8 @@ all_and_one : (P : ℕ → Type 0) (xs : List ℕ) (y : ℕ) → AllByRecursion 
 all_and_one P [] y h k = (k, tt)
 all_and_one P (x ∷ xs) y h k = (h.0, all_and_one P xs y h.1 k)
 
-pub one_number : (numbers old new : List ℕ) (i : ℕ) → i < length numbers → HasAll old (take i numbers) → ((x : ℕ) → Has old x → Has new x) → Has new (get_or numbers i 0)
+pub one_number : (numbers old new : List ℕ) (i : ℕ) → i < length numbers → HasAll old (take i numbers) → ((x : ℕ) → Has old x → Has new x)
+    → Has new (get_or numbers i 0)
     → HasAll new (take (i + 1) numbers)
 unfolding HasAll
 one_number numbers old new i less before keeps adds =
@@ -95,14 +98,16 @@ all_numbers numbers words i past h = subst (λ xs. HasAll words xs) (take_all i 
 
 -- ---- what may be used behind an arm
 
-pub usable_fields : (marks : List Mark) (fields ready words : List ℕ) → AreReady marks ready → ((x : ℕ) → Has words x → (is_among fields x ≡ true) ⊎ Has ready x) → AreUsable marks (fields ++ []) words
+pub usable_fields : (marks : List Mark) (fields ready words : List ℕ) → AreReady marks ready
+    → ((x : ℕ) → Has words x → (is_among fields x ≡ true) ⊎ Has ready x) → AreUsable marks (fields ++ []) words
 unfolding AreReady AreUsable
 usable_fields marks fields ready words says only x has = elim (only x has) [
   | inl a ↦ inl (among_front fields [] x a)
   | inr h ↦ inr (says x h)
 ]
 
-pub usable_kept : (marks : List Mark) (fields ready words new : List ℕ) (d : ℕ) → AreReady marks ready → ((x : ℕ) → Has words x → (is_among fields x ≡ true) ⊎ Has ready x)
+pub usable_kept : (marks : List Mark) (fields ready words new : List ℕ) (d : ℕ) → AreReady marks ready
+    → ((x : ℕ) → Has words x → (is_among fields x ≡ true) ⊎ Has ready x)
     → ((x : ℕ) → Has new x → (x ≡ d) ⊎ Has words x) → AreUsable marks (fields ++ d ∷ []) new
 unfolding AreReady AreUsable
 usable_kept marks fields ready words new d says only more x has = elim (more x has) [
@@ -128,7 +133,8 @@ uses_fine marks bound [] h = refl
 uses_fine marks bound (x ∷ xs) h = or_none (use_fault marks bound x) _ (usable_passes marks bound x h.0) (uses_fine marks bound xs h.1)
 
 -- a jump is fine where all parameters of its target may be used
-pub no_fault : (f : Func) (marks : List Mark) (bound words : List ℕ) (b : ℕ) → AreUsable marks bound words → HasAll words (params_at f.blocks b) → jump_fault f marks bound b ≡ None
+pub no_fault : (f : Func) (marks : List Mark) (bound words : List ℕ) (b : ℕ) → AreUsable marks bound words → HasAll words (params_at f.blocks b)
+    → jump_fault f marks bound b ≡ None
 unfolding AreUsable HasAll
 no_fault f marks bound words b usable all = uses_fine marks bound (params_at f.blocks b) (all_then (Has words) (λ x. (is_among bound x ≡ true) ⊎ IsReady marks x) (params_at f.blocks b) usable all)
 
@@ -160,7 +166,8 @@ one_block_more f sets set items block i count less at before has b = by_order (c
     by_order (inl front) = subst (λ o. MayHaveAll o (params_at (map f items) b)) (sym (get_or_append_left sets (set ∷ []) None b front)) (before b)
     by_order (inr more) = by_place (b - length sets) (omega (arith, more))
 
-pub covered : (sets : List (Option LocalSet)) (blocks : List Block) (b : ℕ) (set : LocalSet) (words : List ℕ) → HaveParams sets blocks → slice_get sets b ≡ Some (Some set)
+pub covered : (sets : List (Option LocalSet)) (blocks : List Block) (b : ℕ) (set : LocalSet) (words : List ℕ) → HaveParams sets blocks
+    → slice_get sets b ≡ Some (Some set)
     → ((x : ℕ) → Has set.words x → Has words x) → HasAll words (params_at blocks b)
 unfolding HaveParams HasAll
 covered sets blocks b set words known found keeps =

@@ -40,7 +40,8 @@ set_other (n ∷ marks) zero (suc y) m h = refl
 set_other (n ∷ marks) (suc x) zero m h = refl
 set_other (n ∷ marks) (suc x) (suc y) m h = set_other marks x y m (λ e. h (ap suc e))
 
-pub track_bind : (types : List DataType) (f : Func) (marks : List Mark) (s : State) (x : ℕ) → Tracks types f marks s → x < length (local_kinds f) → Tracks types f (bind marks x) (state_bind s x)
+pub track_bind : (types : List DataType) (f : Func) (marks : List Mark) (s : State) (x : ℕ) → Tracks types f marks s → x < length (local_kinds f)
+    → Tracks types f (bind marks x) (state_bind s x)
 track_bind types f marks s x t less = record { size = length-set marks x mark.Ready ∙ t.size; same = λ y. by_test y (x == y) refl }
   where
     by_test : (y : ℕ) (b : Bool) → (x == y) ≡ b → status_of (slice_get (slice_set marks x mark.Ready) y) ≡ (if b then Ready else s y)
@@ -62,10 +63,12 @@ heap_there types f x h = there (local_kinds f) x (some (kind_of f x) refl h)
     some None e h n = let k : false ≡ true = sym (ap (λ q. option_map_or (is_heap types) q false) n) ∙ h in absurd cc
     some (Some q) e h n = let k : Some q ≡ None = sym e ∙ n in absurd cc
 
-pub track_spend : (types : List DataType) (f : Func) (marks : List Mark) (s : State) (x : ℕ) → Tracks types f marks s → Tracks types f (spend (locals_of types f) marks x) (use_of (is_owned types f) s x)
+pub track_spend : (types : List DataType) (f : Func) (marks : List Mark) (s : State) (x : ℕ) → Tracks types f marks s
+    → Tracks types f (spend (locals_of types f) marks x) (use_of (is_owned types f) s x)
 track_spend types f marks s x t = by_heap (is_owned types f x) refl
   where
-    spent : (y : ℕ) → is_owned types f x ≡ true → (b : Bool) → (x == y) ≡ b → status_of (slice_get (slice_set marks x mark.Spent) y) ≡ (if b && true then Spent else s y)
+    spent : (y : ℕ) → is_owned types f x ≡ true → (b : Bool) → (x == y) ≡ b
+        → status_of (slice_get (slice_set marks x mark.Spent) y) ≡ (if b && true then Spent else s y)
     spent y h true e = let same : x ≡ y = grind (arith, nat_tests, e) in
         subst (λ z. status_of (slice_get (slice_set marks x mark.Spent) z) ≡ Spent) same (ap status_of (set_same marks x mark.Spent (omega (arith, heap_there types f x h, t.size))))
     spent y h false e =
@@ -90,7 +93,8 @@ pub track_uses : (types : List DataType) (f : Func) (marks : List Mark) (s : Sta
 track_uses types f marks s [] t = t
 track_uses types f marks s (x ∷ xs) t = track_uses types f (spend (locals_of types f) marks x) (use_of (is_owned types f) s x) xs (track_spend types f marks s x t)
 
-pub track_binds : (types : List DataType) (f : Func) (h : ℕ → Bool) (marks : List Mark) (s : State) (xs : List ℕ) → Tracks types f marks s → AllByRecursion (λ x. x < length (local_kinds f)) xs
+pub track_binds : (types : List DataType) (f : Func) (h : ℕ → Bool) (marks : List Mark) (s : State) (xs : List ℕ) → Tracks types f marks s
+    → AllByRecursion (λ x. x < length (local_kinds f)) xs
     → Tracks types f (bind_all marks xs) (state_after h s (map Bind xs))
 track_binds types f h marks s [] t below = t
 track_binds types f h marks s (x ∷ xs) t below = track_binds types f h (bind marks x) (state_bind s x) xs (track_bind types f marks s x t below.0) below.1
@@ -143,7 +147,8 @@ or_nothing None = refl
 or_nothing (Some k) = refl
 
 -- one in front of another
-pub front_then : (P Q : Type 0) (a b : Option CodeKind) (f g : Checks → Checks) → Front P a f → (P → Front Q b g) → Front (P × Q) (option_or a b) (λ rest. f (g rest))
+pub front_then : (P Q : Type 0) (a b : Option CodeKind) (f g : Checks → Checks) → Front P a f → (P → Front Q b g)
+    → Front (P × Q) (option_or a b) (λ rest. f (g rest))
 front_then P Q a b f g fa fb = λ o rest go. subst (λ c. Agrees c (f (g rest))) (sym (or_grouped a b o)) (fa (option_or b o) (g rest) (λ p. fb p o rest (λ q. go (p, q))))
 
 pub front_last : (P : Type 0) (a : Option CodeKind) (f : Checks → Checks) → Front P a f → Front P (option_or a None) f
@@ -174,7 +179,8 @@ bound_status : (h : ℕ → Bool) (s : State) (xs : List ℕ) (x : ℕ) → is_a
 bound_status h s [] x m = absurd cc
 bound_status h s (y ∷ xs) x m = by_test (λ k. bound_status h (state_bind s y) xs x k) (y == x) refl m
   where
-    by_test : (is_among xs x ≡ true → state_after h (state_bind s y) (map Bind xs) x ≡ Ready) → (b : Bool) → (y == x) ≡ b → (b || is_among xs x) ≡ true → state_after h (state_bind s y) (map Bind xs) x ≡ Ready
+    by_test : (is_among xs x ≡ true → state_after h (state_bind s y) (map Bind xs) x ≡ Ready) → (b : Bool) → (y == x) ≡ b
+        → (b || is_among xs x) ≡ true → state_after h (state_bind s y) (map Bind xs) x ≡ Ready
     by_test go true t k = still_ready h (state_bind s y) xs x (ap (λ b. if b then Ready else s x) t)
     by_test go false t k = go k
 
@@ -182,7 +188,8 @@ unbound_status : (h : ℕ → Bool) (s : State) (xs : List ℕ) (x : ℕ) → is
 unbound_status h s [] x m = refl
 unbound_status h s (y ∷ xs) x m = by_test (λ k. unbound_status h (state_bind s y) xs x k) (y == x) refl m
   where
-    by_test : (is_among xs x ≡ false → state_after h (state_bind s y) (map Bind xs) x ≡ state_bind s y x) → (b : Bool) → (y == x) ≡ b → (b || is_among xs x) ≡ false → state_after h (state_bind s y) (map Bind xs) x ≡ s x
+    by_test : (is_among xs x ≡ false → state_after h (state_bind s y) (map Bind xs) x ≡ state_bind s y x) → (b : Bool) → (y == x) ≡ b
+        → (b || is_among xs x) ≡ false → state_after h (state_bind s y) (map Bind xs) x ≡ s x
     by_test go true t k = absurd cc
     by_test go false t k = go k ∙ ap (λ b. if b then Ready else s x) t
 

@@ -42,8 +42,10 @@ one_or_fault p = by_found (first_fault p) refl
 pub never_both : (p : Code) (fault : CodeFault) → IsWellFormed p → FirstFault (walk p) fault → ⊥
 never_both p fault w h = faultless (walk p) fault (passes p (well_formed_is_faultless p w)) h
 
-pub unbound : (p : Code) (fault : CodeFault) → fault.kind ≡ Unbound → FirstFault (walk p) fault → Happens p fault.func fault.block fault.place (λ f before here. UsesUnbound before here)
+pub unbound : (p : Code) (fault : CodeFault) → fault.kind ≡ Unbound → FirstFault (walk p) fault
+    → Happens p fault.func fault.block fault.place (λ f before here. UsesUnbound before here)
 unbound p fault k h = unbound_misuse p fault k (found p fault h)
 
-pub spent : (p : Code) (fault : CodeFault) → fault.kind ≡ Spent → FirstFault (walk p) fault → Happens p fault.func fault.block fault.place (λ f before here. UsesAgain (is_owned p.types f) before here)
+pub spent : (p : Code) (fault : CodeFault) → fault.kind ≡ Spent → FirstFault (walk p) fault
+    → Happens p fault.func fault.block fault.place (λ f before here. UsesAgain (is_owned p.types f) before here)
 spent p fault k h = spent_misuse p fault k (found p fault h)

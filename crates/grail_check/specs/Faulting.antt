@@ -1,13 +1,14 @@
 -- Private: words for functions of this crate.
 -- The check of code as a walk: the first check that fails, in the order of the code. Types come first, then function by
--- function its header, and then its blocks, each with its header, its lets and its end. On the way through a block every
--- local is unbound, ready or spent. That is the bookkeeping by which a checker keeps to the affine rule of LFPL
+-- function its header, and then its blocks, each with its header, its lets and its end. On the way through a block
+-- every local is unbound, ready or spent. That is the bookkeeping by which a checker keeps to the affine rule of LFPL
 -- (Hofmann 2000). All blocks are walked, also those that no jump leads to.
 --
--- At a let and at the end of a block the checks come in this order: what is named is there; jumps go forward; numbers of
--- arguments, arms and fields are right (a case on what is no data type is of the wrong kind here); each operand in turn is bound, unspent and of its kind; constructors are built or
--- matched inline where they are inline; what is bound has its kind; an arm binds distinct locals; and each jump in turn
--- finds the parameters of its target bound and unspent. What speaks of arms goes over all of them before the next check.
+-- At a let and at the end of a block the checks come in this order: what is named is there; jumps go forward; numbers
+-- of arguments, arms and fields are right (a case on what is no data type is of the wrong kind here); each operand in
+-- turn is bound, unspent and of its kind; constructors are built or matched inline where they are inline; what is bound
+-- has its kind; an arm binds distinct locals; and each jump in turn finds the parameters of its target bound and
+-- unspent. What speaks of arms goes over all of them before the next check.
 use Rattle.std.specs.Prelude.{ℕ, zero, suc, nat_lt, nat_le, ◌==◌, ◌&&◌, not, Bool, true, false, if◌then◌else◌, List, [], ◌∷◌, ◌++◌, length, map, replicate, slice_get, slice_set, Option, Some, None}
 use Rattle.std.specs.List.{list_all}
 use Rattle.std.specs.Option.{option_map, option_map_or, option_or}

@@ -1,6 +1,7 @@
 -- Cited by contracts.
--- What the two faults of use say of the code: on some way through a block, a local is used or looked at that isn't bound before, or a
--- local that is owned is used or looked at again before it is bound anew. This speaks of the events on the way alone, and of no state.
+-- What the two faults of use say of the code: on some way through a block, a local is used or looked at that isn't
+-- bound before, or a local that is owned is used or looked at again before it is bound anew. This speaks of the events
+-- on the way alone, and of no state.
 use Rattle.std.specs.Prelude.{◌≡◌, ℕ, suc, Bool, List, ◌∷◌, ◌++◌, length, map, flat_map, slice_get, Some, IsTrue}
 use Rattle.grail_blocks.specs.Events.{Wants}
 use Rattle.grail_code.specs.Code.{Let, Block, Func, Code}
@@ -10,12 +11,14 @@ use Rattle.grail_code.specs.WellFormed.{Event, Use, Bind, Binds, Reads, reads_of
 abbrev pub events_of : Reads → Block → List Let → List Event
 events_of reads b lets = map Bind b.params ++ flat_map (let_events reads) lets
 
--- A way through a block comes to a place after the events `before`, and these are the events there: what a let does to its operands, or
--- what the end does to its own, or that and a way on.
+-- A way through a block comes to a place after the events `before`, and these are the events there: what a let does to
+-- its operands, or what the end does to its own, or that and a way on.
 pub data Comes (reads : Reads) (f : Func) (b : Block) (before here : List Event) : ℕ → Type 0 where
-  ToLet : (earlier rest : List Let) (l : Let) → b.lets ≡ earlier ++ l ∷ rest → before ≡ events_of reads b earlier → here ≡ uses_of reads l.op → Comes reads f b before here (suc (length earlier))
+  ToLet : (earlier rest : List Let) (l : Let) → b.lets ≡ earlier ++ l ∷ rest → before ≡ events_of reads b earlier → here ≡ uses_of reads l.op
+      → Comes reads f b before here (suc (length earlier))
   ToEnd : before ≡ events_of reads b b.lets → here ≡ term_events reads b.term → Comes reads f b before here (suc (length b.lets))
-  Onward : (i : ℕ) (way : List Event) → slice_get (ways f.blocks b.term) i ≡ Some way → before ≡ events_of reads b b.lets → here ≡ term_events reads b.term ++ way → Comes reads f b before here (suc (length b.lets))
+  Onward : (i : ℕ) (way : List Event) → slice_get (ways f.blocks b.term) i ≡ Some way → before ≡ events_of reads b b.lets
+      → here ≡ term_events reads b.term ++ way → Comes reads f b before here (suc (length b.lets))
 
 -- a local is used or looked at here that isn't bound before
 pub record UsesUnbound (before here : List Event) : Type 0 where

@@ -1,12 +1,14 @@
 -- Cited by contracts.
--- The check of code as a walk: lists of checks in their order, each with the kind of its fault, over the words of well-formed code and
--- the states of locals. The fault is the first check that fails. Types come first, then function by function its header, and then its
--- blocks, each with its header, its lets and its end; all blocks are walked, also those that no jump leads to.
+-- The check of code as a walk: lists of checks in their order, each with the kind of its fault, over the words of
+-- well-formed code and the states of locals. The fault is the first check that fails. Types come first, then function
+-- by function its header, and then its blocks, each with its header, its lets and its end; all blocks are walked, also
+-- those that no jump leads to.
 --
--- At a let and at the end of a block the checks come in this order: what is named is there; jumps go forward; numbers of arguments, arms
--- and fields are right (a case on what is no data type is of the wrong kind here); each operand in turn is bound, unspent and of its
--- kind; constructors are built or matched inline where they are inline; what is bound has its kind; an arm binds distinct locals; and
--- each jump in turn finds the parameters of its target bound and unspent. What speaks of arms goes over all of them before the next check.
+-- At a let and at the end of a block the checks come in this order: what is named is there; jumps go forward; numbers
+-- of arguments, arms and fields are right (a case on what is no data type is of the wrong kind here); each operand in
+-- turn is bound, unspent and of its kind; constructors are built or matched inline where they are inline; what is bound
+-- has its kind; an arm binds distinct locals; and each jump in turn finds the parameters of its target bound and
+-- unspent. What speaks of arms goes over all of them before the next check.
 use Rattle.std.specs.Prelude.{◌≡◌, ℕ, suc, ◌<◌, Bool, false, List, [], ◌∷◌, ◌++◌, length, map, slice_get, Option, Some, None, IsTrue, ◌⊎◌}
 use Rattle.std.specs.List.{AllByRecursion, range_with_len}
 use Rattle.std.specs.Option.{option_map}
@@ -206,8 +208,8 @@ types_checks types earlier cons (t ∷ ts) =
 
 pub data Walk : Type 1 where
   Finished : Walk
-  -- the checks at a place, which is a function, a block, and 0 for its header, the number of a let counted from 1, or the next number for
-  -- the end; and then the rest
+  -- the checks at a place, which is a function, a block, and 0 for its header, the number of a let counted from 1, or
+  -- the next number for the end; and then the rest
   At : (func block place : ℕ) → Checks → Walk → Walk
 
 abbrev pub AllPass : Walk → Type 0

@@ -117,7 +117,8 @@ pub(crate) fn check_blocks(
     marks: &mut Marks,
 ) -> Result<(), CodeFault>
     requires { length marks.old ≡ length locals.now }
-    ensures { Finds result (blocks_fault (code_of code.now) (func_of body.entry.func.now) locals.now func_number 0 (map block_of body.entry.func.now.blocks.items)) }
+    ensures { Finds result (blocks_fault (code_of code.now) (func_of body.entry.func.now) locals.now func_number 0
+        (map block_of body.entry.func.now.blocks.items)) }
 {
     let mut number = 0;
     'walk: for block in &body.func.blocks {

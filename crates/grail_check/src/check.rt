@@ -35,11 +35,14 @@ fn walk_through(alloc: Global, code: &Code) -> Result<(), Stop<CodeFault>>
     check_functions(alloc, code)
 }
 
-/// Whether the code is well formed, and if not, the first check of the walk that fails (`specs/Walk.antt`); `AllocError` where memory
-/// runs out.
+/// Whether the code is well formed, and if not, the first check of the walk that fails (`specs/Walk.antt`);
+/// `AllocError` where memory runs out.
 #[tactic(auto, using(crate::proofs::WalkLaws::passes, crate::proofs::WalkLaws::finds))]
 pub fn check_code(alloc: Global, code: &Code) -> Result<Result<(), CodeFault>, AllocError>
-    ensures first_fault { IfOk result (λ answer. MatchResult answer (λ _. AllPass (walk (code_of code.now))) (λ fault. FirstFault (walk (code_of code.now)) fault)) }
+    // At Ok all checks of the walk pass; a fault is the first one that fails, with its place and kind.
+    ensures first_fault { IfOk result (λ answer. MatchResult answer (λ _. AllPass (walk (code_of code.now)))
+        (λ fault. FirstFault (walk (code_of code.now)) fault)) }
+    // Ok comes exactly where the code is well formed, unless memory runs out.
     ensures well_formed { IfOk result (λ answer. IsTrue (is_ok answer) ↔ IsWellFormed (code_of code.now)) }
 {
     match walk_through(alloc, code) {

@@ -170,7 +170,8 @@ fn check_case(
     def: Option<&TypeDef>,
     arms: &[CaseArm],
 ) -> Result<(), CodeKind>
-    ensures found { Finds result (case_fault (func_of body.entry.func.now) locals.now number marks.old on (option_map (λ t. data_type_of t.now) def.entry) (map arm_of arms.now)) }
+    ensures found { Finds result (case_fault (func_of body.entry.func.now) locals.now number marks.old on
+        (option_map (λ t. data_type_of t.now) def.entry) (map arm_of arms.now)) }
     ensures kept { OnOk result (length marks.new ≡ length marks.old) }
 {
     let there = is_local(locals, on) && arms_are_there(body.func, locals, arms);

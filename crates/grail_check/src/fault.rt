@@ -28,7 +28,8 @@ pub enum CodeKind {
     /// A constructor is built or matched inline that isn't inline, or the other way round.
     #[error("place")]
     Place,
-    /// The parameters of a block don't ascend, or aren't the function's in its first block; or an arm binds a local twice.
+    /// The parameters of a block don't ascend, or aren't the function's in its first block; or an arm binds a local
+    /// twice.
     #[error("header")]
     Header,
     /// A type, constructor or function has the name of an earlier one.
@@ -36,9 +37,9 @@ pub enum CodeKind {
     Name,
 }
 
-/// The first check of code that fails, with its place. Functions and blocks are counted from 0; place 0 is a header, place
-/// `i` the `i`-th let of the block, counted from 1, and the place after the last let the block's end. A fault of the types
-/// has the number of functions as `func`, and block and place 0.
+/// The first check of code that fails, with its place. Functions and blocks are counted from 0; place 0 is a header,
+/// place `i` the `i`-th let of the block, counted from 1, and the place after the last let the block's end. A fault of
+/// the types has the number of functions as `func`, and block and place 0.
 #[derive(Clone, Copy, Debug, PartialEq, Eq, Error)]
 #[error("{kind} function {func} block {block} place {place}")]
 pub struct CodeFault {

@@ -8,22 +8,29 @@ ghost use Rattle.grail_check.specs.Misuse.{Happens, UsesUnbound, UsesAgain};
 
 use super::fault::CodeKind;
 
-/// Code is well formed exactly where all checks of the walk pass, and else it has a first fault, and one at most. Well-formed code is told
-/// without an order of checks; the walk is what finds the fault.
+/// Code is well formed exactly where all checks of the walk pass, and else it has a first fault, and one at most.
+/// Well-formed code is told without an order of checks; the walk is what finds the fault.
 #[tactic(auto, using(crate::proofs::WalkLaws::one_or_fault, crate::proofs::WalkLaws::never_both, crate::proofs::Agreeing::one_fault))]
 pub fn law_of_walk()
+    // Code is well formed exactly where all checks of the walk pass.
     ensures passes { (p : Code) → IsWellFormed p ↔ AllPass (walk p) }
+    // Code is well formed, or it has a first fault.
     ensures some { (p : Code) → IsWellFormed p ⊎ ((fault : CodeFault) × FirstFault (walk p) fault) }
+    // Well-formed code has no first fault.
     ensures apart { (p : Code) (fault : CodeFault) → IsWellFormed p → FirstFault (walk p) fault → ⊥ }
+    // Code has one first fault at most.
     ensures one { (p : Code) (first second : CodeFault) → FirstFault (walk p) first → FirstFault (walk p) second → first ≡ second }
 {}
 
-/// The law of the two faults of use. Where the first fault is Unbound, the code there uses or looks at, on some way through the block,
-/// a local that isn't bound before; where it is Spent, a local that is owned, and that was used before and not bound since.
+/// The law of the two faults of use. Where the first fault is Unbound, the code there uses or looks at, on some way
+/// through the block, a local that isn't bound before; where it is Spent, a local that is owned, and that was used
+/// before and not bound since.
 #[tactic(auto, using(crate::proofs::WalkLaws::unbound, crate::proofs::WalkLaws::spent))]
 pub fn law_of_misuse()
+    // Where the first fault is Unbound, the code uses or looks at a local there that isn't bound before on some way.
     ensures unbound { (p : Code) (fault : CodeFault) → fault.kind ≡ CodeKind.Unbound → FirstFault (walk p) fault →
         Happens p fault.func fault.block fault.place (λ f before here. UsesUnbound before here) }
+    // Where it is Spent, the local is owned, and was used before on some way and not bound since.
     ensures spent { (p : Code) (fault : CodeFault) → fault.kind ≡ CodeKind.Spent → FirstFault (walk p) fault →
         Happens p fault.func fault.block fault.place (λ f before here. UsesAgain (is_owned p.types f) before here) }
 {}

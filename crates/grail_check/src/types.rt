@@ -26,7 +26,8 @@ fn check_cons<'a>(
     cons: &'a [Con],
 ) -> Result<(), Stop<CodeKind>>
     ensures found { Answers result (constructors_fault types.now (map (λ word. word.now) names.old.keys) (map constructor_of cons.now)) }
-    ensures names { OnOk result (map (λ word. word.now) names.new.keys ≡ map (λ word. word.now) names.old.keys ++ map (λ c. c.name) (map constructor_of cons.now)) }
+    ensures names { OnOk result (map (λ word. word.now) names.new.keys ≡ map (λ word. word.now) names.old.keys ++ map
+        (λ c. c.name) (map constructor_of cons.now)) }
 {
     'cons: for con in cons {
         let new = is_new(names, con.name.bytes())?;

@@ -18,13 +18,15 @@ name_at [] i = refl
 name_at (f ∷ fs) zero = refl
 name_at (f ∷ fs) (suc i) = name_at fs i
 
-named : (fs : List DeclaredFunc) (i : ℕ) (f : DeclaredFunc) → i < length fs → f ≡ get_or fs i f → option_map (λ f. f.name) (slice_get (map func_of fs) i) ≡ Some f.name
+named : (fs : List DeclaredFunc) (i : ℕ) (f : DeclaredFunc) → i < length fs → f ≡ get_or fs i f
+    → option_map (λ f. f.name) (slice_get (map func_of fs) i) ≡ Some f.name
 named fs i f lt e = name_at fs i ∙ ap (option_map (λ f. f.name)) (slice_get-get_or fs i f lt) ∙ ap (λ g. Some g.name) (sym e)
 
 abbrev is_named : List ℕ → DeclaredFunc → Bool
 is_named name f = pointwise nat_eq f.name name
 
-not_named : (fs : List DeclaredFunc) (i : ℕ) (name : List ℕ) (f : DeclaredFunc) → i < length fs → is_named name (get_or fs i f) ≡ false → option_map (λ f. f.name) (slice_get (map func_of fs) i) ≡ Some name → ⊥
+not_named : (fs : List DeclaredFunc) (i : ℕ) (name : List ℕ) (f : DeclaredFunc) → i < length fs → is_named name (get_or fs i f) ≡ false
+    → option_map (λ f. f.name) (slice_get (map func_of fs) i) ≡ Some name → ⊥
 not_named fs i name f lt other has =
     let both : Some (get_or fs i f).name ≡ Some name = sym (name_at fs i ∙ ap (option_map (λ f. f.name)) (slice_get-get_or fs i f lt)) ∙ has in
     other_text (get_or fs i f).name name (sym other) cc
@@ -58,7 +60,8 @@ passed_over n m e = elim (cases_lt n m) [
   | inr ge ↦ ge
 ]
 
-none_of : (f : DeclaredFunc) (fs : List DeclaredFunc) (name : List ℕ) (number : ℕ) → position (is_named name) (f ∷ fs) ≡ None → option_map (λ g. g.name) (slice_get (map func_of (f ∷ fs)) number) ≡ Some name → ⊥
+none_of : (f : DeclaredFunc) (fs : List DeclaredFunc) (name : List ℕ) (number : ℕ) → position (is_named name) (f ∷ fs) ≡ None
+    → option_map (λ g. g.name) (slice_get (map func_of (f ∷ fs)) number) ≡ Some name → ⊥
 none_of f fs name number e has =
     let all = f ∷ fs in
     let over : length all ≤ position_or_len (is_named name) all = passed_over (position_or_len (is_named name) all) (length all) e in

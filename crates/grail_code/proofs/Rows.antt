@@ -1,5 +1,5 @@
--- The meaning of code on small codes: what no law guards. Tail position, the depth of calls that wait, order of evaluation, wrap-around,
--- diamonds as arguments, the peak of cells.
+-- The meaning of code on small codes: what no law guards. Tail position, the depth of calls that wait, order of
+-- evaluation, wrap-around, diamonds as arguments, the peak of cells.
 use Rattle.std.proofs.Common.{◌≡◌, ℕ, List, [], ◌∷◌, false, true, refl}
 use Rattle.std.specs.Prelude.{codes, pos, negsuc}
 use Rattle.camelot_values.specs.Value as value

@@ -32,7 +32,8 @@ goes_on f read front now x count i bytes after total lt h pushed so_far =
     let one : with_front (map f front) (times_at read (count - i) bytes) ≡ with_front (map f front ++ f x ∷ []) (times_at read (count - (i + 1)) after) = rw (k, h) (regroup (map f front) (f x) (times_at read (count - (i + 1)) after)) in
     ap (λ xs. with_front xs (times_at read (count - (i + 1)) after)) (ap (map f) pushed ∙ map_push f front x) ∙ sym one ∙ so_far
 
-pub ends_by : {X A : Type 0} (f : X → A) (read : List ℕ → Read A) (front : List X) (e : Halt) (count i : ℕ) (bytes : List ℕ) (total : Read (List A)) → i < count → Halts e (read bytes)
+pub ends_by : {X A : Type 0} (f : X → A) (read : List ℕ → Read A) (front : List X) (e : Halt) (count i : ℕ) (bytes : List ℕ) (total : Read (List A))
+    → i < count → Halts e (read bytes)
     → with_front (map f front) (times_at read (count - i) bytes) ≡ total → Halts e total
 unfolding times_at with_front
 ends_by f read front halt.Memory count i bytes total lt h so_far = tt
@@ -94,7 +95,8 @@ tails_here bytes rest after b i here h =
 pub tails_room : (rest after : List ℕ) (b i n : ℕ) → i + length rest ≡ n → tail_at rest ≡ Done b after → i + 1 + length after ≡ n
 tails_room rest after b i n room h = let e = ap length (tail_is rest after b h) in omega arith
 
-pub tails_end : (e : Halt) (front bytes : List ℕ) (count i : ℕ) (total : Read (List ℕ)) → i < count → Halts e (tail_at bytes) → with_front front (times_at tail_at (count - i) bytes) ≡ total → Halts e total
+pub tails_end : (e : Halt) (front bytes : List ℕ) (count i : ℕ) (total : Read (List ℕ)) → i < count → Halts e (tail_at bytes)
+    → with_front front (times_at tail_at (count - i) bytes) ≡ total → Halts e total
 unfolding times_at with_front
 tails_end halt.Memory front bytes count i total lt h so_far = tt
 tails_end halt.Short front bytes count i total lt h so_far =
@@ -106,7 +108,8 @@ tails_end (halt.Bad left) front bytes count i total lt h so_far =
     let one : with_front front (times_at tail_at (count - i) bytes) ≡ Stop left = rw (k, h) refl in
     sym so_far ∙ one
 
-pub tails_done : (bytes rest : List ℕ) (count i : ℕ) (total : Read (List ℕ)) → count ≤ i → i ≤ count → with_front (take i bytes) (times_at tail_at (count - i) rest) ≡ total → total ≡ Done (take count bytes) rest
+pub tails_done : (bytes rest : List ℕ) (count i : ℕ) (total : Read (List ℕ)) → count ≤ i → i ≤ count
+    → with_front (take i bytes) (times_at tail_at (count - i) rest) ≡ total → total ≡ Done (take count bytes) rest
 unfolding times_at with_front
 tails_done bytes rest count i total le ge so_far =
     let k : count - i ≡ 0 = omega arith in

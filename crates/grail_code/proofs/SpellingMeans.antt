@@ -4,6 +4,8 @@ use Rattle.std.proofs.lemmas.List.{take_at, take_all}
 use Rattle.std.proofs.Math.Seq.{take-append-add}
 use Rattle.std.proofs.lemmas.Bool.{cases_lt}
 use Rattle.grail_code.specs.declared.code.Code.{Code as DeclaredCode}
+use Rattle.stops.specs.declared.stop.Stop.{Stop as WhyStop}
+use Rattle.stops.specs.declared.stop.Stop.TheVariants as stop
 use Rattle.grail_code.specs.declared.fault.DecodeFault.{DecodeFault}
 use Rattle.grail_code.specs.declared.fault.DecodeFault.TheVariants as fault
 use Rattle.grail_code.specs.Code.{Code}
@@ -40,7 +42,8 @@ further good after bad n lt =
     ap (λ k. take k (good ++ (bad ∷ after))) e ∙ whole
 
 -- the good bytes are the longest part from the left that begins code
-longest_is : (bytes good after : List ℕ) (bad : ℕ) → bytes ≡ good ++ (bad ∷ after) → BeginsCode good → ((q : Code) (rest : List ℕ) → FitsCode q → spelling q ≡ good ++ (bad ∷ rest) → ⊥)
+longest_is : (bytes good after : List ℕ) (bad : ℕ) → bytes ≡ good ++ (bad ∷ after) → BeginsCode good
+    → ((q : Code) (rest : List ℕ) → FitsCode q → spelling q ≡ good ++ (bad ∷ rest) → ⊥)
     → IsLongestBegin bytes (length bytes - suc (length after))
 longest_is bytes good after bad parts begins never =
     let long : length bytes ≡ length good + suc (length after) = ap length parts ∙ length-append good (bad ∷ after) in
@@ -119,24 +122,25 @@ means_one bytes (Broken m) (Broken n) h k = ap Broken (longest_once bytes m n h 
 
 -- ---- what decoding answers
 
-is_so : (bytes : List ℕ) (r : Result DeclaredCode DecodeFault) (o : Decoded) → Means bytes o → Sees r o → IsSo bytes r
+is_so : (bytes : List ℕ) (r : Result DeclaredCode (WhyStop DecodeFault)) (o : Decoded) → Means bytes o → Sees r o → IsSo bytes r
 is_so bytes (Ok code) o h e = subst (Means bytes) e h
-is_so bytes (Err fault.Short) o h e = subst (Means bytes) e h
-is_so bytes (Err (fault.Bad at)) o h e = subst (Means bytes) e h
-is_so bytes (Err fault.Memory) o h e = tt
+is_so bytes (Err (stop.Fault fault.Short)) o h e = subst (Means bytes) e h
+is_so bytes (Err (stop.Fault (fault.Bad at))) o h e = subst (Means bytes) e h
+is_so bytes (Err stop.Memory) o h e = tt
 
-says_same : (r : Result DeclaredCode DecodeFault) (o : Decoded) → Sees r o → Says r o
+says_same : (r : Result DeclaredCode (WhyStop DecodeFault)) (o : Decoded) → Sees r o → Says r o
 says_same (Ok code) o e = subst (Says (Ok code)) (sym e) refl
-says_same (Err fault.Short) o e = subst (Says (Err fault.Short)) (sym e) tt
-says_same (Err (fault.Bad at)) o e = subst (Says (Err (fault.Bad at))) (sym e) refl
-says_same (Err fault.Memory) o e = tt
+says_same (Err (stop.Fault fault.Short)) o e = subst (Says (Err (stop.Fault fault.Short))) (sym e) tt
+says_same (Err (stop.Fault (fault.Bad at))) o e = subst (Says (Err (stop.Fault (fault.Bad at)))) (sym e) refl
+says_same (Err stop.Memory) o e = tt
 
 -- the answer is so
-pub found_so : (bytes : List ℕ) (r : Result DeclaredCode DecodeFault) → Sees r (whole bytes (code_at bytes)) → IsSo bytes r
+pub found_so : (bytes : List ℕ) (r : Result DeclaredCode (WhyStop DecodeFault)) → Sees r (whole bytes (code_at bytes)) → IsSo bytes r
 found_so bytes r e = is_so bytes r (whole bytes (code_at bytes)) (means_whole bytes) e
 
 -- what the bytes mean is answered
-pub means_said : (bytes : List ℕ) (r : Result DeclaredCode DecodeFault) (o : Decoded) → Sees r (whole bytes (code_at bytes)) → Means bytes o → Says r o
+pub means_said : (bytes : List ℕ) (r : Result DeclaredCode (WhyStop DecodeFault)) (o : Decoded) → Sees r (whole bytes (code_at bytes))
+    → Means bytes o → Says r o
 means_said bytes r o e h = subst (Says r) (means_one bytes (whole bytes (code_at bytes)) o (means_whole bytes) h) (says_same r (whole bytes (code_at bytes)) e)
 
 pub means_some : (bytes : List ℕ) → (o : Decoded) × Means bytes o

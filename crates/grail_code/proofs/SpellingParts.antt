@@ -1,5 +1,5 @@
--- When a reader reads a spelling: what it answers is so, and it reads what is spelled. The laws by which readers are put
--- together.
+-- When a reader reads a spelling: what it answers is so, and it reads what is spelled. The laws by which readers are
+-- put together.
 use Rattle.std.proofs.Common.{◌≡◌, ℕ, zero, suc, ◌+◌, ◌-◌, ◌*◌, ◌/◌, ◌%◌, ◌<◌, ◌≤◌, Bool, true, false, List, [], ◌∷◌, ◌++◌, length, refl, sym, ap, subst, ◌∙◌, append_assoc, inl, inr, arith}
 use Rattle.std.specs.Prelude.{nat_lt, min, if◌then◌else◌, ◌==◌}
 use Rattle.std.proofs.lemmas.Bool.{ltb-true, ltb-false, lt-ltb, le-ltb, eqb-true, cases_lt}
@@ -51,7 +51,8 @@ pub record Same {A : Type 0} (x y : A) (p q : List ℕ) : Type 0 where
   pub value : x ≡ y
   pub rest : p ≡ q
 
-pub one_way : {A : Type 0} (F : A → Type 0) (s : A → List ℕ) (r : List ℕ → Read A) → Lawful F s r → (x y : A) (p q : List ℕ) → F x → F y → s x ++ p ≡ s y ++ q → Same x y p q
+pub one_way : {A : Type 0} (F : A → Type 0) (s : A → List ℕ) (r : List ℕ → Read A) → Lawful F s r → (x y : A) (p q : List ℕ) → F x → F y
+    → s x ++ p ≡ s y ++ q → Same x y p q
 one_way F s r law x y p q fx fy e =
     let both : Done x p ≡ Done y q = sym (law.again x p fx) ∙ ap r e ∙ law.again y q fy in
     record { value = ap (value_of x) both; rest = ap rest_of both }
@@ -144,7 +145,8 @@ bind F s r G t q get law gets laws = record {
 
 -- ---- other words for what fits and how it is spelled
 
-retold_tells : {A : Type 0} (F : A → Type 0) (s : A → List ℕ) (G : A → Type 0) (t : A → List ℕ) → ((x : A) → F x → G x) → ((x : A) → G x → F x) → ((x : A) → G x → s x ≡ t x)
+retold_tells : {A : Type 0} (F : A → Type 0) (s : A → List ℕ) (G : A → Type 0) (t : A → List ℕ) → ((x : A) → F x → G x) → ((x : A) → G x → F x)
+    → ((x : A) → G x → s x ≡ t x)
     → (bytes : List ℕ) (o : Read A) → Tells F s bytes o → Tells G t bytes o
 retold_tells F s G t to from spells bytes (Done x rest) h = (to x h.0, h.1 ∙ ap (λ w. w ++ rest) (spells x (to x h.0)))
 retold_tells F s G t to from spells bytes More h = record { value = h.value; fits = to h.value h.fits; rest = h.rest; is = sym (spells h.value (to h.value h.fits)) ∙ h.is }
@@ -160,7 +162,8 @@ retold_tells F s G t to from spells bytes (Stop left) h =
       never = λ x p q fits d. h.never x p q (from x fits) (ap (λ w. w ++ p) (spells x fits) ∙ d);
     }
 
-pub retold : {A : Type 0} (F : A → Type 0) (s : A → List ℕ) (r : List ℕ → Read A) (G : A → Type 0) (t : A → List ℕ) → ((x : A) → F x → G x) → ((x : A) → G x → F x) → ((x : A) → G x → s x ≡ t x)
+pub retold : {A : Type 0} (F : A → Type 0) (s : A → List ℕ) (r : List ℕ → Read A) (G : A → Type 0) (t : A → List ℕ) → ((x : A) → F x → G x)
+    → ((x : A) → G x → F x) → ((x : A) → G x → s x ≡ t x)
     → Lawful F s r → Lawful G t r
 retold F s r G t to from spells law = record {
   tells = λ bytes. retold_tells F s G t to from spells bytes (r bytes) (law.tells bytes);
@@ -261,7 +264,8 @@ same F s r q e law = record {
 eqb-same : (b : ℕ) → (b == b) ≡ true
 eqb-same b = grind arith
 
-pub headed : {A : Type 0} (F : A → Type 0) (s : A → List ℕ) (r : List ℕ → Read A) (b : ℕ) → Lawful F s r → Lawful F (λ x. b ∷ s x) (λ bytes. then_read (byte_at (λ c. c == b) bytes) (λ c rest. r rest))
+pub headed : {A : Type 0} (F : A → Type 0) (s : A → List ℕ) (r : List ℕ → Read A) (b : ℕ) → Lawful F s r
+    → Lawful F (λ x. b ∷ s x) (λ bytes. then_read (byte_at (λ c. c == b) bytes) (λ c rest. r rest))
 headed {A} F s r b law =
     let behind_it : (c : ℕ) → (c == b) ≡ true → Lawful (λ x. F x × (b ≡ c)) s r = λ c h. retold F s r (λ x. F x × (b ≡ c)) s (λ x k. (k, sym (eqb-true c b h))) (λ x k. k.0) (λ x k. refl) law in
     retold _ _ _ F (λ x. b ∷ s x) (λ x h. h.1.0) (λ x h. (eqb-same b, (h, refl))) (λ x h. refl)
@@ -292,7 +296,8 @@ row_from : {A : Type 0} (F : A → Type 0) (n : ℕ) (xs : List A) → InRow F (
 row_from F n [] h = absurd (omega (arith, h.0))
 row_from F n (x ∷ xs) h = record { value = (x, xs); fits = (h.1.0, (omega (arith, h.0), h.1.1)); is = refl }
 
-pub row_law : {A : Type 0} (F : A → Type 0) (s : A → List ℕ) (r : List ℕ → Read A) → Lawful F s r → (n : ℕ) → Lawful (InRow F n) (λ xs. flat_map s xs) (times_at r n)
+pub row_law : {A : Type 0} (F : A → Type 0) (s : A → List ℕ) (r : List ℕ → Read A) → Lawful F s r → (n : ℕ)
+    → Lawful (InRow F n) (λ xs. flat_map s xs) (times_at r n)
 unfolding times_at
 row_law F s r law zero = constant (InRow F 0) (λ xs. flat_map s xs) [] (refl, tt) (λ xs h. sym (nil_from_length xs h.0)) refl
 row_law {A} F s r law (suc n) =
@@ -341,7 +346,8 @@ begins_when least most b h = let k : nat_lt (min most 255) b ≡ false = le-ltb 
     ]
 
 -- the number behind a first byte
-behind_law : (more least most b : ℕ) → least ≤ 1 → CanBegin least most b → ((l m : ℕ) → l ≤ 1 → l ≤ m → Lawful (λ n. (l ≤ n) × (n ≤ m)) (leb128 more) (leb_at more l m))
+behind_law : (more least most b : ℕ) → least ≤ 1 → CanBegin least most b
+    → ((l m : ℕ) → l ≤ 1 → l ≤ m → Lawful (λ n. (l ≤ n) × (n ≤ m)) (leb128 more) (leb_at more l m))
     → (v : Bool) → nat_lt b 128 ≡ v → Lawful (Behind most v b) (behind more v) (behind_at more most v b)
 behind_law more least most b small h ih true e = constant (λ n. n ≡ b) (λ n. []) b refl (λ n k. sym k) refl
 behind_law more least most b small h ih false e =
@@ -390,12 +396,14 @@ in_order more least most b rest false true true e1 e2 e3 = rw (e1, e2, e3) refl
 in_order more least most b rest false true false e1 e2 e3 = rw (e1, e2, e3) (rw e2 refl)
 in_order more least most b rest false false v3 e1 e2 e3 = rw (e1, e2) (rw e2 refl)
 
-same_number : (more least most : ℕ) (bytes : List ℕ) → then_read (byte_at (can_begin least most) bytes) (λ b rest. behind_at more most (nat_lt b 128) b rest) ≡ leb_at (suc more) least most bytes
+same_number : (more least most : ℕ) (bytes : List ℕ)
+    → then_read (byte_at (can_begin least most) bytes) (λ b rest. behind_at more most (nat_lt b 128) b rest) ≡ leb_at (suc more) least most bytes
 unfolding byte_at leb_at
 same_number more least most [] = refl
 same_number more least most (b ∷ rest) = in_order more least most b rest (nat_lt (min most 255) b) (nat_lt b 128) (nat_lt b least) refl refl refl
 
-same_last : (least most : ℕ) (bytes : List ℕ) → byte_at (λ b. if nat_lt most b then false else if nat_lt b least then false else true) bytes ≡ leb_at 0 least most bytes
+same_last : (least most : ℕ) (bytes : List ℕ)
+    → byte_at (λ b. if nat_lt most b then false else if nat_lt b least then false else true) bytes ≡ leb_at 0 least most bytes
 unfolding byte_at leb_at
 same_last least most [] = refl
 same_last least most (b ∷ rest) = elim (nat_lt most b) as (λ v. (if (if v then false else if nat_lt b least then false else true) then Done b rest else Stop (suc (length rest))) ≡ (if v then Stop (suc (length rest)) else if nat_lt b least then Stop (suc (length rest)) else Done b rest)) [
@@ -403,7 +411,8 @@ same_last least most (b ∷ rest) = elim (nat_lt most b) as (λ v. (if (if v the
   | false ↦ elim (nat_lt b least) as (λ v. (if (if v then false else true) then Done b rest else Stop (suc (length rest))) ≡ (if v then Stop (suc (length rest)) else Done b rest)) [ true ↦ refl | false ↦ refl ]
 ]
 
-last_within : (least most n : ℕ) (v1 v2 : Bool) → nat_lt most n ≡ v1 → nat_lt n least ≡ v2 → (if v1 then false else if v2 then false else true) ≡ true → (least ≤ n) × (n ≤ most)
+last_within : (least most n : ℕ) (v1 v2 : Bool) → nat_lt most n ≡ v1 → nat_lt n least ≡ v2
+    → (if v1 then false else if v2 then false else true) ≡ true → (least ≤ n) × (n ≤ most)
 last_within least most n true v2 e1 e2 h = absurd cc
 last_within least most n false true e1 e2 h = absurd cc
 last_within least most n false false e1 e2 h = (ltb-false n least e2, ltb-false most n e1)
@@ -437,7 +446,8 @@ number_law least most small some = leb_law 4 least most small some
 
 -- ---- a count, and so many things
 
-pub counted_law : {A : Type 0} (F : A → Type 0) (s : A → List ℕ) (r : List ℕ → Read A) (least most : ℕ) → least ≤ 1 → least ≤ most → Lawful F s r → Lawful (AreCounted F least most) (counted s) (counted_at r least most)
+pub counted_law : {A : Type 0} (F : A → Type 0) (s : A → List ℕ) (r : List ℕ → Read A) (least most : ℕ) → least ≤ 1 → least ≤ most → Lawful F s r
+    → Lawful (AreCounted F least most) (counted s) (counted_at r least most)
 unfolding counted_at
 counted_law {A} F s r least most small some law =
     retold _ _ _ (AreCounted F least most) (counted s) (λ xs h. record { enough = h.0.0; few = h.0.1; each = h.1.1 }) (λ xs h. ((h.enough, h.few), (refl, h.each))) (λ xs h. refl)

@@ -167,7 +167,8 @@ each_fits : (ts : List DataType) → AllByRecursion FitsType ts → AllByRecursi
 each_fits [] h = tt
 each_fits (t ∷ ts) h = (record { some_cons = h.0.cons.enough; few_cons = h.0.cons.few; each = cons_fit t.cons h.0.cons.each }, each_fits ts h.1)
 
-types_told : (ts : List DataType) (rest bytes : List ℕ) (o : Read (List DataType)) → o ≡ Done ts rest → Tells (AreCounted FitsType 0 64) (counted s.type_bytes) bytes o → AreTypes ts
+types_told : (ts : List DataType) (rest bytes : List ℕ) (o : Read (List DataType)) → o ≡ Done ts rest
+    → Tells (AreCounted FitsType 0 64) (counted s.type_bytes) bytes o → AreTypes ts
 types_told ts rest bytes o e h = let k = subst (Tells (AreCounted FitsType 0 64) (counted s.type_bytes) bytes) e h in record { few_types = k.0.few; each = each_fits ts k.0.each }
 
 pub types_fit : (bytes rest : List ℕ) (ts : List DataType) → counted_at type_at 0 64 bytes ≡ Done ts rest → AreTypes ts

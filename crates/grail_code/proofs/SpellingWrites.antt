@@ -30,7 +30,8 @@ number_step n ge lt =
     let same : leb128 3 (n / 128) ≡ leb128 4 (n / 128) = more_room 3 (n / 128) (omega arith) in
     opens 3 n ge ∙ ap (λ w. (128 + n % 128) ∷ w) same
 
-pub number_more : (out now first : List ℕ) (n value : ℕ) → 128 ≤ n → n < 2 ^ 32 → now ≡ out ++ (128 + n % 128) ∷ [] → out ++ number n ≡ first ++ number value → now ++ number (n / 128) ≡ first ++ number value
+pub number_more : (out now first : List ℕ) (n value : ℕ) → 128 ≤ n → n < 2 ^ 32 → now ≡ out ++ (128 + n % 128) ∷ []
+    → out ++ number n ≡ first ++ number value → now ++ number (n / 128) ≡ first ++ number value
 number_more out now first n value ge lt pushed so_far = ap (λ w. w ++ number (n / 128)) pushed ∙ append_assoc out ((128 + n % 128) ∷ []) (number (n / 128)) ∙ ap (λ w. out ++ w) (sym (number_step n ge lt)) ∙ so_far
 
 pub number_small : (n : ℕ) → n < 128 → number n ≡ n ∷ []
@@ -39,12 +40,14 @@ number_small n lt = rw (lt-ltb n 128 lt) refl
 
 -- ---- things in a row
 
-pub thing_fits : {X A : Type 0} (F : A → Type 0) (f : X → A) (xs : List X) (i : ℕ) (x : X) → AllByRecursion F (map f xs) → i < length xs → x ≡ get_or xs i x → F (f x)
+pub thing_fits : {X A : Type 0} (F : A → Type 0) (f : X → A) (xs : List X) (i : ℕ) (x : X) → AllByRecursion F (map f xs) → i < length xs
+    → x ≡ get_or xs i x → F (f x)
 thing_fits F f [] i x h lt e = absurd (omega arith)
 thing_fits F f (y ∷ ys) zero x h lt e = subst (λ z. F (f z)) (sym e) h.0
 thing_fits F f (y ∷ ys) (suc i) x h lt e = thing_fits F f ys i x h.1 (omega arith) e
 
-pub things_more : {X A : Type 0} (f : X → A) (spell : A → List ℕ) (first out now : List ℕ) (xs : List X) (i : ℕ) (x : X) → i < length xs → x ≡ get_or xs i x → now ≡ out ++ spell (f x)
+pub things_more : {X A : Type 0} (f : X → A) (spell : A → List ℕ) (first out now : List ℕ) (xs : List X) (i : ℕ) (x : X) → i < length xs
+    → x ≡ get_or xs i x → now ≡ out ++ spell (f x)
     → out ≡ first ++ flat_map spell (map f (take i xs)) → now ≡ first ++ flat_map spell (map f (take (i + 1) xs))
 things_more f spell first out now xs i x lt e wrote so_far =
     let one : take (i + 1) xs ≡ take i xs ++ x ∷ [] = (take_at_read xs i x lt).1 ∙ ap (λ y. take i xs ++ y ∷ []) (sym e) in

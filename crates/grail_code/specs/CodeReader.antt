@@ -9,6 +9,8 @@ use Rattle.camelot_values.specs.Operator.{Operator}
 use Rattle.camelot_values.specs.declared.kinds.Kind.{Kind}
 use Rattle.camelot_values.specs.declared.kinds.Kind.TheVariants as kind
 use Rattle.grail_code.specs.declared.code.Code.{Code as DeclaredCode}
+use Rattle.stops.specs.declared.stop.Stop.{Stop as WhyStop}
+use Rattle.stops.specs.declared.stop.Stop.TheVariants as stop
 use Rattle.grail_code.specs.declared.fault.DecodeFault.{DecodeFault}
 use Rattle.grail_code.specs.declared.fault.DecodeFault.TheVariants as fault
 use Rattle.grail_code.specs.declared.decoder.names.Letter.{Letter}
@@ -195,8 +197,8 @@ whole bytes More = Front
 whole bytes (Stop left) = Broken (length bytes - left)
 
 -- the answer is what was read, unless memory ran out
-abbrev pub Sees : Result DeclaredCode DecodeFault → Decoded → Type 0
+abbrev pub Sees : Result DeclaredCode (WhyStop DecodeFault) → Decoded → Type 0
 Sees (Ok code) o = o ≡ Spelled (code_of code)
-Sees (Err fault.Short) o = o ≡ Front
-Sees (Err (fault.Bad at)) o = o ≡ Broken at
-Sees (Err fault.Memory) o = Unit {0}
+Sees (Err (stop.Fault fault.Short)) o = o ≡ Front
+Sees (Err (stop.Fault (fault.Bad at))) o = o ≡ Broken at
+Sees (Err stop.Memory) o = Unit {0}

@@ -1,6 +1,6 @@
 -- Laws, for the proofs of this crate and of those above it.
--- Laws of places: that every ready local has a value of its kind is kept by a let, by the end of a block, and from a block on; and the
--- induction over one run of a function with what is ready at each place.
+-- Laws of places: that every ready local has a value of its kind is kept by a let, by the end of a block, and from a
+-- block on; and the induction over one run of a function with what is ready at each place.
 use Rattle.std.proofs.Common.{◌≡◌, ℕ, zero, suc, ◌+◌, ◌<◌, ◌≤◌, Bool, true, false, List, [], ◌∷◌, ◌++◌, length, map, drop, Option, Some, None, refl, sym, ap, ◌∙◌, subst, arith, inl, inr}
 use Rattle.std.specs.Prelude.{◌==◌, ◌||◌, if◌then◌else◌, slice_get, IsSomeAnd, ◌⊎◌}
 use Rattle.std.specs.List.{AllByRecursion}
@@ -39,25 +39,30 @@ map_append f (x ∷ xs) ys = ap (λ l. f x ∷ l) (map_append f xs ys)
 -- ---- locals
 
 -- where what is ready was ready before
-fit_earlier : (types : List DataType) (f : Func) (s t : State) (env : Locals) → ((x : ℕ) → t x ≡ Ready → s x ≡ Ready) → LocalsFit types f s env → LocalsFit types f t env
+fit_earlier : (types : List DataType) (f : Func) (s t : State) (env : Locals) → ((x : ℕ) → t x ≡ Ready → s x ≡ Ready) → LocalsFit types f s env
+    → LocalsFit types f t env
 fit_earlier types f s t env was fit = record { holds = λ x r. fit.holds x (was x r) }
 
-pub fit_used : (types : List DataType) (f : Func) (h : ℕ → Bool) (s : State) (xs : List ℕ) (env : Locals) → LocalsFit types f s env → LocalsFit types f (state_after h s (map Use xs)) env
+pub fit_used : (types : List DataType) (f : Func) (h : ℕ → Bool) (s : State) (xs : List ℕ) (env : Locals) → LocalsFit types f s env
+    → LocalsFit types f (state_after h s (map Use xs)) env
 fit_used types f h s xs env fit = fit_earlier types f s (state_after h s (map Use xs)) env (uses_ready h s xs) fit
 
-holds_put : (types : List DataType) (f : Func) (env : Locals) (t x : ℕ) (v : Value) (q : Kind) → kind_of f t ≡ Some q → Fits types q v → (t ≡ x) ⊎ Holds types f env x → Holds types f (put env t v) x
+holds_put : (types : List DataType) (f : Func) (env : Locals) (t x : ℕ) (v : Value) (q : Kind) → kind_of f t ≡ Some q → Fits types q v
+    → (t ≡ x) ⊎ Holds types f env x → Holds types f (put env t v) x
 holds_put types f env t x v q k fit where_ = by_test (t == x) refl where_
   where
     new : t ≡ x → IsSomeAnd (kind_of f x) (λ q. Fits types q v)
     new e = subst (λ o. IsSomeAnd o (λ q. Fits types q v)) (sym k ∙ ap (kind_of f) e) fit
 
-    by_test : (b : Bool) → (t == x) ≡ b → (t ≡ x) ⊎ Holds types f env x → IsSomeAnd (if b then Some v else env x) (λ u. IsSomeAnd (kind_of f x) (λ q. Fits types q u))
+    by_test : (b : Bool) → (t == x) ≡ b → (t ≡ x) ⊎ Holds types f env x
+        → IsSomeAnd (if b then Some v else env x) (λ u. IsSomeAnd (kind_of f x) (λ q. Fits types q u))
     by_test true e w = let same : t ≡ x = grind (arith, nat_tests, e) in new same
     by_test false e (inl same) = let clash : (t == x) ≡ true = grind (arith, nat_tests, same) in let c : false ≡ true = sym e ∙ clash in absurd cc
     by_test false e (inr h) = h
 
 -- a binding of a value of the local's kind
-pub fit_bound : (types : List DataType) (f : Func) (s : State) (env : Locals) (t : ℕ) (v : Value) (q : Kind) → LocalsFit types f s env → kind_of f t ≡ Some q → Fits types q v → LocalsFit types f (bind s t) (put env t v)
+pub fit_bound : (types : List DataType) (f : Func) (s : State) (env : Locals) (t : ℕ) (v : Value) (q : Kind) → LocalsFit types f s env
+    → kind_of f t ≡ Some q → Fits types q v → LocalsFit types f (bind s t) (put env t v)
 fit_bound types f s env t v q fit k fits = record { holds = λ x r. holds_put types f env t x v q k fits (either x (bind_ready s t x r)) }
   where
     either : (x : ℕ) → (t ≡ x) ⊎ (s x ≡ Ready) → (t ≡ x) ⊎ Holds types f env x
@@ -65,7 +70,8 @@ fit_bound types f s env t v q fit k fits = record { holds = λ x r. holds_put ty
     either x (inr r) = inr (fit.holds x r)
 
 -- A let keeps it, where what it binds has the local's kind.
-pub let_keeps : (types : List DataType) (f : Func) (reads : Reads) (h : ℕ → Bool) (s : State) (env : Locals) (l : Let) (v : Value) (q : Kind) → LocalsFit types f s env → kind_of f l.target ≡ Some q → Fits types q v
+pub let_keeps : (types : List DataType) (f : Func) (reads : Reads) (h : ℕ → Bool) (s : State) (env : Locals) (l : Let) (v : Value) (q : Kind)
+    → LocalsFit types f s env → kind_of f l.target ≡ Some q → Fits types q v
     → LocalsFit types f (after_let reads h s l) (put env l.target v)
 let_keeps types f reads h s env l v q fit k fits =
     let behind = state_after h s (uses_of reads l.op) in
@@ -91,7 +97,8 @@ pub record FoundAll (types : List DataType) (env : Locals) (xs : List ℕ) (qs :
   pub is : values_of env xs ≡ Some values
   pub fit : ArgumentsFit types qs values
 
-pub found_all : (types : List DataType) (f : Func) (s : State) (env : Locals) (xs : List ℕ) (qs : List Kind) → LocalsFit types f s env → AllReady s xs → HaveKinds f xs qs → FoundAll types env xs qs
+pub found_all : (types : List DataType) (f : Func) (s : State) (env : Locals) (xs : List ℕ) (qs : List Kind) → LocalsFit types f s env
+    → AllReady s xs → HaveKinds f xs qs → FoundAll types env xs qs
 found_all types f s env [] [] fit r k = record { values = []; is = refl; fit = tt }
 found_all types f s env [] (q ∷ qs) fit r k = absurd cc
 found_all types f s env (x ∷ xs) [] fit r k = absurd cc
@@ -103,7 +110,8 @@ found_all types f s env (x ∷ xs) (q ∷ qs) fit r k =
 -- ---- lets
 
 -- a diamond is one
-on_diamond_safe : (types : List DataType) (q : Kind) (u : Value) (o : Outcome Value) → Fits types kind.Dia u → IsSafe types q o → IsSafe types q (on_diamond u o)
+on_diamond_safe : (types : List DataType) (q : Kind) (u : Value) (o : Outcome Value) → Fits types kind.Dia u → IsSafe types q o
+    → IsSafe types q (on_diamond u o)
 on_diamond_safe types q value.Dia o h g = g
 on_diamond_safe types q (value.Int z) o h g = absurd cc
 on_diamond_safe types q (value.Flag b) o h g = absurd cc
@@ -113,7 +121,8 @@ on_diamond_safe types q (value.Con c vs) o h g = absurd (by_type (type_of types 
     by_type None e = absurd cc
     by_type (Some t) e = absurd cc
 
-built_safe : (types : List DataType) (f : Func) (s : State) (env : Locals) (con : ℕ) (vs : List Value) (at : Place) (inline : Bool) (q : Kind) → LocalsFit types f s env
+built_safe : (types : List DataType) (f : Func) (s : State) (env : Locals) (con : ℕ) (vs : List Value) (at : Place) (inline : Bool) (q : Kind)
+    → LocalsFit types f s env
     → AllReady s (taken at) → PlaceFits f inline at → Fits types q (value.Con con (parts vs)) → IsSafe types q (built con vs at env)
 built_safe types f s env con vs place.Inline inline q fit r k fits = fits
 built_safe types f s env con vs place.New inline q fit r k fits = fits
@@ -121,7 +130,8 @@ built_safe types f s env con vs (place.Reuse d) inline q fit r k fits =
     let dia = found types f env d kind.Dia (fit.holds d r.0) k.1 in
     subst (λ o. IsSafe types q (given o (λ v. on_diamond v (Done (value.Con con (parts vs)) 0 0 0)))) (sym dia.is) (on_diamond_safe types q dia.value (Done (value.Con con (parts vs)) 0 0 0) dia.fits fits)
 
-op_done : (p : Code) (f : Func) (enter : Enter) → CallsSafe p enter → (s : State) (env : Locals) → LocalsFit p.types f s env → (op : Op) (q : Kind) (k w : ℕ) → AllReady s (operands_of op)
+op_done : (p : Code) (f : Func) (enter : Enter) → CallsSafe p enter → (s : State) (env : Locals) → LocalsFit p.types f s env
+    → (op : Op) (q : Kind) (k w : ℕ) → AllReady s (operands_of op)
     → Gives p f op q → IsSafe p.types q (op_run enter k w env op)
 op_done p f enter calls s env fit (Lit z) q k w r g = g
 op_done p f enter calls s env fit (Flag z) q k w r g = g
@@ -134,7 +144,9 @@ op_done p f enter calls s env fit (Prim op x y) q k w r g =
     (subst (λ o. IsSafe p.types (operator_kind op) (operands op o (env y))) (sym u.is) (subst (λ o. IsSafe p.types (operator_kind op) (operands op (Some u.value) o)) (sym v.is) (operate_sound p.types op u.value v.value u.fits v.fits)))
 op_done p f enter calls s env fit (Make con args at) q k w r g = by_con (constructor p.types con) refl g
   where
-    by_con : (o : Option Constructor) → constructor p.types con ≡ o → IsSomeAnd o (λ c. HaveKinds f args c.fields × PlaceFits f c.inline at × (option_map kind.Of (type_of p.types con) ≡ Some q)) → IsSafe p.types q (op_run enter k w env (Make con args at))
+    by_con : (o : Option Constructor) → constructor p.types con ≡ o
+        → IsSomeAnd o (λ c. HaveKinds f args c.fields × PlaceFits f c.inline at × (option_map kind.Of (type_of p.types con) ≡ Some q))
+        → IsSafe p.types q (op_run enter k w env (Make con args at))
     by_con None e m = absurd m
     by_con (Some c) e m =
         let vs = found_all p.types f s env args c.fields fit (all_first (λ x. s x ≡ Ready) args (taken at) r) m.0 in
@@ -143,21 +155,25 @@ op_done p f enter calls s env fit (Make con args at) q k w r g = by_con (constru
         (built_safe p.types f s env con vs.values at c.inline q fit (all_second (λ x. s x ≡ Ready) args (taken at) r) m.1 fits)
 op_done p f enter calls s env fit (Call func args) q k w r g = by_func (slice_get p.funcs func) refl g
   where
-    by_func : (o : Option Func) → slice_get p.funcs func ≡ o → IsSomeAnd o (λ callee. HaveKinds f args callee.params × (q ≡ callee.result)) → IsSafe p.types q (op_run enter k w env (Call func args))
+    by_func : (o : Option Func) → slice_get p.funcs func ≡ o → IsSomeAnd o (λ callee. HaveKinds f args callee.params × (q ≡ callee.result))
+        → IsSafe p.types q (op_run enter k w env (Call func args))
     by_func None e m = absurd m
     by_func (Some callee) e m =
         let vs = found_all p.types f s env args callee.params fit r m.0 in
         subst (λ o. IsSafe p.types q (given o (λ us. enter k w false func us))) (sym vs.is) (subst (λ t. IsSafe p.types t (enter k w false func vs.values)) (sym m.1) (calls k w false func vs.values callee e vs.fit))
 
--- What a let binds is of the kind that well-formed code gives it, and its step isn't stuck, whichever arguments of calls are only looked at.
-pub op_safe : (p : Code) (f : Func) (enter : Enter) → CallsSafe p enter → (reads : Reads) (h : ℕ → Bool) (s : State) (env : Locals) → LocalsFit p.types f s env → (op : Op) (q : Kind) (k w : ℕ)
+-- What a let binds is of the kind that well-formed code gives it, and its step isn't stuck, whichever arguments of
+-- calls are only looked at.
+pub op_safe : (p : Code) (f : Func) (enter : Enter) → CallsSafe p enter → (reads : Reads) (h : ℕ → Bool) (s : State) (env : Locals)
+    → LocalsFit p.types f s env → (op : Op) (q : Kind) (k w : ℕ)
     → AreReady h s (uses_of reads op) → Gives p f op q → IsSafe p.types q (op_run enter k w env op)
 op_safe p f enter calls reads h s env fit op q k w r g = op_done p f enter calls s env fit op q k w (operands_ready reads h s op r) g
 
 -- ---- jumps
 
 -- what was ready when a jump used its target's parameters is ready at the target
-params_hold : (types : List DataType) (f : Func) (s : State) (env : Locals) (xs : List ℕ) → LocalsFit types f s env → AllReady s xs → (x : ℕ) → is_among xs x ≡ true → Holds types f env x
+params_hold : (types : List DataType) (f : Func) (s : State) (env : Locals) (xs : List ℕ) → LocalsFit types f s env → AllReady s xs → (x : ℕ)
+    → is_among xs x ≡ true → Holds types f env x
 params_hold types f s env [] fit r x m = absurd cc
 params_hold types f s env (y ∷ xs) fit r x m = by_test (λ k. params_hold types f s env xs fit r.1 x k) (y == x) refl m
   where
@@ -166,7 +182,8 @@ params_hold types f s env (y ∷ xs) fit r x m = by_test (λ k. params_hold type
     by_test go false e k = go k
 
 -- A jump hands on what its target needs.
-pub jump_keeps : (p : Code) (f : Func) (h : ℕ → Bool) (s : State) (env : Locals) (to : ℕ) (target : Block) → LocalsFit p.types f s env → slice_get f.blocks to ≡ Some target → AreReady h s (jump_events f.blocks to)
+pub jump_keeps : (p : Code) (f : Func) (h : ℕ → Bool) (s : State) (env : Locals) (to : ℕ) (target : Block) → LocalsFit p.types f s env
+    → slice_get f.blocks to ≡ Some target → AreReady h s (jump_events f.blocks to)
     → FitsTarget p f target env
 jump_keeps p f h s env to target fit is r = record { holds = λ x e. hold x (bound_among (is_owned p.types f) nothing_bound target.params x e) }
   where
@@ -184,7 +201,8 @@ pub record BoundAll (types : List DataType) (f : Func) (h : ℕ → Bool) (s : S
   pub is : put_all env xs vs ≡ Some bound
   pub fits : LocalsFit types f (state_after h s (map Bind xs)) bound
 
-pub bound_all : (types : List DataType) (f : Func) (h : ℕ → Bool) (s : State) (env : Locals) (xs : List ℕ) (qs : List Kind) (vs : Values) → LocalsFit types f s env → HaveKinds f xs qs → FitAll types qs vs → BoundAll types f h s env xs vs
+pub bound_all : (types : List DataType) (f : Func) (h : ℕ → Bool) (s : State) (env : Locals) (xs : List ℕ) (qs : List Kind) (vs : Values)
+    → LocalsFit types f s env → HaveKinds f xs qs → FitAll types qs vs → BoundAll types f h s env xs vs
 bound_all types f h s env [] [] value.End fit k fits = record { bound = env; is = refl; fits = fit }
 bound_all types f h s env [] [] (value.And v vs) fit k fits = absurd fits
 bound_all types f h s env [] (q ∷ qs) vs fit k fits = absurd cc
@@ -194,7 +212,8 @@ bound_all types f h s env (x ∷ xs) (q ∷ qs) (value.And v vs) fit k fits =
     let r = bound_all types f h (bind s x) (put env x v) xs qs vs (fit_bound types f s env x v q fit (cc) fits.0) (cc) fits.1 in
     record { bound = r.bound; is = r.is; fits = r.fits }
 
-cell_fit : (types : List DataType) (f : Func) (h : ℕ → Bool) (s : State) (env : Locals) (c : CaseCell) (inline : Bool) → LocalsFit types f s env → CellFits f inline c
+cell_fit : (types : List DataType) (f : Func) (h : ℕ → Bool) (s : State) (env : Locals) (c : CaseCell) (inline : Bool) → LocalsFit types f s env
+    → CellFits f inline c
     → LocalsFit types f (state_after h s (map Bind (kept_diamond c))) (with_cell c env)
 cell_fit types f h s env cell.Inline inline fit k = fit
 cell_fit types f h s env cell.Free inline fit k = fit
@@ -226,8 +245,10 @@ record Ending (p : Code) (f : Func) (number : ℕ) (b : Block) (env : Locals) : 
   fits : BlockFits p f number b
   at : FitAt p f b (length b.lets) env
 
-jump_claim : (p : Code) (f : Func) (enter : Enter) (claim : Claim) → IsKept p f enter claim → (number : ℕ) (b : Block) (env : Locals) → Ending p f number b env → (later : Later) → LaterHolds p f claim number later
-    → (to k w : ℕ) (s : State) → LocalsFit p.types f s env → JumpsTo b.term to → JumpFits f number to → AreReady (is_owned p.types f) s (jump_events f.blocks to) → claim number (length b.lets) env (later to k w env)
+jump_claim : (p : Code) (f : Func) (enter : Enter) (claim : Claim) → IsKept p f enter claim → (number : ℕ) (b : Block) (env : Locals)
+    → Ending p f number b env → (later : Later) → LaterHolds p f claim number later
+    → (to k w : ℕ) (s : State) → LocalsFit p.types f s env → JumpsTo b.term to → JumpFits f number to
+    → AreReady (is_owned p.types f) s (jump_events f.blocks to) → claim number (length b.lets) env (later to k w env)
 jump_claim p f enter claim kept number b env e later holds to k w s fit jumps forward r =
     let t = block_there f to forward.1 in
     let hand = jump_keeps p f (is_owned p.types f) s env to t.0 fit t.1 r in
@@ -240,7 +261,8 @@ record ArmAt (f : Func) (h : ℕ → Bool) (number : ℕ) (s : State) (con : Con
   fits : ArmFits f number con arm
   ready : AreReady h s (map Bind (bound_by arm) ++ jump_events f.blocks arm.target)
 
-arm_there : (f : Func) (h : ℕ → Bool) (number : ℕ) (s : State) (con : Constructor) (cons : List Constructor) (arms : List CaseArm) (i : ℕ) → ArmsFit f number cons arms
+arm_there : (f : Func) (h : ℕ → Bool) (number : ℕ) (s : State) (con : Constructor) (cons : List Constructor) (arms : List CaseArm) (i : ℕ)
+    → ArmsFit f number cons arms
     → AllByRecursion (AreReady h s) (map (λ a. map Bind (bound_by a) ++ jump_events f.blocks a.target) arms) → slice_get cons i ≡ Some con → ArmAt f h number s con arms i
 arm_there f h number s con [] [] i fit well e = let k : None ≡ Some con = e in absurd cc
 arm_there f h number s con [] (a ∷ arms) i fit well e = absurd fit
@@ -248,9 +270,12 @@ arm_there f h number s con (c ∷ cons) [] i fit well e = absurd fit
 arm_there f h number s con (c ∷ cons) (a ∷ arms) zero fit well e = let k : c ≡ con = cc in record { arm = a; is = refl; fits = subst (λ d. ArmFits f number d a) k fit.0; ready = well.0 }
 arm_there f h number s con (c ∷ cons) (a ∷ arms) (suc i) fit well e = let r = arm_there f h number s con cons arms i fit.1 well.1 e in record { arm = r.arm; is = r.is; fits = r.fits; ready = r.ready }
 
-arm_claim : (p : Code) (f : Func) (enter : Enter) (claim : Claim) → IsKept p f enter claim → (number : ℕ) (b : Block) (env : Locals) → Ending p f number b env → (later : Later) → LaterHolds p f claim number later
-    → (x : ℕ) (arms : List CaseArm) (i con : ℕ) (c : Constructor) (vs : Values) (k w : ℕ) (s : State) → LocalsFit p.types f s env → b.term ≡ Case x arms → env x ≡ Some (value.Con con vs) → place_of p.types con ≡ Some i
-    → FitAll p.types c.fields vs → (a : ArmAt f (is_owned p.types f) number s c arms i) → claim number (length b.lets) env (arm_run later (Some a.arm) vs k w env)
+arm_claim : (p : Code) (f : Func) (enter : Enter) (claim : Claim) → IsKept p f enter claim → (number : ℕ) (b : Block) (env : Locals)
+    → Ending p f number b env → (later : Later) → LaterHolds p f claim number later
+    → (x : ℕ) (arms : List CaseArm) (i con : ℕ) (c : Constructor) (vs : Values) (k w : ℕ) (s : State) → LocalsFit p.types f s env
+    → b.term ≡ Case x arms → env x ≡ Some (value.Con con vs) → place_of p.types con ≡ Some i
+    → FitAll p.types c.fields vs → (a : ArmAt f (is_owned p.types f) number s c arms i)
+    → claim number (length b.lets) env (arm_run later (Some a.arm) vs k w env)
 arm_claim p f enter claim kept number b env e later holds x arms i con c vs k w s fit is value_is place_is parts_fit a =
     let h : ℕ → Bool = is_owned p.types f in
     let m = a.arm in
@@ -266,8 +291,10 @@ arm_claim p f enter claim kept number b env e later holds x arms i con c vs k w 
     (record { on = x; arms = arms; place = i; is = is; value_is = value_is; place_is = place_is; arm_is = a.is; bound_is = r.is })
     a.fits.jump.0 t.1 hand (holds m.target k w t.0 (with_cell m.cell r.bound) a.fits.jump.0 t.1 hand)))
 
-case_claim : (p : Code) (f : Func) (enter : Enter) (claim : Claim) → IsKept p f enter claim → (number : ℕ) (b : Block) (env : Locals) → Ending p f number b env → (later : Later) → LaterHolds p f claim number later
-    → (x t : ℕ) (def : DataType) (arms : List CaseArm) (v : Value) (k w : ℕ) (s : State) → LocalsFit p.types f s env → b.term ≡ Case x arms → env x ≡ Some v → slice_get p.types t ≡ Some def → ArmsFit f number def.cons arms
+case_claim : (p : Code) (f : Func) (enter : Enter) (claim : Claim) → IsKept p f enter claim → (number : ℕ) (b : Block) (env : Locals)
+    → Ending p f number b env → (later : Later) → LaterHolds p f claim number later
+    → (x t : ℕ) (def : DataType) (arms : List CaseArm) (v : Value) (k w : ℕ) (s : State) → LocalsFit p.types f s env → b.term ≡ Case x arms
+    → env x ≡ Some v → slice_get p.types t ≡ Some def → ArmsFit f number def.cons arms
     → AllByRecursion (AreReady (is_owned p.types f) s) (map (λ a. map Bind (bound_by a) ++ jump_events f.blocks a.target) arms) → Fits p.types (kind.Of t) v
     → claim number (length b.lets) env (case_run p.types later v arms k w env)
 case_claim p f enter claim kept number b env e later holds x t def arms (value.Int z) k w s fit is value_is type_is arms_fit ready fits = let c : kind.Of t ≡ kind.Int = fits.0 in absurd cc
@@ -275,7 +302,8 @@ case_claim p f enter claim kept number b env e later holds x t def arms (value.F
 case_claim p f enter claim kept number b env e later holds x t def arms value.Dia k w s fit is value_is type_is arms_fit ready fits = absurd cc
 case_claim p f enter claim kept number b env e later holds x t def arms (value.Con c vs) k w s fit is value_is type_is arms_fit ready fits = by_type (type_of p.types c) refl fits.0
   where
-    by_con : (u : ℕ) → type_of p.types c ≡ Some u → u ≡ t → (o : Option Constructor) → constructor p.types c ≡ o → IsSomeAnd o (λ con. FitAll p.types con.fields vs)
+    by_con : (u : ℕ) → type_of p.types c ≡ Some u → u ≡ t → (o : Option Constructor) → constructor p.types c ≡ o
+        → IsSomeAnd o (λ con. FitAll p.types con.fields vs)
         → claim number (length b.lets) env (arm_run later (arm_at arms (place_of p.types c)) vs k w env)
     by_con u q same None con g = absurd g
     by_con u q same (Some con) con_is g =
@@ -286,7 +314,8 @@ case_claim p f enter claim kept number b env e later holds x t def arms (value.C
         subst (λ o. claim number (length b.lets) env (arm_run later o vs k w env)) (sym (ap (arm_at arms) l.place_is ∙ a.is))
         (arm_claim p f enter claim kept number b env e later holds x arms l.place c con vs k w s fit is value_is l.place_is g a)
 
-    by_type : (o : Option ℕ) → type_of p.types c ≡ o → option_map kind.Of o ≡ Some (kind.Of t) → claim number (length b.lets) env (arm_run later (arm_at arms (place_of p.types c)) vs k w env)
+    by_type : (o : Option ℕ) → type_of p.types c ≡ o → option_map kind.Of o ≡ Some (kind.Of t)
+        → claim number (length b.lets) env (arm_run later (arm_at arms (place_of p.types c)) vs k w env)
     by_type None q g = absurd cc
     by_type (Some u) q g = let same : u ≡ t = cc in by_con u q same (constructor p.types c) refl fits.1
 
@@ -302,8 +331,10 @@ chosen_claim types P (value.Con c vs) a b h s t = absurd (by_type (type_of types
     by_type None e = absurd cc
     by_type (Some t) e = absurd cc
 
-term_claim : (p : Code) (f : Func) (enter : Enter) (claim : Claim) → IsKept p f enter claim → (number : ℕ) (b : Block) (env : Locals) → Ending p f number b env → (later : Later) → LaterHolds p f claim number later
-    → (t : Term) (k w : ℕ) (s : State) → b.term ≡ t → LocalsFit p.types f s env → TermFits p f number t → AreReady (is_owned p.types f) s (term_events (reads_of p) t)
+term_claim : (p : Code) (f : Func) (enter : Enter) (claim : Claim) → IsKept p f enter claim → (number : ℕ) (b : Block) (env : Locals)
+    → Ending p f number b env → (later : Later) → LaterHolds p f claim number later
+    → (t : Term) (k w : ℕ) (s : State) → b.term ≡ t → LocalsFit p.types f s env → TermFits p f number t
+    → AreReady (is_owned p.types f) s (term_events (reads_of p) t)
     → AllByRecursion (AreReady (is_owned p.types f) (state_after (is_owned p.types f) s (term_events (reads_of p) t))) (ways f.blocks t)
     → claim number (length b.lets) env (term_run p.types enter later t k w env)
 term_claim p f enter claim kept number b env e later holds (Ret x) k w s is fit fits r onward =
@@ -311,7 +342,8 @@ term_claim p f enter claim kept number b env e later holds (Ret x) k w s is fit 
     subst (λ o. claim number (length b.lets) env (known o)) (sym v.is) (kept.by_result number b x v.value env e.block is e.at v.is v.fits)
 term_claim p f enter claim kept number b env e later holds (Tail func args) k w s is fit fits r onward = by_func (slice_get p.funcs func) refl fits
   where
-    by_func : (o : Option Func) → slice_get p.funcs func ≡ o → IsSomeAnd o (λ callee. HaveKinds f args callee.params × (callee.result ≡ f.result)) → claim number (length b.lets) env (term_run p.types enter later (Tail func args) k w env)
+    by_func : (o : Option Func) → slice_get p.funcs func ≡ o → IsSomeAnd o (λ callee. HaveKinds f args callee.params × (callee.result ≡ f.result))
+        → claim number (length b.lets) env (term_run p.types enter later (Tail func args) k w env)
     by_func None q m = absurd m
     by_func (Some callee) q m =
         let vs = found_all p.types f s env args callee.params fit (term_operands_ready (reads_of p) (is_owned p.types f) s (Tail func args) r) m.0 in
@@ -328,14 +360,16 @@ term_claim p f enter claim kept number b env e later holds (If x first second) k
     (jump_claim p f enter claim kept number b env e later holds second k w (use_of h s x) used (subst (λ t. JumpsTo t second) (sym is) (inr refl)) fits.2 onward.1.0))
 term_claim p f enter claim kept number b env e later holds (Case x arms) k w s is fit fits r onward = by_kind (kind_of f x) refl fits
   where
-    by_def : (t : ℕ) → kind_of f x ≡ Some (kind.Of t) → (o : Option DataType) → slice_get p.types t ≡ o → IsSomeAnd o (λ d. ArmsFit f number d.cons arms) → claim number (length b.lets) env (term_run p.types enter later (Case x arms) k w env)
+    by_def : (t : ℕ) → kind_of f x ≡ Some (kind.Of t) → (o : Option DataType) → slice_get p.types t ≡ o
+        → IsSomeAnd o (λ d. ArmsFit f number d.cons arms) → claim number (length b.lets) env (term_run p.types enter later (Case x arms) k w env)
     by_def t q None i m = absurd m
     by_def t q (Some d) i m =
         let v = found p.types f env x (kind.Of t) (fit.holds x r.0) q in
         subst (λ o. claim number (length b.lets) env (given o (λ u. case_run p.types later u arms k w env))) (sym v.is)
         (case_claim p f enter claim kept number b env e later holds x t d arms v.value k w (use_of (is_owned p.types f) s x) (fit_used p.types f (is_owned p.types f) s (x ∷ []) env fit) is v.is i m onward v.fits)
 
-    by_kind : (o : Option Kind) → kind_of f x ≡ o → IsSomeAnd (data_type p.types o) (λ d. ArmsFit f number d.cons arms) → claim number (length b.lets) env (term_run p.types enter later (Case x arms) k w env)
+    by_kind : (o : Option Kind) → kind_of f x ≡ o → IsSomeAnd (data_type p.types o) (λ d. ArmsFit f number d.cons arms)
+        → claim number (length b.lets) env (term_run p.types enter later (Case x arms) k w env)
     by_kind None q m = absurd m
     by_kind (Some kind.Int) q m = absurd m
     by_kind (Some kind.Flag) q m = absurd m
@@ -348,14 +382,16 @@ all_at P (y ∷ xs) zero x h e = let same : y ≡ x = cc in subst P same h.0
 all_at P (y ∷ xs) (suc i) x h e = all_at P xs i x h.1 e
 
 -- Behind a let, where what it binds has the local's kind.
-pub fit_behind : (p : Code) (f : Func) (b : Block) (n : ℕ) (l : Let) (v : Value) (q : Kind) (env : Locals) → slice_get b.lets n ≡ Some l → kind_of f l.target ≡ Some q → FitAt p f b n env → Fits p.types q v
+pub fit_behind : (p : Code) (f : Func) (b : Block) (n : ℕ) (l : Let) (v : Value) (q : Kind) (env : Locals) → slice_get b.lets n ≡ Some l
+    → kind_of f l.target ≡ Some q → FitAt p f b n env → Fits p.types q v
     → FitAt p f b (n + 1) (put env l.target v)
 fit_behind p f b n l v q env here t fit good = let e : suc n ≡ n + 1 = omega arith in
     subst (λ m. FitAt p f b m (put env l.target v)) e
     (subst (λ s. LocalsFit p.types f s (put env l.target v)) (sym (state_next (reads_of p) (is_owned p.types f) b n l here))
     (let_keeps p.types f (reads_of p) (is_owned p.types f) (state_at (reads_of p) (is_owned p.types f) b n) env l v q fit t good))
 
-step_safe_in : (p : Code) (f : Func) (enter : Enter) (number n : ℕ) (b : Block) (l : Let) (q : Kind) (env : Locals) (k w : ℕ) → CallsSafe p enter → BlockFits p f number b → slice_get b.lets n ≡ Some l
+step_safe_in : (p : Code) (f : Func) (enter : Enter) (number n : ℕ) (b : Block) (l : Let) (q : Kind) (env : Locals) (k w : ℕ) → CallsSafe p enter
+    → BlockFits p f number b → slice_get b.lets n ≡ Some l
     → kind_of f l.target ≡ Some q → FitAt p f b n env → IsSafe p.types q (op_run enter k w env l.op)
 step_safe_in p f enter number n b l q env k w calls fits here t fit = by_kind (kind_of f l.target) t (all_at (LetFits p f) b.lets n l fits.lets here)
   where
@@ -367,8 +403,10 @@ step_safe_in p f enter number n b l q env k w calls fits here t fit = by_kind (k
         (subst (Gives p f l.op) same g)
 
 -- the lets from this number on, and then the end
-lets_claim : (p : Code) (f : Func) (enter : Enter) → CallsSafe p enter → (claim : Claim) → IsKept p f enter claim → (number : ℕ) (b : Block) → slice_get f.blocks number ≡ Some b → BlockFits p f number b
-    → (later : Later) → LaterHolds p f claim number later → (ls : List Let) (n : ℕ) → ((i : ℕ) → slice_get ls i ≡ slice_get b.lets (n + i)) → n + length ls ≡ length b.lets → (k w : ℕ) (env : Locals) → FitAt p f b n env
+lets_claim : (p : Code) (f : Func) (enter : Enter) → CallsSafe p enter → (claim : Claim) → IsKept p f enter claim → (number : ℕ) (b : Block)
+    → slice_get f.blocks number ≡ Some b → BlockFits p f number b
+    → (later : Later) → LaterHolds p f claim number later → (ls : List Let) (n : ℕ) → ((i : ℕ) → slice_get ls i ≡ slice_get b.lets (n + i))
+    → n + length ls ≡ length b.lets → (k w : ℕ) (env : Locals) → FitAt p f b n env
     → claim number n env (lets_run enter ls k w env (λ left last. term_run p.types enter later b.term left w last))
 lets_claim p f enter calls claim kept number b is fits later holds [] n at size k w env fit =
     let h : ℕ → Bool = is_owned p.types f in
@@ -386,14 +424,16 @@ lets_claim p f enter calls claim kept number b is fits later holds (l ∷ ls) n 
     behind i = let e : n + suc i ≡ n + 1 + i = omega arith in at (suc i) ∙ ap (slice_get b.lets) e
 
     by_target : ((j : ℕ) (v : Value) (q : Kind) → kind_of f l.target ≡ Some q → Fits p.types q v → claim number (n + 1) (put env l.target v) (lets_run enter ls j w (put env l.target v) (λ left last. term_run p.types enter later b.term left w last)))
-        → (o : Option Kind) → kind_of f l.target ≡ o → IsSomeAnd o (Gives p f l.op) → claim number n env (lets_run enter (l ∷ ls) k w env (λ left last. term_run p.types enter later b.term left w last))
+        → (o : Option Kind) → kind_of f l.target ≡ o → IsSomeAnd o (Gives p f l.op)
+        → claim number n env (lets_run enter (l ∷ ls) k w env (λ left last. term_run p.types enter later b.term left w last))
     by_target go None t g = absurd g
     by_target go (Some q) t g =
         kept.by_let number n b l q env k w (λ left v. lets_run enter ls left w (put env l.target v) (λ i last. term_run p.types enter later b.term i w last)) is here t fit
         (step_safe_in p f enter number n b l q env k w calls fits here t fit)
         (λ j v good. go j v q t good)
 
-block_fits_at : (p : Code) (f : Func) (first : ℕ) (bs : List Block) (i : ℕ) (b : Block) → BlocksFit p f first bs → slice_get bs i ≡ Some b → BlockFits p f (first + i) b
+block_fits_at : (p : Code) (f : Func) (first : ℕ) (bs : List Block) (i : ℕ) (b : Block) → BlocksFit p f first bs → slice_get bs i ≡ Some b
+    → BlockFits p f (first + i) b
 block_fits_at p f first [] i b h e = let k : None ≡ Some b = e in absurd cc
 block_fits_at p f first (c ∷ bs) zero b h e = let same : c ≡ b = cc in let n : first ≡ first + 0 = omega arith in subst (λ m. BlockFits p f m b) n (subst (BlockFits p f first) same h.0)
 block_fits_at p f first (c ∷ bs) (suc i) b h e = let n : suc first + i ≡ first + suc i = omega arith in subst (λ m. BlockFits p f m b) n (block_fits_at p f (suc first) bs i b h.1 e)
@@ -402,7 +442,8 @@ fits_at : (p : Code) (f : Func) (number : ℕ) (b : Block) → FuncFits p f → 
 fits_at p f number b fits is = let n : 0 + number ≡ number = omega arith in subst (λ m. BlockFits p f m b) n (block_fits_at p f 0 f.blocks number b fits.blocks is)
 
 -- Before a let, where every ready local has a value of its kind.
-pub step_safe : (p : Code) (f : Func) (enter : Enter) (number n : ℕ) (b : Block) (l : Let) (q : Kind) (env : Locals) (k w : ℕ) → CallsSafe p enter → FuncFits p f → slice_get f.blocks number ≡ Some b
+pub step_safe : (p : Code) (f : Func) (enter : Enter) (number n : ℕ) (b : Block) (l : Let) (q : Kind) (env : Locals) (k w : ℕ) → CallsSafe p enter
+    → FuncFits p f → slice_get f.blocks number ≡ Some b
     → slice_get b.lets n ≡ Some l → kind_of f l.target ≡ Some q → FitAt p f b n env → IsSafe p.types q (op_run enter k w env l.op)
 step_safe p f enter number n b l q env k w calls fits is here t fit = step_safe_in p f enter number n b l q env k w calls (fits_at p f number b fits is) here t fit
 
@@ -420,8 +461,10 @@ later_from p f enter claim number from = λ to j u target env less t hand.
         ∙ ap (λ o. given o (λ body. block_run p.types enter (jumps_from p.types enter (map narrow f.blocks) to) body j u (body.takes env))) (slice_get-map narrow f.blocks to ∙ ap (option_map narrow) t)
 
 -- from a block on, with as many blocks behind it as there may be
-block_claim : (p : Code) (f : Func) (enter : Enter) → CallsSafe p enter → FuncFits p f → (claim : Claim) → IsKept p f enter claim → (left number : ℕ) → length f.blocks ≤ number + left → (b : Block) → slice_get f.blocks number ≡ Some b
-    → (k w : ℕ) (env : Locals) → FitAt p f b 0 env → claim number 0 env (block_run p.types enter (jumps_from p.types enter (map narrow f.blocks) number) (narrow b) k w env)
+block_claim : (p : Code) (f : Func) (enter : Enter) → CallsSafe p enter → FuncFits p f → (claim : Claim) → IsKept p f enter claim → (left number : ℕ)
+    → length f.blocks ≤ number + left → (b : Block) → slice_get f.blocks number ≡ Some b
+    → (k w : ℕ) (env : Locals) → FitAt p f b 0 env
+    → claim number 0 env (block_run p.types enter (jumps_from p.types enter (map narrow f.blocks) number) (narrow b) k w env)
 block_claim p f enter calls fits claim kept zero number enough b is k w env fit = absurd (past f.blocks number (omega (arith, enough)) is)
   where
     past : (xs : List Block) (i : ℕ) → length xs ≤ i → slice_get xs i ≡ Some b → ⊥
@@ -434,7 +477,8 @@ block_claim p f enter calls fits claim kept (suc left) number enough b is k w en
     b.lets 0 (λ i. ap (slice_get b.lets) (omega arith)) (omega arith) k w env fit
 
 -- A claim that lets and ends of blocks keep holds from each block on, where every ready local has a value of its kind.
-pub holds_from_block : (p : Code) (f : Func) (enter : Enter) → CallsSafe p enter → FuncFits p f → (claim : Claim) → IsKept p f enter claim → (number : ℕ) (b : Block) → slice_get f.blocks number ≡ Some b
+pub holds_from_block : (p : Code) (f : Func) (enter : Enter) → CallsSafe p enter → FuncFits p f → (claim : Claim) → IsKept p f enter claim
+    → (number : ℕ) (b : Block) → slice_get f.blocks number ≡ Some b
     → (k w : ℕ) (env : Locals) → FitAt p f b 0 env → claim number 0 env (from_block p.types enter (map narrow f.blocks) number k w env)
 holds_from_block p f enter calls fits claim kept number b is k w env fit =
     subst (claim number 0 env) (sym (ap (λ o. given o (λ body. block_run p.types enter (jumps_from p.types enter (map narrow f.blocks) number) body k w env)) (slice_get-map narrow f.blocks number ∙ ap (option_map narrow) is)))
@@ -446,7 +490,8 @@ found_further [] (suc n) i = refl
 found_further (x ∷ xs) (suc n) i = let e : suc n + i ≡ suc (n + i) = omega arith in found_further xs n i ∙ sym (ap (slice_get (x ∷ xs)) e)
 
 -- Such a claim holds from each place of each block on, too.
-pub holds_from_place : (p : Code) (f : Func) (enter : Enter) → CallsSafe p enter → FuncFits p f → (claim : Claim) → IsKept p f enter claim → (number place : ℕ) (b : Block) → slice_get f.blocks number ≡ Some b
+pub holds_from_place : (p : Code) (f : Func) (enter : Enter) → CallsSafe p enter → FuncFits p f → (claim : Claim) → IsKept p f enter claim
+    → (number place : ℕ) (b : Block) → slice_get f.blocks number ≡ Some b
     → place ≤ length b.lets → (k w : ℕ) (env : Locals) → FitAt p f b place env → claim number place env (from_place p.types enter f b number place env k w)
 holds_from_place p f enter calls fits claim kept number place b is within k w env fit =
     lets_claim p f enter calls claim kept number b is (fits_at p f number b fits is) (jumps_from p.types enter (map narrow f.blocks) number)

@@ -1,6 +1,6 @@
 -- Cited by contracts.
--- What is known of the locals at a place of a block, while a function of well-formed code runs: each ready local has a value of its
--- kind. And the ways in which the end of a block goes on.
+-- What is known of the locals at a place of a block, while a function of well-formed code runs: each ready local has a
+-- value of its kind. And the ways in which the end of a block goes on.
 use Rattle.std.specs.Prelude.{◌≡◌, ℕ, ◌+◌, ◌<◌, Bool, true, List, length, slice_get, Some, IsSomeAnd, ◌⊎◌}
 use Rattle.camelot_values.specs.Value as value
 use Rattle.camelot_values.specs.Value.{Value, Values}
@@ -70,23 +70,29 @@ pub record TakesArm (p : Code) (env : Locals) (t : Term) (con : ℕ) (vs : Value
 
 -- ---- what one run keeps
 
--- something said of a run from a place on: the block's number, the number of the let that comes next, the locals, and the outcome
+-- something said of a run from a place on: the block's number, the number of the let that comes next, the locals, and
+-- the outcome
 abbrev pub Claim : Type 1
 Claim = ℕ → ℕ → Locals → Outcome Value → Type 0
 
--- The claim comes from each let to the let before it, and from each way on to the end of a block. In each case every ready local has a
--- value of its kind. What the claim needs of calls is what its author knows of `enter`.
+-- The claim comes from each let to the let before it, and from each way on to the end of a block. In each case every
+-- ready local has a value of its kind. What the claim needs of calls is what its author knows of `enter`.
 pub record IsKept (p : Code) (f : Func) (enter : Enter) (claim : Claim) : Type 0 where
   pub by_let : (number n : ℕ) (b : Block) (l : Let) (q : Kind) (env : Locals) (k w : ℕ) (next : ℕ → Value → Outcome Value)
       → slice_get f.blocks number ≡ Some b → slice_get b.lets n ≡ Some l → kind_of f l.target ≡ Some q → FitAt p f b n env → IsSafe p.types q (op_run enter k w env l.op)
-      → ((j : ℕ) (v : Value) → Fits p.types q v → claim number (n + 1) (put env l.target v) (next j v)) → claim number n env (first_then k (op_run enter k w env l.op) next)
-  pub by_result : (number : ℕ) (b : Block) (x : ℕ) (v : Value) (env : Locals) → slice_get f.blocks number ≡ Some b → b.term ≡ Ret x → FitAt p f b (length b.lets) env
+      → ((j : ℕ) (v : Value) → Fits p.types q v → claim number (n + 1) (put env l.target v) (next j v))
+      → claim number n env (first_then k (op_run enter k w env l.op) next)
+  pub by_result : (number : ℕ) (b : Block) (x : ℕ) (v : Value) (env : Locals) → slice_get f.blocks number ≡ Some b → b.term ≡ Ret x
+      → FitAt p f b (length b.lets) env
       → env x ≡ Some v → Fits p.types f.result v → claim number (length b.lets) env (at_once v)
-  pub by_tail : (number : ℕ) (b : Block) (func : ℕ) (args : List ℕ) (vs : List Value) (callee : Func) (env : Locals) (k w : ℕ) → slice_get f.blocks number ≡ Some b → b.term ≡ Tail func args
+  pub by_tail : (number : ℕ) (b : Block) (func : ℕ) (args : List ℕ) (vs : List Value) (callee : Func) (env : Locals) (k w : ℕ)
+      → slice_get f.blocks number ≡ Some b → b.term ≡ Tail func args
       → FitAt p f b (length b.lets) env → values_of env args ≡ Some vs → slice_get p.funcs func ≡ Some callee → ArgumentsFit p.types callee.params vs → callee.result ≡ f.result
       → claim number (length b.lets) env (enter k w true func vs)
-  pub by_jump : (number : ℕ) (b : Block) (to : ℕ) (target : Block) (env : Locals) (o : Outcome Value) → slice_get f.blocks number ≡ Some b → JumpsTo b.term to → FitAt p f b (length b.lets) env
+  pub by_jump : (number : ℕ) (b : Block) (to : ℕ) (target : Block) (env : Locals) (o : Outcome Value) → slice_get f.blocks number ≡ Some b
+      → JumpsTo b.term to → FitAt p f b (length b.lets) env
       → number < to → slice_get f.blocks to ≡ Some target → FitsTarget p f target env → claim to 0 (narrowed target.params env) o → claim number (length b.lets) env o
-  pub by_arm : (number : ℕ) (b : Block) (con : ℕ) (vs : Values) (a : CaseArm) (bound : Locals) (target : Block) (env : Locals) (o : Outcome Value) → slice_get f.blocks number ≡ Some b
+  pub by_arm : (number : ℕ) (b : Block) (con : ℕ) (vs : Values) (a : CaseArm) (bound : Locals) (target : Block) (env : Locals) (o : Outcome Value)
+      → slice_get f.blocks number ≡ Some b
       → FitAt p f b (length b.lets) env → TakesArm p env b.term con vs a bound → number < a.target → slice_get f.blocks a.target ≡ Some target → FitsTarget p f target (with_cell a.cell bound)
       → claim a.target 0 (narrowed target.params (with_cell a.cell bound)) o → claim number (length b.lets) env (cell_effect a.cell o)

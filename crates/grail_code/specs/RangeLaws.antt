@@ -94,12 +94,15 @@ op_fits p l f w (Copy x) q g = local_below f w x q g
 op_fits p l f w (Prim op x y) q g = (local_below f w x kind.Int cc, local_below f w y kind.Int cc)
 op_fits p l f w (Make con args at) q g = by_con (constructor p.types con) refl g
   where
-    by_con : (o : Option Constructor) → constructor p.types con ≡ o → IsSomeAnd o (λ c. HaveKinds f args c.fields × PlaceFits f c.inline at × (option_map kind.Of (type_of p.types con) ≡ Some q)) → FitsOp (Make con args at)
+    by_con : (o : Option Constructor) → constructor p.types con ≡ o
+        → IsSomeAnd o (λ c. HaveKinds f args c.fields × PlaceFits f c.inline at × (option_map kind.Of (type_of p.types con) ≡ Some q))
+        → FitsOp (Make con args at)
     by_con None e m = absurd m
     by_con (Some c) e m = (con_below p l con c e, counted_locals f w 4 args c.fields m.0 (all_got IsConstructor (constructors p.types) con c (con_is p.types l.types.each) e).few_fields, place_fits f w c.inline at m.1)
 op_fits p l f w (Call func args) q g = by_func (slice_get p.funcs func) refl g
   where
-    by_func : (o : Option Func) → slice_get p.funcs func ≡ o → IsSomeAnd o (λ callee. HaveKinds f args callee.params × (q ≡ callee.result)) → FitsOp (Call func args)
+    by_func : (o : Option Func) → slice_get p.funcs func ≡ o → IsSomeAnd o (λ callee. HaveKinds f args callee.params × (q ≡ callee.result))
+        → FitsOp (Call func args)
     by_func None e m = absurd m
     by_func (Some callee) e m = (let k = got_below p.funcs func callee e in omega (arith, k, l.few_funcs), counted_locals f w 16 args callee.params m.0 (all_got FuncIsWithin p.funcs func callee l.funcs e).few_params)
 
@@ -118,7 +121,8 @@ cell_fits f w inline cell.Inline h = tt
 cell_fits f w inline cell.Free h = tt
 cell_fits f w inline (cell.Keep d) h = local_below f w d kind.Dia h.1
 
-arms_fit : (f : Func) → FuncIsWithin f → (number : ℕ) (cs : List Constructor) (arms : List CaseArm) → AllByRecursion IsConstructor cs → ArmsFit f number cs arms → (length arms ≡ length cs) × AllByRecursion FitsArm arms
+arms_fit : (f : Func) → FuncIsWithin f → (number : ℕ) (cs : List Constructor) (arms : List CaseArm) → AllByRecursion IsConstructor cs
+    → ArmsFit f number cs arms → (length arms ≡ length cs) × AllByRecursion FitsArm arms
 arms_fit f w number [] [] k h = (refl, tt)
 arms_fit f w number [] (a ∷ arms) k h = absurd h
 arms_fit f w number (c ∷ cs) [] k h = absurd h
@@ -129,14 +133,16 @@ term_fits : (p : Code) → IsWithinLimits p → (f : Func) → FuncIsWithin f �
 term_fits p l f w number (Ret x) h = local_below f w x f.result h
 term_fits p l f w number (Tail func args) h = by_func (slice_get p.funcs func) refl h
   where
-    by_func : (o : Option Func) → slice_get p.funcs func ≡ o → IsSomeAnd o (λ callee. HaveKinds f args callee.params × (callee.result ≡ f.result)) → FitsTerm (Tail func args)
+    by_func : (o : Option Func) → slice_get p.funcs func ≡ o → IsSomeAnd o (λ callee. HaveKinds f args callee.params × (callee.result ≡ f.result))
+        → FitsTerm (Tail func args)
     by_func None e m = absurd m
     by_func (Some callee) e m = (let k = got_below p.funcs func callee e in omega (arith, k, l.few_funcs), counted_locals f w 16 args callee.params m.0 (all_got FuncIsWithin p.funcs func callee l.funcs e).few_params)
 term_fits p l f w number (Goto b) h = block_below f w number b h
 term_fits p l f w number (If x first second) h = (local_below f w x kind.Flag h.0, block_below f w number first h.1, block_below f w number second h.2)
 term_fits p l f w number (Case x arms) h = by_kind (kind_of f x) refl h
   where
-    by_def : (t : ℕ) (o : Option DataType) → slice_get p.types t ≡ o → kind_of f x ≡ Some (kind.Of t) → IsSomeAnd o (λ d. ArmsFit f number d.cons arms) → FitsTerm (Case x arms)
+    by_def : (t : ℕ) (o : Option DataType) → slice_get p.types t ≡ o → kind_of f x ≡ Some (kind.Of t)
+        → IsSomeAnd o (λ d. ArmsFit f number d.cons arms) → FitsTerm (Case x arms)
     by_def t None e k m = absurd m
     by_def t (Some d) e k m =
         let is : IsDataType d = all_got IsDataType p.types t d l.types.each e in
@@ -185,7 +191,8 @@ block_fits p l f w number b few h = record {
   term = term_fits p l f w number b.term h.term;
 }
 
-blocks_fit : (p : Code) → IsWithinLimits p → (f : Func) → FuncIsWithin f → (number : ℕ) (bs : List Block) → AllByRecursion (λ b. length b.lets ≤ 256) bs → BlocksFit p f number bs → AllByRecursion FitsBlock bs
+blocks_fit : (p : Code) → IsWithinLimits p → (f : Func) → FuncIsWithin f → (number : ℕ) (bs : List Block)
+    → AllByRecursion (λ b. length b.lets ≤ 256) bs → BlocksFit p f number bs → AllByRecursion FitsBlock bs
 blocks_fit p l f w number [] few h = tt
 blocks_fit p l f w number (b ∷ bs) few h = (block_fits p l f w number b few.0 h.0, blocks_fit p l f w (suc number) bs few.1 h.1)
 
@@ -198,24 +205,28 @@ func_fits p l f w h some named = let kinds = all_front (IsKnownKind p.types) f.p
   blocks = record { enough = w.some_blocks; few = w.few_blocks; each = blocks_fit p l f w 0 f.blocks w.few_lets h.blocks };
 }
 
-con_fits : (types : List DataType) → length types ≤ 64 → (c : Constructor) → IsConstructor c → IsUpperName c.name → AllByRecursion (IsKnownKind types) c.fields → FitsCon c
+con_fits : (types : List DataType) → length types ≤ 64 → (c : Constructor) → IsConstructor c → IsUpperName c.name
+    → AllByRecursion (IsKnownKind types) c.fields → FitsCon c
 con_fits types few c is named known = record {
   name = named;
   fields = record { enough = omega arith; few = is.few_fields; each = known_all types c.fields few known };
   inline_is_bare = is.inline_is_bare;
 }
 
-cons_fit : (types : List DataType) → length types ≤ 64 → (cs : List Constructor) → AllByRecursion IsConstructor cs → AllByRecursion (λ c. IsUpperName c.name) cs → AllByRecursion (λ c. AllByRecursion (IsKnownKind types) c.fields) cs → AllByRecursion FitsCon cs
+cons_fit : (types : List DataType) → length types ≤ 64 → (cs : List Constructor) → AllByRecursion IsConstructor cs
+    → AllByRecursion (λ c. IsUpperName c.name) cs → AllByRecursion (λ c. AllByRecursion (IsKnownKind types) c.fields) cs → AllByRecursion FitsCon cs
 cons_fit types few [] is named known = tt
 cons_fit types few (c ∷ cs) is named known = (con_fits types few c is.0 named.0 known.0, cons_fit types few cs is.1 named.1 known.1)
 
-types_fit : (types : List DataType) → length types ≤ 64 → (ts : List DataType) → AllByRecursion IsDataType ts → AllByRecursion TypeIsNamed ts → AllByRecursion (λ c. AllByRecursion (IsKnownKind types) c.fields) (constructors ts) → AllByRecursion FitsType ts
+types_fit : (types : List DataType) → length types ≤ 64 → (ts : List DataType) → AllByRecursion IsDataType ts → AllByRecursion TypeIsNamed ts
+    → AllByRecursion (λ c. AllByRecursion (IsKnownKind types) c.fields) (constructors ts) → AllByRecursion FitsType ts
 types_fit types few [] is named known = tt
 types_fit types few (t ∷ ts) is named known =
     let both = all_front (λ c. AllByRecursion (IsKnownKind types) c.fields) t.cons (constructors ts) known in
     (record { name = named.0.name; cons = record { enough = is.0.some_cons; few = is.0.few_cons; each = cons_fit types few t.cons is.0.each named.0.cons both.0 } }, types_fit types few ts is.1 named.1 both.1)
 
-funcs_fit : (p : Code) → IsWithinLimits p → (fs : List Func) → AllByRecursion FuncIsWithin fs → AllByRecursion (FuncFits p) fs → AllByRecursion (λ f. 1 ≤ length f.params) fs → AllByRecursion (λ f. IsLowerName f.name) fs
+funcs_fit : (p : Code) → IsWithinLimits p → (fs : List Func) → AllByRecursion FuncIsWithin fs → AllByRecursion (FuncFits p) fs
+    → AllByRecursion (λ f. 1 ≤ length f.params) fs → AllByRecursion (λ f. IsLowerName f.name) fs
     → AllByRecursion FitsFunc fs
 funcs_fit p l [] w h some named = tt
 funcs_fit p l (f ∷ fs) w h some named = (func_fits p l f w.0 h.0 some.0 named.0, funcs_fit p l fs w.1 h.1 some.1 named.1)

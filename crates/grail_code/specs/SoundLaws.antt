@@ -1,6 +1,6 @@
 -- Laws, for the proofs of this crate and of those above it.
--- Laws of sound code: well-formed code on fitting arguments doesn't get stuck, at whole runs and from each block on. Each is an instance of
--- the induction over one run.
+-- Laws of sound code: well-formed code on fitting arguments doesn't get stuck, at whole runs and from each block on.
+-- Each is an instance of the induction over one run.
 use Rattle.std.proofs.Common.{◌≡◌, ℕ, zero, suc, ◌+◌, ◌<◌, ◌≤◌, Bool, true, false, List, [], ◌∷◌, ◌++◌, length, map, Some, refl, sym, ap, ◌∙◌, subst, arith, inl, inr}
 use Rattle.std.specs.Prelude.{cond, ◌==◌, ◌||◌, if◌then◌else◌, slice_get, IsSomeAnd, ◌⊎◌}
 use Rattle.std.specs.List.{range_with_len}
@@ -44,7 +44,8 @@ safe_kept p f enter calls = record {
 }
 
 -- From a block on, where every ready local has a value of its kind.
-pub safe_from_block : (p : Code) (f : Func) (enter : Enter) → CallsSafe p enter → FuncFits p f → (number : ℕ) (b : Block) → slice_get f.blocks number ≡ Some b → (k w : ℕ) (env : Locals) → FitAt p f b 0 env
+pub safe_from_block : (p : Code) (f : Func) (enter : Enter) → CallsSafe p enter → FuncFits p f → (number : ℕ) (b : Block)
+    → slice_get f.blocks number ≡ Some b → (k w : ℕ) (env : Locals) → FitAt p f b 0 env
     → IsSafe p.types f.result (from_block p.types enter (map narrow f.blocks) number k w env)
 safe_from_block p f enter calls fits number b is k w env fit = holds_from_block p f enter calls fits (Safe p f) (safe_kept p f enter calls) number b is k w env fit
 
@@ -54,7 +55,8 @@ range_below : (x a n : ℕ) → is_among (range_with_len a n) x ≡ true → x <
 range_below x a zero h = absurd cc
 range_below x a (suc n) h = by_test (λ k. range_below x (a + 1) n k) (a == x) refl h
   where
-    by_test : (is_among (range_with_len (a + 1) n) x ≡ true → x < a + 1 + n) → (b : Bool) → (a == x) ≡ b → (b || is_among (range_with_len (a + 1) n) x) ≡ true → x < a + suc n
+    by_test : (is_among (range_with_len (a + 1) n) x ≡ true → x < a + 1 + n) → (b : Bool) → (a == x) ≡ b
+        → (b || is_among (range_with_len (a + 1) n) x) ≡ true → x < a + suc n
     by_test go true e k = let same : a ≡ x = grind (arith, nat_tests, e) in omega (arith, same)
     by_test go false e k = omega (arith, go k)
 
@@ -72,7 +74,8 @@ as_many types (q ∷ qs) [] fit = absurd fit
 as_many types (q ∷ qs) (v ∷ vs) fit = ap suc (as_many types qs vs fit.1)
 
 -- A function's first block begins with its arguments.
-pub arguments_fit : (p : Code) (f : Func) (b : Block) (args : List Value) → b.params ≡ range_with_len 0 (length f.params) → ArgumentsFit p.types f.params args → FitAt p f b 0 (arguments args)
+pub arguments_fit : (p : Code) (f : Func) (b : Block) (args : List Value) → b.params ≡ range_with_len 0 (length f.params)
+    → ArgumentsFit p.types f.params args → FitAt p f b 0 (arguments args)
 arguments_fit p f b args entry fit = record { holds = λ x e. hold x (bound_among (is_owned p.types f) nothing_bound b.params x e) }
   where
     hold : (x : ℕ) → (is_among b.params x ≡ true) ⊎ (Unbound ≡ Ready) → Holds p.types f (arguments args) x
@@ -87,7 +90,8 @@ body_runs p enter f k w args fit = ap (λ t. if t then blocks_run p.types enter 
     full : (length args == length f.params) ≡ true
     full = let same : length args ≡ length f.params = as_many p.types f.params args fit in grind (arith, nat_tests, same)
 
-pub body_safe : (p : Code) (enter : Enter) → CallsSafe p enter → (f : Func) (k w : ℕ) (args : List Value) → FuncFits p f → 1 ≤ length f.blocks → ArgumentsFit p.types f.params args → IsSafe p.types f.result (body_run p.types enter (Some f) k w args)
+pub body_safe : (p : Code) (enter : Enter) → CallsSafe p enter → (f : Func) (k w : ℕ) (args : List Value) → FuncFits p f → 1 ≤ length f.blocks
+    → ArgumentsFit p.types f.params args → IsSafe p.types f.result (body_run p.types enter (Some f) k w args)
 body_safe p enter calls f k w args fit some args_fit = subst (IsSafe p.types f.result) (sym (body_runs p enter f k w args args_fit)) (begin f.blocks refl)
   where
     begin : (bs : List Block) → f.blocks ≡ bs → IsSafe p.types f.result (from_block p.types enter (map narrow f.blocks) 0 k w (arguments args))
@@ -114,5 +118,6 @@ calls_safe p well some limit (suc clock) (suc k) w t g args callee is fit =
 pub entering_safe : (p : Code) → IsWellFormed p → HaveBlocks p → (limit : ℕ) → CallsSafe p (entering (bodies p) limit)
 entering_safe p well some limit = λ k w t g args callee is fit. calls_safe p well some limit k k w t g args callee is fit
 
-pub never_stuck : (p : Code) (limit func fuel : ℕ) (args : List Value) (f : Func) → IsWellFormed p → HaveBlocks p → slice_get p.funcs func ≡ Some f → ArgumentsFit p.types f.params args → IsSafe p.types f.result (run_of p limit func fuel args)
+pub never_stuck : (p : Code) (limit func fuel : ℕ) (args : List Value) (f : Func) → IsWellFormed p → HaveBlocks p → slice_get p.funcs func ≡ Some f
+    → ArgumentsFit p.types f.params args → IsSafe p.types f.result (run_of p limit func fuel args)
 never_stuck p limit func fuel args f well some is fit = calls_safe p well some limit fuel fuel 0 true func args f is fit

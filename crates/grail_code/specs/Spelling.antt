@@ -1,6 +1,7 @@
 -- Cited by contracts.
--- The spelling of Grail code in bytes, format `GRL1`: four bytes that name the format, then the types and the functions.
--- It is a function of the code, and each count is followed by exactly so many things. `docs/GRAIL.md` tells it in words.
+-- The spelling of Grail code in bytes, format `GRL1`: four bytes that name the format, then the types and the
+-- functions. It is a function of the code, and each count is followed by exactly so many things. `docs/GRAIL.md` tells
+-- it in words.
 use Rattle.std.specs.Prelude.{◌≡◌, ℕ, zero, suc, ◌+◌, ◌/◌, ◌%◌, ◌≤◌, ◌<◌, nat_lt, if◌then◌else◌, true, List, [], ◌∷◌, ◌++◌, length, take, flat_map, FitsSigned}
 use Rattle.std.specs.List.{AllByRecursion}
 use Rattle.std.specs.Int.{w32, cast_unsigned}
@@ -17,8 +18,8 @@ use Rattle.grail_blocks.specs.declared.blocks.CaseCell.TheVariants as cell
 use Rattle.grail_code.specs.Code.{Op, Lit, Flag, Copy, Prim, Make, Call, Let, CaseArm, Term, Ret, Tail, Goto, If, Case, Block, Func, Code}
 
 -- A whole number below 2 ^ 35 in LEB128, in as few bytes as it takes (DWARF Debugging Information Format, section 7.6):
--- seven bits a byte, the low ones first, with the high bit set on all bytes but the last. The first argument is how many
--- bytes may still follow this one.
+-- seven bits a byte, the low ones first, with the high bit set on all bytes but the last. The first argument is how
+-- many bytes may still follow this one.
 abbrev pub leb128 : ℕ → ℕ → List ℕ
 leb128 zero n = n ∷ []
 leb128 (suc more) n = if nat_lt n 128 then n ∷ [] else ((128 + n % 128) ∷ leb128 more (n / 128))

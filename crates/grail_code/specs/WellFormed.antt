@@ -1,7 +1,7 @@
 -- Cited by contracts.
--- Well-formed code: every index is in its table, names are distinct, jumps go forward, every operand is ready and has its kind, where a
--- variable of a heap kind is spent by its use, on each way through a block. That is the affine rule of LFPL (Hofmann 2000) for code.
--- The check of code goes from place to place; this definition has no order of checks.
+-- Well-formed code: every index is in its table, names are distinct, jumps go forward, every operand is ready and has
+-- its kind, where a variable of a heap kind is spent by its use, on each way through a block. That is the affine rule
+-- of LFPL (Hofmann 2000) for code. The check of code goes from place to place; this definition has no order of checks.
 use Rattle.std.specs.Prelude.{◌≡◌, ℕ, suc, ◌<◌, Bool, false, List, [], ◌∷◌, ◌++◌, length, map, slice_get, Option, Some, None, IsTrue, IsSomeAnd}
 use Rattle.std.specs.List.{AllByRecursion, range_with_len}
 use Rattle.std.specs.Option.{option_map, option_map_or}

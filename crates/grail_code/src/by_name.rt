@@ -17,7 +17,9 @@ impl Code {
     /// The number of the first function of this name, or None where no function has it.
     #[tactic(auto, using(crate::proofs::NamedFuncs::first_below))]
     pub fn func(&self, name: &[u8]) -> Option<u32>
+        // A number is that of the first function of this name.
         ensures found { IfSome result (λ number. IsFirstNamed (code_of self.now) number name.now) }
+        // None comes only where no function has the name.
         ensures none { IfNone result ((number : ℕ) → HasName (code_of self.now) number name.now → ⊥) }
     {
         match self.place_of(name) {

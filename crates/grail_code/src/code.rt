@@ -4,7 +4,8 @@ use camelot_values::{Kind, Types, Word};
 use grail_blocks::{Let, Term};
 use smallvec::SmallVec;
 
-/// A basic block: the locals that it is handed, its lets in order, and its end. Most blocks are handed few locals, which take no memory of their own.
+/// A basic block: the locals that it is handed, its lets in order, and its end. Most blocks are handed few locals,
+/// which take no memory of their own.
 #[derive(Debug, Drop)]
 pub struct Block {
     pub params: SmallVec<u32, 4>,

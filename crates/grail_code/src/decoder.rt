@@ -19,6 +19,7 @@ use crate::fault::DecodeFault;
 use camelot_values::{TypeDef, Types};
 use reader::{Halt, list};
 use std::alloc::Global;
+use stops::Stop;
 
 // A byte that always stands here. What follows it is answered.
 #[tactic(auto, unfolding(crate::specs::Reader::byte_at))]
@@ -63,19 +64,19 @@ fn code_of(alloc: Global, bytes: &[u8]) -> Result<(Code, &[u8]), Halt>
 }
 
 // The code that the bytes spell, all of them.
-fn all(alloc: Global, bytes: &[u8]) -> Result<Code, DecodeFault>
+fn all(alloc: Global, bytes: &[u8]) -> Result<Code, Stop<DecodeFault>>
     ensures { Sees result (whole bytes.now (code_at bytes.now)) }
 {
     match code_of(alloc, bytes) {
         Ok((code, [])) => Ok(code),
-        Ok((_, rest)) => Err(DecodeFault::Bad {
+        Ok((_, rest)) => Err(Stop::Fault(DecodeFault::Bad {
             at: bytes.len().saturating_sub(rest.len()) as u64,
-        }),
-        Err(Halt::Short) => Err(DecodeFault::Short),
-        Err(Halt::Bad { left }) => Err(DecodeFault::Bad {
+        })),
+        Err(Halt::Short) => Err(Stop::Fault(DecodeFault::Short)),
+        Err(Halt::Bad { left }) => Err(Stop::Fault(DecodeFault::Bad {
             at: bytes.len().saturating_sub(left) as u64,
-        }),
-        Err(Halt::Memory) => Err(DecodeFault::Memory),
+        })),
+        Err(Halt::Memory) => Err(Stop::Memory),
     }
 }
 
@@ -84,8 +85,9 @@ fn all(alloc: Global, bytes: &[u8]) -> Result<Code, DecodeFault>
 /// `Short` comes exactly where the bytes begin some code's spelling and end before it does, and `Bad` exactly where
 /// they are neither a spelling nor the beginning of one. `at` is the length of the longest part from the left that
 /// begins a spelling. Names that are repeated, and kinds whose type isn't there, have spellings as well.
+/// [`Stop::Memory`] is no answer about the bytes.
 #[tactic(auto, using(crate::proofs::SpellingMeans::found_so, crate::proofs::SpellingMeans::means_said))]
-pub fn decode(alloc: Global, bytes: &[u8]) -> Result<Code, DecodeFault>
+pub fn decode(alloc: Global, bytes: &[u8]) -> Result<Code, Stop<DecodeFault>>
     // What is answered is so.
     ensures found { IsSo bytes.now result }
     // What the bytes are is answered, unless memory runs out.

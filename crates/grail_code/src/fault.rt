@@ -1,7 +1,3 @@
-ghost use Rattle.std.specs.Prelude.{◌≡◌};
-ghost use Rattle.grail_code.specs.declared.fault.DecodeFault.TheVariants.{Memory};
-
-use std::alloc::{AllocError, AllocFailed};
 use thiserror::Error;
 
 /// Why bytes are no code.
@@ -14,23 +10,4 @@ pub enum DecodeFault {
     /// begins one has `at` bytes, so that the byte with this number, counted from 0, is the first bad one.
     #[error("code bad at {at}")]
     Bad { at: u64 },
-    /// Memory ran out.
-    #[error("out of memory")]
-    Memory,
-}
-
-impl From<AllocError> for DecodeFault {
-    ghost from_gives = { λ _ fault. fault ≡ Memory };
-
-    fn from(_failed: AllocError) -> DecodeFault {
-        DecodeFault::Memory
-    }
-}
-
-impl<T: Drop> From<AllocFailed<T>> for DecodeFault {
-    ghost from_gives = { λ _ fault. fault ≡ Memory };
-
-    fn from(_failed: AllocFailed<T>) -> DecodeFault {
-        DecodeFault::Memory
-    }
 }

@@ -21,11 +21,14 @@ pub fn one_spelling()
 /// goes on, or neither from one place on.
 #[tactic(auto, using(crate::proofs::SpellingMeans::means_some, crate::proofs::SpellingMeans::means_one))]
 pub fn one_meaning()
+    // Each list of bytes is one of the three.
     ensures some { (bytes : List ℕ) → (meaning : Decoded) × Means bytes meaning }
+    // It is one of them alone.
     ensures one { (bytes : List ℕ) (first second : Decoded) → Means bytes first → Means bytes second → first ≡ second }
 {}
 
-/// Well-formed code within the limits, whose functions have parameters and whose names have their forms, is within the ranges of the spelling, so that it has one.
+/// Well-formed code within the limits, whose functions have parameters and whose names have their forms, is within the
+/// ranges of the spelling, so that it has one.
 #[tactic(auto, using(crate::specs::RangeLaws::within_ranges))]
 pub fn law_of_ranges()
     ensures { (p : Code) → IsWellFormed p → IsWithinLimits p → HaveParams p → IsNamed p → FitsCode p }

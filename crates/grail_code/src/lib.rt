@@ -12,6 +12,7 @@ mod fault;
 pub mod laws;
 mod limits;
 pub mod meaning;
+mod of_func;
 
 pub use code::{Block, Code, Func};
 pub use decoder::decode;

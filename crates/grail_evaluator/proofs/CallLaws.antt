@@ -77,7 +77,8 @@ onto_over s k q Stuck next over e = e
 -- ---- lets
 
 -- the let at a place, and those behind it
-lets_at : (enter : Enter) (lets : List Let) (i : ℕ) (b : Let) (k w : ℕ) (env : Locals) (next : ℕ → Locals → Outcome Value) → i < length lets → b ≡ get_or lets i b
+lets_at : (enter : Enter) (lets : List Let) (i : ℕ) (b : Let) (k w : ℕ) (env : Locals) (next : ℕ → Locals → Outcome Value) → i < length lets
+    → b ≡ get_or lets i b
     → first_then k (op_run enter k w env (op_of b.op)) (λ left u. lets_run enter (map let_of (drop (suc i) lets)) left w (put env b.target u) next) ≡ lets_run enter (map let_of (drop i lets)) k w env next
 lets_at enter lets i b k w env next less is =
     ap (λ c. lets_run enter (let_of c ∷ map let_of (drop (suc i) lets)) k w env next) is ∙ ap (λ bs. lets_run enter (map let_of bs) k w env next) (sym (drop-cons lets i b less))
@@ -98,7 +99,8 @@ lets_over enter lets i b k w s q env next whole over less is did so_far =
     onto_over s k q (op_run enter k w env (op_of b.op)) (λ left u. lets_run enter (map let_of (drop (suc i) lets)) left w (put env b.target u) next) over did
     ∙ ap (onto s) (lets_at enter lets i b k w env next less is) ∙ so_far
 
-pub lets_end : (enter : Enter) (lets : List Let) (i k w : ℕ) (s : Counts) (env : Locals) (next : ℕ → Locals → Outcome Value) (whole : Outcome Value) → length lets ≤ i
+pub lets_end : (enter : Enter) (lets : List Let) (i k w : ℕ) (s : Counts) (env : Locals) (next : ℕ → Locals → Outcome Value) (whole : Outcome Value)
+    → length lets ≤ i
     → onto s (lets_run enter (map let_of (drop i lets)) k w env next) ≡ whole → onto s (next k env) ≡ whole
 lets_end enter lets i k w s env next whole all so_far = ap (λ bs. onto s (lets_run enter (map let_of bs) k w env next)) (sym (drop_of_length-le lets {i = i} all)) ∙ so_far
 
@@ -108,7 +110,8 @@ pub kept_arm : (s : Counts) (later : Later) (target k w d : ℕ) (env new : Loca
     → onto s (later target k w new) ≡ onto s (cell_run (cell.Keep d) env (λ last. later target k w last))
 kept_arm s later target k w d env new v dia is = ap (λ e. onto s (later target k w e)) (is ∙ ap (put env d) dia)
 
-pub case_is : (types : List DataType) (later : Later) (k w on con : ℕ) (vs : List Value) (arm : CaseArm) (arms : List CaseArm) (env new : Locals) → env on ≡ Some (value.Con con (parts vs))
+pub case_is : (types : List DataType) (later : Later) (k w on con : ℕ) (vs : List Value) (arm : CaseArm) (arms : List CaseArm) (env new : Locals)
+    → env on ≡ Some (value.Con con (parts vs))
     → Some arm ≡ arm_at arms (place_of types con) → Some new ≡ put_all env arm.fields (parts vs)
     → cell_run arm.cell new (λ last. later arm.target k w last) ≡ given (env on) (λ v. case_run types later v arms k w env)
 case_is types later k w on con vs arm arms env new there is bound =
@@ -131,7 +134,8 @@ from_is types enter blocks i k w b env less is =
     (sym (body_at blocks i ∙ ap (option_map (λ c. narrow (block_of c))) (slice_get-get_or blocks i b less) ∙ ap (λ c. Some (narrow (block_of c))) (sym is)))
 
 -- a jump to a later block is that block, with what is handed on
-pub jump_is : (types : List DataType) (enter : Enter) (blocks : List Block) (i to k w : ℕ) (env new : Locals) → i < to → option_map (λ b. narrowed b.params.items env) (slice_get blocks to) ≡ Some new
+pub jump_is : (types : List DataType) (enter : Enter) (blocks : List Block) (i to k w : ℕ) (env new : Locals) → i < to
+    → option_map (λ b. narrowed b.params.items env) (slice_get blocks to) ≡ Some new
     → from_block types enter (bodies_of blocks) to k w new ≡ jumps_from types enter (bodies_of blocks) i to k w env
 jump_is types enter blocks i to k w env new less handed =
     ap (λ o. given o (λ body. block_run types enter (jumps_from types enter (bodies_of blocks) to) body k w new)) (body_at blocks to) ∙ by_block (slice_get blocks to) handed
@@ -157,7 +161,8 @@ jump_stuck types enter blocks i to k w s env none = ap (onto s) (sym (by_order (
     by_order (inl less) = past less (cases_lt to (length blocks))
     by_order (inr back) = back_is_stuck types enter (bodies_of blocks) i to k w env back
 
-pub first_block : (types : List DataType) (enter : Enter) (bs : List Body) (k w : ℕ) (s : Counts) (env : Locals) → onto s (from_block types enter bs 0 k w env) ≡ onto s (blocks_run types enter bs k w env)
+pub first_block : (types : List DataType) (enter : Enter) (bs : List Body) (k w : ℕ) (s : Counts) (env : Locals)
+    → onto s (from_block types enter bs 0 k w env) ≡ onto s (blocks_run types enter bs k w env)
 first_block types enter bs k w s env = ap (onto s) (sym (runs_from_first types enter bs k w env))
 
 -- ---- functions
@@ -165,16 +170,19 @@ first_block types enter bs k w s env = ap (onto s) (sym (runs_from_first types e
 pub body_is : (fs : List Func) (i : ℕ) (f : Func) → i < length fs → f ≡ get_or fs i f → Some (func_of f) ≡ slice_get (map func_of fs) i
 body_is fs i f less is = sym (slice_get-map func_of fs i ∙ ap (option_map func_of) (slice_get-get_or fs i f less) ∙ ap (λ g. Some (func_of g)) (sym is))
 
-pub no_body : (types : List DataType) (enter : Enter) (fs : List Func) (i k w : ℕ) (s : Counts) (args : List Value) → length fs ≤ i → Stuck ≡ onto s (body_run types enter (slice_get (map func_of fs) i) k w args)
+pub no_body : (types : List DataType) (enter : Enter) (fs : List Func) (i k w : ℕ) (s : Counts) (args : List Value) → length fs ≤ i
+    → Stuck ≡ onto s (body_run types enter (slice_get (map func_of fs) i) k w args)
 no_body types enter fs i k w s args past = ap (λ o. onto s (body_run types enter o k w args)) (sym (slice_get-map func_of fs i ∙ ap (option_map func_of) (slice_get_past fs i past)))
 
-pub function_is : (types : List DataType) (enter : Enter) (f : Func) (k w : ℕ) (env : Locals) (args : List Tree) → length args ≡ length f.params.items → env ≡ arguments (plain_all args)
+pub function_is : (types : List DataType) (enter : Enter) (f : Func) (k w : ℕ) (env : Locals) (args : List Tree)
+    → length args ≡ length f.params.items → env ≡ arguments (plain_all args)
     → blocks_run types enter (bodies_of f.blocks.items) k w env ≡ body_run types enter (Some (func_of f)) k w (plain_all args)
 function_is types enter f k w env args same is =
     let full : (length (plain_all args) == length f.params.items) ≡ true = grind (arith, nat_tests, length-map args plain, same) in
     ap (λ e. blocks_run types enter (bodies_of f.blocks.items) k w e) is ∙ ap (λ b. if b then blocks_run types enter (bodies_of f.blocks.items) k w (arguments (plain_all args)) else Stuck) (sym full)
 
-pub other_count : (types : List DataType) (enter : Enter) (f : Func) (k w : ℕ) (s : Counts) (args : List Tree) → (length args ≡ length f.params.items → ⊥) → Stuck ≡ onto s (body_run types enter (Some (func_of f)) k w (plain_all args))
+pub other_count : (types : List DataType) (enter : Enter) (f : Func) (k w : ℕ) (s : Counts) (args : List Tree)
+    → (length args ≡ length f.params.items → ⊥) → Stuck ≡ onto s (body_run types enter (Some (func_of f)) k w (plain_all args))
 other_count types enter f k w s args other =
     let no : (length (plain_all args) == length f.params.items) ≡ false = grind (arith, nat_tests, length-map args plain, other) in
     ap (λ b. onto s (if b then blocks_run types enter (bodies_of f.blocks.items) k w (arguments (plain_all args)) else Stuck)) (sym no)
@@ -184,7 +192,8 @@ other_count types enter f k w s args other =
 nothing_used : (s : Counts) (o : Outcome Value) → after (s.calls + 0) (s.peak + (0 - s.low)) (0 + (s.low - 0)) o ≡ onto s o
 nothing_used s o = behind_same _ _ _ s.calls s.peak s.low o (omega arith) (omega arith) (omega arith)
 
-pub out_of_fuel : (code : Code) (limit fuel w f : ℕ) (t : Bool) (s : Counts) (args : List Value) → s.calls ≡ fuel → Fuel s.calls s.peak ≡ onto s (calls_in code limit (fuel - s.calls) w t f args)
+pub out_of_fuel : (code : Code) (limit fuel w f : ℕ) (t : Bool) (s : Counts) (args : List Value) → s.calls ≡ fuel
+    → Fuel s.calls s.peak ≡ onto s (calls_in code limit (fuel - s.calls) w t f args)
 out_of_fuel code limit fuel w f t s args e =
     let none : 0 ≡ fuel - s.calls = omega (arith, e) in
     let calls : s.calls ≡ s.calls + 0 = omega arith in
@@ -210,7 +219,8 @@ entered_is code limit fuel w f s args less =
 depth_is : (limit w : ℕ) (b : Bool) → (w == limit) ≡ b → is_too_deep limit w false ≡ b
 depth_is limit w b e = e
 
-pub too_deep : (code : Code) (limit fuel w f : ℕ) (s : Counts) (args : List Value) → s.calls < fuel → w ≡ limit → Deep s.peak ≡ onto s (calls_in code limit (fuel - s.calls) w false f args)
+pub too_deep : (code : Code) (limit fuel w f : ℕ) (s : Counts) (args : List Value) → s.calls < fuel → w ≡ limit
+    → Deep s.peak ≡ onto s (calls_in code limit (fuel - s.calls) w false f args)
 too_deep code limit fuel w f s args less e =
     let deep : (w == limit) ≡ true = grind (arith, nat_tests, e) in
     let peak : s.peak ≡ s.peak + (0 - s.low) = omega arith in

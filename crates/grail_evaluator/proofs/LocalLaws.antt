@@ -22,7 +22,8 @@ env_push old new x t e = λ i y. each y i
     each : (y : ℕ) → env_of new y ≡ put (env_of old) x (plain t) y
     each y = ap (λ bs. last_of None (map bound_of bs) y) e ∙ ap (λ ps. last_of None ps y) (map_push bound_of old (record { local = x; value = t })) ∙ last-push None (map bound_of old) (record { local = x; value = plain t }) y
 
-pub one_more : (env : List Bound) (i : ℕ) (b : Bound) (x : ℕ) (o p : Option Value) → i < length env → b ≡ get_or env i b → last_of o (map bound_of (drop i env)) x ≡ p
+pub one_more : (env : List Bound) (i : ℕ) (b : Bound) (x : ℕ) (o p : Option Value) → i < length env → b ≡ get_or env i b
+    → last_of o (map bound_of (drop i env)) x ≡ p
     → last_of (if b.local == x then Some (plain b.value) else o) (map bound_of (drop (i + 1) env)) x ≡ p
 one_more env i b x o p h is e =
     ap (λ n. last_of (if b.local == x then Some (plain b.value) else o) (map bound_of (drop n env)) x) (add-one i)
@@ -36,7 +37,8 @@ pub behind_nothing : (o : Option (List Value)) → behind [] o ≡ o
 behind_nothing None = refl
 behind_nothing (Some vs) = refl
 
-pub one_value_more : (env : Locals) (xs : List ℕ) (i x : ℕ) (d : ℕ) (front new : List Value) (v : Value) (all : Option (List Value)) → i < length xs → x ≡ get_or xs i d
+pub one_value_more : (env : Locals) (xs : List ℕ) (i x : ℕ) (d : ℕ) (front new : List Value) (v : Value) (all : Option (List Value)) → i < length xs
+    → x ≡ get_or xs i d
     → env x ≡ Some v → new ≡ front ++ (v ∷ []) → behind front (values_of env (drop i xs)) ≡ all → behind new (values_of env (drop (i + 1) xs)) ≡ all
 one_value_more env xs i x d front new v all h is found n e =
     ap (λ vs. behind vs (values_of env (drop (i + 1) xs))) n
@@ -60,7 +62,8 @@ all_values front all e = ap Some (sym (append-nil front)) ∙ e
 
 -- ---- narrowing
 
-step : (same any_b any_x : Bool) (o : Option Value) (v : Value) (kept_from all_from : Option Value → Option Value) → ((q : Option Value) → kept_from q ≡ (if any_x then all_from q else q)) → (same ≡ true → any_b ≡ any_x)
+step : (same any_b any_x : Bool) (o : Option Value) (v : Value) (kept_from all_from : Option Value → Option Value)
+    → ((q : Option Value) → kept_from q ≡ (if any_x then all_from q else q)) → (same ≡ true → any_b ≡ any_x)
     → (if any_b then kept_from (if same then Some v else o) else kept_from o) ≡ (if any_x then all_from (if same then Some v else o) else o)
 step true true true o v k l h e = h (Some v)
 step true false false o v k l h e = h o
@@ -74,7 +77,8 @@ pushed : (params : List ℕ) (o : Option Value) (b : Pair) (bs : List Pair) (x :
 pushed params o b bs x true = refl
 pushed params o b bs x false = refl
 
-last-kept : (params : List ℕ) (o : Option Value) (bs : List Pair) (x : ℕ) → last_of o (kept params bs) x ≡ (if list_any (λ p. p == x) params then last_of o bs x else o)
+last-kept : (params : List ℕ) (o : Option Value) (bs : List Pair) (x : ℕ)
+    → last_of o (kept params bs) x ≡ (if list_any (λ p. p == x) params then last_of o bs x else o)
 last-kept params o [] x = sym (same_either (list_any (λ p. p == x) params) o)
   where
     same_either : (b : Bool) (o : Option Value) → (if b then o else o) ≡ o
@@ -86,13 +90,15 @@ last-kept params o (b ∷ bs) x =
     (λ e. let same : b.local ≡ x = grind (arith, nat_tests) in ap (λ y. list_any (λ p. p == y) params) same)
 
 -- what is narrowed is what the kept bindings say
-narrowed_is : (params : List ℕ) (env : List Bound) (ps : List Pair) → ps ≡ kept params (map bound_of env) → (λ (x : ℕ). last_of None ps x) ≡ narrowed params (env_of env)
+narrowed_is : (params : List ℕ) (env : List Bound) (ps : List Pair) → ps ≡ kept params (map bound_of env)
+    → (λ (x : ℕ). last_of None ps x) ≡ narrowed params (env_of env)
 narrowed_is params env ps e = λ i x. each x i
   where
     each : (x : ℕ) → last_of None ps x ≡ narrowed params (env_of env) x
     each x = ap (λ qs. last_of None qs x) e ∙ last-kept params None (map bound_of env) x
 
-pub kept_end : (params : List ℕ) (env all : List Bound) (i : ℕ) → length env ≤ i → map bound_of all ++ kept params (map bound_of (drop i env)) ≡ kept params (map bound_of env) → env_of all ≡ narrowed params (env_of env)
+pub kept_end : (params : List ℕ) (env all : List Bound) (i : ℕ) → length env ≤ i
+    → map bound_of all ++ kept params (map bound_of (drop i env)) ≡ kept params (map bound_of env) → env_of all ≡ narrowed params (env_of env)
 kept_end params env all i h e =
     narrowed_is params env (map bound_of all)
     (sym (append-nil (map bound_of all)) ∙ ap (λ bs. map bound_of all ++ kept params (map bound_of bs)) (sym (drop_of_length-le env {i = i} h)) ∙ e)
@@ -104,7 +110,8 @@ kept_front params b bs = either (list_any (λ p. p == b.local) params)
     either true = refl
     either false = refl
 
-pub kept_more : (params : List ℕ) (env all new : List Bound) (i : ℕ) (b : Bound) (ps : List Pair) → i < length env → b ≡ get_or env i b → map bound_of new ≡ map bound_of all ++ kept params (bound_of b ∷ [])
+pub kept_more : (params : List ℕ) (env all new : List Bound) (i : ℕ) (b : Bound) (ps : List Pair) → i < length env → b ≡ get_or env i b
+    → map bound_of new ≡ map bound_of all ++ kept params (bound_of b ∷ [])
     → map bound_of all ++ kept params (map bound_of (drop i env)) ≡ ps → map bound_of new ++ kept params (map bound_of (drop (i + 1) env)) ≡ ps
 kept_more params env all new i b ps h is n e =
     let rest : List Bound = drop (suc i) env in
@@ -123,7 +130,8 @@ unequal env [] (t ∷ ts) h = refl
 unequal env (x ∷ xs) [] h = refl
 unequal env (x ∷ xs) (t ∷ ts) h = unequal (put env x (plain t)) xs ts (λ e. h (ap suc e))
 
-pub one_field_more : (env new : Locals) (xs : List ℕ) (ts : List Tree) (i : ℕ) (d : ℕ) (t u : Tree) (o : Option Locals) → i < length xs → i < length ts → u ≡ get_or ts i u → plain t ≡ plain u
+pub one_field_more : (env new : Locals) (xs : List ℕ) (ts : List Tree) (i : ℕ) (d : ℕ) (t u : Tree) (o : Option Locals) → i < length xs
+    → i < length ts → u ≡ get_or ts i u → plain t ≡ plain u
     → new ≡ put env (get_or xs i d) (plain t) → put_all env (drop i xs) (parts (plain_all (drop i ts))) ≡ o → put_all new (drop (i + 1) xs) (parts (plain_all (drop (i + 1) ts))) ≡ o
 one_field_more env new xs ts i d t u o h g is same n e =
     ap (λ k. put_all new (drop k xs) (parts (plain_all (drop k ts)))) (add-one i)
@@ -154,5 +162,6 @@ one_argument_more old new args i t u h is same n e =
     ∙ ap arguments (ap (λ v. take i (plain_all args) ++ (v ∷ [])) (same ∙ ap plain is ∙ sym (get_or-map plain args i u (plain u) h))
     ∙ sym (take-suc (plain_all args) i (plain u) (omega (arith, length-map args plain))) ∙ ap (λ n. take n (plain_all args)) (sym (add-one i)))
 
-pub all_arguments : (bs : List Bound) (args : List Tree) (i : ℕ) → length args ≤ i → env_of bs ≡ arguments (take i (plain_all args)) → env_of bs ≡ arguments (plain_all args)
+pub all_arguments : (bs : List Bound) (args : List Tree) (i : ℕ) → length args ≤ i → env_of bs ≡ arguments (take i (plain_all args))
+    → env_of bs ≡ arguments (plain_all args)
 all_arguments bs args i h e = e ∙ ap arguments (take_all i (plain_all args) (omega (arith, length-map args plain)))

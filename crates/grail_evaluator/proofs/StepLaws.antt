@@ -16,7 +16,8 @@ use Rattle.grail_evaluator.specs.declared.counts.Counts.{Counts}
 pub onto_once : (s : Counts) (v : Value) → Done v s.calls s.peak s.low ≡ onto s (at_once v)
 onto_once s v = done_is v s.calls s.peak s.low _ _ _ (omega arith) (omega arith) (omega arith)
 
-pub both : (s : Counts) (op : Operator) (u v : Option Value) (a b : ℤ) (t : Value) (o : Outcome Value) → Some a ≡ int_at u → Some b ≡ int_at v → at_once t ≡ on_ints op a b → o ≡ onto s (at_once t)
+pub both : (s : Counts) (op : Operator) (u v : Option Value) (a b : ℤ) (t : Value) (o : Outcome Value) → Some a ≡ int_at u → Some b ≡ int_at v
+    → at_once t ≡ on_ints op a b → o ≡ onto s (at_once t)
     → o ≡ onto s (operands op u v)
 both s op None v a b t o e f h g = absurd cc
 both s op (Some (value.Int z)) None a b t o e f h g = absurd cc
@@ -56,10 +57,12 @@ no_right s op (Some (value.Flag z)) (Some (value.Con d ws)) e = refl
 no_right s op (Some value.Dia) (Some (value.Con d ws)) e = refl
 no_right s op (Some (value.Con c vs)) (Some (value.Con d ws)) e = refl
 
-pub in_new : (s : Counts) (c : ℕ) (vs : List Value) (env : Locals) → Done (value.Con c (parts vs)) s.calls (s.peak + (1 - s.low)) (s.low - 1) ≡ onto s (built c vs place.New env)
+pub in_new : (s : Counts) (c : ℕ) (vs : List Value) (env : Locals)
+    → Done (value.Con c (parts vs)) s.calls (s.peak + (1 - s.low)) (s.low - 1) ≡ onto s (built c vs place.New env)
 in_new s c vs env = done_is (value.Con c (parts vs)) s.calls (s.peak + (1 - s.low)) (s.low - 1) _ _ _ (omega arith) refl (omega arith)
 
-pub in_diamond : (s : Counts) (c : ℕ) (vs : List Value) (d : ℕ) (env : Locals) (o : Outcome Value) → env d ≡ Some value.Dia → o ≡ onto s (at_once (value.Con c (parts vs)))
+pub in_diamond : (s : Counts) (c : ℕ) (vs : List Value) (d : ℕ) (env : Locals) (o : Outcome Value) → env d ≡ Some value.Dia
+    → o ≡ onto s (at_once (value.Con c (parts vs)))
     → o ≡ onto s (built c vs (place.Reuse d) env)
 in_diamond s c vs d env o e g = g ∙ ap (λ q. onto s (given q (λ v. on_diamond v (at_once (value.Con c (parts vs)))))) (sym e)
 

@@ -58,13 +58,13 @@ onward types enter later term waits = λ left last. term_run types enter later t
 abbrev pub most_cells : ℕ
 most_cells = 2000000000000000000000000
 
--- So many times a function takes or gives back a cell at most, besides what its calls do: in each of 256 blocks once for each of 256 lets,
--- and once at the end.
+-- So many times a function takes or gives back a cell at most, besides what its calls do: in each of 256 blocks once
+-- for each of 256 lets, and once at the end.
 abbrev pub cells_a_call : ℕ
 cells_a_call = 65792
 
--- From the old counts to the new ones functions were entered, within the fuel, and at most so many cells were taken or given back besides
--- what they do.
+-- From the old counts to the new ones functions were entered, within the fuel, and at most so many cells were taken or
+-- given back besides what they do.
 pub record Used (fuel steps : ℕ) (old new : Counts) : Type 0 where
   pub more : old.calls ≤ new.calls
   pub within : new.calls ≤ fuel

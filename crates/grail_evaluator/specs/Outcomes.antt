@@ -22,8 +22,8 @@ HasWords (meaning.Fuel calls peak) = (calls < 2 ^ 64) × (peak < 2 ^ 64)
 HasWords (meaning.Deep peak) = peak < 2 ^ 64
 HasWords meaning.Stuck = ⊤
 
--- The run comes to this outcome. An answer is the outcome, whose counts have 64 bits, and it is too large just where one hasn't. Want of
--- memory says nothing.
+-- The run comes to this outcome. An answer is the outcome, whose counts have 64 bits, and it is too large just where
+-- one hasn't. Want of memory says nothing.
 abbrev pub Tells : Result Outcome RunError → meaning.Outcome Value → Type 0
 Tells (Ok outcome) o = (outcome_of outcome ≡ o) × HasWords o
 Tells (Err Large) o = HasWords o → ⊥

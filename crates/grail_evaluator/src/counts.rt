@@ -1,8 +1,8 @@
 ghost use Rattle.std.specs.Prelude.{◌≡◌, ◌+◌, ◌-◌, ◌<◌, ◌≤◌};
 ghost use Rattle.grail_evaluator.specs.Ends.{most_cells};
 
-/// What a run used so far: how many functions it entered, the peak of cells taken from the free list, and how far the net number of cells
-/// is below the peak.
+/// What a run used so far: how many functions it entered, the peak of cells taken from the free list, and how far the
+/// net number of cells is below the peak.
 #[derive(Clone, Copy)]
 pub(crate) struct Counts {
     pub(crate) calls: u64,

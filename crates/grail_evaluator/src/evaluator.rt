@@ -43,7 +43,9 @@ impl Evaluator<'_> {
         requires calls { counts.calls ≤ self.now.fuel }
         requires room { counts.peak + counts.low + cells_a_call * self.now.fuel ≤ most_cells + cells_a_call * counts.calls }
         requires waits { waits ≤ self.now.limit }
-        ensures means { IfOk result (λ reached. reached_of reached ≡ onto counts (calls_in self.now.code.now self.now.limit (self.now.fuel - counts.calls) waits true func (plain_all args.items))) }
+        ensures means { IfOk result (λ reached. reached_of reached ≡ onto counts
+            (calls_in self.now.code.now self.now.limit (self.now.fuel - counts.calls) waits true func
+            (plain_all args.items))) }
         ensures used { IfOk result (OnReached (Used self.now.fuel 0 counts)) }
     {
         'calls: loop {
@@ -79,7 +81,9 @@ impl Evaluator<'_> {
         requires room { counts.peak + counts.low + cells_a_call + cells_a_call * self.now.fuel ≤ most_cells + cells_a_call * counts.calls }
         requires waits { waits ≤ self.now.limit }
         ensures means { IfOk result (λ ending. ending_run (calls_in self.now.code.now self.now.limit) self.now.fuel waits ending
-            ≡ onto counts (body_run self.now.code.now.types (calls_in self.now.code.now self.now.limit) (slice_get (map func_of self.now.code.now.funcs.items) func) (self.now.fuel - counts.calls) waits (plain_all args.items))) }
+            ≡ onto counts (body_run self.now.code.now.types (calls_in self.now.code.now self.now.limit)
+            (slice_get (map func_of self.now.code.now.funcs.items) func) (self.now.fuel - counts.calls) waits
+            (plain_all args.items))) }
         ensures used { IfOk result (OnEnding (Used self.now.fuel cells_a_call counts)) }
     {
         match self.code.funcs.get(func as usize) {
@@ -101,7 +105,8 @@ impl Evaluator<'_> {
         requires room { counts.peak + counts.low + cells_a_call + cells_a_call * self.now.fuel ≤ most_cells + cells_a_call * counts.calls }
         requires waits { waits ≤ self.now.limit }
         ensures means { IfOk result (λ ending. ending_run (calls_in self.now.code.now self.now.limit) self.now.fuel waits ending
-            ≡ onto counts (body_run self.now.code.now.types (calls_in self.now.code.now self.now.limit) (Some (func_of func.now)) (self.now.fuel - counts.calls) waits (plain_all args.items))) }
+            ≡ onto counts (body_run self.now.code.now.types (calls_in self.now.code.now self.now.limit)
+            (Some (func_of func.now)) (self.now.fuel - counts.calls) waits (plain_all args.items))) }
         ensures used { IfOk result (OnEnding (Used self.now.fuel cells_a_call counts)) }
     {
         if args.len() != func.params.len() {
@@ -126,7 +131,8 @@ impl Evaluator<'_> {
         requires room { counts.peak + counts.low + cells_a_call + cells_a_call * self.now.fuel ≤ most_cells + cells_a_call * counts.calls }
         requires waits { waits ≤ self.now.limit }
         ensures means { IfOk result (λ ending. ending_run (calls_in self.now.code.now self.now.limit) self.now.fuel waits ending
-            ≡ onto counts (blocks_run self.now.code.now.types (calls_in self.now.code.now self.now.limit) (bodies_of blocks.now) (self.now.fuel - counts.calls) waits (env_of env.items))) }
+            ≡ onto counts (blocks_run self.now.code.now.types (calls_in self.now.code.now self.now.limit)
+            (bodies_of blocks.now) (self.now.fuel - counts.calls) waits (env_of env.items))) }
         ensures used { IfOk result (OnEnding (Used self.now.fuel cells_a_call counts)) }
     {
         let mut number = 0;
@@ -162,7 +168,9 @@ impl Evaluator<'_> {
         env: &[Bound],
     ) -> Result<Option<Vec<Bound>>, AllocError>
         ensures { IfOk result (λ handed. MatchOption handed (number < target → target < length blocks.now → ⊥)
-            (λ next. (number < target) × (target < length blocks.now) × (option_map (λ block. narrowed block.params.items (env_of env.now)) (slice_get blocks.now target) ≡ Some (env_of next.items)))) }
+            (λ next. (number < target) × (target < length blocks.now)
+            × (option_map (λ block. narrowed block.params.items (env_of env.now)) (slice_get blocks.now target)
+            ≡ Some (env_of next.items)))) }
     {
         if target <= number || target >= blocks.len() {
             return Ok(None);
@@ -185,8 +193,11 @@ impl Evaluator<'_> {
         requires calls { counts.calls ≤ self.now.fuel }
         requires room { counts.peak + counts.low + 257 + cells_a_call * self.now.fuel ≤ most_cells + cells_a_call * counts.calls }
         requires waits { waits ≤ self.now.limit }
-        ensures means { IfOk result (λ end. end_run (calls_in self.now.code.now self.now.limit) (jumps_from self.now.code.now.types (calls_in self.now.code.now self.now.limit) (bodies_of blocks.now) number) self.now.fuel waits end
-            ≡ onto counts (from_block self.now.code.now.types (calls_in self.now.code.now self.now.limit) (bodies_of blocks.now) number (self.now.fuel - counts.calls) waits (env_of env.items))) }
+        ensures means { IfOk result (λ end. end_run (calls_in self.now.code.now self.now.limit)
+            (jumps_from self.now.code.now.types (calls_in self.now.code.now self.now.limit)
+            (bodies_of blocks.now) number) self.now.fuel waits end
+            ≡ onto counts (from_block self.now.code.now.types (calls_in self.now.code.now self.now.limit)
+            (bodies_of blocks.now) number (self.now.fuel - counts.calls) waits (env_of env.items))) }
         ensures used { IfOk result (OnEnd (Used self.now.fuel 257 counts)) }
     {
         let block = &blocks[number];
@@ -218,7 +229,9 @@ impl Evaluator<'_> {
         requires calls { counts.calls ≤ self.now.fuel }
         requires room { counts.peak + counts.low + 1 + cells_a_call * self.now.fuel ≤ most_cells + cells_a_call * counts.calls }
         requires waits { waits ≤ self.now.limit }
-        ensures means { IfOk result (λ reached. reached_of reached ≡ onto counts (op_run (calls_in self.now.code.now self.now.limit) (self.now.fuel - counts.calls) waits (env_of env.now) (op_of op.now))) }
+        ensures means { IfOk result (λ reached. reached_of reached ≡ onto counts
+            (op_run (calls_in self.now.code.now self.now.limit) (self.now.fuel - counts.calls) waits (env_of env.now)
+            (op_of op.now))) }
         ensures used { IfOk result (OnReached (Used self.now.fuel 1 counts)) }
     {
         match op {
@@ -249,7 +262,9 @@ impl Evaluator<'_> {
         requires calls { counts.calls ≤ self.now.fuel }
         requires room { counts.peak + counts.low + cells_a_call * self.now.fuel ≤ most_cells + cells_a_call * counts.calls }
         requires waits { waits ≤ self.now.limit }
-        ensures means { IfOk result (λ reached. reached_of reached ≡ onto counts (calls_in self.now.code.now self.now.limit (self.now.fuel - counts.calls) waits false func (plain_all args.items))) }
+        ensures means { IfOk result (λ reached. reached_of reached ≡ onto counts
+            (calls_in self.now.code.now self.now.limit (self.now.fuel - counts.calls) waits false func
+            (plain_all args.items))) }
         ensures used { IfOk result (OnReached (Used self.now.fuel 0 counts)) }
     {
         if counts.calls == self.fuel {
@@ -313,7 +328,9 @@ impl Evaluator<'_> {
     ) -> Result<BlockEnd, AllocError>
         requires { counts.low ≤ most_cells }
         ensures means { (enter : Enter) (later : Later) (fuel waits : ℕ) → IfOk result (λ end. end_run enter later fuel waits end
-            ≡ onto counts (given (env_of env.items on) (λ v. case_run self.now.code.now.types later v (map arm_of arms.now) (fuel - counts.calls) waits (env_of env.items)))) }
+            ≡ onto counts (given (env_of env.items on)
+            (λ v. case_run self.now.code.now.types later v (map arm_of arms.now) (fuel - counts.calls) waits
+            (env_of env.items)))) }
         ensures used { IfOk result (OnEnd (Stepped 1 counts)) }
     {
         let Some(matched) = matched_at(self.alloc, &env, on)? else {
@@ -365,13 +382,14 @@ fn take(counts: Counts, mut env: Vec<Bound>, arm: &CaseArm) -> Result<BlockEnd, 
     }
 }
 
-/// What the function of this number comes to on these arguments, with so much fuel and where so many calls may wait.
-/// It copies values as it goes and is slow. Jumps and calls in tail position are turns of loops; a call that waits is a call here, so that
-/// the stack bounds how many of them can wait.
+/// What the function of this number comes to on these arguments, with so much fuel and where so many calls may wait. It
+/// copies values as it goes and is slow. Jumps and calls in tail position are turns of loops; a call that waits is a
+/// call here, so that the stack bounds how many of them can wait.
 ///
 /// # Errors
 ///
-/// [`RunError::Large`] just where the outcome has a count of more than 64 bits, and [`RunError::Memory`] where there is no memory.
+/// [`RunError::Large`] just where the outcome has a count of more than 64 bits, and [`RunError::Memory`] where there is
+/// no memory.
 pub fn run(
     alloc: Global,
     code: &Code,

@@ -93,7 +93,8 @@ pub(crate) fn bind_all(
     fields: &[u32],
     values: &[Tree],
 ) -> Result<bool, AllocError>
-    ensures { IfOk result (λ fit. (if fit then Some (env_of env.new.items) else None) ≡ put_all (env_of env.old.items) fields.now (parts (plain_all values.now))) }
+    ensures { IfOk result (λ fit. (if fit then Some (env_of env.new.items) else None) ≡ put_all
+        (env_of env.old.items) fields.now (parts (plain_all values.now))) }
 {
     if fields.len() != values.len() {
         return Ok(false);

@@ -158,7 +158,8 @@ pub(crate) fn matched_at(
     env: &[Bound],
     local: u32,
 ) -> Result<Option<Matched>, AllocError>
-    ensures { IfOk result (λ found. MatchOption found (IsNoCon (env_of env.now local)) (λ m. env_of env.now local ≡ Some (Con m.con (parts (plain_all m.parts.items))))) }
+    ensures { IfOk result (λ found. MatchOption found (IsNoCon (env_of env.now local))
+        (λ m. env_of env.now local ≡ Some (Con m.con (parts (plain_all m.parts.items))))) }
 {
     match value_of(env, local) {
         Some(value) => match value.copy(alloc)? {

@@ -34,7 +34,8 @@ IsHeldIn (Some v) units = IsHeld v units
 abbrev pub AreHeld : Func → (ℕ → Option Vector) → Carried ℤ → Type 0
 AreHeld f have carried = (x : ℕ) (q : Kind) → kind_of f x ≡ Some q → IsHeldIn (have x) (carried x)
 
-held_found : (types : List DataType) (s : Site) (o : Option Kind) (have : Option Vector) (need : Vector) (have' need' : Units ℤ) → ((q : Kind) → o ≡ Some q → IsHeldIn have have') → AreUnits need need'
+held_found : (types : List DataType) (s : Site) (o : Option Kind) (have : Option Vector) (need : Vector) (have' need' : Units ℤ)
+    → ((q : Kind) → o ≡ Some q → IsHeldIn have have') → AreUnits need need'
     → Found (value_checks types s o have' need') (held_short types s o have need)
 held_found types s None have need have' need' h d = nothing
 held_found types s (Some q) None need have' need' h d = absurd (h q refl)
@@ -44,7 +45,8 @@ pub local_found : (types : List DataType) (f : Func) (s : Site) (have : ℕ → 
     → Found (value_checks types s (kind_of f x) (carried x) need') (local_short types f s have (Some x) need)
 local_found types f s have carried x need need' h d = held_found types s (kind_of f x) (have x) need (carried x) need' (h x) d
 
-asks_nothing : (types : List DataType) (s : Site) (o : Option Kind) (have : Option Vector) (have' need' : Units ℤ) → ((q : Kind) → o ≡ Some q → IsHeldIn have have') → AreUnits [] need' → AllHold (value_checks types s o have' need')
+asks_nothing : (types : List DataType) (s : Site) (o : Option Kind) (have : Option Vector) (have' need' : Units ℤ)
+    → ((q : Kind) → o ≡ Some q → IsHeldIn have have') → AreUnits [] need' → AllHold (value_checks types s o have' need')
 asks_nothing types s None have have' need' h d = tt
 asks_nothing types s (Some q) None have' need' h d = absurd (h q refl)
 asks_nothing types s (Some q) (Some have) have' need' h d = let k : IsHeld have have' = h q refl in nothing_asked types s q have have' need' k.same d
@@ -71,7 +73,8 @@ along_own units [] = refl
 along_own units (x ∷ xs) = ap (λ asks. (x, units x) ∷ asks) (along_own units xs)
 
 -- arguments go by the numbers of parameters
-pub along_params : (units : ℕ → Units ℤ) (number count : ℕ) (args : List ℕ) → along units (range_with_len number count) args ≡ arguments_asks units number count args
+pub along_params : (units : ℕ → Units ℤ) (number count : ℕ) (args : List ℕ)
+    → along units (range_with_len number count) args ≡ arguments_asks units number count args
 along_params units number zero args = refl
 along_params units number (suc count) [] = refl
 along_params units number (suc count) (x ∷ xs) =
@@ -127,7 +130,8 @@ abbrev pub AreAsked : (ℕ → Units ℤ) → List VarCert → List ℕ → Type
 AreAsked units vars ns = AllByRecursion (λ n. AreUnits (vector_of vars n) (units n)) ns
 
 -- the first line isn't of a larger number
-asked_others : (units : ℕ → Units ℤ) (v : VarCert) (vs : List VarCert) (ns : List ℕ) → ((m : ℕ) → is_among ns m ≡ true → v.var < m) → AreAsked units (v ∷ vs) ns → AreAsked units vs ns
+asked_others : (units : ℕ → Units ℤ) (v : VarCert) (vs : List VarCert) (ns : List ℕ) → ((m : ℕ) → is_among ns m ≡ true → v.var < m)
+    → AreAsked units (v ∷ vs) ns → AreAsked units vs ns
 asked_others units v vs [] l h = tt
 asked_others units v vs (n ∷ ns) l h = (by_test (v.var == n) refl h.0, asked_others units v vs ns (λ m k. l m (later n m ns k)) h.1)
   where

@@ -129,7 +129,8 @@ unfolding value_short
 value_found types s q have need have' need' e d = on_each s have need have' need' (reached types q) e d
 
 -- what asks nothing
-pub nothing_asked : (types : List DataType) (s : Site) (q : Kind) (have : Vector) (have' need' : Units ℤ) → AreUnits have have' → AreUnits [] need' → AllHold (value_checks types s (Some q) have' need')
+pub nothing_asked : (types : List DataType) (s : Site) (q : Kind) (have : Vector) (have' need' : Units ℤ) → AreUnits have have' → AreUnits [] need'
+    → AllHold (value_checks types s (Some q) have' need')
 nothing_asked types s q have have' need' e d = go (reached types q)
   where
     go : (cs : List ℕ) → AllHold (map (λ c. check_on s have' need' c) cs)

@@ -16,11 +16,12 @@ use Rattle.licence.specs.Books.{Units, Carried, block_said, vector_of, block_of}
 use Rattle.licence.specs.Rules.{Account, carrying, all_carrying, found, in_arm, first_con_of, jump_asks}
 use Rattle.licence.specs.Checks.{Check, Site, left_check, value_checks, local_checks, arguments_checks, jump_checks, arms_checks, term_checks, integers}
 use Rattle.grail_verifier.specs.Finding.{Found}
-use Rattle.grail_verifier.specs.Walk.{capped, left_short, value_short, local_short, asked_short, call_short, bound, line_short, jump_short, given, left_in_arm, next_con, arms_short, case_short, tail_short, term_short}
+use Rattle.grail_verifier.specs.Walk.{capped, left_short, value_short, local_short, asked_short, call_short, bound, line_short, jump_short, given, left_in_arm, arms_short, case_short, tail_short, term_short}
 use Rattle.grail_verifier.proofs.Composing.{nothing, both, one, is_enough, second_none, AreUnits, value_found}
 use Rattle.grail_verifier.proofs.Carrying.{IsHeld, IsHeldIn, AreHeld, local_found, along_own, AreAsked, asked_found}
 use Rattle.grail_verifier.proofs.Lines.{line_is}
-use Rattle.grail_verifier.proofs.Numbers.{few_before}
+use Rattle.licence.specs.FirstConLaws.{few_before}
+use Rattle.licence.specs.Sites.{next_con}
 use Rattle.grail_verifier.proofs.Facts.{all_at, some_and, Ready, Known, ready_at, said_is, self_aligned, IsTarget, target_at}
 use Rattle.grail_verifier.proofs.Stepping.{book, plus_is, small, Tied, call_found, behind_call, back_is, result_is}
 
@@ -35,7 +36,8 @@ all_carrying_is carried (x ∷ xs) units y = all_carrying_is (carrying carried x
     by_case false true = refl
     by_case false false = refl
 
-bound_held : (f : Func) (slots : List Vector) (carried : Carried ℤ) (fields : List ℕ) (matched : Vector) (units : Units ℤ) → AreHeld f (slice_get slots) carried → IsHeld matched units
+bound_held : (f : Func) (slots : List Vector) (carried : Carried ℤ) (fields : List ℕ) (matched : Vector) (units : Units ℤ)
+    → AreHeld f (slice_get slots) carried → IsHeld matched units
     → AreHeld f (bound slots fields matched) (all_carrying carried fields units)
 unfolding bound
 bound_held f slots carried fields matched units held new y q e = subst (λ u. IsHeldIn (if is_among fields y then Some matched else slice_get slots y) u) (sym (all_carrying_is carried fields units y)) (by_case (is_among fields y))
@@ -52,10 +54,12 @@ module _ (p : Code) (c : Cert) (known : Known p c) where
   -- ---- jumps
 
   module _ (func : ℕ) (f : Func) (own : FuncCert) (ready : Ready p c func f own) where
-    pub block_says : {B : Type 0} (to : ℕ) (line : BlockCert) (say : BlockCert → B) (nothing : B) → block_of own.blocks to ≡ Some line → block_said c func to say nothing ≡ say line
+    pub block_says : {B : Type 0} (to : ℕ) (line : BlockCert) (say : BlockCert → B) (nothing : B) → block_of own.blocks to ≡ Some line
+        → block_said c func to say nothing ≡ say line
     block_says to line say nothing e = said_is c func own (λ g. option_map_or say (block_of g.blocks to) nothing) nothing ready.lines ∙ ap (λ o. option_map_or say o nothing) e
 
-    target_found : (s : Site) → s.func ≡ func → (left : ℕ) (have : ℕ → Option Vector) (a : Account ℤ) (to : ℕ) → a.left ≡ pos left → AreHeld f have a.carried → 1 ≤ to → IsTarget p f own to
+    target_found : (s : Site) → s.func ≡ func → (left : ℕ) (have : ℕ → Option Vector) (a : Account ℤ) (to : ℕ) → a.left ≡ pos left
+        → AreHeld f have a.carried → 1 ≤ to → IsTarget p f own to
         → Found (jump_checks p f (book c) s a to) (jump_short p.types f own s left have to)
     target_found s at_func left have a to e held some t =
         subst (λ n. Found (local_checks p.types f s a.carried (jump_asks f (book c) n to) ++ left_check s a.left ((book c).block_need n to) ∷ []) (jump_short p.types f own s left have to)) (sym at_func)
@@ -75,13 +79,15 @@ module _ (p : Code) (c : Cert) (known : Known p c) where
         asked [] = tt
         asked (n ∷ ns) = (λ con. ap (λ v. pos (at v con)) (block_says to t.line (λ b. vector_of b.vars n) [] t.found), asked ns)
 
-    jump_found : (s : Site) → s.func ≡ func → (left : ℕ) (have : ℕ → Option Vector) (a : Account ℤ) (number to : ℕ) → a.left ≡ pos left → AreHeld f have a.carried → JumpFits f number to
+    jump_found : (s : Site) → s.func ≡ func → (left : ℕ) (have : ℕ → Option Vector) (a : Account ℤ) (number to : ℕ) → a.left ≡ pos left
+        → AreHeld f have a.carried → JumpFits f number to
         → Found (jump_checks p f (book c) s a to) (jump_short p.types f own s left have to)
     jump_found s at_func left have a number to e held fits = target_found s at_func left have a to e held (omega (arith, fits.0)) (target_at p c func f own to ready (omega (arith, fits.0)) fits.1)
 
     -- ---- arms
 
-    arm_left : (left : ℕ) (a : Account ℤ) (matched : Vector) (on con : ℕ) (m : CaseArm) → a.left ≡ pos left → IsHeld matched (a.carried on) → left ≤ 1152921504606846976
+    arm_left : (left : ℕ) (a : Account ℤ) (matched : Vector) (on con : ℕ) (m : CaseArm) → a.left ≡ pos left → IsHeld matched (a.carried on)
+        → left ≤ 1152921504606846976
         → (in_arm integers p.types (book c) a on con m).left ≡ pos (left_in_arm p.types c.unit left matched con m.cell)
     arm_left left a matched on con m e held few = by_cell m.cell
       where
@@ -105,7 +111,8 @@ module _ (p : Code) (c : Cert) (known : Known p c) where
             ap (λ k. k +ℤ pos c.unit) (by_heap (is_heap_con p.types con)) ∙ sym (plus_is node c.unit) ∙ ap pos (sym (small (node + c.unit) (omega (arith, n, u))))
         by_cell (cell.Keep x) = by_heap (is_heap_con p.types con)
 
-    arm_held : (slots : List Vector) (a : Account ℤ) (matched : Vector) (on con : ℕ) (m : CaseArm) → AreHeld f (slice_get slots) a.carried → IsHeld matched (a.carried on)
+    arm_held : (slots : List Vector) (a : Account ℤ) (matched : Vector) (on con : ℕ) (m : CaseArm) → AreHeld f (slice_get slots) a.carried
+        → IsHeld matched (a.carried on)
         → AreHeld f (bound slots m.fields matched) (in_arm integers p.types (book c) a on con m).carried
     arm_held slots a matched on con m all held = by_cell m.cell
       where
@@ -114,7 +121,9 @@ module _ (p : Code) (c : Cert) (known : Known p c) where
         by_cell cell.Free = bound_held f slots a.carried m.fields matched (a.carried on) all held
         by_cell (cell.Keep x) = bound_held f slots a.carried m.fields matched (a.carried on) all held
 
-    arms_found : (s : Site) → s.func ≡ func → (left : ℕ) (slots : List Vector) (a : Account ℤ) (matched : Vector) (number on con : ℕ) (cs : List Constructor) (arms : List CaseArm) → Tied f left slots a → IsHeld matched (a.carried on)
+    arms_found : (s : Site) → s.func ≡ func
+        → (left : ℕ) (slots : List Vector) (a : Account ℤ) (matched : Vector) (number on con : ℕ) (cs : List Constructor) (arms : List CaseArm)
+        → Tied f left slots a → IsHeld matched (a.carried on)
         → left ≤ 1152921504606846976 → con + length cs ≤ 4294967295 → ArmsFit f number cs arms
         → Found (arms_checks integers p f (book c) s a on con arms) (arms_short p.types c.unit f own s left slots matched con arms)
     arms_found s at_func left slots a matched number on con cs [] tied held few less fits = nothing
@@ -128,7 +137,8 @@ module _ (p : Code) (c : Cert) (known : Known p c) where
         subst (λ n. Found (arms_checks integers p f (book c) s a on (suc con) arms) (arms_short p.types c.unit f own s left slots matched n arms)) z
         (arms_found s at_func left slots a matched number on (suc con) cs arms tied held few (omega (arith, less)) fits.1))
 
-    case_found : (s : Site) → s.func ≡ func → (left : ℕ) (slots : List Vector) (a : Account ℤ) (number on : ℕ) (arms : List CaseArm) → Tied f left slots a → left ≤ 1152921504606846976 → TermFits p f number (Case on arms)
+    case_found : (s : Site) → s.func ≡ func → (left : ℕ) (slots : List Vector) (a : Account ℤ) (number on : ℕ) (arms : List CaseArm)
+        → Tied f left slots a → left ≤ 1152921504606846976 → TermFits p f number (Case on arms)
         → Found (term_checks integers p f (book c) s a (Case on arms)) (term_short p c [] f own s left slots (Case on arms))
     case_found s at_func left slots a number on arms tied few fits = by_kind (kind_of f on) (slice_get slots on) (tied.held on) fits
       where
@@ -143,7 +153,8 @@ module _ (p : Code) (c : Cert) (known : Known p c) where
         by_held t None held d = absurd held
         by_held t (Some matched) held d = by_type t matched held d
 
-        by_kind : (q : Option Kind) (o : Option Vector) → ((k : Kind) → q ≡ Some k → IsHeldIn o (a.carried on)) → IsSomeAnd (data_type p.types q) (λ t. ArmsFit f number t.cons arms)
+        by_kind : (q : Option Kind) (o : Option Vector) → ((k : Kind) → q ≡ Some k → IsHeldIn o (a.carried on))
+            → IsSomeAnd (data_type p.types q) (λ t. ArmsFit f number t.cons arms)
             → Found (arms_checks integers p f (book c) s a on (first_con_of p.types q) arms) (case_short p.types c.unit f own s left slots o (first_con_of p.types q) arms)
         by_kind None o h k = absurd k
         by_kind (Some kind.Int) o h k = absurd k
@@ -159,7 +170,9 @@ module _ (p : Code) (c : Cert) (known : Known p c) where
     own_result : (s : Site) → s.func ≡ func → AreUnits own.result ((book c).result s.func)
     own_result s e = subst (λ n. AreUnits own.result ((book c).result n)) (sym e) (result_is p c known func own ready.lines)
 
-    tail_found : (s : Site) → s.func ≡ func → (left : ℕ) (slots : List Vector) (a : Account ℤ) (callee : ℕ) (args : List ℕ) (g : Func) (line : FuncCert) → Tied f left slots a → left ≤ 1152921504606846976
+    tail_found : (s : Site) → s.func ≡ func
+        → (left : ℕ) (slots : List Vector) (a : Account ℤ) (callee : ℕ) (args : List ℕ) (g : Func) (line : FuncCert) → Tied f left slots a
+        → left ≤ 1152921504606846976
         → Ready p c callee g line → HaveKinds f args g.params → Found (term_checks integers p f (book c) s a (Tail callee args)) (tail_short p.types f own s left slots args (Some line))
     tail_found s at_func left slots a callee args g line tied few r kinds =
         subst (λ xs. Found xs (tail_short p.types f own s left slots args (Some line))) (append_assoc first (second ∷ []) (third ++ fourth ∷ []))
@@ -183,17 +196,20 @@ module _ (p : Code) (c : Cert) (known : Known p c) where
         fourth : Check ℤ
         fourth = left_check s ((a.left -ℤ (book c).need callee) +ℤ (book c).back callee) ((book c).back s.func)
 
-    pub term_found : (s : Site) → s.func ≡ func → (left : ℕ) (slots : List Vector) (a : Account ℤ) (number : ℕ) (t : Term) → Tied f left slots a → left ≤ 1152921504606846976 → TermFits p f number t
+    pub term_found : (s : Site) → s.func ≡ func → (left : ℕ) (slots : List Vector) (a : Account ℤ) (number : ℕ) (t : Term) → Tied f left slots a
+        → left ≤ 1152921504606846976 → TermFits p f number t
         → Found (term_checks integers p f (book c) s a t) (term_short p c [] f own s left slots t)
     term_found s at_func left slots a number (Ret x) tied few fits =
         both (value_checks p.types s (kind_of f x) (a.carried x) ((book c).result s.func)) (left_check s a.left ((book c).back s.func) ∷ []) (local_short p.types f s (slice_get slots) (Some x) own.result) (left_short s left own.back)
         (local_found p.types f s (slice_get slots) a.carried x own.result ((book c).result s.func) tied.held (own_result s at_func)) (λ e. one s left own.back a.left ((book c).back s.func) tied.left (own_back s at_func))
     term_found s at_func left slots a number (Tail callee args) tied few fits = by_callee (some_and (λ h. HaveKinds f args h.params × (h.result ≡ f.result)) (slice_get p.funcs callee) fits)
       where
-        by_lines : (h : Func) → HaveKinds f args h.params → ((line : FuncCert) × Ready p c callee h line) → Found (term_checks integers p f (book c) s a (Tail callee args)) (term_short p c [] f own s left slots (Tail callee args))
+        by_lines : (h : Func) → HaveKinds f args h.params → ((line : FuncCert) × Ready p c callee h line)
+            → Found (term_checks integers p f (book c) s a (Tail callee args)) (term_short p c [] f own s left slots (Tail callee args))
         by_lines h kinds (line, r) = subst (λ o. Found (term_checks integers p f (book c) s a (Tail callee args)) (tail_short p.types f own s left slots args o)) (sym r.lines) (tail_found s at_func left slots a callee args h line tied few r kinds)
 
-        by_callee : ((h : Func) × (slice_get p.funcs callee ≡ Some h) × (HaveKinds f args h.params × (h.result ≡ f.result))) → Found (term_checks integers p f (book c) s a (Tail callee args)) (term_short p c [] f own s left slots (Tail callee args))
+        by_callee : ((h : Func) × (slice_get p.funcs callee ≡ Some h) × (HaveKinds f args h.params × (h.result ≡ f.result)))
+            → Found (term_checks integers p f (book c) s a (Tail callee args)) (term_short p c [] f own s left slots (Tail callee args))
         by_callee (h, e, (kinds, r)) = by_lines h kinds (ready_at p c known callee h e)
     term_found s at_func left slots a number (Goto to) tied few fits = jump_found s at_func left (bound slots [] []) a number to tied.left (plain_held f slots a.carried [] tied.held) fits
     term_found s at_func left slots a number (If x one_way other) tied few fits =

@@ -71,7 +71,8 @@ ready_at p c k func f e = by_lines (slice_get c.funcs func) refl
     )
 
 -- what a function's lines say
-pub said_is : {B : Type 0} (c : Cert) (func : ℕ) (own : FuncCert) (say : FuncCert → B) (nothing : B) → slice_get c.funcs func ≡ Some own → said c func say nothing ≡ say own
+pub said_is : {B : Type 0} (c : Cert) (func : ℕ) (own : FuncCert) (say : FuncCert → B) (nothing : B) → slice_get c.funcs func ≡ Some own
+    → said c func say nothing ≡ say own
 said_is c func own say nothing e = ap (λ o. option_map_or say o nothing) e
 
 -- ---- locals
@@ -101,7 +102,8 @@ args_aligned f args kinds h = go 0 args kinds h (λ (i : ℕ). let z : 0 + i ≡
     tails : {x y : Option Kind} {xs ys : List (Option Kind)} → x ∷ xs ≡ y ∷ ys → xs ≡ ys
     tails e = cc
 
-    go : (k : ℕ) (xs : List ℕ) (qs : List Kind) → map (kind_of f) xs ≡ map Some qs → ((i : ℕ) → slice_get args (k + i) ≡ slice_get xs i) → Aligned (slice_get args) (range_with_len k (length qs)) xs
+    go : (k : ℕ) (xs : List ℕ) (qs : List Kind) → map (kind_of f) xs ≡ map Some qs → ((i : ℕ) → slice_get args (k + i) ≡ slice_get xs i)
+        → Aligned (slice_get args) (range_with_len k (length qs)) xs
     go k [] [] e h = tt
     go k [] (q ∷ qs) e h = absurd cc
     go k (x ∷ xs) [] e h = absurd cc
@@ -141,7 +143,8 @@ get_there [] i h = absurd (omega (arith, h))
 get_there (x ∷ xs) zero h = (x, refl)
 get_there (x ∷ xs) (suc i) h = get_there xs i (omega (arith, h))
 
-pub target_at : (p : Code) (c : Cert) (func : ℕ) (f : Func) (own : FuncCert) (number : ℕ) → Ready p c func f own → 1 ≤ number → number < length f.blocks → IsTarget p f own number
+pub target_at : (p : Code) (c : Cert) (func : ℕ) (f : Func) (own : FuncCert) (number : ℕ) → Ready p c func f own → 1 ≤ number
+    → number < length f.blocks → IsTarget p f own number
 target_at p c func f own number r some less = by_both (get_there f.blocks number less) (counted own.blocks 1 (length f.blocks) number r.formed.blocks (λ i. (r.right i).line) some less)
   where
     by_both : ((b : Block) × (slice_get f.blocks number ≡ Some b)) → IsLine own.blocks 1 number → IsTarget p f own number

@@ -3,6 +3,8 @@ use Rattle.std.proofs.Common.{◌≡◌, ◌⊎◌, ℕ, ◌<◌, ◌≤◌, Lis
 use Rattle.std.specs.Prelude.{ℤ, pos, ◌≤ℤ◌}
 use Rattle.std.proofs.lemmas.Bool.{cases_lt}
 use Rattle.std.proofs.lemmas.Int.{ints}
+use Rattle.stops.specs.declared.stop.Stop.{Stop}
+use Rattle.stops.specs.declared.stop.Stop.TheVariants.{Fault, Memory}
 use Rattle.grail_code.specs.Code.{Code}
 use Rattle.grail_code.specs.WellFormed.{IsWellFormed}
 use Rattle.grail_code.specs.Limits.{IsWithinLimits}
@@ -16,8 +18,7 @@ use Rattle.grail_verifier.specs.declared.refusal.Refusal.{Refusal}
 use Rattle.grail_verifier.specs.declared.refusal.Refusal.TheVariants as refusal
 use Rattle.grail_verifier.specs.Finding.{Found, in_numbers, refused, refusal_of}
 use Rattle.grail_verifier.specs.Walk.{funcs_short}
-use Rattle.grail_verifier.specs.Verdicts.{IsShort, IsRefused, IsJudged, OrMemory}
-use Rattle.grail_verifier.specs.Settling.{IsRefusedOrMemory}
+use Rattle.grail_verifier.specs.Verdicts.{IsShort, IsRefused, IsJudged, VerdictIs, IsThisVerdict}
 use Rattle.grail_verifier.proofs.Facts.{Known}
 use Rattle.grail_verifier.proofs.Walking.{walk_found}
 use Rattle.licence.specs.CheckLaws.{pays_by_checks, rule_fails}
@@ -56,10 +57,10 @@ module _ (p : Code) (c : Cert) (well : IsWellFormed p) (fits : Fits p c) (limits
       by_order (inl less) h = less
       by_order (inr more) h = absurd (h (omega (arith, ints, more)))
 
-  pub one_found : (none : Vector) (k : Check ℕ) (r : Refusal) → none ≡ [] → funcs_short p c none 0 p.funcs ≡ Some k → r ≡ refusal_of k → IsRefusedOrMemory p c r
-  one_found none k r z d same = subst (IsRefusedOrMemory p c) (sym same) (by_con k.con (fails k (subst (λ n. funcs_short p c n 0 p.funcs ≡ Some k) z d)))
+  pub one_found : (none : Vector) (k : Check ℕ) (r : Refusal) → none ≡ [] → funcs_short p c none 0 p.funcs ≡ Some k → r ≡ refusal_of k → IsRefused p c r
+  one_found none k r z d same = subst (IsRefused p c) (sym same) (by_con k.con (fails k (subst (λ n. funcs_short p c n 0 p.funcs ≡ Some k) z d)))
     where
-      by_con : (o : Option ℕ) → IsShort p c (record { func = k.func; block = k.block; place = k.place; con = o; have = k.have; need = k.need }) → IsRefusedOrMemory p c (refused o k.func k.block k.place k.have k.need)
+      by_con : (o : Option ℕ) → IsShort p c (record { func = k.func; block = k.block; place = k.place; con = o; have = k.have; need = k.need }) → IsRefused p c (refused o k.func k.block k.place k.have k.need)
       by_con None h = h
       by_con (Some con) h = h
 
@@ -81,7 +82,8 @@ same_fields f b l h n o f' b' l' h' n' o' e =
     same d = omega (arith, ints, d)
 
 -- the first check that fails is one
-one_first : (before after before' after' : List (Check ℤ)) (c d : Check ℤ) → before ++ c ∷ after ≡ before' ++ d ∷ after' → AllHold before → (Holds c → ⊥) → AllHold before' → (Holds d → ⊥) → c ≡ d
+one_first : (before after before' after' : List (Check ℤ)) (c d : Check ℤ) → before ++ c ∷ after ≡ before' ++ d ∷ after' → AllHold before
+    → (Holds c → ⊥) → AllHold before' → (Holds d → ⊥) → c ≡ d
 one_first [] after [] after' c d e g w g' w' = cc
 one_first [] after (x ∷ before') after' c d e g w g' w' = let same : c ≡ x = cc in absurd (w (subst Holds (sym same) g'.0))
 one_first (x ∷ before) after [] after' c d e g w g' w' = let same : x ≡ d = cc in absurd (w' (subst Holds same g.0))
@@ -115,14 +117,12 @@ refusals_same : (p : Code) (c : Cert) (r q : Refusal) → IsRefused p c r → Is
 refusals_same p c (refusal.Code x) q h k = absurd h
 refusals_same p c (refusal.Kinds x) q h k = absurd h
 refusals_same p c (refusal.Cert x) q h k = absurd h
-refusals_same p c refusal.Memory q h k = absurd h
 refusals_same p c (refusal.Shape f b) q h k = with_shape q k
   where
     with_shape : (q : Refusal) → IsRefused p c q → refusal.Shape f b ≡ q
     with_shape (refusal.Code x) k = absurd k
     with_shape (refusal.Kinds x) k = absurd k
     with_shape (refusal.Cert x) k = absurd k
-    with_shape refusal.Memory k = absurd k
     with_shape (refusal.Shape f' b') k = let e = misfits_same p c f b f' b' h k in λ i. refusal.Shape (e.0 i) (e.1 i)
     with_shape (refusal.Need f' b' l' x' n') k = absurd (h.wrong (k.fits f b))
     with_shape (refusal.Weak f' b' l' o' x' n') k = absurd (h.wrong (k.fits f b))
@@ -132,7 +132,6 @@ refusals_same p c (refusal.Need f b l x n) q h k = with_short f b l x n None h q
     with_short f b l x n o h (refusal.Code y) k = absurd k
     with_short f b l x n o h (refusal.Kinds y) k = absurd k
     with_short f b l x n o h (refusal.Cert y) k = absurd k
-    with_short f b l x n o h refusal.Memory k = absurd k
     with_short f b l x n o h (refusal.Shape f' b') k = absurd (k.wrong (h.fits f' b'))
     with_short f b l x n o h (refusal.Need f' b' l' x' n') k = same_fields f b l x n o f' b' l' x' n' None (shorts_same p c _ _ h k)
     with_short f b l x n o h (refusal.Weak f' b' l' o' x' n') k = same_fields f b l x n o f' b' l' x' n' (Some o') (shorts_same p c _ _ h k)
@@ -142,7 +141,6 @@ refusals_same p c (refusal.Weak f b l o x n) q h k = with_weak q k
     with_weak (refusal.Code y) k = absurd k
     with_weak (refusal.Kinds y) k = absurd k
     with_weak (refusal.Cert y) k = absurd k
-    with_weak refusal.Memory k = absurd k
     with_weak (refusal.Shape f' b') k = absurd (k.wrong (h.fits f' b'))
     with_weak (refusal.Need f' b' l' x' n') k = same_fields f b l x n (Some o) f' b' l' x' n' None (shorts_same p c _ _ h k)
     with_weak (refusal.Weak f' b' l' o' x' n') k = same_fields f b l x n (Some o) f' b' l' x' n' (Some o') (shorts_same p c _ _ h k)
@@ -151,7 +149,6 @@ granted_refused : (p : Code) (c : Cert) (r : Refusal) → Grants p c → IsRefus
 granted_refused p c (refusal.Code x) g k = absurd k
 granted_refused p c (refusal.Kinds x) g k = absurd k
 granted_refused p c (refusal.Cert x) g k = absurd k
-granted_refused p c refusal.Memory g k = absurd k
 granted_refused p c (refusal.Shape f b) g k = k.wrong (g.fits f b)
 granted_refused p c (refusal.Need f b l x n) g k = granted_short p c _ g k
 granted_refused p c (refusal.Weak f b l o x n) g k = granted_short p c _ g k
@@ -163,12 +160,8 @@ verdicts_same p c (Err r) (Ok m) h k = absurd (granted_refused p c r k.1 h)
 verdicts_same p c (Err r) (Err q) h k = ap Err (refusals_same p c r q h k)
 
 -- what is answered is the verdict
-pub judged_exactly : (p : Code) (c : Cert) (r : Result Licensed Refusal) → OrMemory r (IsJudged p c r) → (q : Result Licensed Refusal) → IsJudged p c q → OrMemory r (r ≡ q)
+pub judged_exactly : (p : Code) (c : Cert) (r : Result Licensed (Stop Refusal)) → VerdictIs (IsJudged p c) r → (q : Result Licensed Refusal)
+    → IsJudged p c q → IsThisVerdict q r
 judged_exactly p c (Ok l) h q k = verdicts_same p c (Ok l) q h k
-judged_exactly p c (Err (refusal.Code x)) h q k = absurd h
-judged_exactly p c (Err (refusal.Kinds x)) h q k = absurd h
-judged_exactly p c (Err (refusal.Cert x)) h q k = absurd h
-judged_exactly p c (Err refusal.Memory) h q k = tt
-judged_exactly p c (Err (refusal.Shape f b)) h q k = verdicts_same p c (Err (refusal.Shape f b)) q h k
-judged_exactly p c (Err (refusal.Need f b l x n)) h q k = verdicts_same p c (Err (refusal.Need f b l x n)) q h k
-judged_exactly p c (Err (refusal.Weak f b l o x n)) h q k = verdicts_same p c (Err (refusal.Weak f b l o x n)) q h k
+judged_exactly p c (Err (Fault r)) h q k = verdicts_same p c (Err r) q h k
+judged_exactly p c (Err Memory) h q k = tt

@@ -36,7 +36,8 @@ snoc_front f (a ∷ out) x rest = ap (λ l. f a ∷ l) (snoc_front f out x rest)
 
 -- one line more
 pub more_said : {A B : Type 0} (says : List Vector → A → B) (old new : List Vector) (out : List A) (x : A) (y : B) (rest whole : List B)
-    → ((later : List Vector) → Keeps old later → map (says later) out ++ y ∷ rest ≡ whole) → Keeps old new → Say says new x y → (later : List Vector) → Keeps new later → map (says later) (out ++ x ∷ []) ++ rest ≡ whole
+    → ((later : List Vector) → Keeps old later → map (says later) out ++ y ∷ rest ≡ whole) → Keeps old new → Say says new x y → (later : List Vector)
+    → Keeps new later → map (says later) (out ++ x ∷ []) ++ rest ≡ whole
 more_said says old new out x y rest whole h k s later l = snoc_front (says later) out x rest ∙ ap (λ z. map (says later) out ++ z ∷ rest) (s later l) ∙ h later (keeps_on old new later k l)
 
 -- ---- the annotations of a number
@@ -47,7 +48,8 @@ held_some all n o v e s = ap (λ o. unwrap_or o []) (sym s ∙ e)
 pub held_none : (all : List Vector) (n : ℕ) (o : Option Vector) (v : Vector) → o ≡ slice_get all n → o ≡ None → v ≡ [] → v ≡ held all n
 held_none all n o v e s z = z ∙ ap (λ o. unwrap_or o []) (sym s ∙ e)
 
-pub kept_pushed : {A B : Type 0} (f : A → B) (self : List B) (old new : List A) (x : A) → self ≡ map f old → new ≡ old ++ x ∷ [] → (n : ℕ) (v : B) → slice_get self n ≡ Some v → slice_get (map f new) n ≡ Some v
+pub kept_pushed : {A B : Type 0} (f : A → B) (self : List B) (old new : List A) (x : A) → self ≡ map f old → new ≡ old ++ x ∷ [] → (n : ℕ) (v : B)
+    → slice_get self n ≡ Some v → slice_get (map f new) n ≡ Some v
 kept_pushed f self old new x s e n v h =
     let same : map f new ≡ self ++ f x ∷ [] = ap (map f) e ∙ mapped old ∙ ap (λ l. l ++ f x ∷ []) (sym s) in
     subst (λ l. slice_get l n ≡ Some v) (sym same) (earlier_at self (f x) v n h)
@@ -56,7 +58,8 @@ kept_pushed f self old new x s e n v h =
     mapped [] = refl
     mapped (y ∷ xs) = ap (λ l. f y ∷ l) (mapped xs)
 
-pub first_held : (old new later : List Vector) (n : ℕ) (v : Vector) → old ≡ [] → n ≡ length old → slice_get new n ≡ Some v → Keeps new later → v ≡ [] → held later 0 ≡ []
+pub first_held : (old new later : List Vector) (n : ℕ) (v : Vector) → old ≡ [] → n ≡ length old → slice_get new n ≡ Some v → Keeps new later → v ≡ []
+    → held later 0 ≡ []
 first_held old new later n v empty number there k none =
     let zeroth : n ≡ 0 = number ∙ ap length empty in
     held_there later 0 v (k 0 v (subst (λ m. slice_get new m ≡ Some v) zeroth there)) ∙ none
@@ -72,7 +75,8 @@ item_here : {A : Type 0} (xs : List A) (i : ℕ) (x : A) → i < length xs → x
 item_here xs i x l e = let s : suc i ≡ i + 1 = omega arith in subst (λ j. x ∷ drop j xs ≡ drop i xs) s (item_next xs i x l e)
 
 pub loop_more : {A B C : Type 0} (says : List Vector → A → B) (of : C → B) (old new : List Vector) (out more : List A) (x : A) (cs : List C) (i : ℕ) (c : C)
-    → ((later : List Vector) → Keeps old later → map (says later) out ++ map of (drop i cs) ≡ map of cs) → Keeps old new → Say says new x (of c) → i < length cs → c ≡ get_or cs i c → more ≡ out ++ x ∷ []
+    → ((later : List Vector) → Keeps old later → map (says later) out ++ map of (drop i cs) ≡ map of cs) → Keeps old new → Say says new x (of c)
+    → i < length cs → c ≡ get_or cs i c → more ≡ out ++ x ∷ []
     → (later : List Vector) → Keeps new later → map (says later) more ++ map of (drop (i + 1) cs) ≡ map of cs
 loop_more says of old new out more x cs i c h k s less at e later l =
     ap (λ o. map (says later) o ++ map of (drop (i + 1) cs)) e

@@ -7,8 +7,8 @@ pub mod Judging
 pub mod Stepping
 pub mod Ending
 pub mod Walking
-pub mod Numbers
 pub mod Keeping
 pub mod Remembering
 pub mod Reached
 pub mod Begun
+pub mod OneVerdict

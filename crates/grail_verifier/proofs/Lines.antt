@@ -1,4 +1,5 @@
--- Where lines of a certificate stand: those of builds in front of what is left of them, and those of blocks one place before their numbers.
+-- Where lines of a certificate stand: those of builds in front of what is left of them, and those of blocks one place
+-- before their numbers.
 use Rattle.std.proofs.Common.{◌≡◌, ◌⊎◌, ℕ, zero, suc, ◌-◌, ◌<◌, ◌≤◌, Bool, true, false, List, [], ◌∷◌, length, map, replicate, Some, None, refl, sym, ap, ◌∙◌, subst, arith, inl, inr}
 use Rattle.std.specs.Prelude.{◌==◌, ◌||◌, ◌&&◌, nat_lt, nat_le, if◌then◌else◌, slice_get, slice_set}
 use Rattle.std.specs.List.{AllByRecursion}
@@ -49,7 +50,8 @@ pub front_is : (b p : ℕ) (ms : List MakeCert) → MakesAscend ms → in_front 
 front_is b p [] a = refl
 front_is b p (m ∷ ms) a = by_test (front_is b p ms (makes_others m ms a)) (nat_lt m.block b || ((m.block == b) && nat_lt m.place p)) refl
   where
-    by_same : (t : Bool) → ((m.block == b) && (m.place == p)) ≡ t → (nat_lt m.block b || ((m.block == b) && nat_lt m.place p)) ≡ false → (if t then m.vector else []) ≡ (if t then m.vector else make_of ms b p)
+    by_same : (t : Bool) → ((m.block == b) && (m.place == p)) ≡ t → (nat_lt m.block b || ((m.block == b) && nat_lt m.place p)) ≡ false
+        → (if t then m.vector else []) ≡ (if t then m.vector else make_of ms b p)
     by_same true d e = refl
     by_same false d e = sym (none_behind b p ms (all_behind b p m ms (behind (nat_lt b m.block) refl) a))
       where
@@ -81,7 +83,8 @@ pub from_keeps : (b p b' p' : ℕ) (ms : List MakeCert) → IsFrom b p b' p' →
 from_keeps b p b' p' [] h = refl
 from_keeps b p b' p' (m ∷ ms) h = by_test (from_keeps b p b' p' ms h) (nat_lt m.block b || ((m.block == b) && nat_lt m.place p)) refl h
   where
-    by_test : make_of (makes_from b p ms) b' p' ≡ make_of ms b' p' → (t : Bool) → (nat_lt m.block b || ((m.block == b) && nat_lt m.place p)) ≡ t → IsFrom b p b' p'
+    by_test : make_of (makes_from b p ms) b' p' ≡ make_of ms b' p' → (t : Bool) → (nat_lt m.block b || ((m.block == b) && nat_lt m.place p)) ≡ t
+        → IsFrom b p b' p'
         → make_of (if t then makes_from b p ms else m ∷ ms) b' p' ≡ (if (m.block == b') && (m.place == p') then m.vector else make_of ms b' p')
     by_test rec true e (inl l) = let other : ((m.block == b') && (m.place == p')) ≡ false = grind (arith, nat_tests, e, l) in rec ∙ sym (ap (λ t. if t then m.vector else make_of ms b' p') other)
     by_test rec true e (inr k) = let other : ((m.block == b') && (m.place == p')) ≡ false = grind (arith, nat_tests, e, k.0, k.1) in rec ∙ sym (ap (λ t. if t then m.vector else make_of ms b' p') other)
@@ -96,7 +99,8 @@ pub record IsLine (bs : List BlockCert) (k n : ℕ) : Type 0 where
   pub number : line.block ≡ n
 
 -- lines of just these numbers, ascending, stand one behind the other
-pub counted : (bs : List BlockCert) (k m n : ℕ) → Ascend (map (λ b. b.block) bs) → ((i : ℕ) → is_among (map (λ b. b.block) bs) i ≡ (nat_le k i && nat_lt i m)) → k ≤ n → n < m → IsLine bs k n
+pub counted : (bs : List BlockCert) (k m n : ℕ) → Ascend (map (λ b. b.block) bs)
+    → ((i : ℕ) → is_among (map (λ b. b.block) bs) i ≡ (nat_le k i && nat_lt i m)) → k ≤ n → n < m → IsLine bs k n
 counted [] k m n a h l r = let e : false ≡ (nat_le k n && nat_lt n m) = h n in absurd (grind (arith, nat_tests, e, l, r))
 counted (b ∷ bs) k m n a h l r = by_order (λ j g. counted bs (suc k) m n (rest_ascends bs a) j g r) (n == k) refl
   where
@@ -124,7 +128,8 @@ counted (b ∷ bs) k m n a h l r = by_order (λ j g. counted bs (suc k) m n (res
         by_case true e = let j : b.block < i = later i e in let d : ((b.block == i) || is_among (map (λ b. b.block) bs) i) ≡ (nat_le k i && nat_lt i m) = h i in grind (arith, nat_tests, d, e, j, first)
         by_case false e = let d : ((b.block == i) || is_among (map (λ b. b.block) bs) i) ≡ (nat_le k i && nat_lt i m) = h i in grind (arith, nat_tests, d, e, first)
 
-    by_order : (((i : ℕ) → is_among (map (λ b. b.block) bs) i ≡ (nat_le (suc k) i && nat_lt i m)) → suc k ≤ n → IsLine bs (suc k) n) → (t : Bool) → (n == k) ≡ t → IsLine (b ∷ bs) k n
+    by_order : (((i : ℕ) → is_among (map (λ b. b.block) bs) i ≡ (nat_le (suc k) i && nat_lt i m)) → suc k ≤ n → IsLine bs (suc k) n) → (t : Bool)
+        → (n == k) ≡ t → IsLine (b ∷ bs) k n
     by_order rec true e =
         let same : b.block ≡ n = grind (arith, nat_tests, e, first) in
         let test : (b.block == n) ≡ true = grind (arith, nat_tests, same) in
@@ -187,7 +192,8 @@ vars_above n v [] h a = tt
 vars_above n v (w ∷ vs) h a = (omega (arith, h, a.0), vars_above n w vs (omega (arith, h, a.0)) a.1)
 
 -- each local carries what its line says
-pub put_is : (slots : List Vector) (vars : List VarCert) (x : ℕ) → LinesAscend vars → x < length slots → slice_get slots x ≡ Some [] → slice_get (put_all slots vars) x ≡ Some (vector_of vars x)
+pub put_is : (slots : List Vector) (vars : List VarCert) (x : ℕ) → LinesAscend vars → x < length slots → slice_get slots x ≡ Some []
+    → slice_get (put_all slots vars) x ≡ Some (vector_of vars x)
 put_is slots [] x a h e = e
 put_is slots (v ∷ vs) x a h e = by_test (λ k. put_is (slice_set slots v.var v.vector) vs x (var_others v vs a) (subst (λ n. x < n) (sym (set_length slots v.var v.vector)) h) k) (v.var == x) refl
   where

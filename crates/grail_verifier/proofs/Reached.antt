@@ -38,21 +38,25 @@ above c x (d ∷ cs) h m = by_test (above d x cs h.1) (d == x) refl m
     by_test rec true e k = let same : d ≡ x = grind (arith, nat_tests, e) in omega (arith, h.0, same)
     by_test rec false e k = omega (arith, h.0, rec k)
 
-all_enough : (s : Site) (have need : ℕ → ℕ) (cs : List ℕ) → ((c : ℕ) → is_among cs c ≡ true → need c ≤ have c) → first_short (map (λ c. check_on s have need c) cs) ≡ None
+all_enough : (s : Site) (have need : ℕ → ℕ) (cs : List ℕ) → ((c : ℕ) → is_among cs c ≡ true → need c ≤ have c)
+    → first_short (map (λ c. check_on s have need c) cs) ≡ None
 all_enough s have need [] h = refl
 all_enough s have need (c ∷ cs) h = by_test (all_enough s have need cs (λ x m. h x (later_among c x cs m))) (nat_lt (have c) (need c)) refl
   where
-    by_test : first_short (map (λ c. check_on s have need c) cs) ≡ None → (b : Bool) → nat_lt (have c) (need c) ≡ b → (if b then Some (check_on s have need c) else first_short (map (λ c. check_on s have need c) cs)) ≡ None
+    by_test : first_short (map (λ c. check_on s have need c) cs) ≡ None → (b : Bool) → nat_lt (have c) (need c) ≡ b
+        → (if b then Some (check_on s have need c) else first_short (map (λ c. check_on s have need c) cs)) ≡ None
     by_test rec true e = let k : need c ≤ have c = h c (here_among c cs) in absurd (grind (arith, nat_tests, e, k))
     by_test rec false e = rec
 
-first_fewer : (s : Site) (have need : ℕ → ℕ) (cs : List ℕ) (x : ℕ) → Ascend cs → is_among cs x ≡ true → have x < need x → ((c : ℕ) → c < x → is_among cs c ≡ true → need c ≤ have c)
+first_fewer : (s : Site) (have need : ℕ → ℕ) (cs : List ℕ) (x : ℕ) → Ascend cs → is_among cs x ≡ true → have x < need x
+    → ((c : ℕ) → c < x → is_among cs c ≡ true → need c ≤ have c)
     → first_short (map (λ c. check_on s have need c) cs) ≡ Some (check_on s have need x)
 first_fewer s have need [] x a m less before = absurd cc
 first_fewer s have need (c ∷ cs) x a m less before =
     by_test (λ k. first_fewer s have need cs x (others_ascend c cs a) k less (λ d l n. before d l (later_among c d cs n))) (c == x) refl m
   where
-    found : c ≡ x → (b : Bool) → nat_lt (have c) (need c) ≡ b → (if b then Some (check_on s have need c) else first_short (map (λ c. check_on s have need c) cs)) ≡ Some (check_on s have need x)
+    found : c ≡ x → (b : Bool) → nat_lt (have c) (need c) ≡ b
+        → (if b then Some (check_on s have need c) else first_short (map (λ c. check_on s have need c) cs)) ≡ Some (check_on s have need x)
     found same true e = ap (λ d. Some (check_on s have need d)) same
     found same false e = let k : have c < need c = subst (λ d. have d < need d) (sym same) less in absurd (grind (arith, nat_tests, e, k))
 
@@ -61,7 +65,8 @@ first_fewer s have need (c ∷ cs) x a m less before =
     passed rec k true e = absurd (grind (arith, nat_tests, e, k))
     passed rec k false e = rec
 
-    by_test : (is_among cs x ≡ true → first_short (map (λ c. check_on s have need c) cs) ≡ Some (check_on s have need x)) → (b : Bool) → (c == x) ≡ b → (b || is_among cs x) ≡ true
+    by_test : (is_among cs x ≡ true → first_short (map (λ c. check_on s have need c) cs) ≡ Some (check_on s have need x)) → (b : Bool) → (c == x) ≡ b
+        → (b || is_among cs x) ≡ true
         → first_short (map (λ c. check_on s have need c) (c ∷ cs)) ≡ Some (check_on s have need x)
     by_test rec true e k = let same : c ≡ x = grind (arith, nat_tests, e) in found same (nat_lt (have c) (need c)) refl
     by_test rec false e k = passed (rec k) (before c (above c x cs a k) (here_among c cs)) (nat_lt (have c) (need c)) refl
@@ -70,6 +75,7 @@ pub enough : (types : List DataType) (s : Site) (q : Kind) (have need : Vector) 
 unfolding AtLeast value_short
 enough types s q have need h = all_enough s (at have) (at need) (reached types q) (λ c m. h c ((reached_is types q c).0 m))
 
-pub fewer : (types : List DataType) (s : Site) (q : Kind) (have need : Vector) (con : ℕ) → IsFirstBelow types q (at have) (at need) con → value_short types s q have need ≡ Some (check_on s (at have) (at need) con)
+pub fewer : (types : List DataType) (s : Site) (q : Kind) (have need : Vector) (con : ℕ) → IsFirstBelow types q (at have) (at need) con
+    → value_short types s q have need ≡ Some (check_on s (at have) (at need) con)
 unfolding value_short
 fewer types s q have need con h = first_fewer s (at have) (at need) (reached types q) con (reached_ascends types q) ((reached_is types q con).1 h.reached) h.below (λ c l m. h.before c l ((reached_is types q c).0 m))

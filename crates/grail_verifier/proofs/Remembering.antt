@@ -18,7 +18,8 @@ use Rattle.grail_verifier.specs.Remembered.{Passed, IsPassed, IsSound}
 exact_keys : CmpEqualImpliesEq (λ (x y : Passed). ordering_then (ordering_then (nat_cmp x.0.0 y.0.0) (nat_cmp x.0.1 y.0.1)) (nat_cmp x.1 y.1))
 exact_keys = exact_pairs (λ (x y : ℕ × ℕ). ordering_then (nat_cmp x.0 y.0) (nat_cmp x.1 y.1)) nat_cmp (exact_pairs nat_cmp nat_cmp exact_unsigned exact_unsigned) exact_unsigned
 
-found_holds : {K : Type 0} (P : K → Type 0) (cmp : K → K → Ordering) → CmpEqualImpliesEq cmp → (ks : List K) (k : K) → AllByRecursion P ks → list_any (is_at (cmp k)) ks ≡ true → P k
+found_holds : {K : Type 0} (P : K → Type 0) (cmp : K → K → Ordering) → CmpEqualImpliesEq cmp → (ks : List K) (k : K) → AllByRecursion P ks
+    → list_any (is_at (cmp k)) ks ≡ true → P k
 found_holds P cmp exact [] k h m = absurd cc
 found_holds P cmp exact (x ∷ ks) k h m = by (λ n. found_holds P cmp exact ks k h.1 n) (cmp k x) refl m
   where
@@ -27,7 +28,8 @@ found_holds P cmp exact (x ∷ ks) k h m = by (λ n. found_holds P cmp exact ks 
     by rec Equal e n = subst P (sym (exact k x e)) h.0
     by rec Greater e n = rec n
 
-inserted_holds : {K : Type 0} (P : K → Type 0) (cmp : K → K → Ordering) (ks : List K) (k : K) → AllByRecursion P ks → P k → AllByRecursion P (insert_key cmp ks k)
+inserted_holds : {K : Type 0} (P : K → Type 0) (cmp : K → K → Ordering) (ks : List K) (k : K) → AllByRecursion P ks → P k
+    → AllByRecursion P (insert_key cmp ks k)
 inserted_holds P cmp [] k h p = (p, tt)
 inserted_holds P cmp (x ∷ ks) k h p = by (cmp k x) (inserted_holds P cmp ks k h.1 p)
   where
@@ -69,7 +71,8 @@ unfolding IsSound
 nothing_sound types all [] e = tt
 nothing_sound types all (k ∷ ks) e = absurd cc
 
-pub parts_sound : (types : List DataType) (all : List Vector) (last ks : List Passed) → IsSound types all last → IsSound types all ks → IsSound types all (last ++ ks)
+pub parts_sound : (types : List DataType) (all : List Vector) (last ks : List Passed) → IsSound types all last → IsSound types all ks
+    → IsSound types all (last ++ ks)
 unfolding IsSound
 parts_sound types all last ks h k = both_hold (IsPassed types all) last ks h k
 
@@ -81,16 +84,19 @@ pub kept_sound : (types : List DataType) (all : List Vector) (last ks : List Pas
 unfolding IsSound
 kept_sound types all last ks h = rest_holds (IsPassed types all) last ks h
 
-pub there_passed : (types : List DataType) (all : List Vector) (last : List Passed) (n : ℕ) (k : Passed) → IsSound types all last → n < length last → k ≡ get_or last n k → IsPassed types all k
+pub there_passed : (types : List DataType) (all : List Vector) (last : List Passed) (n : ℕ) (k : Passed) → IsSound types all last → n < length last
+    → k ≡ get_or last n k → IsPassed types all k
 unfolding IsSound
 there_passed types all last n k h l e = there_holds (IsPassed types all) last n k h l e
 
-pub set_sound : (types : List DataType) (all : List Vector) (last : List Passed) (n : ℕ) (k : Passed) → IsSound types all last → IsPassed types all k → IsSound types all (set last n k)
+pub set_sound : (types : List DataType) (all : List Vector) (last : List Passed) (n : ℕ) (k : Passed) → IsSound types all last → IsPassed types all k
+    → IsSound types all (set last n k)
 unfolding IsSound
 set_sound types all last n k h p = set_holds (IsPassed types all) last n k h p
 
 pub passed_before : (types : List DataType) (all : List Vector) (ks : List Passed) (k : Passed) → IsSound types all ks
-    → list_any (is_at (λ (y : Passed). ordering_then (ordering_then (nat_cmp k.0.0 y.0.0) (nat_cmp k.0.1 y.0.1)) (nat_cmp k.1 y.1))) ks ≡ true → IsPassed types all k
+    → list_any (is_at (λ (y : Passed). ordering_then (ordering_then (nat_cmp k.0.0 y.0.0) (nat_cmp k.0.1 y.0.1)) (nat_cmp k.1 y.1))) ks ≡ true
+    → IsPassed types all k
 unfolding IsSound
 passed_before types all ks k h m = found_holds (IsPassed types all) (λ (x y : Passed). ordering_then (ordering_then (nat_cmp x.0.0 y.0.0) (nat_cmp x.0.1 y.0.1)) (nat_cmp x.1 y.1)) exact_keys ks k h m
 
@@ -100,7 +106,8 @@ unfolding IsSound
 sound_with types all ks k h p = inserted_holds (IsPassed types all) (λ (x y : Passed). ordering_then (ordering_then (nat_cmp x.0.0 y.0.0) (nat_cmp x.0.1 y.0.1)) (nat_cmp x.1 y.1)) ks k h p
 
 pub sound_behind : {A E : Type 0} (r : Result A E) (types : List DataType) (all : List Vector) (self last old new : List Passed) (k : Passed)
-    → OnOk r (new ≡ insert_key (λ (x y : Passed). ordering_then (ordering_then (nat_cmp x.0.0 y.0.0) (nat_cmp x.0.1 y.0.1)) (nat_cmp x.1 y.1)) old k) → OnErr r (new ≡ old) → self ≡ last ++ old
+    → OnOk r (new ≡ insert_key (λ (x y : Passed). ordering_then (ordering_then (nat_cmp x.0.0 y.0.0) (nat_cmp x.0.1 y.0.1)) (nat_cmp x.1 y.1)) old k)
+    → OnErr r (new ≡ old) → self ≡ last ++ old
     → IsSound types all self → IsPassed types all k → IsSound types all (last ++ new)
 sound_behind (Ok x) types all self last old new k added kept is h p =
     let s : IsSound types all (last ++ old) = subst (IsSound types all) is h in
@@ -109,7 +116,8 @@ sound_behind (Err x) types all self last old new k added kept is h p = subst (λ
 
 -- ---- equal numbers
 
-pub at_least_itself : (types : List DataType) (q : Kind) (all : List Vector) (have need : ℕ) → have ≡ need → AtLeast types q (at (held all have)) (at (held all need))
+pub at_least_itself : (types : List DataType) (q : Kind) (all : List Vector) (have need : ℕ) → have ≡ need
+    → AtLeast types q (at (held all have)) (at (held all need))
 unfolding AtLeast
 at_least_itself types q all have need e con r = let same : at (held all need) con ≡ at (held all have) con = ap (λ n. at (held all n) con) (sym e) in omega (arith, same)
 
@@ -124,14 +132,17 @@ this_pair ((a, b), t) have need number e =
     let r : t ≡ number = grind (arith, nat_tests, e) in
     λ i. ((p i, q i), r i)
 
-pub last_passed : (types : List DataType) (all : List Vector) (self last ks lent : List Passed) (n : ℕ) (k : Passed) (have need number : ℕ) → self ≡ last ++ ks → IsSound types all self → lent ≡ last → true ≡ nat_lt n (length lent) → k ≡ get_or lent n k
+pub last_passed : (types : List DataType) (all : List Vector) (self last ks lent : List Passed) (n : ℕ) (k : Passed) (have need number : ℕ)
+    → self ≡ last ++ ks → IsSound types all self → lent ≡ last → true ≡ nat_lt n (length lent) → k ≡ get_or lent n k
     → ((nat_eq k.0.0 have && nat_eq k.0.1 need) && nat_eq k.1 number) ≡ true → IsPassed types all ((have, need), number)
 last_passed types all self last ks lent n k have need number e h same less at is =
     subst (IsPassed types all) (this_pair k have need number is) (there_passed types all lent n k (subst (IsSound types all) (sym same) (last_sound types all last ks (subst (IsSound types all) e h))) (grind (arith, nat_tests, less)) at)
 
-pub put_sound : (types : List DataType) (all : List Vector) (self last ks : List Passed) (n : ℕ) (k : Passed) → self ≡ last ++ ks → IsSound types all self → IsPassed types all k → IsSound types all (set last n k ++ ks)
+pub put_sound : (types : List DataType) (all : List Vector) (self last ks : List Passed) (n : ℕ) (k : Passed) → self ≡ last ++ ks
+    → IsSound types all self → IsPassed types all k → IsSound types all (set last n k ++ ks)
 put_sound types all self last ks n k e h p =
     parts_sound types all (set last n k) ks (set_sound types all last n k (last_sound types all last ks (subst (IsSound types all) e h)) p) (kept_sound types all last ks (subst (IsSound types all) e h))
 
-pub same_number : (types : List DataType) (q : Kind) (all : List Vector) (have need : ℕ) → (have == need) ≡ true → AtLeast types q (at (held all have)) (at (held all need))
+pub same_number : (types : List DataType) (q : Kind) (all : List Vector) (have need : ℕ) → (have == need) ≡ true
+    → AtLeast types q (at (held all have)) (at (held all need))
 same_number types q all have need e = at_least_itself types q all have need (grind (arith, nat_tests, e))

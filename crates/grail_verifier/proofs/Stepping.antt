@@ -46,7 +46,8 @@ pub record Tied (f : Func) (units : ℕ) (slots : List Vector) (a : Account ℤ)
   pub long : length slots ≡ 256
 
 -- a local has a new value
-put_held : (f : Func) (slots : List Vector) (carried : Carried ℤ) (x : ℕ) (v : Vector) (units : Units ℤ) → limits.FuncIsWithin f → length slots ≡ 256 → AreHeld f (slice_get slots) carried → IsHeld v units
+put_held : (f : Func) (slots : List Vector) (carried : Carried ℤ) (x : ℕ) (v : Vector) (units : Units ℤ) → limits.FuncIsWithin f → length slots ≡ 256
+    → AreHeld f (slice_get slots) carried → IsHeld v units
     → AreHeld f (slice_get (slice_set slots x v)) (carrying carried x units)
 put_held f slots carried x v units lims long held new y q e = by_test (x == y) refl
   where
@@ -83,14 +84,16 @@ module _ (p : Code) (c : Cert) (known : Known p c) where
   pub result_is : (callee : ℕ) (line : FuncCert) → slice_get c.funcs callee ≡ Some line → AreUnits line.result ((book c).result callee)
   result_is callee line e con = ap (λ v. pos (at v con)) (said_is c callee line (λ l. l.result) [] e)
 
-  pub call_found : (f : Func) (s : Site) (left : ℕ) (slots : List Vector) (a : Account ℤ) (callee : ℕ) (args : List ℕ) (g : Func) (line : FuncCert) → Tied f left slots a → Ready p c callee g line → HaveKinds f args g.params
+  pub call_found : (f : Func) (s : Site) (left : ℕ) (slots : List Vector) (a : Account ℤ) (callee : ℕ) (args : List ℕ) (g : Func) (line : FuncCert)
+      → Tied f left slots a → Ready p c callee g line → HaveKinds f args g.params
       → Found (arguments_checks p f (book c) s a callee args ++ left_check s a.left ((book c).need callee) ∷ []) (call_short p.types f s left slots args (Some line))
   call_found f s left slots a callee args g line tied ready kinds =
       both (arguments_checks p f (book c) s a callee args) (left_check s a.left ((book c).need callee) ∷ []) (asked_short p.types f s (slice_get slots) (slice_get args) line.params) (left_short s left line.need)
       (arguments_found f s left slots a callee args g line tied ready kinds) (λ e. one s left line.need a.left ((book c).need callee) tied.left (need_is callee line ready.lines))
 
   -- what a call leaves
-  pub behind_call : (left : ℕ) (left' : ℤ) (callee : ℕ) (line : FuncCert) → left' ≡ pos left → slice_get c.funcs callee ≡ Some line → line.need ≤ left → left + line.back ≤ 4611686018427387904
+  pub behind_call : (left : ℕ) (left' : ℤ) (callee : ℕ) (line : FuncCert) → left' ≡ pos left → slice_get c.funcs callee ≡ Some line
+      → line.need ≤ left → left + line.back ≤ 4611686018427387904
       → ((left' -ℤ (book c).need callee) +ℤ (book c).back callee) ≡ pos (capped ((left - line.need) + line.back))
   behind_call left left' callee line e lines enough few =
       let cap : capped ((left - line.need) + line.back) ≡ (left - line.need) + line.back = small ((left - line.need) + line.back) (omega (arith, few, enough)) in
@@ -99,7 +102,8 @@ module _ (p : Code) (c : Cert) (known : Known p c) where
 
   -- ---- builds
 
-  pub cost_is : (into : Place) (units : ℕ) (units' : ℤ) → units' ≡ pos units → units ≤ 2147483648 → build_cost integers (book c).unit into units' ≡ pos (cost c.unit into units)
+  pub cost_is : (into : Place) (units : ℕ) (units' : ℤ) → units' ≡ pos units → units ≤ 2147483648
+      → build_cost integers (book c).unit into units' ≡ pos (cost c.unit into units)
   cost_is place.New units units' e few =
       let cap : capped (units + c.unit) ≡ units + c.unit = small (units + c.unit) (omega (arith, few, known.right.within.unit)) in
       ap (λ n. n +ℤ pos c.unit) e ∙ sym (plus_is units c.unit) ∙ ap pos (sym cap)
@@ -107,7 +111,8 @@ module _ (p : Code) (c : Cert) (known : Known p c) where
   cost_is (place.Reuse d) units units' e few = e
 
   -- the build of this place carries what its line says
-  pub op_found : (func : ℕ) (f : Func) (own : FuncCert) (s : Site) (left : ℕ) (slots : List Vector) (a : Account ℤ) (made : Vector) (l : Let) → Tied f left slots a
+  pub op_found : (func : ℕ) (f : Func) (own : FuncCert) (s : Site) (left : ℕ) (slots : List Vector) (a : Account ℤ) (made : Vector) (l : Let)
+      → Tied f left slots a
       → IsHeld made ((book c).make s.func s.block s.place) → LetFits p f l → Found (op_checks integers p f (book c) s a l.op) (op_short p c f s left slots made l.op)
   op_found func f own s left slots a made l tied held fits = by_kind (some_and (Gives p f l.op) (kind_of f l.target) fits)
     where
@@ -128,20 +133,24 @@ module _ (p : Code) (c : Cert) (known : Known p c) where
               (λ e. one s left (cost c.unit into (at made con)) a.left (build_cost integers (book c).unit into ((book c).make s.func s.block s.place con)) tied.left (cost_is into (at made con) ((book c).make s.func s.block s.place con) (held.same con) (held.few con)))
       by_op (Call callee args) q g = by_callee (some_and (λ h. HaveKinds f args h.params × (q ≡ h.result)) (slice_get p.funcs callee) g)
         where
-          by_lines : (h : Func) → HaveKinds f args h.params → ((line : FuncCert) × Ready p c callee h line) → Found (op_checks integers p f (book c) s a (Call callee args)) (op_short p c f s left slots made (Call callee args))
+          by_lines : (h : Func) → HaveKinds f args h.params → ((line : FuncCert) × Ready p c callee h line)
+              → Found (op_checks integers p f (book c) s a (Call callee args)) (op_short p c f s left slots made (Call callee args))
           by_lines h kinds (line, r) =
               subst (λ o. Found (op_checks integers p f (book c) s a (Call callee args)) (call_short p.types f s left slots args o)) (sym r.lines) (call_found f s left slots a callee args h line tied r kinds)
 
-          by_callee : ((h : Func) × (slice_get p.funcs callee ≡ Some h) × (HaveKinds f args h.params × (q ≡ h.result))) → Found (op_checks integers p f (book c) s a (Call callee args)) (op_short p c f s left slots made (Call callee args))
+          by_callee : ((h : Func) × (slice_get p.funcs callee ≡ Some h) × (HaveKinds f args h.params × (q ≡ h.result)))
+              → Found (op_checks integers p f (book c) s a (Call callee args)) (op_short p c f s left slots made (Call callee args))
           by_callee (h, e, (kinds, r)) = by_lines h kinds (ready_at p c known callee h e)
 
-      by_kind : ((q : Kind) × (kind_of f l.target ≡ Some q) × Gives p f l.op q) → Found (op_checks integers p f (book c) s a l.op) (op_short p c f s left slots made l.op)
+      by_kind : ((q : Kind) × (kind_of f l.target ≡ Some q) × Gives p f l.op q)
+          → Found (op_checks integers p f (book c) s a l.op) (op_short p c f s left slots made l.op)
       by_kind (q, e, g) = by_op l.op q g
 
   -- ---- behind a let
 
   -- what locals carry and what is left behind a let that is paid for
-  pub behind_let : (f : Func) (s : Site) (left : ℕ) (slots : List Vector) (a : Account ℤ) (made : Vector) (l : Let) → Tied f left slots a → limits.FuncIsWithin f
+  pub behind_let : (f : Func) (s : Site) (left : ℕ) (slots : List Vector) (a : Account ℤ) (made : Vector) (l : Let) → Tied f left slots a
+      → limits.FuncIsWithin f
       → IsHeld made ((book c).make s.func s.block s.place) → LetFits p f l → left ≤ 1152921504606846976 → op_short p c f s left slots made l.op ≡ None
       → Tied f (left_behind p c left made l.op) (slots_behind p c slots made l) (after_op integers p.types (book c) s.func s.block s.place a l.target l.op)
   behind_let f s left slots a made l tied lims held fits few paid = by_kind (some_and (Gives p f l.op) (kind_of f l.target) fits)
@@ -215,5 +224,6 @@ module _ (p : Code) (c : Cert) (known : Known p c) where
       by_lines : (h : Func) → ((line : FuncCert) × Ready p c callee h line) → left_behind_call left (slice_get c.funcs callee) ≤ left + 1099511627776
       by_lines h (line, r) = subst (λ o. left_behind_call left o ≤ left + 1099511627776) (sym r.lines) (let b : line.back ≤ 1099511627776 = r.within.back in omega (arith, b))
 
-      by_callee : ((h : Func) × (slice_get p.funcs callee ≡ Some h) × (HaveKinds f args h.params × (q ≡ h.result))) → left_behind_call left (slice_get c.funcs callee) ≤ left + 1099511627776
+      by_callee : ((h : Func) × (slice_get p.funcs callee ≡ Some h) × (HaveKinds f args h.params × (q ≡ h.result)))
+          → left_behind_call left (slice_get c.funcs callee) ≤ left + 1099511627776
       by_callee (h, d, (kinds, r)) = by_lines h (ready_at p c known callee h d)

@@ -35,7 +35,8 @@ module _ (p : Code) (c : Cert) (known : Known p c) where
           few = make_few own.makes s.block s.place ready.within.makes;
         })
 
-    lets_found : (s : Site) → s.func ≡ func → (makes : List MakeCert) (left : ℕ) (slots : List Vector) (a : Account ℤ) (ls : List Let) (t : Term) → Tied f left slots a → AllByRecursion (LetFits p f) ls → TermFits p f s.block t
+    lets_found : (s : Site) → s.func ≡ func → (makes : List MakeCert) (left : ℕ) (slots : List Vector) (a : Account ℤ) (ls : List Let) (t : Term)
+        → Tied f left slots a → AllByRecursion (LetFits p f) ls → TermFits p f s.block t
         → MakesAscend makes → AreFrom makes own s.block s.place → left ≤ s.place * 1099511627776 → s.place + length ls ≤ 257
         → Found (lets_checks integers p f (book c) s a ls t) (lets_short p c [] f own s makes left slots ls t)
     lets_found s e makes left slots a [] t tied lets term asc from few less = term_found p c known func f own ready s e left slots a s.block t tied (omega (arith, few, less)) term
@@ -55,11 +56,13 @@ module _ (p : Code) (c : Cert) (known : Known p c) where
         (λ i h. from_keeps s.block s.place s.block i makes (inr (refl, omega (arith, h))) ∙ from i (omega (arith, h)))
         (grows (some_and (Gives p f l.op) (kind_of f l.target) lets.0)) (omega (arith, less)))
       where
-        grows : ((q : Kind) × (kind_of f l.target ≡ Some q) × Gives p f l.op q) → left_behind p c left (in_front [] s.block s.place (makes_from s.block s.place makes)) l.op ≤ suc s.place * 1099511627776
+        grows : ((q : Kind) × (kind_of f l.target ≡ Some q) × Gives p f l.op q)
+            → left_behind p c left (in_front [] s.block s.place (makes_from s.block s.place makes)) l.op ≤ suc s.place * 1099511627776
         grows (q, k, g) = omega (arith, few, left_grows p c known left (in_front [] s.block s.place (makes_from s.block s.place makes)) l.op f q g)
 
     -- at the beginning of a block
-    begun_tied : (left : ℕ) (vars : List VarCert) (a : Account ℤ) → a.left ≡ pos left → LinesAscend vars → AllByRecursion VarIsWithin vars → ((x : ℕ) → AreUnits (vector_of vars x) (a.carried x)) → Tied f left (put_all (replicate 256 []) vars) a
+    begun_tied : (left : ℕ) (vars : List VarCert) (a : Account ℤ) → a.left ≡ pos left → LinesAscend vars → AllByRecursion VarIsWithin vars
+        → ((x : ℕ) → AreUnits (vector_of vars x) (a.carried x)) → Tied f left (put_all (replicate 256 []) vars) a
     begun_tied left vars a e asc within same = record {
       left = e;
       held = λ x q k. subst (λ o. IsHeldIn o (a.carried x)) (sym (put_is (replicate 256 []) vars x asc (let l : x < 256 = few_locals f x q ready.limits k in omega (arith, l, length-replicate 256 none)) (none_at 256 x [] (few_locals f x q ready.limits k))))
@@ -73,14 +76,16 @@ module _ (p : Code) (c : Cert) (known : Known p c) where
     abbrev BlockFound : (number : ℕ) → List MakeCert → Block → Type 0
     BlockFound number makes b = Found (lets_checks integers p f (book c) (record { func = func; block = number; place = 1 }) (account_at (book c) func number) b.lets b.term) (block_short p c [] f own func number makes b)
 
-    first_found : (makes : List MakeCert) (b : Block) → BlockFits p f 0 b → length b.lets ≤ 256 → MakesAscend makes → AreFrom makes own 0 1 → BlockFound 0 makes b
+    first_found : (makes : List MakeCert) (b : Block) → BlockFits p f 0 b → length b.lets ≤ 256 → MakesAscend makes → AreFrom makes own 0 1
+        → BlockFound 0 makes b
     first_found makes b fits few asc from =
         lets_found (record { func = func; block = 0; place = 1 }) refl makes own.need (put_all (replicate 256 []) own.params) (account_at (book c) func 0) b.lets b.term
         (begun_tied own.need own.params (account_at (book c) func 0) (need_is p c known func own ready.lines) ready.formed.params.ascending ready.within.params
         (λ x con. ap (λ v. pos (at v con)) (said_is c func own (λ l. vector_of l.params x) [] ready.lines)))
         fits.lets fits.term asc from (let n : own.need ≤ 1099511627776 = ready.within.need in omega (arith, n)) (omega (arith, few))
 
-    later_found : (n : ℕ) (makes : List MakeCert) (b : Block) → suc n < length f.blocks → BlockFits p f (suc n) b → length b.lets ≤ 256 → MakesAscend makes → AreFrom makes own (suc n) 1 → BlockFound (suc n) makes b
+    later_found : (n : ℕ) (makes : List MakeCert) (b : Block) → suc n < length f.blocks → BlockFits p f (suc n) b → length b.lets ≤ 256
+        → MakesAscend makes → AreFrom makes own (suc n) 1 → BlockFound (suc n) makes b
     later_found n makes b less fits few asc from = by_line (target_at p c func f own (suc n) ready (omega arith) less)
       where
         s : Site
@@ -100,12 +105,15 @@ module _ (p : Code) (c : Cert) (known : Known p c) where
             (λ x con. ap (λ v. pos (at v con)) (block_says p c known func f own ready (suc n) t.line (λ l. vector_of l.vars x) [] t.found)))
             fits.lets fits.term asc from (let m : t.line.need ≤ 1099511627776 = (all_at (λ l. BlockIsWithin l) own.blocks (suc n - 1) t.line ready.within.blocks t.stands).need in omega (arith, m)) (omega (arith, few))))
 
-    block_found : (number : ℕ) (makes : List MakeCert) (b : Block) → number < length f.blocks → BlockFits p f number b → length b.lets ≤ 256 → MakesAscend makes → AreFrom makes own number 1 → BlockFound number makes b
+    block_found : (number : ℕ) (makes : List MakeCert) (b : Block) → number < length f.blocks → BlockFits p f number b → length b.lets ≤ 256
+        → MakesAscend makes → AreFrom makes own number 1 → BlockFound number makes b
     block_found zero makes b less fits few asc from = first_found makes b fits few asc from
     block_found (suc n) makes b less fits few asc from = later_found n makes b less fits few asc from
 
-    blocks_found : (number : ℕ) (makes : List MakeCert) (bs : List Block) → ((i : ℕ) (b : Block) → slice_get bs i ≡ Some b → slice_get f.blocks (number + i) ≡ Some b) → MakesAscend makes
-        → ((block i : ℕ) → number ≤ block → make_of makes block i ≡ make_of own.makes block i) → Found (blocks_checks integers p f (book c) func number bs) (blocks_short p c [] f own func number makes bs)
+    blocks_found : (number : ℕ) (makes : List MakeCert) (bs : List Block)
+        → ((i : ℕ) (b : Block) → slice_get bs i ≡ Some b → slice_get f.blocks (number + i) ≡ Some b) → MakesAscend makes
+        → ((block i : ℕ) → number ≤ block → make_of makes block i ≡ make_of own.makes block i)
+        → Found (blocks_checks integers p f (book c) func number bs) (blocks_short p c [] f own func number makes bs)
     blocks_found number makes [] there asc from = nothing
     blocks_found number makes (b ∷ bs) there asc from =
         both (lets_checks integers p f (book c) (record { func = func; block = number; place = 1 }) (account_at (book c) func number) b.lets b.term) (blocks_checks integers p f (book c) func (suc number) bs)
@@ -122,7 +130,8 @@ module _ (p : Code) (c : Cert) (known : Known p c) where
     func_found : Found (blocks_checks integers p f (book c) func 0 f.blocks) (blocks_short p c [] f own func 0 own.makes f.blocks)
     func_found = blocks_found 0 own.makes f.blocks (λ i b e. (let z : 0 + i ≡ i = omega arith in ap (slice_get f.blocks) z) ∙ e) ready.formed.makes (λ block i h. refl)
 
-  funcs_found : (func : ℕ) (fs : List Func) → ((i : ℕ) (f : Func) → slice_get fs i ≡ Some f → slice_get p.funcs (func + i) ≡ Some f) → Found (funcs_checks integers p (book c) func fs) (funcs_short p c [] func fs)
+  funcs_found : (func : ℕ) (fs : List Func) → ((i : ℕ) (f : Func) → slice_get fs i ≡ Some f → slice_get p.funcs (func + i) ≡ Some f)
+      → Found (funcs_checks integers p (book c) func fs) (funcs_short p c [] func fs)
   funcs_found func [] there = nothing
   funcs_found func (f ∷ fs) there =
       both (blocks_checks integers p f (book c) func 0 f.blocks) (funcs_checks integers p (book c) (suc func) fs) (func_short p c [] func f (slice_get c.funcs func)) (funcs_short p c [] (suc func) fs)
@@ -131,7 +140,8 @@ module _ (p : Code) (c : Cert) (known : Known p c) where
       here : slice_get p.funcs func ≡ Some f
       here = (let z : func ≡ func + 0 = omega arith in ap (slice_get p.funcs) z) ∙ there 0 f refl
 
-      by_lines : ((own : FuncCert) × Ready p c func f own) → Found (blocks_checks integers p f (book c) func 0 f.blocks) (func_short p c [] func f (slice_get c.funcs func))
+      by_lines : ((own : FuncCert) × Ready p c func f own)
+          → Found (blocks_checks integers p f (book c) func 0 f.blocks) (func_short p c [] func f (slice_get c.funcs func))
       by_lines (own, r) = subst (λ o. Found (blocks_checks integers p f (book c) func 0 f.blocks) (func_short p c [] func f o)) (sym r.lines) (func_found func f own r)
 
   -- the whole walk

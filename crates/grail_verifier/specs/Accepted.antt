@@ -1,5 +1,6 @@
 -- Cited by contracts.
--- The verifier's yes, without its refusals: the bytes spell well-formed code, the others are the text of a certificate, and the certificate grants the code.
+-- The verifier's yes, without its refusals: the bytes spell well-formed code, the others are the text of a certificate,
+-- and the certificate grants the code.
 use Rattle.std.specs.Prelude.{◌≡◌, ℕ, List}
 use Rattle.grail_code.specs.Spelling.{IsSpelling}
 use Rattle.grail_code.specs.WellFormed.{IsWellFormed}

@@ -1,6 +1,6 @@
 -- Laws, for the proofs of this crate and of those above it.
 -- The verdict is a yes exactly where the bytes are accepted.
-use Rattle.std.proofs.Common.{◌≡◌, ℕ, List, Result, Ok, Err, refl, sym, subst}
+use Rattle.std.proofs.Common.{ℕ, List, Ok, refl, sym, subst}
 use Rattle.licence.specs.Licensed.{Licensed}
 use Rattle.grail_verifier.specs.Accepted.{IsAccepted}
 use Rattle.grail_verifier.specs.Verdicts.{IsVerdict}

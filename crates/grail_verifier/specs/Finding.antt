@@ -1,17 +1,13 @@
 -- Private: words for functions of this crate.
 -- The first check of a list that fails, and how an answer of the code tells it.
 use Rattle.std.specs.Prelude.{◌≡◌, ℕ, ℤ, List, Option, Some, None, Result, Ok, Err}
-use Rattle.licence.specs.Checks.{Check, Site, AllHold, FirstFails}
+use Rattle.licence.specs.Checks.{Check, AllHold, FirstFails}
 pub use Rattle.grail_verifier.specs.Verdicts.{in_numbers}
 use Rattle.grail_verifier.specs.declared.refusal.Refusal.{Refusal}
 use Rattle.grail_verifier.specs.declared.refusal.Refusal.TheVariants as refusal
 use Rattle.grail_verifier.specs.declared.short.Short.{Short}
-use Rattle.grail_verifier.specs.declared.short.Site.{Site as DeclaredSite}
 
 -- the plain data of the code's types
-abbrev pub site_of : DeclaredSite → Site
-site_of s = record { func = s.func; block = s.block; place = s.place }
-
 abbrev pub short_of : Short → Check ℕ
 short_of s = record { func = s.func; block = s.block; place = s.place; con = s.con; have = s.have; need = s.need }
 

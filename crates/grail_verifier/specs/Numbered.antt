@@ -1,6 +1,6 @@
 -- Private: words for functions of this crate.
--- The annotations of a certificate in one list, and its lines with numbers in that list in place of annotations, so that two of a line
--- are the same where their numbers are. A number that isn't in the list has no annotations.
+-- The annotations of a certificate in one list, and its lines with numbers in that list in place of annotations, so
+-- that two of a line are the same where their numbers are. A number that isn't in the list has no annotations.
 use Rattle.std.specs.Prelude.{◌≡◌, ℕ, List, [], map, slice_get, Some}
 use Rattle.std.specs.Option.{unwrap_or}
 use Rattle.annotations.specs.Vectors.{Vector}

@@ -1,7 +1,7 @@
 -- Private: words for functions of this crate.
--- The check of a certificate as a walk through the code. For each local the walk has the annotations of its value, in a list by the
--- numbers of locals; a local that isn't in the list isn't looked at. Lines of builds are taken from the front of what is left of them,
--- and the line of a block stands at its place.
+-- The check of a certificate as a walk through the code. For each local the walk has the annotations of its value, in a
+-- list by the numbers of locals; a local that isn't in the list isn't looked at. Lines of builds are taken from the
+-- front of what is left of them, and the line of a block stands at its place.
 use Rattle.std.specs.Prelude.{ℕ, suc, ◌+◌, ◌-◌, ◌^◌, min, nat_lt, ◌==◌, ◌&&◌, ◌||◌, if◌then◌else◌, List, [], ◌∷◌, replicate, slice_get, slice_set, Option, Some, None, cond}
 use Rattle.std.specs.Option.{option_or}
 use Rattle.camelot_values.specs.Kinds.{DataType}
@@ -16,6 +16,7 @@ use Rattle.grail_code.specs.WellFormed.{kind_of}
 use Rattle.annotations.specs.Vectors.{Vector, at, is_heap_con}
 use Rattle.certificate.specs.Certificates.{VarCert, BlockCert, MakeCert, FuncCert, Cert}
 use Rattle.licence.specs.Rules.{first_con_of}
+use Rattle.licence.specs.Sites.{next_con, next_place}
 use Rattle.licence.specs.Checks.{Check, Site, left_check, value_checks}
 
 -- what a sum of the code comes to
@@ -145,10 +146,6 @@ given unit (cell.Keep d) left = left
 abbrev pub left_in_arm : List DataType → ℕ → ℕ → Vector → (con : ℕ) → CaseCell → ℕ
 left_in_arm types unit left matched con c = given unit c (cond (is_heap_con types con) (capped (left + at matched con)) left)
 
--- the next constructor, as the code counts
-abbrev pub next_con : ℕ → ℕ
-next_con con = min (con + 1) (2 ^ 32 - 1)
-
 -- the arms, of the constructors from this one on
 abbrev pub arms_short : List DataType → ℕ → Func → FuncCert → Site → ℕ → List Vector → Vector → (con : ℕ) → List CaseArm → Option (Check ℕ)
 arms_short types unit f own s left slots matched con [] = None
@@ -184,9 +181,6 @@ makes_from block place (m ∷ ms) = if nat_lt m.block block || ((m.block == bloc
 abbrev pub in_front : Vector → (block place : ℕ) → List MakeCert → Vector
 in_front none block place [] = none
 in_front none block place (m ∷ ms) = if (m.block == block) && (m.place == place) then m.vector else none
-
-abbrev pub next_place : Site → Site
-next_place s = record { func = s.func; block = s.block; place = suc s.place }
 
 -- the lets from this place on, and then the end
 abbrev pub lets_short : Code → Cert → Vector → Func → FuncCert → Site → List MakeCert → ℕ → List Vector → List Let → Term → Option (Check ℕ)

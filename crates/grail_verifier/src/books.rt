@@ -2,12 +2,12 @@ ghost use Rattle.std.specs.Prelude.{◌≡◌};
 ghost use Rattle.annotations.specs.Tables.{table_of};
 
 use super::numbered::{FuncLines, NumberedCert};
-use super::short::Site;
 use annotations::ReachTable;
 use grail_code::{Code, Func};
+use licence::Site;
 
-/// What is walked: code with the numbered lines of its certificate, and the table of its types. Locals carry annotations by their numbers; number 0 is
-/// no units, for locals and builds without a line.
+/// What is walked: code with the numbered lines of its certificate, and the table of its types. Locals carry
+/// annotations by their numbers; number 0 is no units, for locals and builds without a line.
 #[derive(Clone, Copy)]
 pub(crate) struct Books<'a> {
     pub(crate) code: &'a Code,

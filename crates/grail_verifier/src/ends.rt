@@ -6,8 +6,9 @@ ghost use Rattle.grail_code.specs.Code.{func_of as body_of};
 ghost use Rattle.grail_code.specs.WellFormed.{kind_of};
 ghost use Rattle.grail_verifier.specs.Numbered.{held, block_in, func_in};
 ghost use Rattle.grail_verifier.specs.Remembered.{IsSound};
-ghost use Rattle.licence.specs.Rules.{first_con, first_con_of};
-ghost use Rattle.grail_verifier.specs.Finding.{site_of, Finds};
+ghost use Rattle.licence.specs.Rules.{first_con_of};
+ghost use Rattle.licence.specs.Sites.{site_of};
+ghost use Rattle.grail_verifier.specs.Finding.{Finds};
 ghost use Rattle.grail_verifier.specs.Walk.{capped, left_short, value_short, local_short, bound, line_at, line_short, jump_short, given, left_in_arm, arms_short, case_short, tail_short, term_short};
 
 use super::books::{Books, Here};
@@ -15,9 +16,9 @@ use super::lets::{check_call, is_heap_con, left_behind_call, lines_of};
 use super::memo::Memo;
 use super::numbered::{BlockLines, FuncLines};
 use super::short::Short;
-use super::values::{check_left, check_local, check_params, check_value, kind_of, slot};
-use camelot_values::{Kind, Types};
+use super::values::{check_left, check_local, check_params, check_value, slot};
 use grail_code::{CaseArm, CaseCell, Term};
+use licence::first_con_of;
 
 /// The line of a block after the first. Where the certificate fits, it stands one place before its number.
 pub(crate) fn line_at<'a>(
@@ -45,7 +46,10 @@ fn check_line(
     line: &BlockLines,
 ) -> Result<(), Short>
     requires sound { IsSound (code_of books.code.now).types books.lines.now.held memo.old }
-    ensures found { Finds result (line_short (code_of books.entry.code.now).types (body_of here.entry.func.now) (site_of here.entry.site) here.entry.left (bound (map (held books.entry.lines.now.held) slots.now) fields.now (held books.entry.lines.now.held matched)) (Some (block_in books.entry.lines.now.held line.now))) }
+    ensures found { Finds result (line_short (code_of books.entry.code.now).types (body_of here.entry.func.now)
+        (site_of here.entry.site) here.entry.left
+        (bound (map (held books.entry.lines.now.held) slots.now) fields.now
+        (held books.entry.lines.now.held matched)) (Some (block_in books.entry.lines.now.held line.now))) }
     ensures sound { IsSound (code_of books.entry.code.now).types books.entry.lines.now.held memo.new }
 {
     check_params(
@@ -66,7 +70,10 @@ fn check_jump(
     to: u32,
 ) -> Result<(), Short>
     requires sound { IsSound (code_of books.code.now).types books.lines.now.held memo.old }
-    ensures found { Finds result (jump_short (code_of books.entry.code.now).types (body_of here.entry.func.now) (func_in books.entry.lines.now.held own.now) (site_of here.entry.site) here.entry.left (bound (map (held books.entry.lines.now.held) slots.now) fields.now (held books.entry.lines.now.held matched)) to) }
+    ensures found { Finds result (jump_short (code_of books.entry.code.now).types (body_of here.entry.func.now)
+        (func_in books.entry.lines.now.held own.now) (site_of here.entry.site) here.entry.left
+        (bound (map (held books.entry.lines.now.held) slots.now) fields.now
+        (held books.entry.lines.now.held matched)) to) }
     ensures sound { IsSound (code_of books.entry.code.now).types books.entry.lines.now.held memo.new }
 {
     match line_at(books, own, to) {
@@ -85,7 +92,9 @@ fn check_plain_jump(
     to: u32,
 ) -> Result<(), Short>
     requires sound { IsSound (code_of books.code.now).types books.lines.now.held memo.old }
-    ensures found { Finds result (jump_short (code_of books.entry.code.now).types (body_of here.entry.func.now) (func_in books.entry.lines.now.held own.now) (site_of here.entry.site) here.entry.left (bound (map (held books.entry.lines.now.held) slots.now) [] (held books.entry.lines.now.held 0)) to) }
+    ensures found { Finds result (jump_short (code_of books.entry.code.now).types (body_of here.entry.func.now)
+        (func_in books.entry.lines.now.held own.now) (site_of here.entry.site) here.entry.left
+        (bound (map (held books.entry.lines.now.held) slots.now) [] (held books.entry.lines.now.held 0)) to) }
     ensures sound { IsSound (code_of books.entry.code.now).types books.entry.lines.now.held memo.new }
 {
     check_jump(books, memo, own, here, slots, &[], 0, to)
@@ -124,7 +133,12 @@ fn check_arm(
     arm: &CaseArm,
 ) -> Result<(), Short>
     requires sound { IsSound (code_of books.code.now).types books.lines.now.held memo.old }
-    ensures found { Finds result (jump_short (code_of books.entry.code.now).types (body_of here.entry.func.now) (func_in books.entry.lines.now.held own.now) (site_of here.entry.site) (left_in_arm (code_of books.entry.code.now).types books.entry.lines.now.cert.unit here.entry.left (held books.entry.lines.now.held matched) con arm.now.cell) (bound (map (held books.entry.lines.now.held) slots.now) (arm_of arm.now).fields (held books.entry.lines.now.held matched)) arm.now.target) }
+    ensures found { Finds result (jump_short (code_of books.entry.code.now).types (body_of here.entry.func.now)
+        (func_in books.entry.lines.now.held own.now) (site_of here.entry.site)
+        (left_in_arm (code_of books.entry.code.now).types books.entry.lines.now.cert.unit here.entry.left
+        (held books.entry.lines.now.held matched) con arm.now.cell)
+        (bound (map (held books.entry.lines.now.held) slots.now) (arm_of arm.now).fields
+        (held books.entry.lines.now.held matched)) arm.now.target) }
     ensures sound { IsSound (code_of books.entry.code.now).types books.entry.lines.now.held memo.new }
 {
     let left = left_with(books, here.left, matched, con);
@@ -158,7 +172,10 @@ fn check_arms(
     arms: &[CaseArm],
 ) -> Result<(), Short>
     requires sound { IsSound (code_of books.code.now).types books.lines.now.held memo.old }
-    ensures found { Finds result (arms_short (code_of books.entry.code.now).types books.entry.lines.now.cert.unit (body_of here.entry.func.now) (func_in books.entry.lines.now.held own.now) (site_of here.entry.site) here.entry.left (map (held books.entry.lines.now.held) slots.now) (held books.entry.lines.now.held matched) first (map arm_of arms.now)) }
+    ensures found { Finds result (arms_short (code_of books.entry.code.now).types books.entry.lines.now.cert.unit
+        (body_of here.entry.func.now) (func_in books.entry.lines.now.held own.now)
+        (site_of here.entry.site) here.entry.left (map (held books.entry.lines.now.held) slots.now)
+        (held books.entry.lines.now.held matched) first (map arm_of arms.now)) }
     ensures sound { IsSound (code_of books.entry.code.now).types books.entry.lines.now.held memo.new }
 {
     let mut con = first;
@@ -180,7 +197,10 @@ fn check_tail(
     args: &[u32],
 ) -> Result<(), Short>
     requires sound { IsSound (code_of books.code.now).types books.lines.now.held memo.old }
-    ensures found { Finds result (tail_short (code_of books.entry.code.now).types (body_of here.entry.func.now) (func_in books.entry.lines.now.held own.now) (site_of here.entry.site) here.entry.left (map (held books.entry.lines.now.held) slots.now) args.now (Some (func_in books.entry.lines.now.held callee.now))) }
+    ensures found { Finds result (tail_short (code_of books.entry.code.now).types (body_of here.entry.func.now)
+        (func_in books.entry.lines.now.held own.now) (site_of here.entry.site) here.entry.left
+        (map (held books.entry.lines.now.held) slots.now) args.now
+        (Some (func_in books.entry.lines.now.held callee.now))) }
     ensures sound { IsSound (code_of books.entry.code.now).types books.entry.lines.now.held memo.new }
 {
     let kind = here.func.result;
@@ -203,37 +223,15 @@ fn check_ret(
     local: u32,
 ) -> Result<(), Short>
     requires sound { IsSound (code_of books.code.now).types books.lines.now.held memo.old }
-    ensures found { Finds result (option_or (local_short (code_of books.entry.code.now).types (body_of here.entry.func.now) (site_of here.entry.site) (slice_get (map (held books.entry.lines.now.held) slots.now)) (Some local) (func_in books.entry.lines.now.held own.now).result) (left_short (site_of here.entry.site) here.entry.left (func_in books.entry.lines.now.held own.now).back)) }
+    ensures found { Finds result (option_or (local_short (code_of books.entry.code.now).types
+        (body_of here.entry.func.now) (site_of here.entry.site)
+        (slice_get (map (held books.entry.lines.now.held) slots.now)) (Some local)
+        (func_in books.entry.lines.now.held own.now).result)
+        (left_short (site_of here.entry.site) here.entry.left (func_in books.entry.lines.now.held own.now).back)) }
     ensures sound { IsSound (code_of books.entry.code.now).types books.entry.lines.now.held memo.new }
 {
     check_local(books, memo, here.func, here.site, slots, local, own.result)?;
     check_left(here.site, here.left, own.back)
-}
-
-// The first constructor of the type of this number: those of the types before it come first.
-#[tactic(auto, using(crate::proofs::Numbers::one_type_more, crate::proofs::Numbers::all_types, crate::proofs::Numbers::stop_at, crate::proofs::Numbers::few_with))]
-fn first_con(types: &Types, number: u32) -> u32
-    ensures { result ≡ first_con types.now number }
-{
-    types.limits();
-    let mut first = 0;
-    'types: for (index, def) in types.defs().iter().enumerate() {
-        if index >= number as usize {
-            return first;
-        }
-        first += def.cons.len() as u32;
-    }
-    first
-}
-
-// The first constructor of the type of this kind.
-fn first_con_of(types: &Types, kind: Option<Kind>) -> u32
-    ensures { result ≡ first_con_of types.now kind }
-{
-    match kind {
-        Some(Kind::Of(number)) => first_con(types, number),
-        _ => 0,
-    }
 }
 
 // A choice by the constructor of a local.
@@ -247,10 +245,15 @@ fn check_case(
     arms: &[CaseArm],
 ) -> Result<(), Short>
     requires sound { IsSound (code_of books.code.now).types books.lines.now.held memo.old }
-    ensures found { Finds result (case_short (code_of books.entry.code.now).types books.entry.lines.now.cert.unit (body_of here.entry.func.now) (func_in books.entry.lines.now.held own.now) (site_of here.entry.site) here.entry.left (map (held books.entry.lines.now.held) slots.now) (slice_get (map (held books.entry.lines.now.held) slots.now) on) (first_con_of (code_of books.entry.code.now).types (kind_of (body_of here.entry.func.now) on)) (map arm_of arms.now)) }
+    ensures found { Finds result (case_short (code_of books.entry.code.now).types books.entry.lines.now.cert.unit
+        (body_of here.entry.func.now) (func_in books.entry.lines.now.held own.now)
+        (site_of here.entry.site) here.entry.left (map (held books.entry.lines.now.held) slots.now)
+        (slice_get (map (held books.entry.lines.now.held) slots.now) on)
+        (first_con_of (code_of books.entry.code.now).types (kind_of (body_of here.entry.func.now) on))
+        (map arm_of arms.now)) }
     ensures sound { IsSound (code_of books.entry.code.now).types books.entry.lines.now.held memo.new }
 {
-    let first = first_con_of(&books.code.types, kind_of(here.func, on));
+    let first = first_con_of(&books.code.types, here.func.kind_of(on));
     match slot(books, slots, on) {
         Some(matched) => check_arms(books, memo, own, here, slots, matched, first, arms),
         None => Ok(()),
@@ -268,7 +271,13 @@ fn check_if(
     no: u32,
 ) -> Result<(), Short>
     requires sound { IsSound (code_of books.code.now).types books.lines.now.held memo.old }
-    ensures found { Finds result (option_or (jump_short (code_of books.entry.code.now).types (body_of here.entry.func.now) (func_in books.entry.lines.now.held own.now) (site_of here.entry.site) here.entry.left (bound (map (held books.entry.lines.now.held) slots.now) [] (held books.entry.lines.now.held 0)) yes) (jump_short (code_of books.entry.code.now).types (body_of here.entry.func.now) (func_in books.entry.lines.now.held own.now) (site_of here.entry.site) here.entry.left (bound (map (held books.entry.lines.now.held) slots.now) [] (held books.entry.lines.now.held 0)) no)) }
+    ensures found { Finds result (option_or (jump_short (code_of books.entry.code.now).types
+        (body_of here.entry.func.now) (func_in books.entry.lines.now.held own.now)
+        (site_of here.entry.site) here.entry.left
+        (bound (map (held books.entry.lines.now.held) slots.now) [] (held books.entry.lines.now.held 0)) yes)
+        (jump_short (code_of books.entry.code.now).types (body_of here.entry.func.now)
+        (func_in books.entry.lines.now.held own.now) (site_of here.entry.site) here.entry.left
+        (bound (map (held books.entry.lines.now.held) slots.now) [] (held books.entry.lines.now.held 0)) no)) }
     ensures sound { IsSound (code_of books.entry.code.now).types books.entry.lines.now.held memo.new }
 {
     check_plain_jump(books, memo, own, here, slots, yes)?;
@@ -285,7 +294,10 @@ pub(crate) fn check_end(
     term: &Term,
 ) -> Result<(), Short>
     requires sound { IsSound (code_of books.code.now).types books.lines.now.held memo.old }
-    ensures found { Finds result (term_short (code_of books.entry.code.now) books.entry.lines.now.cert (held books.entry.lines.now.held 0) (body_of here.entry.func.now) (func_in books.entry.lines.now.held own.now) (site_of here.entry.site) here.entry.left (map (held books.entry.lines.now.held) slots.now) (term_of term.now)) }
+    ensures found { Finds result (term_short (code_of books.entry.code.now) books.entry.lines.now.cert
+        (held books.entry.lines.now.held 0) (body_of here.entry.func.now)
+        (func_in books.entry.lines.now.held own.now) (site_of here.entry.site) here.entry.left
+        (map (held books.entry.lines.now.held) slots.now) (term_of term.now)) }
     ensures sound { IsSound (code_of books.entry.code.now).types books.entry.lines.now.held memo.new }
 {
     match term {

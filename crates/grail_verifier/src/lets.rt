@@ -5,15 +5,17 @@ ghost use Rattle.grail_code.specs.Code.{op_of, let_of, code_of};
 ghost use Rattle.grail_code.specs.Code.{func_of as body_of};
 ghost use Rattle.grail_verifier.specs.Numbered.{held, func_in};
 ghost use Rattle.grail_verifier.specs.Remembered.{IsSound};
-ghost use Rattle.grail_verifier.specs.Finding.{site_of, Finds};
+ghost use Rattle.licence.specs.Sites.{site_of};
+ghost use Rattle.grail_verifier.specs.Finding.{Finds};
 ghost use Rattle.grail_verifier.specs.Walk.{left_short, all_short, cost, call_short, make_short, op_short, left_behind_call, left_behind_make, left_behind, put, slots_behind_call, slots_behind};
 
 use super::books::{Books, Here};
 use super::memo::Memo;
 use super::numbered::FuncLines;
-use super::short::{Short, Site};
+use super::short::Short;
 use super::values::{check_all, check_arguments, check_left, slot};
 use grail_code::{Let, Op, Place};
+use licence::Site;
 
 /// Whether the constructor belongs to a heap type.
 pub(crate) fn is_heap_con(books: Books<'_>, con: u32) -> bool
@@ -35,7 +37,8 @@ fn cost(unit: u64, place: Place, units: u64) -> u64
 // The local's value carries these from now on.
 #[tactic(auto, using(std::proofs::lemmas::List::set_past))]
 pub(crate) fn put(books: Books<'_>, slots: &mut [usize], local: u32, number: usize)
-    ensures { map (held books.entry.lines.now.held) slots.new ≡ slice_set (map (held books.entry.lines.now.held) slots.old) local (held books.entry.lines.now.held number) }
+    ensures { map (held books.entry.lines.now.held) slots.new
+        ≡ slice_set (map (held books.entry.lines.now.held) slots.old) local (held books.entry.lines.now.held number) }
 {
     if (local as usize) < slots.len() {
         slots[local as usize] = number;
@@ -44,7 +47,9 @@ pub(crate) fn put(books: Books<'_>, slots: &mut [usize], local: u32, number: usi
 
 // A copy carries what its operand does.
 fn copy(books: Books<'_>, slots: &mut [usize], target: u32, source: u32)
-    ensures { map (held books.entry.lines.now.held) slots.new ≡ put (map (held books.entry.lines.now.held) slots.old) target (slice_get (map (held books.entry.lines.now.held) slots.old) source) }
+    ensures { map (held books.entry.lines.now.held) slots.new
+        ≡ put (map (held books.entry.lines.now.held) slots.old) target
+        (slice_get (map (held books.entry.lines.now.held) slots.old) source) }
 {
     if let Some(number) = slot(books, slots, source) {
         put(books, slots, target, number);
@@ -75,7 +80,9 @@ pub(crate) fn check_call(
     args: &[u32],
 ) -> Result<(), Short>
     requires sound { IsSound (code_of books.code.now).types books.lines.now.held memo.old }
-    ensures found { Finds result (call_short (code_of books.entry.code.now).types (body_of here.entry.func.now) (site_of here.entry.site) here.entry.left (map (held books.entry.lines.now.held) slots.now) args.now (Some (func_in books.entry.lines.now.held callee.now))) }
+    ensures found { Finds result (call_short (code_of books.entry.code.now).types (body_of here.entry.func.now)
+        (site_of here.entry.site) here.entry.left (map (held books.entry.lines.now.held) slots.now) args.now
+        (Some (func_in books.entry.lines.now.held callee.now))) }
     ensures sound { IsSound (code_of books.entry.code.now).types books.entry.lines.now.held memo.new }
 {
     check_arguments(
@@ -101,7 +108,10 @@ fn check_build(
     cost: u64,
 ) -> Result<(), Short>
     requires sound { IsSound (code_of books.code.now).types books.lines.now.held memo.old }
-    ensures found { Finds result (option_or (all_short (code_of books.entry.code.now).types (body_of here.entry.func.now) (site_of here.entry.site) (slice_get (map (held books.entry.lines.now.held) slots.now)) args.now (held books.entry.lines.now.held made)) (left_short (site_of here.entry.site) here.entry.left cost)) }
+    ensures found { Finds result (option_or (all_short (code_of books.entry.code.now).types
+        (body_of here.entry.func.now) (site_of here.entry.site)
+        (slice_get (map (held books.entry.lines.now.held) slots.now)) args.now
+        (held books.entry.lines.now.held made)) (left_short (site_of here.entry.site) here.entry.left cost)) }
     ensures sound { IsSound (code_of books.entry.code.now).types books.entry.lines.now.held memo.new }
 {
     check_all(books, memo, here.func, here.site, slots, args, made)?;
@@ -120,8 +130,12 @@ fn check_make(
     place: Place,
 ) -> Result<u64, Short>
     requires sound { IsSound (code_of books.code.now).types books.lines.now.held memo.old }
-    ensures found { Finds result (make_short (code_of books.entry.code.now).types books.entry.lines.now.cert.unit (body_of here.entry.func.now) (site_of here.entry.site) here.entry.left (map (held books.entry.lines.now.held) slots.now) (held books.entry.lines.now.held made) con args.now place) }
-    ensures left { IfOk result (λ left. left ≡ left_behind_make (code_of books.entry.code.now).types books.entry.lines.now.cert.unit here.entry.left (held books.entry.lines.now.held made) con place) }
+    ensures found { Finds result (make_short (code_of books.entry.code.now).types books.entry.lines.now.cert.unit
+        (body_of here.entry.func.now) (site_of here.entry.site) here.entry.left
+        (map (held books.entry.lines.now.held) slots.now) (held books.entry.lines.now.held made) con args.now place) }
+    ensures left { IfOk result (λ left. left ≡ left_behind_make
+        (code_of books.entry.code.now).types books.entry.lines.now.cert.unit here.entry.left
+        (held books.entry.lines.now.held made) con place) }
     ensures sound { IsSound (code_of books.entry.code.now).types books.entry.lines.now.held memo.new }
 {
     if !is_heap_con(books, con) {
@@ -142,8 +156,12 @@ pub(crate) fn check_op(
     op: &Op,
 ) -> Result<u64, Short>
     requires sound { IsSound (code_of books.code.now).types books.lines.now.held memo.old }
-    ensures found { Finds result (op_short (code_of books.entry.code.now) books.entry.lines.now.cert (body_of here.entry.func.now) (site_of here.entry.site) here.entry.left (map (held books.entry.lines.now.held) slots.now) (held books.entry.lines.now.held made) (op_of op.now)) }
-    ensures left { IfOk result (λ left. left ≡ left_behind (code_of books.entry.code.now) books.entry.lines.now.cert here.entry.left (held books.entry.lines.now.held made) (op_of op.now)) }
+    ensures found { Finds result (op_short (code_of books.entry.code.now) books.entry.lines.now.cert
+        (body_of here.entry.func.now) (site_of here.entry.site) here.entry.left
+        (map (held books.entry.lines.now.held) slots.now) (held books.entry.lines.now.held made) (op_of op.now)) }
+    ensures left { IfOk result (λ left. left ≡ left_behind
+        (code_of books.entry.code.now) books.entry.lines.now.cert here.entry.left
+        (held books.entry.lines.now.held made) (op_of op.now)) }
     ensures sound { IsSound (code_of books.entry.code.now).types books.entry.lines.now.held memo.new }
 {
     match op {
@@ -163,7 +181,10 @@ pub(crate) fn check_op(
 
 /// The target of a let carries what is said of it.
 pub(crate) fn bind(books: Books<'_>, slots: &mut [usize], made: usize, binding: &Let)
-    ensures { map (held books.entry.lines.now.held) slots.new ≡ slots_behind (code_of books.entry.code.now) books.entry.lines.now.cert (map (held books.entry.lines.now.held) slots.old) (held books.entry.lines.now.held made) (let_of binding.now) }
+    ensures { map (held books.entry.lines.now.held) slots.new
+        ≡ slots_behind (code_of books.entry.code.now) books.entry.lines.now.cert
+        (map (held books.entry.lines.now.held) slots.old) (held books.entry.lines.now.held made)
+        (let_of binding.now) }
 {
     match &binding.op {
         Op::Copy(source) => copy(books, slots, binding.target, *source),

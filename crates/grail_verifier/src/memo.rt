@@ -7,8 +7,8 @@ use std::alloc::Global;
 use std::collections::BTreeSet;
 use std::marker::Model;
 
-/// Pairs of annotations, by their numbers, with a type, of which the first were found to be at least the second: those that came last, by the number
-/// of the second, and those that are kept.
+/// Pairs of annotations, by their numbers, with a type, of which the first were found to be at least the second: those
+/// that came last, by the number of the second, and those that are kept.
 #[derive(Drop)]
 pub(crate) struct Memo {
     last: Vec<((usize, usize), u32)>,
@@ -64,7 +64,8 @@ impl Memo {
 
     /// Puts this down, in place of what was there of the second annotations.
     pub(crate) fn put_last(&mut self, have: usize, need: usize, number: u32)
-        ensures { (types : List DataType) (all : List Pairs) → IsSound types all self.old → IsPassed types all ((have, need), number) → IsSound types all self.new }
+        ensures { (types : List DataType) (all : List Pairs) → IsSound types all self.old
+            → IsPassed types all ((have, need), number) → IsSound types all self.new }
     {
         if need < self.last.len() {
             self.last[need] = ((have, need), number);
@@ -80,7 +81,8 @@ impl Memo {
 
     /// Keeps this, or, where memory runs out, doesn't.
     pub(crate) fn add(&mut self, have: usize, need: usize, number: u32)
-        ensures { (types : List DataType) (all : List Pairs) → IsSound types all self.old → IsPassed types all ((have, need), number) → IsSound types all self.new }
+        ensures { (types : List DataType) (all : List Pairs) → IsSound types all self.old
+            → IsPassed types all ((have, need), number) → IsSound types all self.new }
     {
         let _known = self.passed.insert(((have, need), number));
     }

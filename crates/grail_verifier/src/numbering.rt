@@ -123,7 +123,8 @@ fn number_funcs<'a>(
     Ok(funcs)
 }
 
-/// The certificate with the annotations numbered in the order of its lines, behind `none`, which has number 0; `AllocError` where memory runs out.
+/// The certificate with the annotations numbered in the order of its lines, behind `none`, which has number 0;
+/// `AllocError` where memory runs out.
 pub(crate) fn number_cert<'a>(
     alloc: Global,
     cert: &'a Cert,

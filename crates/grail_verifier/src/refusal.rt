@@ -1,11 +1,12 @@
 use super::short::Short;
 use certificate::CertFault;
-use certificate_shape::Misfit;
+use certificate_fit::Misfit;
 use grail_check::CodeFault;
 use grail_code::DecodeFault;
 use thiserror::Error;
 
-/// Why bytes are no licence. Functions and blocks are counted from 0, and places of lets from 1; behind the last let stands the block's end.
+/// Why bytes are no licence. Functions and blocks are counted from 0, and places of lets from 1; behind the last let
+/// stands the block's end.
 #[derive(Clone, Copy, Debug, PartialEq, Eq, Error)]
 pub enum Refusal {
     /// The bytes of the code spell none.
@@ -17,7 +18,8 @@ pub enum Refusal {
     /// The bytes of the certificate aren't the text of one.
     #[error("certificate {0}")]
     Cert(CertFault),
-    /// The certificate's lines don't fit the code: this is the first function where they don't, and the least block in it.
+    /// The certificate's lines don't fit the code: this is the first function where they don't, and the least block in
+    /// it.
     #[error("shape function {func} block {block}")]
     Shape {
         func: u64,
@@ -42,7 +44,4 @@ pub enum Refusal {
         have: u64,
         need: u64,
     },
-    /// Memory ran out.
-    #[error("out of memory")]
-    Memory,
 }

@@ -2,22 +2,23 @@ ghost use Rattle.std.specs.Prelude.{◌≡◌, slice_get, map, Some, MatchOption
 ghost use Rattle.std.specs.Option.{option_map};
 ghost use Rattle.camelot_values.specs.Lists.{is_among};
 ghost use Rattle.grail_code.specs.Code.{func_of, code_of};
-ghost use Rattle.grail_code.specs.WellFormed.{kind_of};
 ghost use Rattle.grail_verifier.specs.Numbered.{held, var_in};
 ghost use Rattle.grail_verifier.specs.Remembered.{IsSound};
 ghost use Rattle.annotations.specs.Vectors.{at, AtLeast, IsFirstBelow};
 ghost use Rattle.camelot_values.specs.declared.kinds.Kind.TheVariants.{Of};
 ghost use Rattle.licence.specs.Checks.{left_check};
-ghost use Rattle.grail_verifier.specs.Finding.{site_of, Finds};
+ghost use Rattle.licence.specs.Sites.{site_of};
+ghost use Rattle.grail_verifier.specs.Finding.{Finds};
 ghost use Rattle.grail_verifier.specs.Walk.{left_short, value_short, held_short, local_short, asked_short, all_short, bound};
 
 use super::books::Books;
 use super::memo::Memo;
 use super::numbered::VarLine;
-use super::short::{Short, Site};
+use super::short::Short;
 use annotations::{Vector, first_below};
 use camelot_values::Kind;
 use grail_code::Func;
+use licence::Site;
 
 // Annotations of so many constructors are walked each time they are compared.
 const LONG: usize = 32;
@@ -42,7 +43,10 @@ pub(crate) fn check_left(site: Site, have: u64, need: u64) -> Result<(), Short>
 
 // The first constructor that the kind reaches of which the first annotations have fewer units, by walking both.
 fn walk_both(books: Books<'_>, kind: Kind, have: usize, need: usize) -> Option<u32>
-    ensures { MatchOption result (AtLeast (code_of books.entry.code.now).types kind (at (held books.entry.lines.now.held have)) (at (held books.entry.lines.now.held need))) (λ con. IsFirstBelow (code_of books.entry.code.now).types kind (at (held books.entry.lines.now.held have)) (at (held books.entry.lines.now.held need)) con) }
+    ensures { MatchOption result (AtLeast (code_of books.entry.code.now).types kind
+        (at (held books.entry.lines.now.held have)) (at (held books.entry.lines.now.held need)))
+        (λ con. IsFirstBelow (code_of books.entry.code.now).types kind (at (held books.entry.lines.now.held have))
+        (at (held books.entry.lines.now.held need)) con) }
 {
     first_below(
         books.lines.get(have),
@@ -61,7 +65,11 @@ fn walk_once(
     need: usize,
 ) -> Option<u32>
     requires sound { IsSound (code_of books.code.now).types books.lines.now.held memo.old }
-    ensures found { MatchOption result (AtLeast (code_of books.entry.code.now).types (Of number) (at (held books.entry.lines.now.held have)) (at (held books.entry.lines.now.held need))) (λ con. IsFirstBelow (code_of books.entry.code.now).types (Of number) (at (held books.entry.lines.now.held have)) (at (held books.entry.lines.now.held need)) con) }
+    ensures found { MatchOption result
+        (AtLeast (code_of books.entry.code.now).types (Of number) (at (held books.entry.lines.now.held have))
+        (at (held books.entry.lines.now.held need)))
+        (λ con. IsFirstBelow (code_of books.entry.code.now).types (Of number)
+        (at (held books.entry.lines.now.held have)) (at (held books.entry.lines.now.held need)) con) }
     ensures sound { IsSound (code_of books.entry.code.now).types books.entry.lines.now.held memo.new }
 {
     if memo.has(have, need, number) {
@@ -81,12 +89,17 @@ fn is_long(vector: &Vector) -> bool
     vector.pairs().len() > LONG
 }
 
-// The same, where long annotations that pass are kept. It is kept out of the loops over parameters, few of which come here.
+// The same, where long annotations that pass are kept. It is kept out of the loops over parameters, few of which come
+// here.
 #[cold]
 #[inline(never)]
 fn walk_of(books: Books<'_>, memo: &mut Memo, number: u32, have: usize, need: usize) -> Option<u32>
     requires sound { IsSound (code_of books.code.now).types books.lines.now.held memo.old }
-    ensures found { MatchOption result (AtLeast (code_of books.entry.code.now).types (Of number) (at (held books.entry.lines.now.held have)) (at (held books.entry.lines.now.held need))) (λ con. IsFirstBelow (code_of books.entry.code.now).types (Of number) (at (held books.entry.lines.now.held have)) (at (held books.entry.lines.now.held need)) con) }
+    ensures found { MatchOption result
+        (AtLeast (code_of books.entry.code.now).types (Of number) (at (held books.entry.lines.now.held have))
+        (at (held books.entry.lines.now.held need)))
+        (λ con. IsFirstBelow (code_of books.entry.code.now).types (Of number)
+        (at (held books.entry.lines.now.held have)) (at (held books.entry.lines.now.held need)) con) }
     ensures sound { IsSound (code_of books.entry.code.now).types books.entry.lines.now.held memo.new }
 {
     if is_long(books.lines.get(have)) || is_long(books.lines.get(need)) {
@@ -99,7 +112,11 @@ fn walk_of(books: Books<'_>, memo: &mut Memo, number: u32, have: usize, need: us
 // The same, where what passed last against the second annotations isn't walked again.
 fn walk_new(books: Books<'_>, memo: &mut Memo, number: u32, have: usize, need: usize) -> Option<u32>
     requires sound { IsSound (code_of books.code.now).types books.lines.now.held memo.old }
-    ensures found { MatchOption result (AtLeast (code_of books.entry.code.now).types (Of number) (at (held books.entry.lines.now.held have)) (at (held books.entry.lines.now.held need))) (λ con. IsFirstBelow (code_of books.entry.code.now).types (Of number) (at (held books.entry.lines.now.held have)) (at (held books.entry.lines.now.held need)) con) }
+    ensures found { MatchOption result
+        (AtLeast (code_of books.entry.code.now).types (Of number) (at (held books.entry.lines.now.held have))
+        (at (held books.entry.lines.now.held need)))
+        (λ con. IsFirstBelow (code_of books.entry.code.now).types (Of number)
+        (at (held books.entry.lines.now.held have)) (at (held books.entry.lines.now.held need)) con) }
     ensures sound { IsSound (code_of books.entry.code.now).types books.entry.lines.now.held memo.new }
 {
     if memo.is_last(have, need, number) {
@@ -112,8 +129,8 @@ fn walk_new(books: Books<'_>, memo: &mut Memo, number: u32, have: usize, need: u
     below
 }
 
-// The first constructor that the kind reaches of which the first annotations have fewer units. The same annotations aren't walked, nor those that
-// passed last; and long ones that pass are walked once.
+// The first constructor that the kind reaches of which the first annotations have fewer units. The same annotations
+// aren't walked, nor those that passed last; and long ones that pass are walked once.
 #[tactic(auto, using(crate::proofs::Remembering::same_number))]
 fn first_fewer(
     books: Books<'_>,
@@ -123,7 +140,11 @@ fn first_fewer(
     need: usize,
 ) -> Option<u32>
     requires sound { IsSound (code_of books.code.now).types books.lines.now.held memo.old }
-    ensures found { MatchOption result (AtLeast (code_of books.entry.code.now).types kind (at (held books.entry.lines.now.held have)) (at (held books.entry.lines.now.held need))) (λ con. IsFirstBelow (code_of books.entry.code.now).types kind (at (held books.entry.lines.now.held have)) (at (held books.entry.lines.now.held need)) con) }
+    ensures found { MatchOption result
+        (AtLeast (code_of books.entry.code.now).types kind (at (held books.entry.lines.now.held have))
+        (at (held books.entry.lines.now.held need)))
+        (λ con. IsFirstBelow (code_of books.entry.code.now).types kind (at (held books.entry.lines.now.held have))
+        (at (held books.entry.lines.now.held need)) con) }
     ensures sound { IsSound (code_of books.entry.code.now).types books.entry.lines.now.held memo.new }
 {
     if have == need {
@@ -135,7 +156,8 @@ fn first_fewer(
     }
 }
 
-/// Refuses a value of this kind that carries less than is asked, by the first constructor that the kind reaches and that has fewer units.
+/// Refuses a value of this kind that carries less than is asked, by the first constructor that the kind reaches and
+/// that has fewer units.
 #[inline(always)]
 #[tactic(auto, using(crate::proofs::Reached::enough, crate::proofs::Reached::fewer))]
 pub(crate) fn check_value(
@@ -147,7 +169,8 @@ pub(crate) fn check_value(
     need: usize,
 ) -> Result<(), Short>
     requires sound { IsSound (code_of books.code.now).types books.lines.now.held memo.old }
-    ensures found { Finds result (value_short (code_of books.entry.code.now).types (site_of site) kind (held books.entry.lines.now.held have) (held books.entry.lines.now.held need)) }
+    ensures found { Finds result (value_short (code_of books.entry.code.now).types (site_of site) kind
+        (held books.entry.lines.now.held have) (held books.entry.lines.now.held need)) }
     ensures sound { IsSound (code_of books.entry.code.now).types books.entry.lines.now.held memo.new }
 {
     match first_fewer(books, memo, kind, have, need) {
@@ -163,19 +186,6 @@ pub(crate) fn check_value(
     }
 }
 
-/// The kind of a local.
-pub(crate) fn kind_of(func: &Func, local: u32) -> Option<Kind>
-    ensures { result ≡ kind_of (func_of func.now) local }
-{
-    let place = local as usize;
-    let params = func.params.len();
-    if place < params {
-        func.params.get(place).copied()
-    } else {
-        func.locals.get(place - params).copied()
-    }
-}
-
 // A value that is there.
 #[inline(always)]
 fn check_held(
@@ -187,7 +197,8 @@ fn check_held(
     need: usize,
 ) -> Result<(), Short>
     requires sound { IsSound (code_of books.code.now).types books.lines.now.held memo.old }
-    ensures found { Finds result (held_short (code_of books.entry.code.now).types (site_of site) kind (option_map (held books.entry.lines.now.held) have) (held books.entry.lines.now.held need)) }
+    ensures found { Finds result (held_short (code_of books.entry.code.now).types (site_of site) kind
+        (option_map (held books.entry.lines.now.held) have) (held books.entry.lines.now.held need)) }
     ensures sound { IsSound (code_of books.entry.code.now).types books.entry.lines.now.held memo.new }
 {
     match (kind, have) {
@@ -214,14 +225,16 @@ pub(crate) fn check_local(
     need: usize,
 ) -> Result<(), Short>
     requires sound { IsSound (code_of books.code.now).types books.lines.now.held memo.old }
-    ensures found { Finds result (local_short (code_of books.entry.code.now).types (func_of func.now) (site_of site) (slice_get (map (held books.entry.lines.now.held) slots.now)) (Some local) (held books.entry.lines.now.held need)) }
+    ensures found { Finds result (local_short (code_of books.entry.code.now).types (func_of func.now) (site_of site)
+        (slice_get (map (held books.entry.lines.now.held) slots.now)) (Some local)
+        (held books.entry.lines.now.held need)) }
     ensures sound { IsSound (code_of books.entry.code.now).types books.entry.lines.now.held memo.new }
 {
     check_held(
         books,
         memo,
         site,
-        kind_of(func, local),
+        func.kind_of(local),
         slot(books, slots, local),
         need,
     )
@@ -245,7 +258,9 @@ fn check_argument(
     line: &VarLine,
 ) -> Result<(), Short>
     requires sound { IsSound (code_of books.code.now).types books.lines.now.held memo.old }
-    ensures found { Finds result (local_short (code_of books.entry.code.now).types (func_of func.now) (site_of site) (slice_get (map (held books.entry.lines.now.held) slots.now)) (slice_get args.now line.now.var) (var_in books.entry.lines.now.held line.now).vector) }
+    ensures found { Finds result (local_short (code_of books.entry.code.now).types (func_of func.now) (site_of site)
+        (slice_get (map (held books.entry.lines.now.held) slots.now)) (slice_get args.now line.now.var)
+        (var_in books.entry.lines.now.held line.now).vector) }
     ensures sound { IsSound (code_of books.entry.code.now).types books.entry.lines.now.held memo.new }
 {
     match argument(args, line.var) {
@@ -265,7 +280,9 @@ pub(crate) fn check_arguments(
     lines: &[VarLine],
 ) -> Result<(), Short>
     requires sound { IsSound (code_of books.code.now).types books.lines.now.held memo.old }
-    ensures found { Finds result (asked_short (code_of books.entry.code.now).types (func_of func.now) (site_of site) (slice_get (map (held books.entry.lines.now.held) slots.now)) (slice_get args.now) (map (var_in books.entry.lines.now.held) lines.now)) }
+    ensures found { Finds result (asked_short (code_of books.entry.code.now).types (func_of func.now) (site_of site)
+        (slice_get (map (held books.entry.lines.now.held) slots.now)) (slice_get args.now)
+        (map (var_in books.entry.lines.now.held) lines.now)) }
     ensures sound { IsSound (code_of books.entry.code.now).types books.entry.lines.now.held memo.new }
 {
     'lines: for line in lines {
@@ -285,7 +302,9 @@ pub(crate) fn check_all(
     need: usize,
 ) -> Result<(), Short>
     requires sound { IsSound (code_of books.code.now).types books.lines.now.held memo.old }
-    ensures found { Finds result (all_short (code_of books.entry.code.now).types (func_of func.now) (site_of site) (slice_get (map (held books.entry.lines.now.held) slots.now)) locals.now (held books.entry.lines.now.held need)) }
+    ensures found { Finds result (all_short (code_of books.entry.code.now).types (func_of func.now) (site_of site)
+        (slice_get (map (held books.entry.lines.now.held) slots.now)) locals.now
+        (held books.entry.lines.now.held need)) }
     ensures sound { IsSound (code_of books.entry.code.now).types books.entry.lines.now.held memo.new }
 {
     'locals: for local in locals {
@@ -303,7 +322,9 @@ fn bound(
     matched: usize,
     local: u32,
 ) -> Option<usize>
-    ensures { option_map (held books.entry.lines.now.held) result ≡ bound (map (held books.entry.lines.now.held) slots.now) fields.now (held books.entry.lines.now.held matched) local }
+    ensures { option_map (held books.entry.lines.now.held) result
+        ≡ bound (map (held books.entry.lines.now.held) slots.now) fields.now
+        (held books.entry.lines.now.held matched) local }
 {
     if fields.contains(&local) {
         Some(matched)
@@ -312,7 +333,8 @@ fn bound(
     }
 }
 
-/// Locals against the lines of a block's parameters, where an arm has bound these fields. A parameter without a line asks nothing.
+/// Locals against the lines of a block's parameters, where an arm has bound these fields. A parameter without a line
+/// asks nothing.
 pub(crate) fn check_params(
     books: Books<'_>,
     memo: &mut Memo,
@@ -324,19 +346,14 @@ pub(crate) fn check_params(
     lines: &[VarLine],
 ) -> Result<(), Short>
     requires sound { IsSound (code_of books.code.now).types books.lines.now.held memo.old }
-    ensures found { Finds result (asked_short (code_of books.entry.code.now).types (func_of func.now) (site_of site) (bound (map (held books.entry.lines.now.held) slots.now) fields.now (held books.entry.lines.now.held matched)) Some (map (var_in books.entry.lines.now.held) lines.now)) }
+    ensures found { Finds result (asked_short (code_of books.entry.code.now).types (func_of func.now) (site_of site)
+        (bound (map (held books.entry.lines.now.held) slots.now) fields.now
+        (held books.entry.lines.now.held matched)) Some (map (var_in books.entry.lines.now.held) lines.now)) }
     ensures sound { IsSound (code_of books.entry.code.now).types books.entry.lines.now.held memo.new }
 {
     'lines: for line in lines {
         let have = bound(books, slots, fields, matched, line.var);
-        check_held(
-            books,
-            memo,
-            site,
-            kind_of(func, line.var),
-            have,
-            line.number,
-        )?;
+        check_held(books, memo, site, func.kind_of(line.var), have, line.number)?;
     }
     Ok(())
 }

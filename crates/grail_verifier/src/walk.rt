@@ -4,7 +4,8 @@ ghost use Rattle.grail_code.specs.Code.{func_of as body_of};
 ghost use Rattle.std.specs.Option.{option_map};
 ghost use Rattle.grail_verifier.specs.Numbered.{held, var_in, block_in, make_in, func_in};
 ghost use Rattle.grail_verifier.specs.Remembered.{IsSound};
-ghost use Rattle.grail_verifier.specs.Finding.{site_of, Finds};
+ghost use Rattle.licence.specs.Sites.{site_of};
+ghost use Rattle.grail_verifier.specs.Finding.{Finds};
 ghost use Rattle.grail_verifier.specs.Walk.{makes_from, in_front, lets_short, put_all, begun_short, lined_short, block_short, blocks_short, func_short, funcs_short};
 
 use super::books::{Body, Books, Here};
@@ -12,8 +13,9 @@ use super::ends::{check_end, line_at};
 use super::lets::{bind, check_op, lines_of, put};
 use super::memo::Memo;
 use super::numbered::{BlockLines, MakeLine, VarLine};
-use super::short::{Short, Site};
+use super::short::Short;
 use grail_code::{Block, Func};
+use licence::Site;
 
 // The most locals of a function.
 const LOCALS: usize = 256;
@@ -41,7 +43,9 @@ fn makes_from<'a>(books: Books<'_>, makes: &'a [MakeLine], block: u32, place: u3
 
 // The number of the annotations of the build at this place, where its line stands in front.
 fn in_front(books: Books<'_>, makes: &[MakeLine], block: u32, place: u32) -> usize
-    ensures { held books.entry.lines.now.held result ≡ in_front (held books.entry.lines.now.held 0) block place (map (make_in books.entry.lines.now.held) makes.now) }
+    ensures { held books.entry.lines.now.held result
+        ≡ in_front (held books.entry.lines.now.held 0) block place
+        (map (make_in books.entry.lines.now.held) makes.now) }
 {
     match makes {
         [first, ..] if first.block == block && first.place == place => first.number,
@@ -51,7 +55,9 @@ fn in_front(books: Books<'_>, makes: &[MakeLine], block: u32, place: u32) -> usi
 
 // Locals carry what these lines say.
 fn put_all(books: Books<'_>, slots: &mut [usize], lines: &[VarLine])
-    ensures { map (held books.entry.lines.now.held) slots.new ≡ put_all (map (held books.entry.lines.now.held) slots.old) (map (var_in books.entry.lines.now.held) lines.now) }
+    ensures { map (held books.entry.lines.now.held) slots.new
+        ≡ put_all (map (held books.entry.lines.now.held) slots.old)
+        (map (var_in books.entry.lines.now.held) lines.now) }
 {
     'lines: for line in lines {
         put(books, slots, line.var, line.number);
@@ -71,7 +77,11 @@ fn check_lets<'a>(
 ) -> Result<(), Short>
     requires place { start.place ≡ 1 }
     requires sound { IsSound (code_of books.code.now).types books.lines.now.held memo.old }
-    ensures found { Finds result (lets_short (code_of books.entry.code.now) books.entry.lines.now.cert (held books.entry.lines.now.held 0) (body_of body.entry.func.now) (func_in books.entry.lines.now.held body.entry.own.now) (site_of start) (map (make_in books.entry.lines.now.held) makes.now) need (map (held books.entry.lines.now.held) slots.old) (map let_of block.now.lets.items) (term_of block.now.term)) }
+    ensures found { Finds result (lets_short (code_of books.entry.code.now) books.entry.lines.now.cert
+        (held books.entry.lines.now.held 0) (body_of body.entry.func.now)
+        (func_in books.entry.lines.now.held body.entry.own.now) (site_of start)
+        (map (make_in books.entry.lines.now.held) makes.now) need (map (held books.entry.lines.now.held) slots.old)
+        (map let_of block.now.lets.items) (term_of block.now.term)) }
     ensures sound { IsSound (code_of books.entry.code.now).types books.entry.lines.now.held memo.new }
 {
     let mut site = start;
@@ -110,7 +120,11 @@ fn check_begun<'a>(
 ) -> Result<(), Short>
     requires place { start.place ≡ 1 }
     requires sound { IsSound (code_of books.code.now).types books.lines.now.held memo.old }
-    ensures found { Finds result (begun_short (code_of books.entry.code.now) books.entry.lines.now.cert (held books.entry.lines.now.held 0) (body_of body.entry.func.now) (func_in books.entry.lines.now.held body.entry.own.now) (site_of start) (map (make_in books.entry.lines.now.held) makes.now) need (map (var_in books.entry.lines.now.held) lines.now) (block_of block.now)) }
+    ensures found { Finds result (begun_short (code_of books.entry.code.now) books.entry.lines.now.cert
+        (held books.entry.lines.now.held 0) (body_of body.entry.func.now)
+        (func_in books.entry.lines.now.held body.entry.own.now) (site_of start)
+        (map (make_in books.entry.lines.now.held) makes.now) need (map (var_in books.entry.lines.now.held) lines.now)
+        (block_of block.now)) }
     ensures sound { IsSound (code_of books.entry.code.now).types books.entry.lines.now.held memo.new }
 {
     let mut slots = [0; LOCALS];
@@ -130,7 +144,11 @@ fn check_lined<'a>(
 ) -> Result<(), Short>
     requires place { start.place ≡ 1 }
     requires sound { IsSound (code_of books.code.now).types books.lines.now.held memo.old }
-    ensures found { Finds result (lined_short (code_of books.entry.code.now) books.entry.lines.now.cert (held books.entry.lines.now.held 0) (body_of body.entry.func.now) (func_in books.entry.lines.now.held body.entry.own.now) (site_of start) (map (make_in books.entry.lines.now.held) makes.now) (option_map (λ b. block_in books.entry.lines.now.held b.now) line.entry) (block_of block.now)) }
+    ensures found { Finds result (lined_short (code_of books.entry.code.now) books.entry.lines.now.cert
+        (held books.entry.lines.now.held 0) (body_of body.entry.func.now)
+        (func_in books.entry.lines.now.held body.entry.own.now) (site_of start)
+        (map (make_in books.entry.lines.now.held) makes.now)
+        (option_map (λ b. block_in books.entry.lines.now.held b.now) line.entry) (block_of block.now)) }
     ensures sound { IsSound (code_of books.entry.code.now).types books.entry.lines.now.held memo.new }
 {
     match line {
@@ -152,7 +170,10 @@ fn check_block<'a>(
     block: &Block,
 ) -> Result<(), Short>
     requires sound { IsSound (code_of books.code.now).types books.lines.now.held memo.old }
-    ensures found { Finds result (block_short (code_of books.entry.code.now) books.entry.lines.now.cert (held books.entry.lines.now.held 0) (body_of body.entry.func.now) (func_in books.entry.lines.now.held body.entry.own.now) func number (map (make_in books.entry.lines.now.held) makes.now) (block_of block.now)) }
+    ensures found { Finds result (block_short (code_of books.entry.code.now) books.entry.lines.now.cert
+        (held books.entry.lines.now.held 0) (body_of body.entry.func.now)
+        (func_in books.entry.lines.now.held body.entry.own.now) func number
+        (map (make_in books.entry.lines.now.held) makes.now) (block_of block.now)) }
     ensures sound { IsSound (code_of books.entry.code.now).types books.entry.lines.now.held memo.new }
 {
     let start = Site {
@@ -193,7 +214,11 @@ fn check_blocks<'a>(
     func: u32,
 ) -> Result<(), Short>
     requires sound { IsSound (code_of books.code.now).types books.lines.now.held memo.old }
-    ensures found { Finds result (blocks_short (code_of books.entry.code.now) books.entry.lines.now.cert (held books.entry.lines.now.held 0) (body_of body.entry.func.now) (func_in books.entry.lines.now.held body.entry.own.now) func 0 (map (make_in books.entry.lines.now.held) body.entry.own.now.makes.items) (map block_of body.entry.func.now.blocks.items)) }
+    ensures found { Finds result (blocks_short (code_of books.entry.code.now) books.entry.lines.now.cert
+        (held books.entry.lines.now.held 0) (body_of body.entry.func.now)
+        (func_in books.entry.lines.now.held body.entry.own.now) func 0
+        (map (make_in books.entry.lines.now.held) body.entry.own.now.makes.items)
+        (map block_of body.entry.func.now.blocks.items)) }
     ensures sound { IsSound (code_of books.entry.code.now).types books.entry.lines.now.held memo.new }
 {
     let mut makes: &[MakeLine] = &body.own.makes;
@@ -209,7 +234,9 @@ fn check_blocks<'a>(
 // One function.
 fn check_func(books: Books<'_>, memo: &mut Memo, number: u32, func: &Func) -> Result<(), Short>
     requires sound { IsSound (code_of books.code.now).types books.lines.now.held memo.old }
-    ensures found { Finds result (func_short (code_of books.entry.code.now) books.entry.lines.now.cert (held books.entry.lines.now.held 0) number (body_of func.now) (slice_get books.entry.lines.now.cert.funcs number)) }
+    ensures found { Finds result (func_short (code_of books.entry.code.now) books.entry.lines.now.cert
+        (held books.entry.lines.now.held 0) number (body_of func.now)
+        (slice_get books.entry.lines.now.cert.funcs number)) }
     ensures sound { IsSound (code_of books.entry.code.now).types books.entry.lines.now.held memo.new }
 {
     match lines_of(books, number) {
@@ -221,7 +248,8 @@ fn check_func(books: Books<'_>, memo: &mut Memo, number: u32, func: &Func) -> Re
 /// Walks all blocks of all functions, also those that no jump leads to.
 pub(crate) fn check_funcs(books: Books<'_>, memo: &mut Memo) -> Result<(), Short>
     requires sound { IsSound (code_of books.code.now).types books.lines.now.held memo.old }
-    ensures found { Finds result (funcs_short (code_of books.entry.code.now) books.entry.lines.now.cert (held books.entry.lines.now.held 0) 0 (code_of books.entry.code.now).funcs) }
+    ensures found { Finds result (funcs_short (code_of books.entry.code.now) books.entry.lines.now.cert
+        (held books.entry.lines.now.held 0) 0 (code_of books.entry.code.now).funcs) }
     ensures sound { IsSound (code_of books.entry.code.now).types books.entry.lines.now.held memo.new }
 {
     let mut number = 0;

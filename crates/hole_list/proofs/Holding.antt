@@ -12,7 +12,8 @@ use Rattle.hole_list.specs.CountLaws.{holes_few}
 use Rattle.hole_list.specs.KeptLaws.{kept_new, kept_taken, kept_given, free_of_runs}
 
 -- at first
-pub new_holds : (r : Range) (most : ℕ) (arena : Arena) (base : Run) (was spans : List Range) (runs : List Run) → was ≡ [] → spans ≡ was ++ r ∷ [] → runs ≡ [] → arena ≡ r.arena → base ≡ run_of r → IsRange r
+pub new_holds : (r : Range) (most : ℕ) (arena : Arena) (base : Run) (was spans : List Range) (runs : List Run) → was ≡ [] → spans ≡ was ++ r ∷ []
+    → runs ≡ [] → arena ≡ r.arena → base ≡ run_of r → IsRange r
     → AreHoles (record { arena = arena; base = base; most_out = most; holes = spans; out = runs })
 new_holds r most arena base was spans runs e f g a b range =
     let is : spans ≡ r ∷ [] = f ∙ ap (λ (l : List Range). l ++ r ∷ []) e in
@@ -26,7 +27,8 @@ new_free r base was spans e f b =
     omega (arith, all, size)
 
 -- a range is taken
-pub out_free : (s : Holed) (size : ℕ) (t : TakenCells) (r : Run) → AreHoles s → 1 ≤ size → take_cells s.holes size ≡ Some t → r ≡ run_of t.range → AreFreeOf s.out r
+pub out_free : (s : Holed) (size : ℕ) (t : TakenCells) (r : Run) → AreHoles s → 1 ≤ size → take_cells s.holes size ≡ Some t → r ≡ run_of t.range
+    → AreFreeOf s.out r
 out_free s size t r k some is e =
     let runs = taken_runs s.holes size t is in
     let of = taken_of (map run_of s.holes) size (taken (run_of t.range) (map run_of t.holes)) runs.0 in
@@ -35,7 +37,8 @@ out_free s size t r k some is e =
 pub taken_total : (hs : List Range) (size : ℕ) (t : TakenCells) → take_cells hs size ≡ Some t → total (map run_of t.holes) + size ≡ total (map run_of hs)
 taken_total hs size t is = (taken_of (map run_of hs) size (taken (run_of t.range) (map run_of t.holes)) (taken_runs hs size t is).0).sum
 
-pub take_holds : (s : Holed) (size : ℕ) (t : TakenCells) (r : Run) (out : List Run) → AreHoles s → 1 ≤ size → length s.out < s.most_out → take_cells s.holes size ≡ Some t → r ≡ run_of t.range → out ≡ with_run s.out r
+pub take_holds : (s : Holed) (size : ℕ) (t : TakenCells) (r : Run) (out : List Run) → AreHoles s → 1 ≤ size → length s.out < s.most_out
+    → take_cells s.holes size ≡ Some t → r ≡ run_of t.range → out ≡ with_run s.out r
     → AreHoles (with_holes s t.holes out)
 take_holds s size t r out k some room is e o =
     subst (λ (l : List Run). AreHoles (with_holes s t.holes l)) (sym (o ∙ ap (with_run s.out) e)) (kept_taken s size t k some room is)
@@ -44,13 +47,15 @@ take_holds s size t r out k some room is e o =
 pub given_total : (hs : List Range) (r : Range) → total (map run_of (give_cells hs r)) ≡ total (map run_of hs) + length r.cells
 given_total hs r = ap total (given_runs hs r) ∙ give_total (map run_of hs) (run_of r)
 
-pub given_few : (s : Holed) (r : Range) → AreHoles s → IsRange r → r.arena ≡ s.arena → IsOut s.out (run_of r) → total (map run_of s.holes) + length r.cells ≤ 2147483648
+pub given_few : (s : Holed) (r : Range) → AreHoles s → IsRange r → r.arena ≡ s.arena → IsOut s.out (run_of r)
+    → total (map run_of s.holes) + length r.cells ≤ 2147483648
 given_few s r k range arena out =
     let after = kept_given s r k range arena out in
     omega (arith, after.sum, k.base_within, k.arena_few, given_total s.holes r)
 
 -- there is room for all holes then
-pub given_room : (s : Holed) (r : Range) (room : ℕ) → AreHoles s → IsRange r → r.arena ≡ s.arena → IsOut s.out (run_of r) → s.most_out + 1 ≤ room → length (give_cells s.holes r) ≤ room
+pub given_room : (s : Holed) (r : Range) (room : ℕ) → AreHoles s → IsRange r → r.arena ≡ s.arena → IsOut s.out (run_of r) → s.most_out + 1 ≤ room
+    → length (give_cells s.holes r) ≤ room
 given_room s r room k range arena out few =
     omega (arith, holes_few (with_given s r) (kept_given s r k range arena out), without_length s.out (run_of r) out, k.few, few)
 

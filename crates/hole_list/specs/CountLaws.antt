@@ -26,7 +26,8 @@ before_hole base n h hs ss from less some once =
     in_yes base n from (omega (arith, there.1, less))
 
 -- what begins no earlier than a hole, and shares no cell with it, begins behind it
-from_behind : (base : Run) (n : ℕ) (h : Run) (hs ss : List Run) → n ≤ h.first → AreFrom h.first ss → AreOrdered ss → AreOnce n base (h ∷ hs) ss → AreFrom (end_of h) ss
+from_behind : (base : Run) (n : ℕ) (h : Run) (hs ss : List Run) → n ≤ h.first → AreFrom h.first ss → AreOrdered ss → AreOnce n base (h ∷ hs) ss
+    → AreFrom (end_of h) ss
 from_behind base n h hs [] le f o once = tt
 from_behind base n h hs (t ∷ ts) le f o once = by_order (cases_lt t.first (end_of h))
   where
@@ -38,7 +39,8 @@ from_behind base n h hs (t ∷ ts) le f o once = by_order (cases_lt t.first (end
         absurd (omega (arith, once t.first (omega (arith, le, f)), one, two, at_most_one base t.first))
 
 -- where the first hole lies behind an index of the base, there are no more holes than runs that are out from there on
-few_behind : (base : Run) (n : ℕ) (hs ss : List Run) → base.first ≤ n → AreBehind n hs → AreApart hs → AreFrom n ss → AreOrdered ss → AreOnce n base hs ss → length hs ≤ length ss
+few_behind : (base : Run) (n : ℕ) (hs ss : List Run) → base.first ≤ n → AreBehind n hs → AreApart hs → AreFrom n ss → AreOrdered ss
+    → AreOnce n base hs ss → length hs ≤ length ss
 few_behind base n [] ss from b a f o once = omega arith
 few_behind base n (h ∷ hs) [] from b a f o once =
     absurd (omega (arith, once n (omega arith), none_before (h ∷ hs) n b a, before_hole base n h hs [] from b (apart_front h hs a).0 once))
@@ -83,7 +85,8 @@ few_holes base (h ∷ hs) ss a o parts = by_order (apart_front h hs a) (from_bas
     from_base [] o k = tt
     from_base (s ∷ ss) o k = (in_within base s.first (omega (arith, k s.first, in_yes s s.first (omega arith) (omega (arith, (ordered_front s ss o).0))))).0
 
-    by_order : (1 ≤ h.size) × AreBehind (end_of h) hs × AreApart hs → AreFrom base.first ss → (h.first ≡ base.first) ⊎ ((h.first < base.first) ⊎ (base.first < h.first)) → length (h ∷ hs) ≤ suc (length ss)
+    by_order : (1 ≤ h.size) × AreBehind (end_of h) hs × AreApart hs → AreFrom base.first ss
+        → (h.first ≡ base.first) ⊎ ((h.first < base.first) ⊎ (base.first < h.first)) → length (h ∷ hs) ≤ suc (length ss)
     by_order p f (inl same) =
         let behind : AreFrom (end_of h) ss = from_behind base base.first h hs ss (omega (arith, same)) (subst (λ (k : ℕ). AreFrom k ss) (sym same) f) o (λ i le. parts i) in
         let last : AreOnce (end_of h) base hs ss = λ i le. omega (arith, parts i, in_behind h i le) in

@@ -1,5 +1,6 @@
 -- Cited by contracts.
--- The same with cells: a run that is taken has the cells that its hole held, and holes that merge have theirs one behind the other.
+-- The same with cells: a run that is taken has the cells that its hole held, and holes that merge have theirs one
+-- behind the other.
 use Rattle.std.specs.Prelude.{◌≡◌, ℕ, ◌+◌, ◌≤◌, ◌==◌, nat_le, nat_lt, if◌then◌else◌, List, [], ◌∷◌, length, map, slice_get, Bool, IsTrue, Option, Some, None}
 use Rattle.std.specs.Option.{option_map}
 use Rattle.std.specs.List.{AllByRecursion}
@@ -90,7 +91,8 @@ pub record IsRangeIn (s : Holed) (size : ℕ) (r : Range) : Type 0 where
 
 -- ---- giving back
 
--- a range becomes a hole, which is merged with the hole that ends where it begins, and with the one that begins where it ends
+-- a range becomes a hole, which is merged with the hole that ends where it begins, and with the one that begins where
+-- it ends
 abbrev pub give_cells : List Range → Range → List Range
 give_cells [] r = r ∷ []
 give_cells (h ∷ hs) r =

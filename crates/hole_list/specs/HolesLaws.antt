@@ -39,7 +39,8 @@ taken_runs (h ∷ hs) size t e = by_test (λ u is. taken_runs hs size u is) (nat
         (some_same (behind_cells h u) t is) (ap (option_map (behind (run_of h))) q.0, q.1)
 
     by_test : ((u : TakenCells) → take_cells hs size ≡ Some u → (take_run (map run_of hs) size ≡ Some (taken (run_of u.range) (map run_of u.holes))) × (length u.range.cells ≡ size))
-        → (b : Bool) → nat_le size (length h.cells) ≡ b → (if b then Some (taken_cells (front h size) (rest_of h size hs)) else option_map (behind_cells h) (take_cells hs size)) ≡ Some t
+        → (b : Bool) → nat_le size (length h.cells) ≡ b
+        → (if b then Some (taken_cells (front h size) (rest_of h size hs)) else option_map (behind_cells h) (take_cells hs size)) ≡ Some t
         → ((if b then Some (taken (run h.first size) (rest_of_run (run_of h) size (map run_of hs))) else option_map (behind (run_of h)) (take_run (map run_of hs) size))
         ≡ Some (taken (run_of t.range) (map run_of t.holes))) × (length t.range.cells ≡ size)
     by_test next true fits is =
@@ -124,7 +125,8 @@ module _ (P : ℕ → Cell → Type 0) where
   of_joined : (r s : Range) → r.first + length r.cells ≡ s.first → OfCells P r → OfCells P s → OfCells P (joined r s)
   of_joined r s meet k l = λ at cell e. by_part at cell (get_both r.cells s.cells at cell e)
     where
-      by_part : (at : ℕ) (cell : Cell) → (slice_get r.cells at ≡ Some cell) ⊎ ((m : ℕ) × (at ≡ length r.cells + m) × (slice_get s.cells m ≡ Some cell)) → P (r.first + at) cell
+      by_part : (at : ℕ) (cell : Cell) → (slice_get r.cells at ≡ Some cell)
+          ⊎ ((m : ℕ) × (at ≡ length r.cells + m) × (slice_get s.cells m ≡ Some cell)) → P (r.first + at) cell
       by_part at cell (inl e) = k at cell e
       by_part at cell (inr (m, is, e)) = subst (λ i. P i cell) (let q : s.first + m ≡ r.first + at = omega (arith, meet, is) in q) (l m cell e)
 
@@ -157,7 +159,8 @@ module _ (P : ℕ → Cell → Type 0) where
   given_all (h ∷ hs) r k l =
       by_tests (λ s m. given_all hs s k.1 m) (nat_lt (r.first + length r.cells) h.first) ((r.first + length r.cells) == h.first) ((h.first + length h.cells) == r.first) refl refl
     where
-      by_tests : ((s : Range) → OfCells P s → OfAll P (give_cells hs s)) → (b c d : Bool) → ((r.first + length r.cells) == h.first) ≡ c → ((h.first + length h.cells) == r.first) ≡ d
+      by_tests : ((s : Range) → OfCells P s → OfAll P (give_cells hs s)) → (b c d : Bool) → ((r.first + length r.cells) == h.first) ≡ c
+          → ((h.first + length h.cells) == r.first) ≡ d
           → OfAll P (if b then r ∷ h ∷ hs else if c then joined r h ∷ hs else if d then give_cells hs (joined h r) else h ∷ give_cells hs r)
       by_tests next true c d p q = (l, k)
       by_tests next false true d p q = (of_joined r h (grind arith) l k.0, k.1)
@@ -173,7 +176,8 @@ all_pass : (test : ℕ → Cell → Bool) (hs : List Range) → OfAll (λ i cell
 all_pass test [] k = tt
 all_pass test (h ∷ hs) k = (k.0, all_pass test hs k.1)
 
-pub taken_pass : (test : ℕ → Cell → Bool) (hs : List Range) (size : ℕ) (t : TakenCells) → take_cells hs size ≡ Some t → AllPass test hs → AllPass test (t.range ∷ t.holes)
+pub taken_pass : (test : ℕ → Cell → Bool) (hs : List Range) (size : ℕ) (t : TakenCells) → take_cells hs size ≡ Some t → AllPass test hs
+    → AllPass test (t.range ∷ t.holes)
 taken_pass test hs size t e k =
     let q = taken_all (λ i cell. IsTrue (test i cell)) hs size t e (pass_all test hs k) in
     (q.0, all_pass test t.holes q.1)

@@ -26,7 +26,8 @@ module _ (P : Range → Type 0) (size : ℕ) (in_front : (h : Range) → size �
   each_taken [] t e k = absurd (grind arith)
   each_taken (h ∷ hs) t e k = by_test (λ u is. each_taken hs u is k.1) (nat_le size (length h.cells)) refl e
     where
-      by_rest : (o : Option TakenCells) → ((u : TakenCells) → o ≡ Some u → P u.range × AllByRecursion P u.holes) → option_map (behind_cells h) o ≡ Some t → P t.range × AllByRecursion P t.holes
+      by_rest : (o : Option TakenCells) → ((u : TakenCells) → o ≡ Some u → P u.range × AllByRecursion P u.holes)
+          → option_map (behind_cells h) o ≡ Some t → P t.range × AllByRecursion P t.holes
       by_rest None next is = absurd (grind arith)
       by_rest (Some u) next is = subst (λ (v : TakenCells). P v.range × AllByRecursion P v.holes) (some_same (behind_cells h u) t is) ((next u refl).0, (k.0, (next u refl).1))
 
@@ -43,7 +44,8 @@ module _ (P : Range → Type 0) (in_joined : (r s : Range) → r.first + length 
   each_given (h ∷ hs) r k l =
       by_tests (λ s m. each_given hs s k.1 m) (nat_lt (r.first + length r.cells) h.first) ((r.first + length r.cells) == h.first) ((h.first + length h.cells) == r.first) refl refl
     where
-      by_tests : ((s : Range) → P s → AllByRecursion P (give_cells hs s)) → (b c d : Bool) → ((r.first + length r.cells) == h.first) ≡ c → ((h.first + length h.cells) == r.first) ≡ d
+      by_tests : ((s : Range) → P s → AllByRecursion P (give_cells hs s)) → (b c d : Bool) → ((r.first + length r.cells) == h.first) ≡ c
+          → ((h.first + length h.cells) == r.first) ≡ d
           → AllByRecursion P (if b then r ∷ h ∷ hs else if c then joined r h ∷ hs else if d then give_cells hs (joined h r) else h ∷ give_cells hs r)
       by_tests next true c d p q = (l, k)
       by_tests next false true d p q = (in_joined r h (grind arith) l k.0, k.1)
@@ -106,7 +108,8 @@ free_of_runs (s ∷ ss) r some o k =
 -- ---- the whole state
 
 -- a range is taken
-pub kept_taken : (s : Holed) (size : ℕ) (t : TakenCells) → AreHoles s → 1 ≤ size → length s.out < s.most_out → take_cells s.holes size ≡ Some t → AreHoles (with_taken s t)
+pub kept_taken : (s : Holed) (size : ℕ) (t : TakenCells) → AreHoles s → 1 ≤ size → length s.out < s.most_out → take_cells s.holes size ≡ Some t
+    → AreHoles (with_taken s t)
 kept_taken s size t k some room is =
     let each = each_taken (IsRangeOf s.arena) size (front_of s.arena size some) (back_of s.arena size) s.holes t is (both_ways s.arena s.holes k.ranges k.of_arena) in
     let runs = taken_runs s.holes size t is in
@@ -181,7 +184,8 @@ kept_new r most range = record {
 pub one_range : (s : Holed) → AreHoles s → s.out ≡ [] → map run_of s.holes ≡ s.base ∷ []
 one_range s k none = one_hole s.base (map run_of s.holes) k.base_some k.apart (λ i. omega (arith, k.parts i, ap (λ l. times_in l i) none))
 
-pub base_left : (s : Holed) (r : Range) (rest : List Range) → AreHoles s → s.out ≡ [] → s.holes ≡ rest ++ r ∷ [] → (run_of r ≡ s.base) × (s.holes ≡ r ∷ []) × (r.arena ≡ s.arena)
+pub base_left : (s : Holed) (r : Range) (rest : List Range) → AreHoles s → s.out ≡ [] → s.holes ≡ rest ++ r ∷ []
+    → (run_of r ≡ s.base) × (s.holes ≡ r ∷ []) × (r.arena ≡ s.arena)
 base_left s r rest k none is = by_rest rest is (one_range s k none)
   where
     by_rest : (rest : List Range) → s.holes ≡ rest ++ r ∷ [] → map run_of s.holes ≡ s.base ∷ [] → (run_of r ≡ s.base) × (s.holes ≡ r ∷ []) × (r.arena ≡ s.arena)

@@ -36,7 +36,8 @@ one_from n (s ∷ ss) r f o k = let q = ordered_front s ss o in by_side (one_fro
 
 -- ---- one more
 
-with_step : (s : Run) (ss : List Run) (r : Run) (P : List Run → Type 0) → (r.first < s.first → P (r ∷ s ∷ ss)) → (s.first ≤ r.first → P (s ∷ with_run ss r)) → P (with_run (s ∷ ss) r)
+with_step : (s : Run) (ss : List Run) (r : Run) (P : List Run → Type 0) → (r.first < s.first → P (r ∷ s ∷ ss))
+    → (s.first ≤ r.first → P (s ∷ with_run ss r)) → P (with_run (s ∷ ss) r)
 with_step s ss r P a b = cond_both {A = List Run} (nat_lt r.first s.first) (r ∷ s ∷ ss) (s ∷ with_run ss r) P (λ e. a (ltb-true r.first s.first e)) (λ e. b (ltb-false r.first s.first e))
 
 pub with_times : (ss : List Run) (r : Run) (i : ℕ) → times_in (with_run ss r) i ≡ times_in ss i + in_run r i
@@ -99,7 +100,8 @@ with_ordered (s ∷ ss) r some o f =
 
 -- ---- one less
 
-without_step : (s : Run) (ss : List Run) (n : ℕ) (P : List Run → Type 0) → (s.first ≡ n → P ss) → ((s.first ≡ n → ⊥) → P (s ∷ without_run ss n)) → P (without_run (s ∷ ss) n)
+without_step : (s : Run) (ss : List Run) (n : ℕ) (P : List Run → Type 0) → (s.first ≡ n → P ss) → ((s.first ≡ n → ⊥) → P (s ∷ without_run ss n))
+    → P (without_run (s ∷ ss) n)
 without_step s ss n P a b = cond_both {A = List Run} (s.first == n) ss (s ∷ without_run ss n) P (λ e. a (eqb-true s.first n e)) (λ e. b (eqb-false s.first n e))
 
 -- where it begins as this one, it is this one

@@ -1,6 +1,7 @@
 -- Cited by contracts.
--- Placement by first fit (Knuth, The Art of Computer Programming, volume 1, 2.5): where a run of cells is taken, and how runs that come back are merged
--- with their neighbours. Holes are runs in ascending order, no two of which meet. The code moves the cells themselves.
+-- Placement by first fit (Knuth, The Art of Computer Programming, volume 1, 2.5): where a run of cells is taken, and
+-- how runs that come back are merged with their neighbours. Holes are runs in ascending order, no two of which meet.
+-- The code moves the cells themselves.
 pub use Rattle.hole_list.specs.declared.run.Run.{Run}
 use Rattle.std.specs.Prelude.{◌≡◌, ℕ, ◌+◌, ◌-◌, ◌<◌, ◌≤◌, max, ◌==◌, ◌⊎◌, nat_le, nat_lt, if◌then◌else◌, List, [], ◌∷◌, Option, Some, None}
 use Rattle.std.specs.Option.{option_map}
@@ -49,7 +50,8 @@ largest (h ∷ hs) = max h.size (largest hs)
 abbrev pub both : Run → Run → Run
 both r s = run r.first (r.size + s.size)
 
--- a run becomes a hole, which is merged with the hole that ends where it begins, and with the one that begins where it ends
+-- a run becomes a hole, which is merged with the hole that ends where it begins, and with the one that begins where it
+-- ends
 abbrev pub give_run : List Run → Run → List Run
 give_run [] r = r ∷ []
 give_run (h ∷ hs) r =

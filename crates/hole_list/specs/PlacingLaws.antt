@@ -1,5 +1,6 @@
 -- Laws, for the proofs of this crate and of those above it.
--- What taking and giving do to the cells of runs: how many of them have a cell, how many cells they have, and that holes stay apart.
+-- What taking and giving do to the cells of runs: how many of them have a cell, how many cells they have, and that
+-- holes stay apart.
 use Rattle.std.proofs.Common.{◌≡◌, ℕ, ◌+◌, ◌-◌, ◌<◌, ◌≤◌, ◌==◌, nat_le, nat_lt, Bool, true, false, if◌then◌else◌, ◌⊎◌, inl, inr, List, [], ◌∷◌, Option, Some, None, refl, sym, ap, subst, arith}
 use Rattle.std.specs.Option.{option_map}
 use Rattle.std.proofs.lemmas.Bool.{cases_lt, cases_order}
@@ -47,10 +48,12 @@ pub record TakenOf (hs : List Run) (size : ℕ) (t : Taken) : Type 0 where
   pub times : (i : ℕ) → times_in t.holes i + in_run t.run i ≡ times_in hs i
   pub sum : total t.holes + size ≡ total hs
 
-rest_times : (h : Run) (size : ℕ) (hs : List Run) (i : ℕ) → size ≤ h.size → times_in (rest_of_run h size hs) i + in_run (run h.first size) i ≡ in_run h i + times_in hs i
+rest_times : (h : Run) (size : ℕ) (hs : List Run) (i : ℕ) → size ≤ h.size
+    → times_in (rest_of_run h size hs) i + in_run (run h.first size) i ≡ in_run h i + times_in hs i
 rest_times h size hs i k = by_test (h.size == size) refl
   where
-    by_test : (b : Bool) → (h.size == size) ≡ b → times_in (if b then hs else run (h.first + size) (h.size - size) ∷ hs) i + in_run (run h.first size) i ≡ in_run h i + times_in hs i
+    by_test : (b : Bool) → (h.size == size) ≡ b
+        → times_in (if b then hs else run (h.first + size) (h.size - size) ∷ hs) i + in_run (run h.first size) i ≡ in_run h i + times_in hs i
     by_test true e = grind arith
     by_test false e = omega (arith, in_split h size i k)
 
@@ -76,7 +79,9 @@ taken_of (h ∷ hs) size t e = by_test (λ u is. taken_of hs size u is) (nat_le 
     by_rest None k is = absurd (grind arith)
     by_rest (Some u) k is = subst (TakenOf (h ∷ hs) size) (some_same (behind h u) t is) (behind_of h hs size u (k u refl))
 
-    by_test : ((u : Taken) → take_run hs size ≡ Some u → TakenOf hs size u) → (b : Bool) → nat_le size h.size ≡ b → (if b then Some (taken (run h.first size) (rest_of_run h size hs)) else option_map (behind h) (take_run hs size)) ≡ Some t → TakenOf (h ∷ hs) size t
+    by_test : ((u : Taken) → take_run hs size ≡ Some u → TakenOf hs size u) → (b : Bool) → nat_le size h.size ≡ b
+        → (if b then Some (taken (run h.first size) (rest_of_run h size hs)) else option_map (behind h) (take_run hs size)) ≡ Some t
+        → TakenOf (h ∷ hs) size t
     by_test next true fits is =
         let few : size ≤ h.size = grind arith in
         subst (TakenOf (h ∷ hs) size) (some_same (taken (run h.first size) (rest_of_run h size hs)) t is)
@@ -116,11 +121,13 @@ apart_rest h size hs few a = by_test (h.size == size) refl
         apart_from (run (h.first + size) (h.size - size)) hs (omega (arith, few, ne)) (subst (λ n. AreBehind n hs) (sym same) f.1) f.2
 
 -- holes stay apart, and none begins before the first one did
-pub taken_apart : (hs : List Run) (size : ℕ) (t : Taken) → take_run hs size ≡ Some t → AreApart hs → AreApart t.holes × ((n : ℕ) → AreBehind n hs → AreBehind n t.holes)
+pub taken_apart : (hs : List Run) (size : ℕ) (t : Taken) → take_run hs size ≡ Some t → AreApart hs
+    → AreApart t.holes × ((n : ℕ) → AreBehind n hs → AreBehind n t.holes)
 taken_apart [] size t e a = absurd (grind arith)
 taken_apart (h ∷ hs) size t e a = by_test (λ u is. taken_apart hs size u is (apart_front h hs a).2) (nat_le size h.size) refl e
   where
-    by_rest : (o : Option Taken) → ((u : Taken) → o ≡ Some u → AreApart u.holes × ((n : ℕ) → AreBehind n hs → AreBehind n u.holes)) → option_map (behind h) o ≡ Some t
+    by_rest : (o : Option Taken) → ((u : Taken) → o ≡ Some u → AreApart u.holes × ((n : ℕ) → AreBehind n hs → AreBehind n u.holes))
+        → option_map (behind h) o ≡ Some t
         → AreApart t.holes × ((n : ℕ) → n < h.first → AreBehind n t.holes)
     by_rest None k is = absurd (grind arith)
     by_rest (Some u) k is =
@@ -129,7 +136,8 @@ taken_apart (h ∷ hs) size t e a = by_test (λ u is. taken_apart hs size u is (
         subst (λ (v : Taken). AreApart v.holes × ((n : ℕ) → n < h.first → AreBehind n v.holes)) (some_same (behind h u) t is)
         (apart_from h u.holes f.0 (q.1 (end_of h) f.1) q.0, λ n below. below)
 
-    by_test : ((u : Taken) → take_run hs size ≡ Some u → AreApart u.holes × ((n : ℕ) → AreBehind n hs → AreBehind n u.holes)) → (b : Bool) → nat_le size h.size ≡ b
+    by_test : ((u : Taken) → take_run hs size ≡ Some u → AreApart u.holes × ((n : ℕ) → AreBehind n hs → AreBehind n u.holes)) → (b : Bool)
+        → nat_le size h.size ≡ b
         → (if b then Some (taken (run h.first size) (rest_of_run h size hs)) else option_map (behind h) (take_run hs size)) ≡ Some t → AreApart t.holes × ((n : ℕ) → n < h.first → AreBehind n t.holes)
     by_test next true fits is =
         let few : size ≤ h.size = grind arith in
@@ -146,7 +154,9 @@ none_taken (h ∷ hs) size some e = by_test (λ is. none_taken hs size some is) 
     by_rest None is = refl
     by_rest (Some u) is = absurd (grind arith)
 
-    by_test : (take_run hs size ≡ None → largest hs < size) → (b : Bool) → nat_le size h.size ≡ b → (if b then Some (taken (run h.first size) (rest_of_run h size hs)) else option_map (behind h) (take_run hs size)) ≡ None → largest (h ∷ hs) < size
+    by_test : (take_run hs size ≡ None → largest hs < size) → (b : Bool) → nat_le size h.size ≡ b
+        → (if b then Some (taken (run h.first size) (rest_of_run h size hs)) else option_map (behind h) (take_run hs size)) ≡ None
+        → largest (h ∷ hs) < size
     by_test next true fits is = absurd (grind arith)
     by_test next false fits is =
         let big : h.size < size = grind arith in
@@ -158,7 +168,8 @@ pub too_small_all : (hs : List Run) (size : ℕ) → largest hs < size → take_
 too_small_all [] size k = refl
 too_small_all (h ∷ hs) size k = by_test (too_small_all hs size (omega (arith, k))) (nat_le size h.size) refl
   where
-    by_test : take_run hs size ≡ None → (b : Bool) → nat_le size h.size ≡ b → (if b then Some (taken (run h.first size) (rest_of_run h size hs)) else option_map (behind h) (take_run hs size)) ≡ None
+    by_test : take_run hs size ≡ None → (b : Bool) → nat_le size h.size ≡ b
+        → (if b then Some (taken (run h.first size) (rest_of_run h size hs)) else option_map (behind h) (take_run hs size)) ≡ None
     by_test next true e = let big : size ≤ h.size = grind arith in absurd (omega (arith, big, k))
     by_test next false e = ap (option_map (behind h)) next
 
@@ -168,7 +179,8 @@ pub give_times : (hs : List Run) (r : Run) (i : ℕ) → times_in (give_run hs r
 give_times [] r i = omega arith
 give_times (h ∷ hs) r i = by_tests (λ s. give_times hs s i) (nat_lt (end_of r) h.first) (end_of r == h.first) (end_of h == r.first) refl refl refl
   where
-    by_tests : ((s : Run) → times_in (give_run hs s) i ≡ times_in hs i + in_run s i) → (b c d : Bool) → nat_lt (end_of r) h.first ≡ b → (end_of r == h.first) ≡ c → (end_of h == r.first) ≡ d
+    by_tests : ((s : Run) → times_in (give_run hs s) i ≡ times_in hs i + in_run s i) → (b c d : Bool) → nat_lt (end_of r) h.first ≡ b
+        → (end_of r == h.first) ≡ c → (end_of h == r.first) ≡ d
         → times_in (if b then r ∷ h ∷ hs else if c then both r h ∷ hs else if d then give_run hs (both h r) else h ∷ give_run hs r) i ≡ times_in (h ∷ hs) i + in_run r i
     by_tests next true c d p q s = omega arith
     by_tests next false true d p q s =
@@ -185,7 +197,8 @@ pub give_total : (hs : List Run) (r : Run) → total (give_run hs r) ≡ total h
 give_total [] r = omega arith
 give_total (h ∷ hs) r = by_tests (λ s. give_total hs s) (nat_lt (end_of r) h.first) (end_of r == h.first) (end_of h == r.first)
   where
-    by_tests : ((s : Run) → total (give_run hs s) ≡ total hs + s.size) → (b c d : Bool) → total (if b then r ∷ h ∷ hs else if c then both r h ∷ hs else if d then give_run hs (both h r) else h ∷ give_run hs r) ≡ total (h ∷ hs) + r.size
+    by_tests : ((s : Run) → total (give_run hs s) ≡ total hs + s.size) → (b c d : Bool)
+        → total (if b then r ∷ h ∷ hs else if c then both r h ∷ hs else if d then give_run hs (both h r) else h ∷ give_run hs r) ≡ total (h ∷ hs) + r.size
     by_tests next true c d = omega arith
     by_tests next false true d = omega arith
     by_tests next false false true = omega (arith, next (both h r))
@@ -214,7 +227,8 @@ free_of (h ∷ hs) r some a k =
     (apart_runs r h some f.0 (λ i. omega (arith, k i)), free_of hs r some f.2 (λ i. omega (arith, k i)))
 
 -- joined with a hole before the others, it has no cell of them
-free_joined : (h : Run) (hs : List Run) (r : Run) → AreBehind (end_of h) hs → AreApart hs → end_of h ≡ r.first → 1 ≤ r.size → AreFreeOf hs r → AreFreeOf hs (both h r)
+free_joined : (h : Run) (hs : List Run) (r : Run) → AreBehind (end_of h) hs → AreApart hs → end_of h ≡ r.first → 1 ≤ r.size → AreFreeOf hs r
+    → AreFreeOf hs (both h r)
 free_joined h [] r b a e some f = tt
 free_joined h (k ∷ hs) r b a e some f = (by_side f.0, free_joined h hs r (later hs (apart_front k hs a).1) (apart_front k hs a).2 e some f.1)
   where
@@ -288,7 +302,8 @@ one_hole base (h ∷ hs) some a k =
         absurd (omega (arith, k h.first, one, in_before base h.first before))
     by_first (inr (inr behind)) = absurd (omega (arith, k base.first, none_before (h ∷ hs) base.first behind a, in_yes base base.first (omega arith) (omega (arith, some))))
 
-    size_is : (js : List Run) → AreBehind (end_of h) js → AreApart js → 1 ≤ h.size → h.first ≡ base.first → ((i : ℕ) → in_run h i + times_in js i ≡ in_run base i) → h.size ≡ base.size
+    size_is : (js : List Run) → AreBehind (end_of h) js → AreApart js → 1 ≤ h.size → h.first ≡ base.first
+        → ((i : ℕ) → in_run h i + times_in js i ≡ in_run base i) → h.size ≡ base.size
     size_is js b c some' first same = by_size (cases_order h.size base.size)
       where
         by_size : (h.size ≡ base.size) ⊎ ((h.size < base.size) ⊎ (base.size < h.size)) → h.size ≡ base.size
@@ -298,7 +313,8 @@ one_hole base (h ∷ hs) some a k =
         by_size (inr (inr more)) =
             absurd (omega (arith, same (end_of base), in_yes h (end_of base) (omega (arith, first)) (omega (arith, more, first)), in_behind base (end_of base) (omega arith)))
 
-    by_rest : (js : List Run) → AreBehind (end_of h) js → AreApart js → 1 ≤ h.size → h.first ≡ base.first → ((i : ℕ) → in_run h i + times_in js i ≡ in_run base i) → h ∷ js ≡ base ∷ []
+    by_rest : (js : List Run) → AreBehind (end_of h) js → AreApart js → 1 ≤ h.size → h.first ≡ base.first
+        → ((i : ℕ) → in_run h i + times_in js i ≡ in_run base i) → h ∷ js ≡ base ∷ []
     by_rest [] b c some' first same = ap (λ (r : Run). r ∷ []) (λ i. record { first = first i; size = size_is [] b c some' first same i })
     by_rest (j ∷ js) b c some' first same =
         let size = size_is (j ∷ js) b c some' first same in

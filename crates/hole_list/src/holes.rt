@@ -67,8 +67,8 @@ impl Holes {
         })
     }
 
-    /// What holes keep: they lie apart in ascending order, and each cell of their base is in one hole or in one run that
-    /// is out. It does nothing; its clause is what whoever has holes can use.
+    /// What holes keep: they lie apart in ascending order, and each cell of their base is in one hole or in one run
+    /// that is out. It does nothing; its clause is what whoever has holes can use.
     pub fn kept(&self)
         ensures { AreHoles self.now }
     {
@@ -91,7 +91,9 @@ impl Holes {
 
     /// How many runs are out.
     pub fn out(&self) -> u32
+        // It is the number of runs that are out.
         ensures count { result ≡ length self.now.out }
+        // There are at most as many as room was made for.
         ensures few { result ≤ self.now.most_out }
     {
         count(&self.runs, self.most_out)
@@ -129,7 +131,8 @@ impl Holes {
         }
     }
 
-    /// Gives a range back whose run is out: it is a hole again, as one with the holes that it meets. It takes no memory.
+    /// Gives a range back whose run is out: it is a hole again, as one with the holes that it meets. It takes no
+    /// memory.
     pub fn give(&mut self, span: Span)
         requires arena { span.arena ≡ self.old.arena }
         requires out { IsOut self.old.out (run_of span) }
@@ -141,8 +144,8 @@ impl Holes {
         self.free += run.size;
     }
 
-    /// The span that they were made of, where no run is out: it begins at the same index, with the same size, in the same
-    /// arena. What its cells hold may have changed.
+    /// The span that they were made of, where no run is out: it begins at the same index, with the same size, in the
+    /// same arena. What its cells hold may have changed.
     pub fn finish(self) -> Span
         requires { self.out ≡ [] }
         // It lies where the base does.
@@ -170,7 +173,7 @@ impl Holes {
     }
 }
 
-/// The number of cells of the greatest span.
+// The number of cells of the greatest span.
 fn greatest(spans: &[Span]) -> u32
     ensures { result ≡ largest (map run_of spans.now) }
 {
@@ -181,7 +184,7 @@ fn greatest(spans: &[Span]) -> u32
     most
 }
 
-/// Where a span lies.
+// Where a span lies.
 fn run_at(span: &Span) -> Run
     ensures run { result ≡ run_of span.now }
     ensures range { IsRange span.now }

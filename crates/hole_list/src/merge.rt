@@ -24,7 +24,7 @@ pub fn take_first(spans: &mut Vec<Span>, size: u32) -> Option<Span>
     Some(cut(spans, at, size))
 }
 
-/// Takes the front of the hole at a place, which is the first one that has so many cells.
+// Takes the front of the hole at a place, which is the first one that has so many cells.
 #[tactic(auto, using(crate::proofs::AtPlaces::takes_whole, crate::proofs::AtPlaces::takes_front, crate::proofs::AtPlaces::fits_here))]
 fn cut(spans: &mut Vec<Span>, at: usize, size: u32) -> Span
     requires some { 1 ≤ size }
@@ -41,7 +41,7 @@ fn cut(spans: &mut Vec<Span>, at: usize, size: u32) -> Span
     }
 }
 
-/// Whether the hole at a place ends where the range begins.
+// Whether the hole at a place ends where the range begins.
 #[tactic(auto, using(crate::proofs::AtPlaces::ends_where))]
 fn ends_there(spans: &[Span], at: usize, span: &Span) -> bool
     requires { at < length spans.now }
@@ -51,7 +51,7 @@ fn ends_there(spans: &[Span], at: usize, span: &Span) -> bool
     hole.first() + hole.len() == span.first()
 }
 
-/// Whether the hole at a place begins where the range ends.
+// Whether the hole at a place begins where the range ends.
 #[tactic(auto, using(crate::proofs::AtPlaces::begins_where))]
 fn begins_there(spans: &[Span], at: usize, span: &Span) -> bool
     requires { at < length spans.now }
@@ -61,7 +61,7 @@ fn begins_there(spans: &[Span], at: usize, span: &Span) -> bool
     span.first() + span.len() == hole.first()
 }
 
-/// A range as a hole of its own, at its place; there is room for it.
+// A range as a hole of its own, at its place; there is room for it.
 #[tactic(auto, using(crate::proofs::AtPlaces::room_for))]
 fn put_in(spans: &mut Vec<Span>, at: usize, span: Span)
     requires within { at ≤ length spans.old.items }
@@ -76,7 +76,7 @@ fn put_in(spans: &mut Vec<Span>, at: usize, span: Span)
     }
 }
 
-/// A range before the hole at its place, which it meets.
+// A range before the hole at its place, which it meets.
 #[tactic(auto, using(crate::proofs::AtPlaces::set_before))]
 fn put_before(spans: &mut Vec<Span>, at: usize, span: Span)
     requires within { at < length spans.old.items }
@@ -89,7 +89,7 @@ fn put_before(spans: &mut Vec<Span>, at: usize, span: Span)
     hole.prepend(span);
 }
 
-/// A range behind the hole at its place, which it meets.
+// A range behind the hole at its place, which it meets.
 #[tactic(auto, using(crate::proofs::AtPlaces::set_behind))]
 fn put_behind(spans: &mut Vec<Span>, at: usize, span: Span)
     requires within { at < length spans.old.items }
@@ -102,7 +102,7 @@ fn put_behind(spans: &mut Vec<Span>, at: usize, span: Span)
     hole.append(span);
 }
 
-/// A range between the hole at its place and the next one, both of which it meets.
+// A range between the hole at its place and the next one, both of which it meets.
 #[tactic(auto, using(crate::proofs::AtPlaces::between_is, crate::proofs::AtPlaces::meet_behind))]
 fn put_between(spans: &mut Vec<Span>, at: usize, span: Span)
     requires within { at + 1 < length spans.old.items }
@@ -141,7 +141,7 @@ pub fn merge(spans: &mut Vec<Span>, span: Span)
     put_in(spans, at, span);
 }
 
-/// A range that meets the hole at its place, behind it, comes back.
+// A range that meets the hole at its place, behind it, comes back.
 #[tactic(auto, using(crate::proofs::AtPlaces::merged_behind_last, crate::proofs::AtPlaces::merged_behind, crate::proofs::AtPlaces::merged_between, crate::proofs::AtPlaces::meets_last, crate::proofs::AtPlaces::meets_next))]
 fn merge_behind(spans: &mut Vec<Span>, at: usize, span: Span)
     requires order { AreOrdered (map run_of spans.old.items) }

@@ -7,7 +7,8 @@ use Rattle.host_io.specs.Counts.{risen}
 use Rattle.host_io.specs.Source.{EndsExactly, Took, TookAtMost, TookExactly}
 
 -- what a read consumed says when it is the end
-pub ends_exactly : (a b : Option (List ℕ)) (n : ℕ) (into : List ℕ) → Consumes a b (take n into) → (n ≡ 0 → 0 < length into → IsAtEnd b) → n ≤ length into → 0 < length into → EndsExactly a n
+pub ends_exactly : (a b : Option (List ℕ)) (n : ℕ) (into : List ℕ) → Consumes a b (take n into) → (n ≡ 0 → 0 < length into → IsAtEnd b)
+    → n ≤ length into → 0 < length into → EndsExactly a n
 ends_exactly None b n into p q h k = tt
 ends_exactly (Some xs) None n into p q h k = absurd p
 ends_exactly (Some xs) (Some ys) n into p q h k = (
@@ -21,7 +22,8 @@ pub record Reading (limit : ℕ) (a b : Option (List ℕ)) (t u f g : ℕ) (xs :
   pub steady : g ≡ f
   pub within : length xs ≤ limit
 
-pub takes_more : (a b c : Option (List ℕ)) (t u v n : ℕ) (xs into : List ℕ) → Took a b t u xs → Consumes b c (take n into) → n ≤ length into → v ≡ risen u n → Took a c t v (xs ++ take n into)
+pub takes_more : (a b c : Option (List ℕ)) (t u v n : ℕ) (xs into : List ℕ) → Took a b t u xs → Consumes b c (take n into) → n ≤ length into
+    → v ≡ risen u n → Took a c t v (xs ++ take n into)
 takes_more a b c t u v n xs into p q h e =
     let k = p.counted in
     record {
@@ -30,7 +32,8 @@ takes_more a b c t u v n xs into p q h e =
     }
 
 -- the last turn took more bytes than there was room for, which is just one more
-pub stops_past : (a b c : Option (List ℕ)) (limit t u v n held want most : ℕ) (xs into chunk : List ℕ) → Took a b t u xs → Consumes b c (take n into) → v ≡ risen u n → length xs ≤ limit → n ≤ length into → length into ≡ length (take (want + 1) chunk)
+pub stops_past : (a b c : Option (List ℕ)) (limit t u v n held want most : ℕ) (xs into chunk : List ℕ) → Took a b t u xs → Consumes b c (take n into)
+    → v ≡ risen u n → length xs ≤ limit → n ≤ length into → length into ≡ length (take (want + 1) chunk)
     → want ≡ min (limit - held) most → held ≡ length xs → limit - held < n → TookExactly (limit + 1) a c t v
 stops_past a b c limit t u v n held want most xs into chunk p q e s h k m l o = record {
   bytes = xs ++ take n into;
@@ -39,7 +42,8 @@ stops_past a b c limit t u v n held want most xs into chunk p q e s h k m l o = 
 }
 
 -- the last turn took bytes for which there was room, but no memory
-pub stops_full : (a b c : Option (List ℕ)) (limit t u v n held : ℕ) (xs into : List ℕ) → Took a b t u xs → Consumes b c (take n into) → v ≡ risen u n → length xs ≤ limit → n ≤ length into → held ≡ length xs → n ≤ limit - held → TookAtMost limit a c t v
+pub stops_full : (a b c : Option (List ℕ)) (limit t u v n held : ℕ) (xs into : List ℕ) → Took a b t u xs → Consumes b c (take n into) → v ≡ risen u n
+    → length xs ≤ limit → n ≤ length into → held ≡ length xs → n ≤ limit - held → TookAtMost limit a c t v
 stops_full a b c limit t u v n held xs into p q e s h l m = record {
   bytes = xs ++ take n into;
   within = omega (arith, length-append {A = ℕ} xs (take n into), length-take-le n into h);

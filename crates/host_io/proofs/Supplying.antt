@@ -8,7 +8,8 @@ rest_read : (bytes read : List ℕ) (at : ℕ) → read ≡ bytes → take (leng
 rest_read bytes read at r = take_all (length read - at) (drop at read) (omega (arith, length-drop at read)) ∙ ap (drop at) r
 
 -- What was copied into the buffer is the front of what was left, and the rest is left.
-pub supplied : (bytes read copied into : List ℕ) (at n enough most : ℕ) → read ≡ bytes → copied ≡ take n (take (length read - at) (drop at read)) → n ≡ min enough most
+pub supplied : (bytes read copied into : List ℕ) (at n enough most : ℕ) → read ≡ bytes → copied ≡ take n (take (length read - at) (drop at read))
+    → n ≡ min enough most
     → enough ≡ min (length (take (length read - at) (drop at read))) (length into)
     → drop at bytes ≡ take n (copied ++ drop n into) ++ drop (at + n) bytes
 supplied bytes read copied into at n enough most r c m q =
@@ -19,7 +20,8 @@ supplied bytes read copied into at n enough most r c m q =
     sym (take-append-drop n (drop at bytes)) ∙ ap (λ l. l ++ drop n (drop at bytes)) (sym (kept ∙ front)) ∙ ap (λ l. take n (copied ++ drop n into) ++ l) (drop-drop n at bytes)
 
 -- Nothing was copied only where nothing is left.
-pub supplied_end : (bytes read copied into : List ℕ) (at n enough most : ℕ) → read ≡ bytes → copied ≡ take n (take (length read - at) (drop at read)) → n ≡ min enough most
+pub supplied_end : (bytes read copied into : List ℕ) (at n enough most : ℕ) → read ≡ bytes → copied ≡ take n (take (length read - at) (drop at read))
+    → n ≡ min enough most
     → enough ≡ min (length (take (length read - at) (drop at read))) (length into) → 1 ≤ most
     → n ≡ 0 → 0 < length (copied ++ drop n into) → drop (at + n) bytes ≡ []
 supplied_end bytes read copied into at n enough most r c m q k none some =

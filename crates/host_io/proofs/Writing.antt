@@ -15,7 +15,8 @@ Tells-nil None = tt
 Tells-nil (Some x) = sym (append-nil x)
 
 -- one more piece was told
-pub tells_more : (a b c : Option (List ℕ)) (xs : List ℕ) (i n : ℕ) → i ≤ length xs → n ≤ length xs - i → Tells a b (take i xs) → Tells b c (take n (take (length xs - i) (drop i xs))) → Tells a c (take (i + n) xs)
+pub tells_more : (a b c : Option (List ℕ)) (xs : List ℕ) (i n : ℕ) → i ≤ length xs → n ≤ length xs - i → Tells a b (take i xs)
+    → Tells b c (take n (take (length xs - i) (drop i xs))) → Tells a c (take (i + n) xs)
 tells_more a b c xs i n h k p q =
     let rest : take n (take (length xs - i) (drop i xs)) ≡ take n (drop i xs) = ap (take n) (take_all (length xs - i) (drop i xs) (omega (arith, length-drop i xs))) in
     let P : List ℕ → Type 0 = λ ys. Tells a c ys in

@@ -28,12 +28,17 @@ pub trait Source {
     /// input. At `Failed` no byte was taken.
     fn take(&mut self, into: &mut [u8]) -> Result<usize, Failed>
         requires { 0 < length into.old }
+        // No more bytes are given than there is room for.
         ensures bound { ReadsAtMost result into.new }
+        // What was put into the front of the room are the next bytes that were left, and these are gone.
         ensures bytes { ReadConsumes (left self.old) (left self.new) result into.new }
+        // No byte comes exactly where none is left.
         ensures end { IfOk result (EndsExactly (left self.old)) }
+        // The count of bytes rises by what was given; at `Failed` it stays.
         ensures count { MatchResult result
             (λ n. taken self.new ≡ risen (taken self.old) n)
             (λ _. taken self.new ≡ taken self.old) }
+        // `Failed` comes just where the count of faults rose in this call.
         ensures cause { MatchResult result
             (λ _. faults self.new ≡ faults self.old)
             (λ _. Rose (faults self.old) (faults self.new)) };
@@ -78,10 +83,14 @@ const CHUNK: usize = 16384;
 /// at most `limit`.
 #[tactic(auto, using(crate::proofs::Reading::takes_more, crate::proofs::Reading::stops_within, crate::proofs::Reading::stops_past, crate::proofs::Reading::stops_full))]
 pub fn read_all<S: Source>(alloc: Global, source: &mut S, limit: usize) -> Result<Vec<u8>, ReadStop>
+    // At Ok the bytes are those that were taken, in order, none lost and none twice.
     ensures bytes { IfOk result (λ bytes.
         Took (S.left source.old) (S.left source.new) (S.taken source.old) (S.taken source.new) bytes.items) }
+    // At Ok the source is at its end.
     ensures end { OnOk result (IsAtEnd (S.left source.new)) }
+    // At Ok there are at most `limit` bytes.
     ensures within { IfOk result (λ bytes. vec_len bytes ≤ limit) }
+    // `Fault` comes just where the source's count of faults rose; at all other answers it stays.
     ensures cause { MatchResult result
         (λ _. S.faults source.new ≡ S.faults source.old)
         (λ stop. StopCause stop (S.faults source.old) (S.faults source.new)) }
@@ -89,6 +98,7 @@ pub fn read_all<S: Source>(alloc: Global, source: &mut S, limit: usize) -> Resul
     // The count tells which refusal it is, as long as it has room.
     ensures too_long { S.taken source.old + limit < last_count →
         (IsErrOf result ReadStop.TooLong ↔ (S.taken source.new ≡ S.taken source.old + (limit + 1))) }
+    // After a refusal just the bytes that were taken are gone: `limit + 1` at `TooLong`, and else at most `limit`.
     ensures gone { IfErr result (λ stop.
         StopTook stop limit (S.left source.old) (S.left source.new) (S.taken source.old) (S.taken source.new)) }
 {

@@ -20,8 +20,11 @@ pub struct StdSource<R: Read> {
 impl<R: Read> StdSource<R> {
     /// A source over this reader, from which nothing was taken yet.
     pub fn new(reader: R) -> StdSource<R>
+        // It reads from this reader.
         ensures reader { result.reader ≡ reader }
+        // No byte was taken yet.
         ensures taken { result.taken ≡ 0 }
+        // No fault was met yet.
         ensures faults { result.faults ≡ 0 }
     {
         StdSource {
@@ -66,7 +69,9 @@ pub struct StdSink<W: Write> {
 impl<W: Write> StdSink<W> {
     /// A sink over this writer.
     pub fn new(writer: W) -> StdSink<W>
+        // It writes to this writer.
         ensures writer { result.writer ≡ writer }
+        // No fault was met yet.
         ensures faults { result.faults ≡ 0 }
     {
         StdSink { writer, faults: 0 }

@@ -1,5 +1,5 @@
-//! Tests of what no clause and no text can tell: devices that fail in mid-stream, under the host and under its adapters;
-//! and bundles once through the host.
+//! Tests of what no clause and no text can tell: devices that fail in mid-stream, under the host and under its
+//! adapters; bundles once through the host; and that each name of the product is where it is looked for.
 #![tactic(auto)]
 
 #[cfg(test)]
@@ -12,3 +12,4 @@ mod devices;
 mod faults;
 #[cfg(test)]
 mod gates;
+pub mod surface;

@@ -17,7 +17,8 @@ line_long left line after h = ap length h.parts ∙ length-append line (10 ∷ a
 pub lines_shorter : (left line after : List ℕ) → HasLine left line after → length after < length left
 lines_shorter left line after h = omega (arith, line_long left line after h)
 
-pub lines_more : (rest left line after : List ℕ) (size : ℕ) → HasLines rest left size → HasLine left line after → (line ≡ codes "." → ⊥) → HasLines rest after (size + 1)
+pub lines_more : (rest left line after : List ℕ) (size : ℕ) → HasLines rest left size → HasLine left line after → (line ≡ codes "." → ⊥)
+    → HasLines rest after (size + 1)
 lines_more rest left line after size b h k = record {
   lines = b.lines ++ line ∷ [];
   each = all_append IsTextLine b.lines (line ∷ []) b.each (record { one = h.one; goes_on = k }, tt);
@@ -26,13 +27,15 @@ lines_more rest left line after size b h k = record {
   few = omega (arith, b.few, line_long left line after h);
 }
 
-pub lines_end : (rest left line after text : List ℕ) (size : ℕ) → HasLines rest left size → HasLine left line after → line ≡ codes "." → text ≡ take (length rest - length left) rest → HasBody rest text after size
+pub lines_end : (rest left line after text : List ℕ) (size : ℕ) → HasLines rest left size → HasLine left line after → line ≡ codes "."
+    → text ≡ take (length rest - length left) rest → HasBody rest text after size
 lines_end rest left line after text size b h k e =
     let long : length rest - length left ≡ length (text_of_lines b.lines) = omega (arith, ap length b.parts, length-append (text_of_lines b.lines) left) in
     let same : text ≡ text_of_lines b.lines = e ∙ ap (λ n. take n rest) long ∙ ap (take (length (text_of_lines b.lines))) b.parts ∙ take-append_seam (text_of_lines b.lines) left in
     record { lines = b.lines; each = b.each; is = same; parts = b.parts ∙ ap (λ l. text_of_lines b.lines ++ l) (h.parts ∙ ap (λ l. l ++ 10 ∷ after) k) ∙ ap (λ l. l ++ (46 ∷ 10 ∷ after)) (sym same); count = b.count }
 
-pub end_short : (rest left line after : List ℕ) (size : ℕ) → HasLines rest left size → HasLine left line after → line ≡ codes "." → size + length after + 2 ≤ length rest
+pub end_short : (rest left line after : List ℕ) (size : ℕ) → HasLines rest left size → HasLine left line after → line ≡ codes "."
+    → size + length after + 2 ≤ length rest
 end_short rest left line after size b h k = omega (arith, b.few, line_long left line after h, ap length k)
 
 pub lines_open : (rest left : List ℕ) (size : ℕ) → HasLines rest left size → IsOneLine left → IsOpen rest size

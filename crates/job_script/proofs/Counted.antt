@@ -1,15 +1,16 @@
 -- Counted pieces that are written one after the other.
-use Rattle.std.proofs.Common.{◌≡◌, ℕ, zero, suc, ◌+◌, ◌-◌, ◌<◌, ◌≤◌, List, [], ◌∷◌, ◌++◌, map, replicate, refl, sym, ap, ◌∙◌, arith, append_assoc, append-nil, add-one}
+use Rattle.std.proofs.Common.{◌≡◌, ℕ, zero, suc, ◌+◌, ◌-◌, ◌<◌, ◌≤◌, List, [], ◌∷◌, ◌++◌, map, replicate, sym, ap, ◌∙◌, arith, append_assoc, append-nil, add-one}
 use Rattle.std.proofs.lemmas.List.{map-append}
 use Rattle.std.specs.Prelude.{codes}
 use Rattle.certificate.specs.Numbers.{number}
-use Rattle.job_script.specs.Scripts.{Entry, AProgram, AJob, Script}
-use Rattle.job_script.specs.Words.{entry_of, script_of}
+use Rattle.job_script.specs.Scripts.{Entry, AProgram, AJob}
+use Rattle.job_script.specs.Words.{entry_of}
 use Rattle.job_script.specs.declared.types.Entry.{Entry as DeclaredEntry}
 use Rattle.job_script.specs.Made.{heads, list_text, made_name, made_job, made_jobs, made_program, made_script}
 use Rattle.job_script.proofs.Joining.{three}
 
-pub head_written : (n : ℕ) (a o p q : List ℕ) → o ≡ a ++ codes "Cons(" → p ≡ o ++ number n → q ≡ p ++ codes "," → q ≡ a ++ (codes "Cons(" ++ (number n ++ codes ","))
+pub head_written : (n : ℕ) (a o p q : List ℕ) → o ≡ a ++ codes "Cons(" → p ≡ o ++ number n → q ≡ p ++ codes ","
+    → q ≡ a ++ (codes "Cons(" ++ (number n ++ codes ","))
 head_written n a o p q e f g = three a (codes "Cons(") (number n) (codes ",") o p q e f g
 
 -- ---- so many pieces, from a number on
@@ -17,7 +18,8 @@ head_written n a o p q e f g = three a (codes "Cons(") (number n) (codes ",") o 
 one_less : (left : ℕ) → 1 ≤ suc left → suc left - 1 ≡ left
 one_less left h = omega arith
 
-pub next_head : (left item : ℕ) (out new all : List ℕ) → 0 < left → out ++ heads left item ≡ all → new ≡ out ++ (codes "Cons(" ++ (number item ++ codes ",")) → new ++ heads (left - 1) (item + 1) ≡ all
+pub next_head : (left item : ℕ) (out new all : List ℕ) → 0 < left → out ++ heads left item ≡ all
+    → new ≡ out ++ (codes "Cons(" ++ (number item ++ codes ",")) → new ++ heads (left - 1) (item + 1) ≡ all
 next_head zero item out new all h e f = absurd (omega (arith, h))
 next_head (suc left) item out new all h e f =
     let piece = codes "Cons(" ++ (number item ++ codes ",") in
@@ -46,7 +48,8 @@ name_written n o p e f = f ∙ ap (λ l. l ++ number n) e
 
 -- ---- jobs
 
-pub next_job : (left n : ℕ) (out new : List DeclaredEntry) (x : DeclaredEntry) (all : List Entry) → 0 < left → map entry_of out ++ made_jobs left n ≡ all → entry_of x ≡ AJob (made_job n) → new ≡ out ++ x ∷ []
+pub next_job : (left n : ℕ) (out new : List DeclaredEntry) (x : DeclaredEntry) (all : List Entry) → 0 < left
+    → map entry_of out ++ made_jobs left n ≡ all → entry_of x ≡ AJob (made_job n) → new ≡ out ++ x ∷ []
     → map entry_of new ++ made_jobs (left - 1) (n + 1) ≡ all
 next_job zero n out new x all h e is f = absurd (omega (arith, h))
 next_job (suc left) n out new x all h e is f =
@@ -61,7 +64,8 @@ all_jobs (suc left) n out all h e = absurd (omega (arith, h))
 
 -- ---- the script
 
-pub script_made : (jobs workers : ℕ) (empty one : List DeclaredEntry) (program : DeclaredEntry) (items : List DeclaredEntry) → empty ≡ [] → one ≡ empty ++ program ∷ [] → entry_of program ≡ AProgram made_program
+pub script_made : (jobs workers : ℕ) (empty one : List DeclaredEntry) (program : DeclaredEntry) (items : List DeclaredEntry) → empty ≡ []
+    → one ≡ empty ++ program ∷ [] → entry_of program ≡ AProgram made_program
     → map entry_of items ≡ map entry_of one ++ made_jobs jobs 1 → record { arena = 4096; workers = workers; items = map entry_of items } ≡ made_script jobs workers
 unfolding made_script
 script_made jobs workers empty one program items e f is g =

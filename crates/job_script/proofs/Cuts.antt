@@ -69,7 +69,8 @@ other_word rest text first e h =
     let t : (first == 32) ≡ false = grind (arith, nat_tests, h) in
     ap word_of e ∙ ap (λ t. only_if t (Some (upto 32 text, from 32 text))) t
 
-pub some_word : (rest text word after : List ℕ) (first : ℕ) → rest ≡ first ∷ text → first ≡ 32 → word ≡ upto 32 text → after ≡ from 32 text → IsCut (word_of rest) word after
+pub some_word : (rest text word after : List ℕ) (first : ℕ) → rest ≡ first ∷ text → first ≡ 32 → word ≡ upto 32 text → after ≡ from 32 text
+    → IsCut (word_of rest) word after
 some_word rest text word after first e h f g =
     let t : (first == 32) ≡ true = grind (arith, nat_tests, h) in
     record { is = ap word_of e ∙ ap (λ t. only_if t (Some (upto 32 text, from 32 text))) t ∙ ap (λ w. Some (w, from 32 text)) (sym f) ∙ ap (λ r. Some (word, r)) (sym g) }

@@ -6,15 +6,16 @@ use Rattle.std.specs.Option.{option_map}
 use Rattle.camelot_values.specs.Names.{stands}
 use Rattle.certificate.specs.OptionLaws.{map_is}
 use Rattle.certificate.specs.CutLaws.{Free}
+use Rattle.stops.specs.Stopping.{FaultIs}
 use Rattle.job_script.specs.Scripts.{Entry, AJob, Job, Script, EntryIsWithin, IsUpTo, IsWithin, HasOnce, IsTextLine, text_of_lines, job_names}
 use Rattle.job_script.specs.Text.{IsLineFault}
-use Rattle.job_script.specs.Answers.{IsFault}
+use Rattle.job_script.specs.Answers.{HasCause}
 use Rattle.job_script.specs.Reading.{number_behind, Head, HProgram, HJob, HeadFits, head_of, Start, Sized, Between, Inside, script_by, add, program_by, enter, step, closed, IsStopped}
 use Rattle.job_script.specs.Steps.{HasLine, Reading, Going, HasBody, IsOpen, IsAdded, IsRefused}
 use Rattle.job_script.specs.StateLaws.{all_last, within_least, once_least, formed_least, lines_one, body_run}
-use Rattle.job_script.specs.Faults.{fault_of}
-use Rattle.job_script.specs.declared.stop.Stop.{Stop}
-use Rattle.job_script.specs.declared.stop.Stop.TheVariants as stop
+use Rattle.job_script.specs.Faults.{stop_of}
+use Rattle.job_script.specs.declared.stop.LineStop.{LineStop}
+use Rattle.job_script.specs.declared.stop.LineStop.TheVariants as stop
 use Rattle.job_script.proofs.Naming.{within_program, much_program, once_program, twice_program, within_job, much_job, once_job, twice_job, names_job, programs_job}
 use Rattle.job_script.proofs.Stopping.{line_none, line_much, line_repeated, line_step, lines_step, line_early}
 use Rattle.job_script.specs.StateLaws.{programs_append, jobs_append}
@@ -30,10 +31,12 @@ arena_early text h = line_early text Start text 1 (start text) h (λ e. tt)
 arena_step : (line : List ℕ) (n : ℕ) → number_behind (codes "arena") line ≡ Some n → step Start line ≡ Some (Sized n)
 arena_step line n e = map_is Sized (number_behind (codes "arena") line) n e
 
-workers_step : (arena : ℕ) (line : List ℕ) (n : ℕ) → number_behind (codes "workers") line ≡ Some n → step (Sized arena) line ≡ Some (Between (script_by arena n []))
+workers_step : (arena : ℕ) (line : List ℕ) (n : ℕ) → number_behind (codes "workers") line ≡ Some n
+    → step (Sized arena) line ≡ Some (Between (script_by arena n []))
 workers_step arena line n e = map_is (λ workers. Between (script_by arena workers [])) (number_behind (codes "workers") line) n e
 
-pub arena_stopped : (s : Stop) (text line rest : List ℕ) → HasLine text line rest → IsStopped (number_behind (codes "arena") line) (IsUpTo 4194304) s → IsFault text (fault_of s 1)
+pub arena_stopped : (s : LineStop) (text line rest : List ℕ) → HasLine text line rest
+    → IsStopped (number_behind (codes "arena") line) (IsUpTo 4194304) s → FaultIs (HasCause text) (stop_of s 1)
 arena_stopped stop.Line text line rest h e = line_none text Start text 1 line rest (start text) h (ap (option_map Sized) e)
 arena_stopped stop.Count text line rest h e = line_much text Start (Sized e.x) text 1 line rest (start text) h (arena_step line e.x e.is) (λ w. e.wide w.arena)
 arena_stopped stop.Repeat text line rest h e = absurd e
@@ -42,19 +45,22 @@ arena_stopped stop.Memory text line rest h e = tt
 sized_within : (n : ℕ) → IsUpTo 4194304 n → IsWithin (script_by n 1 [])
 sized_within n h = record { arena = h; workers = within_least.workers; fuels = tt; programs = within_least.programs; jobs = within_least.jobs }
 
-pub arena_read : (text line rest : List ℕ) (n : ℕ) → HasLine text line rest → number_behind (codes "arena") line ≡ Some n → IsUpTo 4194304 n → Reading text (Sized n) rest 2
+pub arena_read : (text line rest : List ℕ) (n : ℕ) → HasLine text line rest → number_behind (codes "arena") line ≡ Some n → IsUpTo 4194304 n
+    → Reading text (Sized n) rest 2
 arena_read text line rest n h e k = line_step text Start (Sized n) text 1 line rest (start text) h (arena_step line n e) (sized_within n k) (once_least n 1)
 
 pub workers_early : (text : List ℕ) (arena : ℕ) (rest : List ℕ) → Reading text (Sized arena) rest 2 → Free 10 rest → IsLineFault text 2
 workers_early text arena rest r h = line_early text (Sized arena) rest 2 r h (λ e. tt)
 
-pub workers_stopped : (s : Stop) (text : List ℕ) (arena : ℕ) (rest line after : List ℕ) → Reading text (Sized arena) rest 2 → HasLine rest line after → IsStopped (number_behind (codes "workers") line) (IsUpTo 16) s → IsFault text (fault_of s 2)
+pub workers_stopped : (s : LineStop) (text : List ℕ) (arena : ℕ) (rest line after : List ℕ) → Reading text (Sized arena) rest 2
+    → HasLine rest line after → IsStopped (number_behind (codes "workers") line) (IsUpTo 16) s → FaultIs (HasCause text) (stop_of s 2)
 workers_stopped stop.Line text arena rest line after r h e = line_none text (Sized arena) rest 2 line after r h (ap (option_map (λ workers. Between (script_by arena workers []))) e)
 workers_stopped stop.Count text arena rest line after r h e = line_much text (Sized arena) (Between (script_by arena e.x [])) rest 2 line after r h (workers_step arena line e.x e.is) (λ w. e.wide w.workers)
 workers_stopped stop.Repeat text arena rest line after r h e = absurd e
 workers_stopped stop.Memory text arena rest line after r h e = tt
 
-pub workers_read : (text : List ℕ) (arena : ℕ) (rest line after : List ℕ) (n : ℕ) → Reading text (Sized arena) rest 2 → HasLine rest line after → number_behind (codes "workers") line ≡ Some n → IsUpTo 16 n → Going text arena n [] [] [] after 3
+pub workers_read : (text : List ℕ) (arena : ℕ) (rest line after : List ℕ) (n : ℕ) → Reading text (Sized arena) rest 2 → HasLine rest line after
+    → number_behind (codes "workers") line ≡ Some n → IsUpTo 16 n → Going text arena n [] [] [] after 3
 workers_read text arena rest line after n r h e k = record {
   reading = line_step text (Sized arena) (Between (script_by arena n [])) rest 2 line after r h (workers_step arena line n e)
       (record { arena = r.right.within.arena; workers = k; fuels = tt; programs = within_least.programs; jobs = within_least.jobs }) (once_least arena n);
@@ -67,14 +73,15 @@ workers_read text arena rest line after n r h e k = record {
 head_step : (s : Script) (line : List ℕ) (h : Head) → head_of line ≡ Some h → step (Between s) line ≡ Some (enter s h)
 head_step s line h e = map_is (enter s) (head_of line) h e
 
-pub head_early : (text : List ℕ) (arena workers : ℕ) (items : List Entry) (programs jobs : List (List ℕ)) (rest : List ℕ) (n : ℕ) → Going text arena workers items programs jobs rest n → 0 < length rest → Free 10 rest → IsLineFault text n
+pub head_early : (text : List ℕ) (arena workers : ℕ) (items : List Entry) (programs jobs : List (List ℕ)) (rest : List ℕ) (n : ℕ)
+    → Going text arena workers items programs jobs rest n → 0 < length rest → Free 10 rest → IsLineFault text n
 head_early text arena workers items programs jobs rest n g some free = line_early text (Between (script_by arena workers items)) rest n g.reading free (λ e. absurd (omega (arith, some, ap length e)))
 
 fits : (s : Script) (h : Head) → IsWithin (closed (enter s h)) → HeadFits h
 fits s (HProgram name camelot) w = tt
 fits s (HJob j) w = all_last EntryIsWithin s.items (AJob j) w.fuels
 
-pub head_stopped : (p : Stop) (text : List ℕ) (arena workers : ℕ) (items : List Entry) (programs jobs : List (List ℕ)) (rest line after : List ℕ) (n : ℕ) → Going text arena workers items programs jobs rest n → HasLine rest line after → IsStopped (head_of line) HeadFits p → IsFault text (fault_of p n)
+pub head_stopped : (p : LineStop) (text : List ℕ) (arena workers : ℕ) (items : List Entry) (programs jobs : List (List ℕ)) (rest line after : List ℕ) (n : ℕ) → Going text arena workers items programs jobs rest n → HasLine rest line after → IsStopped (head_of line) HeadFits p → FaultIs (HasCause text) (stop_of p n)
 head_stopped stop.Line text arena workers items programs jobs rest line after n g h e = line_none text (Between (script_by arena workers items)) rest n line after g.reading h (ap (option_map (enter (script_by arena workers items))) e)
 head_stopped stop.Count text arena workers items programs jobs rest line after n g h e =
     line_much text (Between (script_by arena workers items)) (enter (script_by arena workers items) e.x) rest n line after g.reading h (head_step (script_by arena workers items) line e.x e.is) (λ w. e.wide (fits (script_by arena workers items) e.x w))
@@ -83,8 +90,8 @@ head_stopped stop.Memory text arena workers items programs jobs rest line after 
 
 -- ---- a program
 
-pub program_refused : (p : Stop) (text : List ℕ) (arena workers : ℕ) (items : List Entry) (programs jobs : List (List ℕ)) (rest line after name : List ℕ) (camelot : Bool) (n : ℕ) → Going text arena workers items programs jobs rest n → HasLine rest line after
-    → head_of line ≡ Some (HProgram name camelot) → IsRefused 64 programs name p → IsFault text (fault_of p n)
+pub program_refused : (p : LineStop) (text : List ℕ) (arena workers : ℕ) (items : List Entry) (programs jobs : List (List ℕ)) (rest line after name : List ℕ) (camelot : Bool) (n : ℕ) → Going text arena workers items programs jobs rest n → HasLine rest line after
+    → head_of line ≡ Some (HProgram name camelot) → IsRefused 64 programs name p → FaultIs (HasCause text) (stop_of p n)
 program_refused stop.Line text arena workers items programs jobs rest line after name camelot n g h e k = absurd k
 program_refused stop.Count text arena workers items programs jobs rest line after name camelot n g h e k =
     let s : Script = script_by arena workers items in
@@ -98,7 +105,9 @@ program_refused stop.Memory text arena workers items programs jobs rest line aft
 
 -- in the text of the program
 inside : (text : List ℕ) (arena workers : ℕ) (items : List Entry) (programs jobs longer : List (List ℕ)) (rest line after name : List ℕ) (camelot : Bool) (n : ℕ) → Going text arena workers items programs jobs rest n → HasLine rest line after
-    → head_of line ≡ Some (HProgram name camelot) → IsAdded 64 programs name longer → (body : List ℕ) → IsWithin (add (script_by arena workers items) (program_by name camelot body)) × HasOnce (add (script_by arena workers items) (program_by name camelot body))
+    → head_of line ≡ Some (HProgram name camelot) → IsAdded 64 programs name longer → (body : List ℕ)
+    → IsWithin (add (script_by arena workers items) (program_by name camelot body))
+    × HasOnce (add (script_by arena workers items) (program_by name camelot body))
 inside text arena workers items programs jobs longer rest line after name camelot n g h e k body = (
   within_program (script_by arena workers items) name camelot body g.reading.right.within (subst (λ l. length l < 64) g.programs_are k.few),
   once_program (script_by arena workers items) name camelot body g.reading.right.once (subst (λ l. stands l name ≡ false) g.programs_are k.new),
@@ -111,7 +120,8 @@ first text arena workers items programs jobs longer rest line after name camelot
     line_step text (Between (script_by arena workers items)) (Inside (script_by arena workers items) name camelot []) rest n line after g.reading h (head_step (script_by arena workers items) line (HProgram name camelot) e) p.0 p.1
 
 behind : (text : List ℕ) (arena workers : ℕ) (items : List Entry) (programs jobs longer : List (List ℕ)) (rest line after name : List ℕ) (camelot : Bool) (n : ℕ) → Going text arena workers items programs jobs rest n → HasLine rest line after
-    → head_of line ≡ Some (HProgram name camelot) → IsAdded 64 programs name longer → (lines : List (List ℕ)) (left : List ℕ) → AllByRecursion IsTextLine lines → after ≡ text_of_lines lines ++ left
+    → head_of line ≡ Some (HProgram name camelot) → IsAdded 64 programs name longer → (lines : List (List ℕ)) (left : List ℕ)
+    → AllByRecursion IsTextLine lines → after ≡ text_of_lines lines ++ left
     → Reading text (Inside (script_by arena workers items) name camelot (text_of_lines lines)) left (suc n + length lines)
 behind text arena workers items programs jobs longer rest line after name camelot n g h e k lines left each parts =
     let p = inside text arena workers items programs jobs longer rest line after name camelot n g h e k (text_of_lines lines) in
@@ -142,8 +152,8 @@ program_done text arena workers items programs jobs longer rest line after name 
 
 -- ---- a job
 
-pub job_refused : (p : Stop) (text : List ℕ) (arena workers : ℕ) (items : List Entry) (programs jobs : List (List ℕ)) (rest line after : List ℕ) (j : Job) (n : ℕ) → Going text arena workers items programs jobs rest n → HasLine rest line after
-    → head_of line ≡ Some (HJob j) → IsUpTo 1099511627776 j.fuel → IsRefused 4096 jobs j.name p → IsFault text (fault_of p n)
+pub job_refused : (p : LineStop) (text : List ℕ) (arena workers : ℕ) (items : List Entry) (programs jobs : List (List ℕ)) (rest line after : List ℕ) (j : Job) (n : ℕ) → Going text arena workers items programs jobs rest n → HasLine rest line after
+    → head_of line ≡ Some (HJob j) → IsUpTo 1099511627776 j.fuel → IsRefused 4096 jobs j.name p → FaultIs (HasCause text) (stop_of p n)
 job_refused stop.Line text arena workers items programs jobs rest line after j n g h e f k = absurd k
 job_refused stop.Count text arena workers items programs jobs rest line after j n g h e f k =
     line_much text (Between (script_by arena workers items)) (Between (add (script_by arena workers items) (AJob j))) rest n line after g.reading h (head_step (script_by arena workers items) line (HJob j) e)

@@ -50,7 +50,8 @@ at_most n limit = by_size (cases_lt limit n)
 within : (s : Script) → Decided (IsWithin s)
 within s = all (up_to 4194304 s.arena) (up_to 16 s.workers) (fuels s.items) (at_most (length (program_names s.items)) 64) (at_most (length (job_names s.items)) 4096)
   where
-    all : Decided (IsUpTo 4194304 s.arena) → Decided (IsUpTo 16 s.workers) → Decided (AllByRecursion EntryIsWithin s.items) → Decided (length (program_names s.items) ≤ 64) → Decided (length (job_names s.items) ≤ 4096) → Decided (IsWithin s)
+    all : Decided (IsUpTo 4194304 s.arena) → Decided (IsUpTo 16 s.workers) → Decided (AllByRecursion EntryIsWithin s.items)
+        → Decided (length (program_names s.items) ≤ 64) → Decided (length (job_names s.items) ≤ 4096) → Decided (IsWithin s)
     all (inr a) b c d e = inr (λ w. a w.arena)
     all (inl a) (inr b) c d e = inr (λ w. b w.workers)
     all (inl a) (inl b) (inr c) d e = inr (λ w. c w.fuels)
@@ -103,7 +104,8 @@ line_long : (rest line after : List ℕ) → HasLine rest line after → length 
 line_long rest line after h = omega (arith, ap length h.parts, length-append line (10 ∷ after))
 
 -- one line more, and what is said behind it
-at_line : (text : List ℕ) (s : State) (rest line after : List ℕ) (n : ℕ) → Reading text s rest n → HasLine rest line after → ((t : State) → Reading text t after (suc n) → IsJudged text) → IsJudged text
+at_line : (text : List ℕ) (s : State) (rest line after : List ℕ) (n : ℕ) → Reading text s rest n → HasLine rest line after
+    → ((t : State) → Reading text t after (suc n) → IsJudged text) → IsJudged text
 at_line text s rest line after n r h on = by_step (step s line) refl
   where
     by_limits : (t : State) → step s line ≡ Some t → Decided (IsWithin (closed t)) → Decided (HasOnce (closed t)) → IsJudged text
@@ -119,7 +121,8 @@ judge : (room : ℕ) (text : List ℕ) (s : State) (rest : List ℕ) (n : ℕ) �
 judge zero text s rest n h r = absurd (omega (arith, h))
 judge (suc room) text s rest n h r = by_line (line_or_none rest) (λ after t m k q. judge room text t after m k q)
   where
-    by_line : Free 10 rest ⊎ ((line after : List ℕ) × HasLine rest line after) → ((after : List ℕ) (t : State) (m : ℕ) → length after < room → Reading text t after m → IsJudged text) → IsJudged text
+    by_line : Free 10 rest ⊎ ((line after : List ℕ) × HasLine rest line after)
+        → ((after : List ℕ) (t : State) (m : ℕ) → length after < room → Reading text t after m → IsJudged text) → IsJudged text
     by_line (inl free) on = at_end text s rest n r free
     by_line (inr (line, after, d)) on = at_line text s rest line after n r d (λ t q. on after t (suc n) (omega (arith, h, line_long rest line after d)) q)
 

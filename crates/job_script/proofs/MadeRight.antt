@@ -1,14 +1,15 @@
--- The script of the drill is a script: its lines have their forms, its numbers are within their limits, no name stands twice, and its texts are short.
-use Rattle.std.proofs.Common.{◌≡◌, ◌⊎◌, inl, inr, ℕ, zero, suc, ◌+◌, ◌*◌, ◌/◌, ◌%◌, ◌<◌, ◌≤◌, Bool, true, false, List, [], ◌∷◌, ◌++◌, length, map, replicate, refl, sym, ap, ◌∙◌, subst, arith, append_assoc, length-append}
-use Rattle.std.specs.Prelude.{codes, ◌==◌, ◌&&◌, if◌then◌else◌, IsFalse, IsTrue}
+-- The script of the drill is a script: its lines have their forms, its numbers are within their limits, no name stands
+-- twice, and its texts are short.
+use Rattle.std.proofs.Common.{◌≡◌, ℕ, zero, suc, ◌+◌, ◌*◌, ◌%◌, ◌<◌, ◌≤◌, Bool, true, false, List, [], ◌∷◌, ◌++◌, length, map, replicate, refl, sym, ap, ◌∙◌, subst, arith, length-append}
+use Rattle.std.specs.Prelude.{codes, ◌==◌, ◌&&◌, if◌then◌else◌}
 use Rattle.std.specs.List.{list_all, AllByRecursion}
 use Rattle.std.proofs.lemmas.List.Folds.{list_all-append}
 use Rattle.std.proofs.lemmas.Bool.Decides.{nat_tests}
-use Rattle.camelot_values.specs.Names.{is_digit, is_tail, IsName, IsLowerName, AreDistinct}
+use Rattle.camelot_values.specs.Names.{is_tail, AreDistinct}
 use Rattle.certificate.specs.Numbers.{number}
-use Rattle.certificate.specs.NumberLaws.{number_one, number_free, Steps, by_steps}
+use Rattle.certificate.specs.NumberLaws.{number_one, number_free, by_steps}
 use Rattle.certificate.specs.CutLaws.{Free, free_cons, free_append}
-use Rattle.job_script.specs.Scripts.{Program, Job, Entry, AProgram, AJob, Script, is_letter, IsWord, IsOneLine, IsBody, IsTextLine, ProgramIsFormed, JobIsFormed, EntryIsFormed, EntryIsWithin, IsUpTo, IsScript, program_names, job_names}
+use Rattle.job_script.specs.Scripts.{AProgram, Script, IsWord, IsBody, ProgramIsFormed, JobIsFormed, EntryIsFormed, EntryIsWithin, IsUpTo, IsScript, program_names, job_names}
 use Rattle.job_script.specs.Text.{EntryIsShort}
 use Rattle.job_script.specs.Words.{entry_of}
 use Rattle.job_script.specs.declared.types.Entry.{Entry as DeclaredEntry}
@@ -204,11 +205,13 @@ unfolding made_script
 made_short jobs workers = (source_short, jobs_short jobs 1)
 
 -- the same of what is made piece by piece
-pub right : (jobs workers : ℕ) (empty one : List DeclaredEntry) (program : DeclaredEntry) (items : List DeclaredEntry) → IsUpTo 4096 jobs → IsUpTo 16 workers → empty ≡ [] → one ≡ empty ++ program ∷ [] → entry_of program ≡ AProgram made_program
+pub right : (jobs workers : ℕ) (empty one : List DeclaredEntry) (program : DeclaredEntry) (items : List DeclaredEntry) → IsUpTo 4096 jobs
+    → IsUpTo 16 workers → empty ≡ [] → one ≡ empty ++ program ∷ [] → entry_of program ≡ AProgram made_program
     → map entry_of items ≡ map entry_of one ++ made_jobs jobs 1 → IsScript (record { arena = 4096; workers = workers; items = map entry_of items })
 right jobs workers empty one program items few w e f is g = subst IsScript (sym (script_made jobs workers empty one program items e f is g)) (made_right jobs workers few w)
 
-pub short : (jobs workers : ℕ) (empty one : List DeclaredEntry) (program : DeclaredEntry) (items : List DeclaredEntry) → empty ≡ [] → one ≡ empty ++ program ∷ [] → entry_of program ≡ AProgram made_program
+pub short : (jobs workers : ℕ) (empty one : List DeclaredEntry) (program : DeclaredEntry) (items : List DeclaredEntry) → empty ≡ []
+    → one ≡ empty ++ program ∷ [] → entry_of program ≡ AProgram made_program
     → map entry_of items ≡ map entry_of one ++ made_jobs jobs 1 → AllByRecursion (EntryIsShort 4294967295) (map entry_of items)
 short jobs workers empty one program items e f is g =
     subst (λ (s : Script). AllByRecursion (EntryIsShort 4294967295) s.items) (sym (script_made jobs workers empty one program items e f is g)) (made_short jobs workers)

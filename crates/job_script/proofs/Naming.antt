@@ -17,10 +17,12 @@ not_true : (b c : Bool) → b ≡ not c → b ≡ false → c ≡ true
 not_true b true e h = refl
 not_true b false e h = absurd (let k : true ≡ false = sym e ∙ h in cc)
 
-pub name_added : (most : ℕ) (names longer : List (List ℕ)) (name : List ℕ) (new : Bool) → length names < most → new ≡ not (stands names name) → longer ≡ (if new then names ++ name ∷ [] else names) → new ≡ true → IsAdded most names name longer
+pub name_added : (most : ℕ) (names longer : List (List ℕ)) (name : List ℕ) (new : Bool) → length names < most → new ≡ not (stands names name)
+    → longer ≡ (if new then names ++ name ∷ [] else names) → new ≡ true → IsAdded most names name longer
 name_added most names longer name new few e f h = record { few = few; new = not_false new (stands names name) e h; is = f ∙ ap (λ b. if b then names ++ name ∷ [] else names) h }
 
-pub name_stood : (most : ℕ) (names : List (List ℕ)) (name : List ℕ) (new : Bool) → length names < most → new ≡ not (stands names name) → new ≡ false → Stood most names name
+pub name_stood : (most : ℕ) (names : List (List ℕ)) (name : List ℕ) (new : Bool) → length names < most → new ≡ not (stands names name) → new ≡ false
+    → Stood most names name
 name_stood most names name new few e h = record { few = few; old = not_true new (stands names name) e h }
 
 -- ---- lists without repeats
@@ -40,13 +42,15 @@ distinct_not ws w k h =
 
 -- ---- one more program
 
-names_program : (s : Script) (name : List ℕ) (camelot : Bool) (text : List ℕ) → program_names (s.items ++ program_by name camelot text ∷ []) ≡ program_names s.items ++ name ∷ []
+names_program : (s : Script) (name : List ℕ) (camelot : Bool) (text : List ℕ)
+    → program_names (s.items ++ program_by name camelot text ∷ []) ≡ program_names s.items ++ name ∷ []
 names_program s name camelot text = programs_append s.items (program_by name camelot text ∷ [])
 
 jobs_program : (s : Script) (name : List ℕ) (camelot : Bool) (text : List ℕ) → job_names (s.items ++ program_by name camelot text ∷ []) ≡ job_names s.items
 jobs_program s name camelot text = jobs_append s.items (program_by name camelot text ∷ []) ∙ append-nil (job_names s.items)
 
-pub within_program : (s : Script) (name : List ℕ) (camelot : Bool) (text : List ℕ) → IsWithin s → length (program_names s.items) < 64 → IsWithin (add s (program_by name camelot text))
+pub within_program : (s : Script) (name : List ℕ) (camelot : Bool) (text : List ℕ) → IsWithin s → length (program_names s.items) < 64
+    → IsWithin (add s (program_by name camelot text))
 within_program s name camelot text h few = record {
   arena = h.arena;
   workers = h.workers;
@@ -55,16 +59,19 @@ within_program s name camelot text h few = record {
   jobs = subst (λ l. length l ≤ 4096) (sym (jobs_program s name camelot text)) h.jobs;
 }
 
-pub much_program : (s : Script) (name : List ℕ) (camelot : Bool) (text : List ℕ) → 64 ≤ length (program_names s.items) → IsWithin (add s (program_by name camelot text)) → ⊥
+pub much_program : (s : Script) (name : List ℕ) (camelot : Bool) (text : List ℕ) → 64 ≤ length (program_names s.items)
+    → IsWithin (add s (program_by name camelot text)) → ⊥
 much_program s name camelot text much h = absurd (omega (arith, much, h.programs, ap length (names_program s name camelot text), length-append (program_names s.items) (name ∷ [])))
 
-pub once_program : (s : Script) (name : List ℕ) (camelot : Bool) (text : List ℕ) → HasOnce s → stands (program_names s.items) name ≡ false → HasOnce (add s (program_by name camelot text))
+pub once_program : (s : Script) (name : List ℕ) (camelot : Bool) (text : List ℕ) → HasOnce s → stands (program_names s.items) name ≡ false
+    → HasOnce (add s (program_by name camelot text))
 once_program s name camelot text h new = record {
   programs = subst AreDistinct (sym (names_program s name camelot text)) (distinct_more (program_names s.items) name h.programs new);
   jobs = subst AreDistinct (sym (jobs_program s name camelot text)) h.jobs;
 }
 
-pub twice_program : (s : Script) (name : List ℕ) (camelot : Bool) (text : List ℕ) → stands (program_names s.items) name ≡ true → HasOnce (add s (program_by name camelot text)) → ⊥
+pub twice_program : (s : Script) (name : List ℕ) (camelot : Bool) (text : List ℕ) → stands (program_names s.items) name ≡ true
+    → HasOnce (add s (program_by name camelot text)) → ⊥
 twice_program s name camelot text old h = distinct_not (program_names s.items) name old (subst AreDistinct (names_program s name camelot text) h.programs)
 
 -- ---- one more job

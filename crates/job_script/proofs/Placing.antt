@@ -8,7 +8,8 @@ use Rattle.job_script.specs.Words.{entry_of}
 use Rattle.job_script.specs.Steps.{HasLine}
 use Rattle.job_script.specs.declared.types.Entry.{Entry as DeclaredEntry}
 
-pub items_more : (old new : List DeclaredEntry) (entry : DeclaredEntry) (e : Entry) → new ≡ old ++ entry ∷ [] → entry_of entry ≡ e → map entry_of new ≡ map entry_of old ++ e ∷ []
+pub items_more : (old new : List DeclaredEntry) (entry : DeclaredEntry) (e : Entry) → new ≡ old ++ entry ∷ [] → entry_of entry ≡ e
+    → map entry_of new ≡ map entry_of old ++ e ∷ []
 items_more old new entry e h k = ap (map entry_of) h ∙ map-append entry_of old (entry ∷ []) ∙ ap (λ x. map entry_of old ++ x ∷ []) k
 
 pub shorter : (rest line after : List ℕ) → HasLine rest line after → length after < length rest

@@ -14,13 +14,15 @@ use Rattle.job_script.specs.StateLaws.{all_append, run_append, run_formed, run_t
 use Rattle.job_script.specs.TextLaws.{lines_append}
 
 -- the state that these lines lead to is that of a script which has them in front
-reach_is : (lines : List (List ℕ)) (t : State) (s : Script) (rest : List ℕ) (P : Script → Type 0) → IsFormed s → AllByRecursion (Free 10) lines → script_text s ≡ text_of_lines lines ++ rest → run Start lines ≡ Some t
+reach_is : (lines : List (List ℕ)) (t : State) (s : Script) (rest : List ℕ) (P : Script → Type 0) → IsFormed s → AllByRecursion (Free 10) lines
+    → script_text s ≡ text_of_lines lines ++ rest → run Start lines ≡ Some t
     → (more : List (List ℕ)) × (run t more ≡ Some (Between s))
 reach_is lines t s rest P h each e r =
     let d = reached s lines rest h each e in
     (d.more, ap (λ s. run s d.more) (same_state t d.front.state (run Start lines) r d.front.is) ∙ d.front.on)
 
-next_run : (lines : List (List ℕ)) (s : State) (line : List ℕ) → run Start lines ≡ Some s → run Start (lines ++ line ∷ []) ≡ and_then (step s line) (λ t. Some t)
+next_run : (lines : List (List ℕ)) (s : State) (line : List ℕ) → run Start lines ≡ Some s
+    → run Start (lines ++ line ∷ []) ≡ and_then (step s line) (λ t. Some t)
 next_run lines s line e = run_append Start s lines (line ∷ []) e
 
 -- ---- the good front
@@ -28,7 +30,8 @@ next_run lines s line e = run_append Start s lines (line ∷ []) e
 good_front : (text : List ℕ) (s : State) (rest : List ℕ) (n : ℕ) (r : Reading text s rest n) → Begins IsScript r.lines
 good_front text s rest n r = begins IsScript s r.lines r.each r.run r.right
 
-wrong_line : (text : List ℕ) (s : State) (rest : List ℕ) (n : ℕ) (line after : List ℕ) (Wrong : List (List ℕ) → Type 0) → (r : Reading text s rest n) → HasLine rest line after → Wrong (r.lines ++ line ∷ []) → IsWrongLine text Wrong n
+wrong_line : (text : List ℕ) (s : State) (rest : List ℕ) (n : ℕ) (line after : List ℕ) (Wrong : List (List ℕ) → Type 0) → (r : Reading text s rest n)
+    → HasLine rest line after → Wrong (r.lines ++ line ∷ []) → IsWrongLine text Wrong n
 wrong_line text s rest n line after Wrong r h w = record {
   before = r.lines;
   line = line;
@@ -43,7 +46,8 @@ wrong_line text s rest n line after Wrong r h w = record {
 
 -- ---- a line without form
 
-pub line_none : (text : List ℕ) (s : State) (rest : List ℕ) (n : ℕ) (line after : List ℕ) → Reading text s rest n → HasLine rest line after → step s line ≡ None → IsLineFault text n
+pub line_none : (text : List ℕ) (s : State) (rest : List ℕ) (n : ℕ) (line after : List ℕ) → Reading text s rest n → HasLine rest line after
+    → step s line ≡ None → IsLineFault text n
 line_none text s rest n line after r h e =
     let none : run Start (r.lines ++ line ∷ []) ≡ None = next_run r.lines s line r.run ∙ ap (λ o. and_then o (λ t. Some t)) e in
     inl (wrong_line text s rest n line after HasNoForm r h (λ b.
@@ -56,13 +60,15 @@ step_run : (lines : List (List ℕ)) (s t : State) (line : List ℕ) → run Sta
 step_run lines s t line e f = next_run lines s line e ∙ ap (λ o. and_then o (λ t. Some t)) f
 
 -- what is kept backwards holds of the state, where it holds of a script with these lines in front
-held : (lines : List (List ℕ)) (t : State) (s : Script) (rest : List ℕ) → IsFormed s → AllByRecursion (Free 10) lines → script_text s ≡ text_of_lines lines ++ rest → run Start lines ≡ Some t
+held : (lines : List (List ℕ)) (t : State) (s : Script) (rest : List ℕ) → IsFormed s → AllByRecursion (Free 10) lines
+    → script_text s ≡ text_of_lines lines ++ rest → run Start lines ≡ Some t
     → (IsWithin s → IsWithin (closed t)) × (HasOnce s → HasOnce (closed t))
 held lines t s rest h each e r =
     let (more, more_is) = reach_is lines t s rest IsWithin h each e r in
     ((λ w. run_back IsWithin within_backward t (Between s) more more_is w), (λ w. run_back HasOnce once_backward t (Between s) more more_is w))
 
-pub line_much : (text : List ℕ) (s t : State) (rest : List ℕ) (n : ℕ) (line after : List ℕ) → Reading text s rest n → HasLine rest line after → step s line ≡ Some t → (IsWithin (closed t) → ⊥) → IsCountFault text n
+pub line_much : (text : List ℕ) (s t : State) (rest : List ℕ) (n : ℕ) (line after : List ℕ) → Reading text s rest n → HasLine rest line after
+    → step s line ≡ Some t → (IsWithin (closed t) → ⊥) → IsCountFault text n
 line_much text s t rest n line after r h e wide =
     let all : AllByRecursion (Free 10) (r.lines ++ line ∷ []) = all_append (Free 10) r.lines (line ∷ []) r.each (h.one, tt) in
     let there : run Start (r.lines ++ line ∷ []) ≡ Some t = step_run r.lines s t line r.run e in
@@ -71,7 +77,8 @@ line_much text s t rest n line after r h e wide =
       wrong = λ b. wide ((held (r.lines ++ line ∷ []) t b.script b.rest b.right.formed all b.is there).0 b.right.within);
     })
 
-pub line_repeated : (text : List ℕ) (s t : State) (rest : List ℕ) (n : ℕ) (line after : List ℕ) → Reading text s rest n → HasLine rest line after → step s line ≡ Some t → IsWithin (closed t) → (HasOnce (closed t) → ⊥) → IsRepeatFault text n
+pub line_repeated : (text : List ℕ) (s t : State) (rest : List ℕ) (n : ℕ) (line after : List ℕ) → Reading text s rest n → HasLine rest line after
+    → step s line ≡ Some t → IsWithin (closed t) → (HasOnce (closed t) → ⊥) → IsRepeatFault text n
 line_repeated text s t rest n line after r h e w twice =
     let all : AllByRecursion (Free 10) (r.lines ++ line ∷ []) = all_append (Free 10) r.lines (line ∷ []) r.each (h.one, tt) in
     let there : run Start (r.lines ++ line ∷ []) ≡ Some t = step_run r.lines s t line r.run e in
@@ -82,7 +89,8 @@ line_repeated text s t rest n line after r h e w twice =
 
 -- ---- going on
 
-pub line_step : (text : List ℕ) (s t : State) (rest : List ℕ) (n : ℕ) (line after : List ℕ) → Reading text s rest n → HasLine rest line after → step s line ≡ Some t → IsWithin (closed t) → HasOnce (closed t) → Reading text t after (suc n)
+pub line_step : (text : List ℕ) (s t : State) (rest : List ℕ) (n : ℕ) (line after : List ℕ) → Reading text s rest n → HasLine rest line after
+    → step s line ≡ Some t → IsWithin (closed t) → HasOnce (closed t) → Reading text t after (suc n)
 line_step text s t rest n line after r h e w o =
     let all : AllByRecursion (Free 10) (r.lines ++ line ∷ []) = all_append (Free 10) r.lines (line ∷ []) r.each (h.one, tt) in
     let there : run Start (r.lines ++ line ∷ []) ≡ Some t = step_run r.lines s t line r.run e in
@@ -97,7 +105,8 @@ line_step text s t rest n line after r h e w o =
     }
 
 -- several lines at once
-pub lines_step : (text : List ℕ) (s t : State) (rest body after : List ℕ) (n : ℕ) → Reading text s rest n → (l : Lines s body t) → rest ≡ body ++ after → IsWithin (closed t) → HasOnce (closed t) → Reading text t after (n + length l.lines)
+pub lines_step : (text : List ℕ) (s t : State) (rest body after : List ℕ) (n : ℕ) → Reading text s rest n → (l : Lines s body t)
+    → rest ≡ body ++ after → IsWithin (closed t) → HasOnce (closed t) → Reading text t after (n + length l.lines)
 lines_step text s t rest body after n r l e w o =
     let all : AllByRecursion (Free 10) (r.lines ++ l.lines) = all_append (Free 10) r.lines l.lines r.each l.each in
     let there : run Start (r.lines ++ l.lines) ≡ Some t = run_append Start s r.lines l.lines r.run ∙ l.run in
@@ -150,7 +159,8 @@ line_early text s rest n r free unclosed = inr (record {
     longer t l [] e q = at_end t l (sym (append-nil r.lines) ∙ sym e) q
     longer t l (m ∷ more) e q = has_feed m (text_of_lines more ++ []) (subst (Free 10) (q ∙ first_line m more []) free)
 
-    shorter : (t : Script) (l : Lines Start (script_text t) (Between t)) (more : List (List ℕ)) → r.lines ≡ l.lines ++ more → [] ≡ text_of_lines more ++ rest → ⊥
+    shorter : (t : Script) (l : Lines Start (script_text t) (Between t)) (more : List (List ℕ)) → r.lines ≡ l.lines ++ more
+        → [] ≡ text_of_lines more ++ rest → ⊥
     shorter t l [] e q = at_end t l (e ∙ append-nil l.lines) (sym q)
     shorter t l (m ∷ more) e q = no_text m (text_of_lines more ++ rest) (q ∙ first_line m more rest)
 

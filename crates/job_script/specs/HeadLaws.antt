@@ -120,7 +120,8 @@ language_read false = refl
 language_found : (rest : List ℕ) (camelot : Bool) → language_of rest ≡ Some camelot → rest ≡ 32 ∷ language camelot
 language_found rest camelot e = by_test (bytes_eq rest (codes " camelot")) refl e
   where
-    by_test : (t : Bool) → bytes_eq rest (codes " camelot") ≡ t → (if t then Some true else only_if (bytes_eq rest (codes " grail")) (Some false)) ≡ Some camelot → rest ≡ 32 ∷ language camelot
+    by_test : (t : Bool) → bytes_eq rest (codes " camelot") ≡ t
+        → (if t then Some true else only_if (bytes_eq rest (codes " grail")) (Some false)) ≡ Some camelot → rest ≡ 32 ∷ language camelot
     by_test true h f = same_name rest (codes " camelot") h ∙ ap (λ c. 32 ∷ language c) (some_same true camelot f)
     by_test false h f =
         let p = only_some (bytes_eq rest (codes " grail")) (Some false) camelot f in
@@ -307,7 +308,8 @@ head_found line h free e = by_test (bytes_eq (upto 32 line) (codes "program")) r
       q ∙ r.rest_is,
     )
 
-    by_test : (t : Bool) → bytes_eq (upto 32 line) (codes "program") ≡ t → (if t then program_of (from 32 line) else only_if (bytes_eq (upto 32 line) (codes "job")) (job_of (from 32 line))) ≡ Some h
+    by_test : (t : Bool) → bytes_eq (upto 32 line) (codes "program") ≡ t
+        → (if t then program_of (from 32 line) else only_if (bytes_eq (upto 32 line) (codes "job")) (job_of (from 32 line))) ≡ Some h
         → HeadIsFormed h × (line ≡ head_line h)
     by_test true k f = let p = program_found (from 32 line) h f in (p.0, parts (codes "program") k ∙ p.1)
     by_test false k f =

@@ -1,13 +1,14 @@
 -- Private: words for functions of this crate.
--- The reader as functions on lines: what comes of a script's front when one more line is added to it, limits and repeats left out.
+-- The reader as functions on lines: what comes of a script's front when one more line is added to it, limits and
+-- repeats left out.
 use Rattle.std.specs.Prelude.{◌≡◌, ℕ, ◌==◌, Bool, true, false, if◌then◌else◌, Option, Some, None, List, [], ◌∷◌, ◌++◌, codes}
 use Rattle.std.specs.Option.{option_map}
 use Rattle.std.specs.Str.{bytes_eq}
 use Rattle.camelot_values.specs.Names.{is_name, is_lower_name}
 use Rattle.certificate.specs.Reading.{and_then, only_if, upto, from, number_of}
 use Rattle.job_script.specs.Scripts.{Job, Entry, AProgram, AJob, Script, is_letter, text_of_lines, IsUpTo}
-use Rattle.job_script.specs.declared.stop.Stop.{Stop}
-use Rattle.job_script.specs.declared.stop.Stop.TheVariants as stop
+use Rattle.job_script.specs.declared.stop.LineStop.{LineStop}
+use Rattle.job_script.specs.declared.stop.LineStop.TheVariants as stop
 
 -- ---- what was read
 
@@ -23,7 +24,7 @@ pub record IsWide {A : Type 0} (found : Option A) (Fits : A → Type 0) : Type 0
   pub wide : Fits x → ⊥
 
 -- why it isn't read
-abbrev pub IsStopped : {A : Type 0} → Option A → (A → Type 0) → Stop → Type 0
+abbrev pub IsStopped : {A : Type 0} → Option A → (A → Type 0) → LineStop → Type 0
 IsStopped found Fits stop.Line = found ≡ None
 IsStopped found Fits stop.Count = IsWide found Fits
 IsStopped found Fits stop.Repeat = ⊥

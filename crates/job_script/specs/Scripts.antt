@@ -1,5 +1,6 @@
 -- Cited by contracts.
--- Scripts as plain data (`SCRIPTS.md`): the cells of the arena, the workers, and programs and jobs in the order of the text.
+-- Scripts as plain data (`SCRIPTS.md`): the cells of the arena, the workers, and programs and jobs in the order of the
+-- text.
 use Rattle.std.specs.Prelude.{◌≡◌, ℕ, ◌≤◌, ◌==◌, ◌||◌, Bool, List, [], ◌∷◌, ◌++◌, length, flat_map, IsFalse}
 use Rattle.std.specs.List.{list_any, AllByRecursion}
 use Rattle.camelot_values.specs.Names.{is_lower, is_upper, IsName, IsLowerName, AreDistinct}
@@ -111,7 +112,8 @@ pub record IsCounted (s : Script) : Type 0 where
 
 -- ---- names
 
--- no two programs have the same name, and no two jobs; a job may have a program's name, and its program need not be there
+-- no two programs have the same name, and no two jobs; a job may have a program's name, and its program need not be
+-- there
 pub record HasOnce (s : Script) : Type 0 where
   pub programs : AreDistinct (program_names s.items)
   pub jobs : AreDistinct (job_names s.items)

@@ -67,7 +67,8 @@ head_text : (s : Script) (h : Head) (line : List ℕ) → line ≡ head_line h �
 head_text s (HProgram name camelot) line e = ap (λ l. script_text s ++ l) (append-nil (text_of_lines (program_line name camelot ∷ [])) ∙ ap (λ l. text_of_lines (l ∷ [])) (sym e))
 head_text s (HJob j) line e = add_text s (AJob j) ∙ ap (λ l. script_text s ++ text_of_lines (l ∷ [])) (sym e)
 
-workers_text : (arena workers : ℕ) → script_text (script_by arena workers []) ≡ text_of_lines (arena_line arena ∷ []) ++ text_of_lines (workers_line workers ∷ [])
+workers_text : (arena workers : ℕ)
+    → script_text (script_by arena workers []) ≡ text_of_lines (arena_line arena ∷ []) ++ text_of_lines (workers_line workers ∷ [])
 unfolding script_text
 workers_text arena workers = append-nil (text_of_lines (arena_line arena ∷ workers_line workers ∷ [])) ∙ flat_append (λ line. line ++ 10 ∷ []) (arena_line arena ∷ []) (workers_line workers ∷ [])
 
@@ -135,7 +136,8 @@ step_formed (Inside s name camelot text) t line f h e =
     dot : bytes_eq line (codes ".") ≡ false → line ≡ codes "." → ⊥
     dot k q = let r : true ≡ false = sym (name_itself (codes ".")) ∙ ap (λ l. bytes_eq l (codes ".")) (sym q) ∙ k in absurd cc
 
-    by_test : (b : Bool) → bytes_eq line (codes ".") ≡ b → IsFormed (closed (if b then Between (add s (program_by name camelot text)) else Inside s name camelot (text ++ text_of_lines (line ∷ []))))
+    by_test : (b : Bool) → bytes_eq line (codes ".") ≡ b
+        → IsFormed (closed (if b then Between (add s (program_by name camelot text)) else Inside s name camelot (text ++ text_of_lines (line ∷ []))))
     by_test true k = h
     by_test false k =
         let p = all_last EntryIsFormed s.items (program_by name camelot text) h.items in
@@ -156,7 +158,8 @@ within_front s e h = record {
   jobs = omega (arith, h.jobs, ap length (jobs_append s.items (e ∷ [])), length-append (job_names s.items) (job_names (e ∷ [])));
 }
 
-pub within_text : (s : Script) (name : List ℕ) (camelot : Bool) (text other : List ℕ) → IsWithin (add s (program_by name camelot other)) → IsWithin (add s (program_by name camelot text))
+pub within_text : (s : Script) (name : List ℕ) (camelot : Bool) (text other : List ℕ) → IsWithin (add s (program_by name camelot other))
+    → IsWithin (add s (program_by name camelot text))
 within_text s name camelot text other h = record {
   arena = h.arena;
   workers = h.workers;
@@ -171,7 +174,8 @@ once_front s e h = record {
   jobs = distinct_left (job_names s.items) (job_names (e ∷ [])) (subst AreDistinct (jobs_append s.items (e ∷ [])) h.jobs);
 }
 
-pub once_text : (s : Script) (name : List ℕ) (camelot : Bool) (text other : List ℕ) → HasOnce (add s (program_by name camelot other)) → HasOnce (add s (program_by name camelot text))
+pub once_text : (s : Script) (name : List ℕ) (camelot : Bool) (text other : List ℕ) → HasOnce (add s (program_by name camelot other))
+    → HasOnce (add s (program_by name camelot text))
 once_text s name camelot text other h = record {
   programs = subst AreDistinct (programs_append s.items (program_by name camelot other ∷ []) ∙ sym (programs_append s.items (program_by name camelot text ∷ []))) h.programs;
   jobs = subst AreDistinct (jobs_append s.items (program_by name camelot other ∷ []) ∙ sym (jobs_append s.items (program_by name camelot text ∷ []))) h.jobs;
@@ -189,7 +193,8 @@ pub record IsBackward (P : Script → Type 0) : Type 0 where
   pub least : P (script_by 1 1 [])
   pub one : (a w : ℕ) → P (script_by a w []) → P (script_by a 1 [])
   pub front : (s : Script) (e : Entry) → P (add s e) → P s
-  pub text : (s : Script) (name : List ℕ) (camelot : Bool) (text other : List ℕ) → P (add s (program_by name camelot other)) → P (add s (program_by name camelot text))
+  pub text : (s : Script) (name : List ℕ) (camelot : Bool) (text other : List ℕ) → P (add s (program_by name camelot other))
+      → P (add s (program_by name camelot text))
 
 pub within_backward : IsBackward IsWithin
 within_backward = record {
@@ -280,14 +285,17 @@ join s t u x y a b = record {
   run = run_append s t a.lines b.lines a.run ∙ b.run;
 }
 
-inside_step : (s : Script) (name : List ℕ) (camelot : Bool) (text line : List ℕ) → IsTextLine line → step (Inside s name camelot text) line ≡ Some (Inside s name camelot (text ++ text_of_lines (line ∷ [])))
+inside_step : (s : Script) (name : List ℕ) (camelot : Bool) (text line : List ℕ) → IsTextLine line
+    → step (Inside s name camelot text) line ≡ Some (Inside s name camelot (text ++ text_of_lines (line ∷ [])))
 inside_step s name camelot text line h = by_test (bytes_eq line (codes ".")) refl
   where
-    by_test : (b : Bool) → bytes_eq line (codes ".") ≡ b → Some (if b then Between (add s (program_by name camelot text)) else Inside s name camelot (text ++ text_of_lines (line ∷ []))) ≡ Some (Inside s name camelot (text ++ text_of_lines (line ∷ [])))
+    by_test : (b : Bool) → bytes_eq line (codes ".") ≡ b
+        → Some (if b then Between (add s (program_by name camelot text)) else Inside s name camelot (text ++ text_of_lines (line ∷ []))) ≡ Some (Inside s name camelot (text ++ text_of_lines (line ∷ [])))
     by_test true k = absurd (h.goes_on (same_name line (codes ".") k))
     by_test false k = refl
 
-pub body_run : (s : Script) (name : List ℕ) (camelot : Bool) (text : List ℕ) (lines : List (List ℕ)) → AllByRecursion IsTextLine lines → run (Inside s name camelot text) lines ≡ Some (Inside s name camelot (text ++ text_of_lines lines))
+pub body_run : (s : Script) (name : List ℕ) (camelot : Bool) (text : List ℕ) (lines : List (List ℕ)) → AllByRecursion IsTextLine lines
+    → run (Inside s name camelot text) lines ≡ Some (Inside s name camelot (text ++ text_of_lines lines))
 body_run s name camelot text [] h = ap (λ l. Some (Inside s name camelot l)) (sym (append-nil text))
 body_run s name camelot text (line ∷ lines) h =
     then_is (step (Inside s name camelot text) line) (λ m. run m lines) (Inside s name camelot (text ++ text_of_lines (line ∷ []))) (Some (Inside s name camelot (text ++ text_of_lines (line ∷ lines)))) (inside_step s name camelot text line h.0)
@@ -298,7 +306,8 @@ pub lines_one : (lines : List (List ℕ)) → AllByRecursion IsTextLine lines �
 lines_one [] h = tt
 lines_one (line ∷ lines) h = (h.0.one, lines_one lines h.1)
 
-pub body_lines : (s : Script) (name : List ℕ) (camelot : Bool) (text : List ℕ) (lines : List (List ℕ)) → AllByRecursion IsTextLine lines → Lines (Inside s name camelot text) (text_of_lines lines) (Inside s name camelot (text ++ text_of_lines lines))
+pub body_lines : (s : Script) (name : List ℕ) (camelot : Bool) (text : List ℕ) (lines : List (List ℕ)) → AllByRecursion IsTextLine lines
+    → Lines (Inside s name camelot text) (text_of_lines lines) (Inside s name camelot (text ++ text_of_lines lines))
 body_lines s name camelot text lines h = record { lines = lines; each = lines_one lines h; is = refl; run = body_run s name camelot text lines h }
 
 head_step : (s : Script) (h : Head) → HeadIsFormed h → step (Between s) (head_line h) ≡ Some (enter s h)
@@ -313,7 +322,8 @@ entry_lines s (AProgram p) h =
     (join (Inside s p.name p.camelot []) (Inside s p.name p.camelot p.text) (Between (add s (AProgram p))) p.text (text_of_lines (codes "." ∷ [])) body end)
 entry_lines s (AJob j) h = one_more (Between s) (Between (add s (AJob j))) (job_line j) (head_free (HJob j) h) (head_step s (HJob j) h)
 
-items_lines : (arena workers : ℕ) (items more : List Entry) → AllByRecursion EntryIsFormed more → Lines (Between (script_by arena workers items)) (flat_map entry_text more) (Between (script_by arena workers (items ++ more)))
+items_lines : (arena workers : ℕ) (items more : List Entry) → AllByRecursion EntryIsFormed more
+    → Lines (Between (script_by arena workers items)) (flat_map entry_text more) (Between (script_by arena workers (items ++ more)))
 items_lines arena workers items [] h = subst (λ l. Lines (Between (script_by arena workers items)) [] (Between (script_by arena workers l))) (sym (append-nil items)) (no_lines (Between (script_by arena workers items)))
 items_lines arena workers items (e ∷ more) h =
     subst (λ l. Lines (Between (script_by arena workers items)) (entry_text e ++ flat_map entry_text more) (Between (script_by arena workers l))) (append_assoc items (e ∷ []) more)
@@ -337,7 +347,8 @@ pub record Reached (s : Script) (lines : List (List ℕ)) : Type 0 where
   pub more : List (List ℕ)
   pub front : Front Start (Between s) lines more
 
-pub reached : (s : Script) (lines : List (List ℕ)) (rest : List ℕ) → IsFormed s → AllByRecursion (Free 10) lines → script_text s ≡ text_of_lines lines ++ rest → Reached s lines
+pub reached : (s : Script) (lines : List (List ℕ)) (rest : List ℕ) → IsFormed s → AllByRecursion (Free 10) lines
+    → script_text s ≡ text_of_lines lines ++ rest → Reached s lines
 reached s lines rest h each e =
     let l = script_lines s h in
     by_case l (fronts lines l.lines rest [] each l.each (sym e ∙ sym l.is ∙ sym (append-nil (text_of_lines l.lines))))
@@ -356,7 +367,8 @@ reached s lines rest h each e =
         let same : lines ≡ l.lines = f.is ∙ ap (λ k. l.lines ++ k) (none_more f.more f.rest) ∙ append-nil l.lines in
         record { more = []; front = record { state = Between s; is = ap (run Start) same ∙ l.run; on = refl } }
 
-pub begins : (P : Script → Type 0) (s : State) (lines : List (List ℕ)) → AllByRecursion (Free 10) lines → run Start lines ≡ Some s → P (closed s) → Begins P lines
+pub begins : (P : Script → Type 0) (s : State) (lines : List (List ℕ)) → AllByRecursion (Free 10) lines → run Start lines ≡ Some s → P (closed s)
+    → Begins P lines
 begins P s lines each e h =
     let c = closing s in
     record { script = closed s; rest = c.rest; is = c.is ∙ ap (λ l. l ++ c.rest) (run_text Start s lines each e); right = h }

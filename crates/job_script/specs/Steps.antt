@@ -5,8 +5,8 @@ use Rattle.std.specs.List.{AllByRecursion}
 use Rattle.camelot_values.specs.Names.{stands}
 use Rattle.job_script.specs.Scripts.{Entry, IsOneLine, IsTextLine, IsScript, text_of_lines, program_names, job_names}
 use Rattle.job_script.specs.Reading.{State, Start, Between, run, closed, script_by}
-use Rattle.job_script.specs.declared.stop.Stop.{Stop}
-use Rattle.job_script.specs.declared.stop.Stop.TheVariants as stop
+use Rattle.job_script.specs.declared.stop.LineStop.{LineStop}
+use Rattle.job_script.specs.declared.stop.LineStop.TheVariants as stop
 
 -- a line and its line feed stand in front
 pub record HasLine (text line rest : List ℕ) : Type 0 where
@@ -65,7 +65,7 @@ pub record Stood (most : ℕ) (names : List (List ℕ)) (name : List ℕ) : Type
   pub old : stands names name ≡ true
 
 -- why it isn't added
-abbrev pub IsRefused : ℕ → List (List ℕ) → List ℕ → Stop → Type 0
+abbrev pub IsRefused : ℕ → List (List ℕ) → List ℕ → LineStop → Type 0
 IsRefused most names name stop.Line = ⊥
 IsRefused most names name stop.Count = most ≤ length names
 IsRefused most names name stop.Repeat = Stood most names name

@@ -1,6 +1,6 @@
 -- Cited by contracts.
--- The text of scripts (`SCRIPTS.md`): lines that end with a line feed, of words one space apart. A script has one text, and a text is that of one
--- script at most.
+-- The text of scripts (`SCRIPTS.md`): lines that end with a line feed, of words one space apart. A script has one text,
+-- and a text is that of one script at most.
 use Rattle.std.specs.Prelude.{◌≡◌, ℕ, suc, ◌≤◌, Bool, true, false, List, [], ◌∷◌, ◌++◌, length, flat_map, codes, ◌⊎◌}
 use Rattle.std.specs.List.{AllByRecursion}
 use Rattle.certificate.specs.Numbers.{number}

@@ -78,7 +78,8 @@ rest_of_early text n f = record {
 }
 
 -- reading goes no further than where it stops
-no_further : (text : List ℕ) (xs ys : List (List ℕ)) (d : Rest text xs) → Begins IsScript ys → AllByRecursion (Free 10) ys → (s : List ℕ) → Further xs ys d.rest s → xs ≡ ys
+no_further : (text : List ℕ) (xs ys : List (List ℕ)) (d : Rest text xs) → Begins IsScript ys → AllByRecursion (Free 10) ys → (s : List ℕ)
+    → Further xs ys d.rest s → xs ≡ ys
 no_further text xs ys d b each s f = by_more f.more f.is f.rest
   where
     feed : (xs more : List (List ℕ)) (z : List ℕ) → AllByRecursion (Free 10) (xs ++ z ∷ more) → Free 10 z
@@ -106,7 +107,8 @@ pub record Same (m n : ℕ) (xs ys : List (List ℕ)) : Type 0 where
   pub number : m ≡ n
   pub lines : xs ≡ ys
 
-pub same_wrong : (text : List ℕ) (V W : List (List ℕ) → Type 0) (m n : ℕ) → Stops V → Stops W → (f : IsWrongLine text V m) (g : IsWrongLine text W n) → Same m n (f.before ++ f.line ∷ []) (g.before ++ g.line ∷ [])
+pub same_wrong : (text : List ℕ) (V W : List (List ℕ) → Type 0) (m n : ℕ) → Stops V → Stops W → (f : IsWrongLine text V m) (g : IsWrongLine text W n)
+    → Same m n (f.before ++ f.line ∷ []) (g.before ++ g.line ∷ [])
 same_wrong text V W m n v w f g =
     let q : f.before ≡ g.before = one_stop text f.before g.before (rest_of_wrong text V m v f) (rest_of_wrong text W n w g) in
     let p = one_line f.line g.line f.rest g.rest f.one g.one (same_rest text f.before g.before (f.line ++ 10 ∷ f.rest) (g.line ++ 10 ∷ g.rest) q f.parts g.parts) in
@@ -194,7 +196,8 @@ scripts_one s t h k e = by_case (script_lines s h) (script_lines t k)
     no_more [] e = refl
     no_more (m ∷ more) e = absurd (no_rest m (text_of_lines more ++ []) (sym (e ∙ first_line m more [])))
 
-    lines_same : (l : Lines Start (script_text s) (Between s)) (m : Lines Start (script_text t) (Between t)) → Further l.lines m.lines [] [] ⊎ Further m.lines l.lines [] [] → l.lines ≡ m.lines
+    lines_same : (l : Lines Start (script_text s) (Between s)) (m : Lines Start (script_text t) (Between t))
+        → Further l.lines m.lines [] [] ⊎ Further m.lines l.lines [] [] → l.lines ≡ m.lines
     lines_same l m (inl f) = sym (f.is ∙ ap (λ k. l.lines ++ k) (no_more f.more f.rest) ∙ append-nil l.lines)
     lines_same l m (inr f) = f.is ∙ ap (λ k. m.lines ++ k) (no_more f.more f.rest) ∙ append-nil m.lines
 

@@ -5,7 +5,7 @@ ghost use Rattle.job_script.specs.Heads.{head_view, SameBytes};
 use super::cutting::{cut, next_word};
 use super::names::{is_lower_name, is_word};
 use super::numbers::{MOST_FUEL, read_limited};
-use super::stop::Stop;
+use super::stop::LineStop;
 
 /// The line of a job, in the text.
 #[derive(Drop)]
@@ -55,17 +55,17 @@ fn args_of(rest: &[u8]) -> Option<&[u8]>
 
 // What is behind the word `program`.
 #[tactic(auto, using(crate::proofs::Heading::no_program, crate::proofs::Heading::no_language, crate::proofs::Heading::no_program_name, crate::proofs::Heading::some_program))]
-fn read_program(rest: &[u8]) -> Result<Head<'_>, Stop>
+fn read_program(rest: &[u8]) -> Result<Head<'_>, LineStop>
     ensures { MatchResult result (λ head. IsRead (program_of rest.now) HeadFits (head_view head)) (λ stop. IsStopped (program_of rest.now) HeadFits stop) }
 {
     let Some((name, after)) = next_word(rest) else {
-        return Err(Stop::Line);
+        return Err(LineStop::Line);
     };
     let Some(camelot) = language_of(after) else {
-        return Err(Stop::Line);
+        return Err(LineStop::Line);
     };
     if !is_word(name) {
-        return Err(Stop::Line);
+        return Err(LineStop::Line);
     }
     Ok(Head::Program { name, camelot })
 }
@@ -77,14 +77,15 @@ fn read_fuel<'a>(
     program: &'a [u8],
     entry: &'a [u8],
     rest: &'a [u8],
-) -> Result<Head<'a>, Stop>
-    ensures { MatchResult result (λ head. IsRead (fuel_of name.now program.now entry.now rest.now) HeadFits (head_view head)) (λ stop. IsStopped (fuel_of name.now program.now entry.now rest.now) HeadFits stop) }
+) -> Result<Head<'a>, LineStop>
+    ensures { MatchResult result (λ head. IsRead (fuel_of name.now program.now entry.now rest.now) HeadFits
+        (head_view head)) (λ stop. IsStopped (fuel_of name.now program.now entry.now rest.now) HeadFits stop) }
 {
     let Some((word, after)) = next_word(rest) else {
-        return Err(Stop::Line);
+        return Err(LineStop::Line);
     };
     let Some(args) = args_of(after) else {
-        return Err(Stop::Line);
+        return Err(LineStop::Line);
     };
     let fuel = match read_limited(word, MOST_FUEL) {
         Ok(fuel) => fuel,
@@ -101,41 +102,42 @@ fn read_fuel<'a>(
 
 // The entry of a job and what is behind it.
 #[tactic(auto, using(crate::proofs::Heading::no_entry, crate::proofs::Heading::no_entry_name))]
-fn read_entry<'a>(name: &'a [u8], program: &'a [u8], rest: &'a [u8]) -> Result<Head<'a>, Stop>
-    ensures { MatchResult result (λ head. IsRead (entry_of_job name.now program.now rest.now) HeadFits (head_view head)) (λ stop. IsStopped (entry_of_job name.now program.now rest.now) HeadFits stop) }
+fn read_entry<'a>(name: &'a [u8], program: &'a [u8], rest: &'a [u8]) -> Result<Head<'a>, LineStop>
+    ensures { MatchResult result (λ head. IsRead (entry_of_job name.now program.now rest.now) HeadFits
+        (head_view head)) (λ stop. IsStopped (entry_of_job name.now program.now rest.now) HeadFits stop) }
 {
     let Some((entry, after)) = next_word(rest) else {
-        return Err(Stop::Line);
+        return Err(LineStop::Line);
     };
     if !is_lower_name(entry) {
-        return Err(Stop::Line);
+        return Err(LineStop::Line);
     }
     read_fuel(name, program, entry, after)
 }
 
 // What is behind the word `job`.
 #[tactic(auto, using(crate::proofs::Heading::no_job, crate::proofs::Heading::no_job_name, crate::proofs::Heading::no_job_program, crate::proofs::Heading::no_program_word))]
-fn read_job(rest: &[u8]) -> Result<Head<'_>, Stop>
+fn read_job(rest: &[u8]) -> Result<Head<'_>, LineStop>
     ensures { MatchResult result (λ head. IsRead (job_of rest.now) HeadFits (head_view head)) (λ stop. IsStopped (job_of rest.now) HeadFits stop) }
 {
     let Some((name, after)) = next_word(rest) else {
-        return Err(Stop::Line);
+        return Err(LineStop::Line);
     };
     if !is_word(name) {
-        return Err(Stop::Line);
+        return Err(LineStop::Line);
     }
     let Some((program, behind)) = next_word(after) else {
-        return Err(Stop::Line);
+        return Err(LineStop::Line);
     };
     if !is_word(program) {
-        return Err(Stop::Line);
+        return Err(LineStop::Line);
     }
     read_entry(name, program, behind)
 }
 
 /// The first line of a program, or the line of a job.
 #[tactic(auto, using(crate::proofs::Heading::no_head))]
-pub(crate) fn read_head(line: &[u8]) -> Result<Head<'_>, Stop>
+pub(crate) fn read_head(line: &[u8]) -> Result<Head<'_>, LineStop>
     ensures { MatchResult result (λ head. IsRead (head_of line.now) HeadFits (head_view head)) (λ stop. IsStopped (head_of line.now) HeadFits stop) }
 {
     let (tag, rest) = cut(line, b' ');
@@ -145,5 +147,5 @@ pub(crate) fn read_head(line: &[u8]) -> Result<Head<'_>, Stop>
     if tag == b"job".as_slice() {
         return read_job(rest);
     }
-    Err(Stop::Line)
+    Err(LineStop::Line)
 }

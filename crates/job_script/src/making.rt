@@ -141,8 +141,9 @@ fn push_jobs(alloc: Global, items: &mut Vec<Entry>, count: u32) -> Result<(), Al
     Ok(())
 }
 
-/// The script of the drill: an arena of 4,096 cells, so many workers, from 1 to 16, one program, and so many jobs, from 1 to 4,096. Job `i` doubles the list of
-/// the ints from 1 to the remainder of 37 times `i` by 1,000; each hundredth has too little fuel. `AllocError` where memory runs out.
+/// The script of the drill: an arena of 4,096 cells, so many workers, from 1 to 16, one program, and so many jobs, from
+/// 1 to 4,096. Job `i` doubles the list of the ints from 1 to the remainder of 37 times `i` by 1,000; each hundredth
+/// has too little fuel. `AllocError` where memory runs out.
 #[tactic(auto, using(crate::proofs::Counted::script_made, crate::proofs::MadeRight::short))]
 pub fn make_script(alloc: Global, jobs: u32, workers: u32) -> Result<Script, AllocError>
     requires jobs { IsUpTo 4096 jobs }

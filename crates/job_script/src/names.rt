@@ -5,7 +5,7 @@ ghost use Rattle.job_script.specs.Scripts.{is_letter};
 ghost use Rattle.job_script.specs.Reading.{is_word};
 ghost use Rattle.job_script.specs.Steps.{IsAdded, IsRefused};
 
-use super::stop::Stop;
+use super::stop::LineStop;
 use camelot_names::Names;
 
 // Whether the byte is a lower letter.
@@ -79,19 +79,23 @@ pub(crate) fn is_lower_name(word: &[u8]) -> bool
 
 /// Adds a name to fewer than the most, unless it stands.
 #[tactic(auto, using(crate::proofs::Naming::name_added, crate::proofs::Naming::name_stood))]
-pub(crate) fn add_name<'a>(names: &mut Names<'a>, most: usize, name: &'a [u8]) -> Result<(), Stop>
+pub(crate) fn add_name<'a>(
+    names: &mut Names<'a>,
+    most: usize,
+    name: &'a [u8],
+) -> Result<(), LineStop>
     ensures { MatchResult result (λ done. IsAdded most names.old name.now names.new) (λ stop. IsRefused most names.old name.now stop) }
 {
     if names.len() >= most {
-        return Err(Stop::Count);
+        return Err(LineStop::Count);
     }
     match names.add(name) {
         Ok(new) => {
             if new {
                 return Ok(());
             }
-            Err(Stop::Repeat)
+            Err(LineStop::Repeat)
         }
-        Err(_) => Err(Stop::Memory),
+        Err(_) => Err(LineStop::Memory),
     }
 }

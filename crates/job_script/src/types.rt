@@ -9,8 +9,8 @@ pub enum Entry {
         camelot: bool,
         text: Vec<u8>,
     },
-    /// A call of the entry of a program with so much fuel, from 1 to 2^40. The program need not be there. The arguments are as they stand in the
-    /// line, and none where it has none.
+    /// A call of the entry of a program with so much fuel, from 1 to 2^40. The program need not be there. The arguments
+    /// are as they stand in the line, and none where it has none.
     Job {
         name: Word,
         program: Word,
@@ -20,7 +20,8 @@ pub enum Entry {
     },
 }
 
-/// A script: the cells of its arena, from 1 to 4194304, its workers, from 1 to 16, and its programs and jobs, at most 64 and 4096.
+/// A script: the cells of its arena, from 1 to 4194304, its workers, from 1 to 16, and its programs and jobs, at most
+/// 64 and 4096.
 #[derive(Drop)]
 pub struct Script {
     pub arena: u32,

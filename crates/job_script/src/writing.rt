@@ -91,7 +91,8 @@ fn push_job(
     fuel: u64,
     args: &[u8],
 ) -> Result<(), AllocError>
-    ensures { OnOk result (out.new.items ≡ out.old.items ++ entry_text (AJob (record { name = name.now; program = program.now; entry = entry.now; fuel = fuel; args = args.now }))) }
+    ensures { OnOk result (out.new.items ≡ out.old.items ++ entry_text
+        (AJob (record { name = name.now; program = program.now; entry = entry.now; fuel = fuel; args = args.now }))) }
 {
     out.extend_from_slice(b"job")?;
     push_word(out, name.bytes())?;
@@ -136,6 +137,7 @@ fn push_entries(out: &mut Vec<u8>, entries: &[Entry]) -> Result<(), AllocError>
 /// The text of a script. `AllocError` where memory runs out.
 #[tactic(auto, using(crate::proofs::Joining::script_written, crate::proofs::Joining::same_bytes))]
 pub fn write_script(alloc: Global, script: &Script) -> Result<Vec<u8>, AllocError>
+    // It is the text of this script.
     ensures text { IfOk result (λ text. text.items ≡ script_text (script_of script.now)) }
     // Where the script was read, these are the bytes that it was read from.
     ensures same { (bytes : List ℕ) → IsScriptText bytes (script_of script.now) → IfOk result (λ text. text.items ≡ bytes) }

@@ -27,7 +27,8 @@ pub sizes_now : (ps qs : Planned) (sizes own : List ℕ) → ps ≡ qs → sizes
 sizes_now ps qs sizes own plans named is = is ∙ named ∙ ap (λ (x : Planned). leases_of x.plans) (sym plans)
 
 -- the journal of a desk of the name is legal for the plans
-pub legal_now : {P : Type 0} (d : DeskView P) (ps : Planned) (arena : Arena) (journal : List Event) → d.arena ≡ arena → d.sizes ≡ leases_of ps.plans → journal ≡ d.journal → IsLegal d.arena.cells d.sizes d.journal
+pub legal_now : {P : Type 0} (d : DeskView P) (ps : Planned) (arena : Arena) (journal : List Event) → d.arena ≡ arena → d.sizes ≡ leases_of ps.plans
+    → journal ≡ d.journal → IsLegal d.arena.cells d.sizes d.journal
     → IsLegal arena.cells (leases_of ps.plans) journal
 legal_now d ps arena journal of sizes is h =
     subst (λ j. IsLegal arena.cells (leases_of ps.plans) j) (sym is) (subst (λ s. IsLegal arena.cells s d.journal) sizes (subst (λ (a : Arena). IsLegal a.cells d.sizes d.journal) of h))
@@ -40,7 +41,8 @@ past (p ∷ plans) (suc job) e = omega (arith, past plans job e)
 -- ---- all answers
 
 module _ {N : Type 0} {j : job_name.Ghosts N} {n : desk_name.Ghosts N} where
-  answer_of : (ps : Planned) (job : ℕ) (o : Option (Option (Answer N j n))) (a : Answer N j n) → ps ≡ j.planned → o ≡ Some (Some a) → a.job ≡ job → HasAnswer ps job o
+  answer_of : (ps : Planned) (job : ℕ) (o : Option (Option (Answer N j n))) (a : Answer N j n) → ps ≡ j.planned → o ≡ Some (Some a) → a.job ≡ job
+      → HasAnswer ps job o
   answer_of ps job o a plans is number = record {
     answer = a;
     is = is;
@@ -48,7 +50,8 @@ module _ {N : Type 0} {j : job_name.Ghosts N} {n : desk_name.Ghosts N} where
     meant = subst (λ q. EndsWith q a.ending) (ap (λ ps. job_run ps a.job) (sym plans) ∙ ap (job_run ps) number) a.meant;
   }
 
-  pub all_answered : (ps : Planned) (d : DeskView (Answer N j n)) (payloads : List (Option (Answer N j n))) → ps ≡ j.planned → d.sizes ≡ leases_of ps.plans → payloads ≡ d.payloads
+  pub all_answered : (ps : Planned) (d : DeskView (Answer N j n)) (payloads : List (Option (Answer N j n))) → ps ≡ j.planned
+      → d.sizes ≡ leases_of ps.plans → payloads ≡ d.payloads
       → AllFiled (λ (a : Answer N j n). a.job) (length d.sizes) d.payloads → AllAnswered ps payloads
   all_answered ps d payloads plans sizes is filed job less =
       let p = filed job (omega (arith, less, ap length sizes, leases_many ps.plans)) in
@@ -56,12 +59,14 @@ module _ {N : Type 0} {j : job_name.Ghosts N} {n : desk_name.Ghosts N} where
 
   -- ---- their endings
 
-  ending_of : (payloads : List (Option (Answer N j n))) (job : ℕ) (a : Answer N j n) → slice_get payloads job ≡ Some (Some a) → slice_get (map ending_in payloads) job ≡ Some (Some a.ending)
+  ending_of : (payloads : List (Option (Answer N j n))) (job : ℕ) (a : Answer N j n) → slice_get payloads job ≡ Some (Some a)
+      → slice_get (map ending_in payloads) job ≡ Some (Some a.ending)
   ending_of [] job a e = let c : None ≡ Some (Some a) = e in absurd cc
   ending_of (p ∷ payloads) zero a e = let same : p ≡ Some a = cc in ap (λ p. Some (ending_in p)) same
   ending_of (p ∷ payloads) (suc job) a e = ending_of payloads job a e
 
-  pub all_ended : (ps : Planned) (payloads : List (Option (Answer N j n))) (endings : List (Option Ending)) → AllAnswered ps payloads → endings ≡ map ending_in payloads → AllEnded ps endings
+  pub all_ended : (ps : Planned) (payloads : List (Option (Answer N j n))) (endings : List (Option Ending)) → AllAnswered ps payloads
+      → endings ≡ map ending_in payloads → AllEnded ps endings
   all_ended ps payloads endings all is job less =
       let h : HasAnswer ps job (slice_get payloads job) = all job less in
       record { ending = h.answer.ending; is = ap (λ l. slice_get l job) is ∙ ending_of payloads job h.answer h.is; meant = h.meant }
@@ -72,7 +77,8 @@ module _ {N : Type 0} {j : job_name.Ghosts N} {n : desk_name.Ghosts N} where
   abbrev told : Answer N j n → List Cell
   told a = job_cells j.planned a.job
 
-  filed_at : (ps : Planned) (payloads : List (Option (Answer N j n))) (job : ℕ) → ps ≡ j.planned → AllAnswered ps payloads → length payloads ≡ length ps.plans → filed_by told payloads job ≡ all_cells ps job
+  filed_at : (ps : Planned) (payloads : List (Option (Answer N j n))) (job : ℕ) → ps ≡ j.planned → AllAnswered ps payloads
+      → length payloads ≡ length ps.plans → filed_by told payloads job ≡ all_cells ps job
   filed_at ps payloads job plans all many = by_plan (slice_get ps.plans job) refl
     where
       by_plan : (o : Option Plan) → slice_get ps.plans job ≡ o → cells_in told (slice_get payloads job) ≡ cells_for ps job o
@@ -81,7 +87,8 @@ module _ {N : Type 0} {j : job_name.Ghosts N} {n : desk_name.Ghosts N} where
           let h = all job (slice_get_within ps.plans job p e) in
           ap (cells_in told) h.is ∙ ap Some (ap (λ ps. job_cells ps h.answer.job) (sym plans) ∙ ap (job_cells ps) h.number)
 
-  pub all_held : (ps : Planned) (d : DeskView (Answer N j n)) (payloads : List (Option (Answer N j n))) (journal : List Event) (span : Range) → ps ≡ j.planned → d.sizes ≡ leases_of ps.plans → payloads ≡ d.payloads
+  pub all_held : (ps : Planned) (d : DeskView (Answer N j n)) (payloads : List (Option (Answer N j n))) (journal : List Event) (span : Range)
+      → ps ≡ j.planned → d.sizes ≡ leases_of ps.plans → payloads ≡ d.payloads
       → AllAnswered ps payloads → length d.payloads ≡ length d.sizes → HoldsFiled (filed_by told d.payloads) d.journal span → journal ≡ d.journal → HoldsFiled (all_cells ps) journal span
   all_held ps d payloads journal span plans sizes is all many holds same =
       let count : length payloads ≡ length ps.plans = ap length is ∙ many ∙ ap length sizes ∙ leases_many ps.plans in

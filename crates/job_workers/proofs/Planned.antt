@@ -37,7 +37,8 @@ lease_at [] job p cells e f = let c : None ≡ Some p = e in absurd cc
 lease_at (q ∷ plans) zero p cells e f = let same : q ≡ p = cc in let is : q.lease ≡ cells = cc in sym (ap (λ (r : Plan). r.lease) same) ∙ is
 lease_at (q ∷ plans) (suc job) p cells e f = lease_at plans job p cells e f
 
-fit_at : (licences : List Licensed) (plans : List Plan) (job : ℕ) (p : Plan) → AllByRecursion (IsFit licences) plans → slice_get plans job ≡ Some p → IsFit licences p
+fit_at : (licences : List Licensed) (plans : List Plan) (job : ℕ) (p : Plan) → AllByRecursion (IsFit licences) plans → slice_get plans job ≡ Some p
+    → IsFit licences p
 fit_at licences [] job p h e = let c : None ≡ Some p = e in absurd cc
 fit_at licences (q ∷ plans) zero p h e = let same : q ≡ p = cc in subst (IsFit licences) same h.0
 fit_at licences (q ∷ plans) (suc job) p h e = fit_at licences plans job p h.1 e
@@ -47,7 +48,8 @@ func_there : (funcs : Option Func) (l : Licensed) (p : Plan) (P : Func → Type 
 func_there None l p P found h g = absurd h
 func_there (Some f) l p P found h g = g f refl
 
-pub run_is : (ps : Planned) (job : ℕ) (p : Plan) (l : Licensed) (cells : ℕ) → AreFit ps → slice_get ps.plans job ≡ Some p → IsSomeAnd (slice_get ps.plans job) (λ p. slice_get ps.licences p.licence ≡ Some l)
+pub run_is : (ps : Planned) (job : ℕ) (p : Plan) (l : Licensed) (cells : ℕ) → AreFit ps → slice_get ps.plans job ≡ Some p
+    → IsSomeAnd (slice_get ps.plans job) (λ p. slice_get ps.licences p.licence ≡ Some l)
     → slice_get (leases_of ps.plans) job ≡ Some cells → RunIs ps job p l cells
 unfolding job_run job_cells
 run_is ps job p l cells fit e known size =
@@ -66,7 +68,8 @@ run_is ps job p l cells fit e known size =
     }
 
 -- the stack that is kept is one for this licence
-pub kept_fits : (licences : List Licensed) (kept number : ℕ) (l : Licensed) (stack : Stack) → IsStackAt licences kept stack → kept ≡ number → slice_get licences number ≡ Some l → IsStackFor l.code stack
+pub kept_fits : (licences : List Licensed) (kept number : ℕ) (l : Licensed) (stack : Stack) → IsStackAt licences kept stack → kept ≡ number
+    → slice_get licences number ≡ Some l → IsStackFor l.code stack
 kept_fits licences kept number l stack h same at = h l (ap (slice_get licences) same ∙ at)
 
 -- ---- the run of a lease
@@ -78,23 +81,28 @@ due_now ps qs sizes job many plans named at =
     let size : slice_get (leases_of ps.plans) job ≡ Some many = ap (λ (x : Planned). slice_get (leases_of x.plans) job) plans ∙ sym (ap (λ xs. slice_get xs job) named) ∙ at in
     (omega (arith, slice_get_within (leases_of ps.plans) job many size, leases_many ps.plans), size)
 
-pub lease_now : (ps : Planned) (job : ℕ) (l : LeaseView) (p : Plan) (li : Licensed) → AreFit ps → job ≡ l.job → slice_get (leases_of ps.plans) l.job ≡ Some (length l.range.cells)
+pub lease_now : (ps : Planned) (job : ℕ) (l : LeaseView) (p : Plan) (li : Licensed) → AreFit ps → job ≡ l.job
+    → slice_get (leases_of ps.plans) l.job ≡ Some (length l.range.cells)
     → slice_get ps.plans job ≡ Some p → IsSomeAnd (slice_get ps.plans job) (λ p. slice_get ps.licences p.licence ≡ Some li) → RunIs ps job p li (length l.range.cells)
 lease_now ps job l p li fit same size at known = run_is ps job p li (length l.range.cells) fit at known (ap (slice_get (leases_of ps.plans)) same ∙ size)
 
-pub plan_now : (ps : Planned) (job : ℕ) (l : LeaseView) (p : Plan) (li : Licensed) → RunIs ps job p li (length l.range.cells) → (range_in : Range) (args : List Value) → range_in ≡ l.range → args ≡ p.args
+pub plan_now : (ps : Planned) (job : ℕ) (l : LeaseView) (p : Plan) (li : Licensed) → RunIs ps job p li (length l.range.cells)
+    → (range_in : Range) (args : List Value) → range_in ≡ l.range → args ≡ p.args
     → IsPlan li p.entry args p.fuel (length range_in.cells)
 plan_now ps job l p li now range_in args is same = subst (λ args. IsPlan li p.entry args p.fuel (length range_in.cells)) (sym same) (subst (IsPlan li p.entry p.args p.fuel) (sym (ap (λ (r : Range). length r.cells) is)) now.plan)
 
-pub room_now : (ps : Planned) (job : ℕ) (l : LeaseView) (p : Plan) (li : Licensed) → RunIs ps job p li (length l.range.cells) → (range_in : Range) (room : Room) → range_in ≡ l.range → HasRoom p.lease room
+pub room_now : (ps : Planned) (job : ℕ) (l : LeaseView) (p : Plan) (li : Licensed) → RunIs ps job p li (length l.range.cells)
+    → (range_in : Range) (room : Room) → range_in ≡ l.range → HasRoom p.lease room
     → HasRoom (length range_in.cells) room
 room_now ps job l p li now range_in room is has = subst (λ n. HasRoom n room) (now.lease ∙ sym (ap (λ (r : Range). length r.cells) is)) has
 
-pub meant_now : (ps : Planned) (job : ℕ) (l : LeaseView) (p : Plan) (li : Licensed) → RunIs ps job p li (length l.range.cells) → (args : List Value) (ending : Ending) → args ≡ p.args
+pub meant_now : (ps : Planned) (job : ℕ) (l : LeaseView) (p : Plan) (li : Licensed) → RunIs ps job p li (length l.range.cells)
+    → (args : List Value) (ending : Ending) → args ≡ p.args
     → EndsWith (run_of li.code most_calls p.entry p.fuel args) ending → EndsAsMeant ps job ending
 meant_now ps job l p li now args ending same ends = subst (λ o. EndsWith o ending) (ap (run_of li.code most_calls p.entry p.fuel) same ∙ sym now.run) ends
 
-pub served_now : (ps : Planned) (job : ℕ) (l : LeaseView) (p : Plan) (li : Licensed) → RunIs ps job p li (length l.range.cells) → (range_in : Range) (claim : ClaimView) (ran : Range) (args : List Value)
+pub served_now : (ps : Planned) (job : ℕ) (l : LeaseView) (p : Plan) (li : Licensed) → RunIs ps job p li (length l.range.cells)
+    → (range_in : Range) (claim : ClaimView) (ran : Range) (args : List Value)
     (back : LeaseView) (number : ℕ) → job ≡ l.job → range_in ≡ l.range → claim ≡ claim_of l → args ≡ p.args → SameRange range_in ran
     → ((f : Func) → slice_get li.code.funcs p.entry ≡ Some f → ran.cells ≡ last_cells li.code most_calls p.entry f args p.fuel (length range_in.cells))
     → back ≡ lease claim.job ran → number ≡ job → IsServed ps l back number
@@ -110,7 +118,8 @@ served_now ps job l p li now range_in claim ran args back number is opened claim
 }
 
 -- the stack that a run hands back may be kept for the next one
-pub stack_now : (ps qs : Planned) (job : ℕ) (l : LeaseView) (p : Plan) (li : Licensed) → RunIs ps job p li (length l.range.cells) → (stack : Stack) → ps ≡ qs → IsStackFor li.code stack
+pub stack_now : (ps qs : Planned) (job : ℕ) (l : LeaseView) (p : Plan) (li : Licensed) → RunIs ps job p li (length l.range.cells) → (stack : Stack)
+    → ps ≡ qs → IsStackFor li.code stack
     → IsStackAt qs.licences p.licence stack
 stack_now ps qs job l p li now stack plans fits other at = subst (λ (m : Licensed). IsStackFor m.code stack) (some_is li other (sym now.licence ∙ ap (λ (ps : Planned). slice_get ps.licences p.licence) plans ∙ at)) fits
   where
@@ -118,5 +127,6 @@ stack_now ps qs job l p li now stack plans fits other at = subst (λ (m : Licens
     some_is x y e = grind arith
 
 -- the number of a plan's licence leads to it, among those of the name too
-pub licence_now : (ps qs : Planned) (job : ℕ) (l : LeaseView) (p : Plan) (li : Licensed) → RunIs ps job p li (length l.range.cells) → ps ≡ qs → slice_get qs.licences p.licence ≡ Some li
+pub licence_now : (ps qs : Planned) (job : ℕ) (l : LeaseView) (p : Plan) (li : Licensed) → RunIs ps job p li (length l.range.cells) → ps ≡ qs
+    → slice_get qs.licences p.licence ≡ Some li
 licence_now ps qs job l p li now plans = sym (ap (λ (ps : Planned). slice_get ps.licences p.licence) plans) ∙ now.licence

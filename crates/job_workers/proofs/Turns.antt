@@ -68,7 +68,8 @@ pub next_taking : (sizes : List ℕ) (s t : DeskState) (job first many : ℕ) �
     → Taking sizes s t job first many × (t.asked ≡ suc s.asked) × (job ≡ s.asked)
 next_taking sizes s t job first many e = by_size (slice_get sizes s.asked) refl e
   where
-    by_size : (o : Option ℕ) → slice_get sizes s.asked ≡ o → option_map (λ size. asked_for s s.asked size (take_run s.holes size)) o ≡ Some (move (event.Took job first many) t)
+    by_size : (o : Option ℕ) → slice_get sizes s.asked ≡ o
+        → option_map (λ size. asked_for s s.asked size (take_run s.holes size)) o ≡ Some (move (event.Took job first many) t)
         → Taking sizes s t job first many × (t.asked ≡ suc s.asked) × (job ≡ s.asked)
     by_size None at e = absurd (grind arith)
     by_size (Some size) at e = next_with sizes s t size job first many (take_run s.holes size) at (some_same _ _ e)
@@ -79,7 +80,8 @@ pub record TakingLeft (sizes : List ℕ) (s t : DeskState) (job first size : ℕ
   pub asked : t.asked ≡ s.asked
   pub fewer : length t.waiting < length s.waiting
 
-left_taken : (sizes : List ℕ) (s t : DeskState) (waiting : List ℕ) (j size job first many : ℕ) (o : Option Taken) → s.waiting ≡ j ∷ waiting → slice_get sizes j ≡ Some size
+left_taken : (sizes : List ℕ) (s t : DeskState) (waiting : List ℕ) (j size job first many : ℕ) (o : Option Taken) → s.waiting ≡ j ∷ waiting
+    → slice_get sizes j ≡ Some size
     → option_map (λ u. move (event.Took j u.run.first size) (took_left s waiting j u)) o ≡ Some (move (event.Took job first many) t) → TakingLeft sizes s t job first many
 left_taken sizes s t waiting j size job first many None is at e = absurd (grind arith)
 left_taken sizes s t waiting j size job first many (Some u) is at e =
@@ -97,17 +99,20 @@ left_sized : (sizes : List ℕ) (s t : DeskState) (waiting : List ℕ) (j job fi
 left_sized sizes s t waiting j job first many None is at e = absurd (grind arith)
 left_sized sizes s t waiting j job first many (Some size) is at e = left_taken sizes s t waiting j size job first many (take_run s.holes size) is at e
 
-left_first : (sizes : List ℕ) (s t : DeskState) (job first many : ℕ) (waiting : List ℕ) → s.waiting ≡ waiting → first_left sizes s waiting ≡ Some (move (event.Took job first many) t)
+left_first : (sizes : List ℕ) (s t : DeskState) (job first many : ℕ) (waiting : List ℕ) → s.waiting ≡ waiting
+    → first_left sizes s waiting ≡ Some (move (event.Took job first many) t)
     → TakingLeft sizes s t job first many
 left_first sizes s t job first many [] is e = absurd (grind arith)
 left_first sizes s t job first many (j ∷ waiting) is e = left_sized sizes s t waiting j job first many (slice_get sizes j) is refl e
 
-left_if : (sizes : List ℕ) (s t : DeskState) (job first many : ℕ) (b : Bool) → (if b then first_left sizes s s.waiting else None) ≡ Some (move (event.Took job first many) t)
+left_if : (sizes : List ℕ) (s t : DeskState) (job first many : ℕ) (b : Bool)
+    → (if b then first_left sizes s s.waiting else None) ≡ Some (move (event.Took job first many) t)
     → TakingLeft sizes s t job first many
 left_if sizes s t job first many true e = left_first sizes s t job first many s.waiting refl e
 left_if sizes s t job first many false e = absurd (grind arith)
 
-pub left_taking : (sizes : List ℕ) (s t : DeskState) (job first many : ℕ) → left_move sizes s ≡ Some (move (event.Took job first many) t) → TakingLeft sizes s t job first many
+pub left_taking : (sizes : List ℕ) (s t : DeskState) (job first many : ℕ) → left_move sizes s ≡ Some (move (event.Took job first many) t)
+    → TakingLeft sizes s t job first many
 left_taking sizes s t job first many e = left_if sizes s t job first many ((s.asked == length sizes) && is_none_out s.leases) e
 
 -- ---- a lease that is due
@@ -117,7 +122,8 @@ set_many [] job x = refl
 set_many (l ∷ ls) zero x = refl
 set_many (l ∷ ls) (suc job) x = ap suc (set_many ls job x)
 
-taken_only : {P : Type 0} (old new : DeskView P) (l : LeaseView) (next : Option Move) → leased old.state.leases ≡ [] → IsSound new.arena.cells new.sizes new.journal new.state → Takes next old new l
+taken_only : {P : Type 0} (old new : DeskView P) (l : LeaseView) (next : Option Move) → leased old.state.leases ≡ []
+    → IsSound new.arena.cells new.sizes new.journal new.state → Takes next old new l
     → Taking old.sizes old.state new.state l.job l.range.first (length l.range.cells) → IsOnlyOut new l
 taken_only {P} old new l next none sound takes k =
     let sizes : new.sizes ≡ old.sizes = ap (λ (d : DeskView P). d.sizes) takes.rest in
@@ -132,13 +138,15 @@ taken_only {P} old new l next none sound takes k =
       only = ap (λ ls. leased (slice_set ls l.job None)) k.leases ∙ none_again old.state.leases l.job k.run none;
     }
 
-pub next_only : {P : Type 0} (old new : DeskView P) (l : LeaseView) → leased old.state.leases ≡ [] → IsSound new.arena.cells new.sizes new.journal new.state → Takes (next_move old.sizes old.state) old new l
+pub next_only : {P : Type 0} (old new : DeskView P) (l : LeaseView) → leased old.state.leases ≡ []
+    → IsSound new.arena.cells new.sizes new.journal new.state → Takes (next_move old.sizes old.state) old new l
     → IsOnlyOut new l
 next_only {P} old new l none sound takes =
     let k = next_taking old.sizes old.state new.state l.job l.range.first (length l.range.cells) takes.told in
     taken_only old new l (next_move old.sizes old.state) none sound takes k.0
 
-pub left_only : {P : Type 0} (old new : DeskView P) (l : LeaseView) → leased old.state.leases ≡ [] → IsSound new.arena.cells new.sizes new.journal new.state → Takes (left_move old.sizes old.state) old new l
+pub left_only : {P : Type 0} (old new : DeskView P) (l : LeaseView) → leased old.state.leases ≡ []
+    → IsSound new.arena.cells new.sizes new.journal new.state → Takes (left_move old.sizes old.state) old new l
     → IsOnlyOut new l
 left_only {P} old new l none sound takes =
     let k = left_taking old.sizes old.state new.state l.job l.range.first (length l.range.cells) takes.told in

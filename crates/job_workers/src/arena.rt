@@ -133,12 +133,14 @@ pub fn serve_planned<R: Threads + Wait + Sync, G: Gate + Sync>(
     ensures count { IfOk result (λ served. length served.endings.items ≡ length jobs.now.plans) }
     // The whole arena comes back, the one that was handed in.
     ensures whole { IfOk result (λ served. IsWhole served.span) }
+    // The run that comes back is of the arena that was handed in.
     ensures arena { IfOk result (λ served. served.span.arena ≡ span.arena) }
     // Each of its cells is the one that the machine left there for the last job whose lease went over it, and a blank
     // one where none did.
     ensures cells { IfOk result (λ served. HoldsFiled (all_cells jobs.now) served.journal.items served.span) }
     // It comes back too where memory ran out.
     ensures home { IfErr result (λ home. IsWhole home.span) }
+    // The run that comes home is of that arena too.
     ensures home_arena { IfErr result (λ home. home.span.arena ≡ span.arena) }
 {
     serve_named::<Brand, R, G>(rt, alloc, span, jobs, workers, gate)

@@ -1,4 +1,5 @@
-//! The turns of the caller, who has the desk alone: for the jobs that no worker asked for, and then for those that wait.
+//! The turns of the caller, who has the desk alone: for the jobs that no worker asked for, and then for those that
+//! wait.
 ghost use Rattle.std.specs.Prelude.{◌≡◌, [], length};
 ghost use Rattle.job_world.specs.Plans.{leases_of};
 ghost use Rattle.lease_desk.specs.Journal.{leased};
@@ -8,7 +9,7 @@ ghost use Rattle.job_workers.specs.Turns.{AskedBy, LeftBy};
 use crate::answer::Answer;
 use crate::gate::OpenGate;
 use crate::serving::{Served, serve_lease};
-use crate::stacks::Kept;
+use crate::stacks::SpareStack;
 use job_world::{JobName, Jobs};
 use lease_desk::{Desk, Lease, Next};
 use std::alloc::Global;
@@ -17,7 +18,7 @@ use std::alloc::Global;
 #[derive(Drop)]
 pub(crate) enum Turn<N: JobName> {
     // A job had its turn; this stack is kept.
-    More(Option<Kept<N>>),
+    More(Option<SpareStack<N>>),
     // There was none.
     Over,
 }
@@ -29,8 +30,8 @@ fn run_and_give<N: JobName>(
     desk: &mut Desk<N, Answer<N>>,
     jobs: &Jobs,
     lease: Lease<N>,
-    kept: Option<Kept<N>>,
-) -> Option<Kept<N>>
+    kept: Option<SpareStack<N>>,
+) -> Option<SpareStack<N>>
     requires plans { jobs.now ≡ N.planned }
     requires sizes { N.sizes ≡ leases_of N.planned.plans }
     requires only { IsOnlyOut desk.old lease }
@@ -61,7 +62,7 @@ fn serve_next<N: JobName>(
     alloc: Global,
     desk: &mut Desk<N, Answer<N>>,
     jobs: &Jobs,
-    kept: Option<Kept<N>>,
+    kept: Option<SpareStack<N>>,
 ) -> Turn<N>
     requires plans { jobs.now ≡ N.planned }
     requires sizes { N.sizes ≡ leases_of N.planned.plans }
@@ -111,7 +112,7 @@ fn serve_next_left<N: JobName>(
     alloc: Global,
     desk: &mut Desk<N, Answer<N>>,
     jobs: &Jobs,
-    kept: Option<Kept<N>>,
+    kept: Option<SpareStack<N>>,
 ) -> Turn<N>
     requires plans { jobs.now ≡ N.planned }
     requires sizes { N.sizes ≡ leases_of N.planned.plans }

@@ -13,7 +13,7 @@ ghost use Rattle.job_workers.specs.Serving.{IsServed};
 
 use crate::answer::Answer;
 use crate::gate::Gate;
-use crate::stacks::{Kept, stack_for};
+use crate::stacks::{SpareStack, stack_for};
 use camelot_values::Flat;
 use cell_machine::{Ending, Ran, Room, Stack, run};
 use cell_span::Span;
@@ -28,7 +28,7 @@ use std::marker::PhantomData;
 pub(crate) struct Served<N: JobName> {
     pub(crate) lease: Lease<N>,
     pub(crate) answer: Answer<N>,
-    pub(crate) kept: Kept<N>,
+    pub(crate) kept: SpareStack<N>,
 }
 
 // Runs a plan by its licence, in as many cells as it says.
@@ -79,7 +79,7 @@ fn make_ready<N: JobName, G: Gate>(
     job: u32,
     plan: &Plan,
     licence: &Licence,
-    kept: Option<Kept<N>>,
+    kept: Option<SpareStack<N>>,
 ) -> Result<(Stack, Room), AllocError>
     requires is { slice_get N.planned.licences plan.now.licence ≡ Some licence.now }
     requires few { plan.now.lease ≤ 2147483648 }
@@ -100,7 +100,7 @@ pub(crate) fn serve_lease<N: JobName, G: Gate>(
     jobs: &Jobs,
     gate: &G,
     lease: Lease<N>,
-    kept: Option<Kept<N>>,
+    kept: Option<SpareStack<N>>,
 ) -> Result<Served<N>, Lease<N>>
     requires plans { jobs.now ≡ N.planned }
     requires sizes { N.sizes ≡ leases_of N.planned.plans }
@@ -126,7 +126,7 @@ pub(crate) fn serve_lease<N: JobName, G: Gate>(
         ending: compact(alloc, ending),
         of: PhantomData,
     };
-    let kept = Kept::new(plan.licence, stack);
+    let kept = SpareStack::new(plan.licence, stack);
     Ok(Served {
         lease: claim.close(span),
         answer,

@@ -11,13 +11,13 @@ use std::marker::{Model, PhantomData};
 
 /// A stack that is kept for the next run. Its type keeps that it is one for the runs of the licence of its number.
 #[derive(Drop)]
-pub(crate) struct Kept<N: JobName> {
+pub(crate) struct SpareStack<N: JobName> {
     licence: u32,
     stack: Stack,
     of: PhantomData<N>,
 }
 
-impl<N: JobName> Model for Kept<N> {
+impl<N: JobName> Model for SpareStack<N> {
     ghost use Rattle.std.specs.Prelude.{ℕ};
     ghost use Rattle.job_workers.specs.Serving.{IsStackAt};
 
@@ -29,12 +29,12 @@ impl<N: JobName> Model for Kept<N> {
     ghost invariant = { λ k. IsStackAt N.planned.licences k.licence k.stack };
 }
 
-impl<N: JobName> Kept<N> {
+impl<N: JobName> SpareStack<N> {
     /// Keeps a stack for the runs of the licence of this number.
-    pub(crate) fn new(licence: u32, stack: Stack) -> Kept<N>
+    pub(crate) fn new(licence: u32, stack: Stack) -> SpareStack<N>
         requires { IsStackAt N.planned.licences licence stack }
     {
-        Kept {
+        SpareStack {
             licence,
             stack,
             of: PhantomData,
@@ -62,7 +62,7 @@ pub(crate) fn stack_for<N: JobName>(
     alloc: Global,
     number: u32,
     licence: &Licence,
-    kept: Option<Kept<N>>,
+    kept: Option<SpareStack<N>>,
 ) -> Result<Stack, AllocError>
     requires is { slice_get N.planned.licences number ≡ Some licence.now }
     ensures { IfOk result (IsStackFor licence.now.code) }

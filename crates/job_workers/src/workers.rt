@@ -1,7 +1,7 @@
 //! Workers at one desk behind a lock: each asks for one job after the other, runs it, and gives its lease back.
 //!
-//! What the lock holds is known by its type alone: the desk is the replay of its journal, its holes and leases add up to
-//! the arena, and it is of the arena and the sizes of its name, as is each lease.
+//! What the lock holds is known by its type alone: the desk is the replay of its journal, its holes and leases add up
+//! to the arena, and it is of the arena and the sizes of its name, as is each lease.
 ghost use Rattle.std.specs.Prelude.{◌≡◌, [], length, IfOk, IfErr};
 ghost use Rattle.cell_span.specs.Range.{IsWhole};
 ghost use Rattle.job_world.specs.Plans.{leases_of, job_cells};
@@ -14,7 +14,7 @@ use crate::answer::Answer;
 use crate::gate::Gate;
 use crate::rest::serve_rest;
 use crate::serving::{Served, serve_lease};
-use crate::stacks::Kept;
+use crate::stacks::SpareStack;
 use cell_span::Span;
 use job_world::{JobName, Jobs};
 use lease_desk::{Desk, Finished, Lease, Next};
@@ -66,8 +66,8 @@ fn withdraw_back<N: JobName, R: Wait>(rt: &R, desk: &Mutex<Desk<N, Answer<N>>>, 
     unreachable!()
 }
 
-// Runs the job of a lease without the lock, and gives the lease back: with the job's answer, or without one where memory
-// for the run is lacking or the gate refuses. The stack of the run is kept.
+// Runs the job of a lease without the lock, and gives the lease back: with the job's answer, or without one where
+// memory for the run is lacking or the gate refuses. The stack of the run is kept.
 fn serve_granted<N: JobName, R: Wait, G: Gate>(
     rt: &R,
     alloc: Global,
@@ -75,8 +75,8 @@ fn serve_granted<N: JobName, R: Wait, G: Gate>(
     jobs: &Jobs,
     gate: &G,
     lease: Lease<N>,
-    kept: Option<Kept<N>>,
-) -> Option<Kept<N>>
+    kept: Option<SpareStack<N>>,
+) -> Option<SpareStack<N>>
     requires plans { jobs.now ≡ N.planned }
     requires sizes { N.sizes ≡ leases_of N.planned.plans }
 {
@@ -175,14 +175,18 @@ pub fn serve_jobs<N: JobName + Send + Sync, R: Threads + Wait + Sync, G: Gate + 
     ensures legal { IfOk result (λ f. IsLegal N.arena.cells (leases_of jobs.now.plans) f.journal.items) }
     // Each job has its answer, which is the ending that the meaning of its own plan says.
     ensures answered { IfOk result (λ f. AllAnswered jobs.now f.payloads.items) }
+    // There is a place for each job.
     ensures count { IfOk result (λ f. length f.payloads.items ≡ length jobs.now.plans) }
-    // The whole arena comes back. Each cell is the one that the machine left there for the last job whose lease went
-    // over it, and a blank one where none did.
+    // The whole arena comes back.
     ensures whole { IfOk result (λ f. IsWhole f.span) }
+    // The run that comes back is of the name's arena.
     ensures arena { IfOk result (λ f. f.span.arena ≡ N.arena) }
+    // Each cell is the one that the last job left whose lease went over it, by the journal, and a blank one where none
+    // did.
     ensures cells { IfOk result (λ f. HoldsFiled (all_cells jobs.now) f.journal.items f.span) }
     // It comes back too where memory ran out.
     ensures home { IfErr result (λ home. IsWhole home.span) }
+    // The run that comes home is of the name's arena too.
     ensures home_arena { IfErr result (λ home. home.span.arena ≡ N.arena) }
 {
     let shared = Mutex::new(desk);

@@ -7,7 +7,8 @@ use Rattle.licence.specs.Licensed.{Licensed}
 use Rattle.cell_machine.specs.Plans.{IsPlan}
 use Rattle.job_world.specs.Plans.{Plan, Planned, IsFit, AreFit}
 
-fit_at : (licences : List Licensed) (plans : List Plan) (job : ℕ) (p : Plan) → AllByRecursion (IsFit licences) plans → slice_get plans job ≡ Some p → IsFit licences p
+fit_at : (licences : List Licensed) (plans : List Plan) (job : ℕ) (p : Plan) → AllByRecursion (IsFit licences) plans → slice_get plans job ≡ Some p
+    → IsFit licences p
 fit_at licences [] job p h e = let c : None ≡ Some p = e in absurd cc
 fit_at licences (q ∷ plans) zero p h e = let same : q ≡ p = cc in subst (IsFit licences) same h.0
 fit_at licences (q ∷ plans) (suc job) p h e = fit_at licences plans job p h.1 e
@@ -22,6 +23,7 @@ there licences p fit = by_case (slice_get licences p.licence) refl fit.plan
 pub licence_there : (ps : Planned) (job : ℕ) (p : Plan) → AreFit ps → slice_get ps.plans job ≡ Some p → p.licence < length ps.licences
 licence_there ps job p fit e = there ps.licences p (fit_at ps.licences ps.plans job p fit e)
 
-pub licence_is : (licences : List Licensed) (plans : List Plan) (job : ℕ) (p : Plan) (l : Licensed) → slice_get plans job ≡ Some p → slice_get licences p.licence ≡ Some l
+pub licence_is : (licences : List Licensed) (plans : List Plan) (job : ℕ) (p : Plan) (l : Licensed) → slice_get plans job ≡ Some p
+    → slice_get licences p.licence ≡ Some l
     → IsSomeAnd (slice_get plans job) (λ p. slice_get licences p.licence ≡ Some l)
 licence_is licences plans job p l e f = subst (λ (o : Option Plan). IsSomeAnd o (λ p. slice_get licences p.licence ≡ Some l)) (sym e) f

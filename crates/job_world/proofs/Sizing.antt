@@ -13,7 +13,8 @@ split [] i p e = let c : None ≡ Some p = e in absurd cc
 split (q ∷ plans) zero p e = let same : q ≡ p = cc in record { is = ap (λ u. u ∷ plans) same }
 split (q ∷ plans) (suc i) p e = record { is = (split plans i p e).is }
 
-pub size_more : (plans : List DeclaredPlan) (i : ℕ) (p : DeclaredPlan) (sizes more whole : List ℕ) → slice_get plans i ≡ Some p → sizes ++ leases_of (map plan_of (drop i plans)) ≡ whole → more ≡ sizes ++ p.lease ∷ []
+pub size_more : (plans : List DeclaredPlan) (i : ℕ) (p : DeclaredPlan) (sizes more whole : List ℕ) → slice_get plans i ≡ Some p
+    → sizes ++ leases_of (map plan_of (drop i plans)) ≡ whole → more ≡ sizes ++ p.lease ∷ []
     → more ++ leases_of (map plan_of (drop (i + 1) plans)) ≡ whole
 size_more plans i p sizes more whole at known e =
     let s = split plans i p at in
@@ -33,5 +34,6 @@ drop_all [] i h = drop_nothing i
 drop_all (x ∷ xs) zero h = absurd (omega (arith, h))
 drop_all (x ∷ xs) (suc i) h = drop_all xs i (omega (arith, h))
 
-pub all_sizes : (plans : List DeclaredPlan) (i : ℕ) (sizes whole : List ℕ) → length plans ≤ i → sizes ++ leases_of (map plan_of (drop i plans)) ≡ whole → sizes ≡ whole
+pub all_sizes : (plans : List DeclaredPlan) (i : ℕ) (sizes whole : List ℕ) → length plans ≤ i
+    → sizes ++ leases_of (map plan_of (drop i plans)) ≡ whole → sizes ≡ whole
 all_sizes plans i sizes whole h known = sym (append-nil sizes) ∙ sym (ap (λ l. sizes ++ leases_of (map plan_of l)) (drop_all plans i h)) ∙ known

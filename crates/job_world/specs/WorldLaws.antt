@@ -81,7 +81,8 @@ nothing_new : (w : World) (job : ℕ) → StepsApart w w job
 nothing_new w job = record { cells = λ index out. refl; frames = λ other ne. refl; filed = refl; desk = refl; journal = refl }
 
 module _ (arena : ℕ) (ps : Planned) (can : Holds arena ps) (w : World) (k : IsWorld arena ps w) (job : ℕ) where
-  outside_of : (r : Run) → slice_get w.desk.leases job ≡ Some (Some r) → (size index : ℕ) → size ≡ r.size → IsOutside w job index → (index < r.first) ⊎ (r.first + size ≤ index)
+  outside_of : (r : Run) → slice_get w.desk.leases job ≡ Some (Some r) → (size index : ℕ) → size ≡ r.size → IsOutside w job index
+      → (index < r.first) ⊎ (r.first + size ≤ index)
   outside_of r g size index n out = by_first (cases_lt index r.first) (cases_lt index (r.first + size))
     where
       by_first : (index < r.first) ⊎ (r.first ≤ index) → (index < r.first + size) ⊎ (r.first + size ≤ index) → (index < r.first) ⊎ (r.first + size ≤ index)
@@ -89,7 +90,8 @@ module _ (arena : ℕ) (ps : Planned) (can : Holds arena ps) (w : World) (k : Is
       by_first (inr h) (inr j) = inr j
       by_first (inr h) (inl j) = absurd (out r g h (omega (arith, j, n)))
 
-  by_step : (s : Start) → start_of ps job ≡ Some s → (q : Worker) → slice_get w.workers job ≡ Some (Some q) → (r : Run) → slice_get w.desk.leases job ≡ Some (Some r)
+  by_step : (s : Start) → start_of ps job ≡ Some s → (q : Worker) → slice_get w.workers job ≡ Some (Some q) → (r : Run)
+      → slice_get w.desk.leases job ≡ Some (Some r)
       → (o : Option Machine) → one_step s.code (machine_of (drop r.first w.cells) q.core) ≡ o → StepsApart w (stepped w job r.first q o) job
   by_step s e q f r g None is = nothing_new w job
   by_step s e q f r g (Some m) is =
@@ -107,7 +109,8 @@ module _ (arena : ℕ) (ps : Planned) (can : Holds arena ps) (w : World) (k : Is
   steps_apart : StepsApart w (after_step ps w job) job
   steps_apart = by_start (start_of ps job) refl (slice_get w.workers job) refl (slice_get w.desk.leases job) refl
     where
-      by_start : (o : Option Start) → start_of ps job ≡ o → (v : Option (Option Worker)) → slice_get w.workers job ≡ v → (l : Option (Option Run)) → slice_get w.desk.leases job ≡ l → StepsApart w (step_in w job o v l) job
+      by_start : (o : Option Start) → start_of ps job ≡ o → (v : Option (Option Worker)) → slice_get w.workers job ≡ v → (l : Option (Option Run))
+          → slice_get w.desk.leases job ≡ l → StepsApart w (step_in w job o v l) job
       by_start None e v f l g = nothing_new w job
       by_start (Some s) e None f l g = nothing_new w job
       by_start (Some s) e (Some None) f l g = nothing_new w job
@@ -117,7 +120,8 @@ module _ (arena : ℕ) (ps : Planned) (can : Holds arena ps) (w : World) (k : Is
 
   -- ---- a step of a machine that isn't over, and a lease that goes back
 
-  goes_on_by : (r : Run) → slice_get w.desk.leases job ≡ Some (Some r) → (q : Worker) → slice_get w.workers job ≡ Some (Some q) → (rest : Rest) → q.core ≡ Going rest → HasGoneOn (after_step ps w job) job q
+  goes_on_by : (r : Run) → slice_get w.desk.leases job ≡ Some (Some r) → (q : Worker) → slice_get w.workers job ≡ Some (Some q) → (rest : Rest)
+      → q.core ≡ Going rest → HasGoneOn (after_step ps w job) job q
   goes_on_by r g q f rest core =
       let t = sized_plan ps job r.size can.fit ((sound arena ps can w k).sized job r g) in
       let own = k.alone job r q g f in
@@ -136,7 +140,8 @@ module _ (arena : ℕ) (ps : Planned) (can : Holds arena ps) (w : World) (k : Is
         more = refl;
       })
 
-  gives_back_by : (r : Run) → slice_get w.desk.leases job ≡ Some (Some r) → (q : Worker) → slice_get w.workers job ≡ Some (Some q) → (end : End) (calls peak low : ℕ) → q.core ≡ Ended end calls peak low
+  gives_back_by : (r : Run) → slice_get w.desk.leases job ≡ Some (Some r) → (q : Worker) → slice_get w.workers job ≡ Some (Some q)
+      → (end : End) (calls peak low : ℕ) → q.core ≡ Ended end calls peak low
       → HasGivenBack w (after_give w job) job r q
   gives_back_by r g q f end calls peak low core =
       let t = sized_plan ps job r.size can.fit ((sound arena ps can w k).sized job r g) in
@@ -158,7 +163,8 @@ module _ (arena : ℕ) (ps : Planned) (can : Holds arena ps) (w : World) (k : Is
         others = λ other ne. set_there w.filed job other (Some (final_in w.cells r end calls peak low)) (λ same. ne (sym same));
       })
 
-pub step_apart : (arena : ℕ) (ps : Planned) (events : List WorldEvent) (job : ℕ) → CanHold arena ps → StepsApart (world arena ps events) (after ps (world arena ps events) (Step job)) job
+pub step_apart : (arena : ℕ) (ps : Planned) (events : List WorldEvent) (job : ℕ) → CanHold arena ps
+    → StepsApart (world arena ps events) (after ps (world arena ps events) (Step job)) job
 unfolding after
 step_apart arena ps events job can = by_plans (holds arena ps can)
   where
@@ -168,7 +174,8 @@ step_apart arena ps events job can = by_plans (holds arena ps can)
         subst (λ w. StepsApart w (after_step ps w job) job) (sym (world_stays arena ps events none))
         (subst (λ w. StepsApart (first_world arena ps) w job) (sym (first_stays arena ps (Step job) none)) (nothing_new (first_world arena ps) job))
 
-pub goes_on_at : (arena : ℕ) (ps : Planned) (events : List WorldEvent) (job : ℕ) (r : Run) (k : Worker) (rest : Rest) → CanHold arena ps → slice_get (world arena ps events).desk.leases job ≡ Some (Some r)
+pub goes_on_at : (arena : ℕ) (ps : Planned) (events : List WorldEvent) (job : ℕ) (r : Run) (k : Worker) (rest : Rest) → CanHold arena ps
+    → slice_get (world arena ps events).desk.leases job ≡ Some (Some r)
     → slice_get (world arena ps events).workers job ≡ Some (Some k) → k.core ≡ Going rest → HasGoneOn (after ps (world arena ps events) (Step job)) job k
 unfolding after
 goes_on_at arena ps events job r k rest can g f core = by_plans (holds arena ps can)
@@ -177,7 +184,8 @@ goes_on_at arena ps events job r k rest can g f core = by_plans (holds arena ps 
     by_plans (inl h) = goes_on_by arena ps h (world arena ps events) (world_holds arena ps events h) job r g k f rest core
     by_plans (inr none) = absurd (none_out arena ps events job r none g)
 
-pub gives_back_at : (arena : ℕ) (ps : Planned) (events : List WorldEvent) (job : ℕ) (r : Run) (k : Worker) (end : End) (calls peak low : ℕ) → CanHold arena ps → slice_get (world arena ps events).desk.leases job ≡ Some (Some r)
+pub gives_back_at : (arena : ℕ) (ps : Planned) (events : List WorldEvent) (job : ℕ) (r : Run) (k : Worker) (end : End) (calls peak low : ℕ)
+    → CanHold arena ps → slice_get (world arena ps events).desk.leases job ≡ Some (Some r)
     → slice_get (world arena ps events).workers job ≡ Some (Some k) → k.core ≡ Ended end calls peak low → HasGivenBack (world arena ps events) (after ps (world arena ps events) (Give job)) job r k
 unfolding after
 gives_back_at arena ps events job r k end calls peak low can g f core = by_plans (holds arena ps can)
@@ -186,7 +194,8 @@ gives_back_at arena ps events job r k end calls peak low can g f core = by_plans
     by_plans (inl h) = gives_back_by arena ps h (world arena ps events) (world_holds arena ps events h) job r g k f end calls peak low core
     by_plans (inr none) = absurd (none_out arena ps events job r none g)
 
-pub asks_at : (arena : ℕ) (ps : Planned) (events : List WorldEvent) (m : Move) → CanHold arena ps → move_of ps (world arena ps events) ≡ Some m → HasAsked ps (world arena ps events) (after ps (world arena ps events) Next) m
+pub asks_at : (arena : ℕ) (ps : Planned) (events : List WorldEvent) (m : Move) → CanHold arena ps → move_of ps (world arena ps events) ≡ Some m
+    → HasAsked ps (world arena ps events) (after ps (world arena ps events) Next) m
 unfolding after
 asks_at arena ps events m can is = by_plans (holds arena ps can)
   where
@@ -200,11 +209,13 @@ pub none_asks : (ps : Planned) (w : World) → move_of ps w ≡ None → after p
 unfolding after
 none_asks ps w none = ap (gone_on ps w) none
 
-pub none_leased_at : (ps : Planned) (w : World) (job : ℕ) → ((r : Run) → slice_get w.desk.leases job ≡ Some (Some r) → ⊥) → (after ps w (Step job) ≡ w) × (after ps w (Give job) ≡ w)
+pub none_leased_at : (ps : Planned) (w : World) (job : ℕ) → ((r : Run) → slice_get w.desk.leases job ≡ Some (Some r) → ⊥)
+    → (after ps w (Step job) ≡ w) × (after ps w (Give job) ≡ w)
 unfolding after
 none_leased_at ps w job out = by_lease (slice_get w.desk.leases job) refl
   where
-    stays : (s : Option Start) (v : Option (Option Worker)) (l : Option (Option Run)) → ((r : Run) → l ≡ Some (Some r) → ⊥) → (step_in w job s v l ≡ w) × (give_in w job v l ≡ w)
+    stays : (s : Option Start) (v : Option (Option Worker)) (l : Option (Option Run)) → ((r : Run) → l ≡ Some (Some r) → ⊥)
+        → (step_in w job s v l ≡ w) × (give_in w job v l ≡ w)
     stays None None l none = (refl, refl)
     stays None (Some None) l none = (refl, refl)
     stays None (Some (Some k)) None none = (refl, refl)
@@ -219,7 +230,8 @@ none_leased_at ps w job out = by_lease (slice_get w.desk.leases job) refl
     by_lease : (l : Option (Option Run)) → slice_get w.desk.leases job ≡ l → (after_step ps w job ≡ w) × (after_give w job ≡ w)
     by_lease l e = stays (start_of ps job) (slice_get w.workers job) (slice_get w.desk.leases job) out
 
-pub over_stays_at : (ps : Planned) (w : World) (job : ℕ) (k : Worker) (end : End) (calls peak low : ℕ) → slice_get w.workers job ≡ Some (Some k) → k.core ≡ Ended end calls peak low → after ps w (Step job) ≡ w
+pub over_stays_at : (ps : Planned) (w : World) (job : ℕ) (k : Worker) (end : End) (calls peak low : ℕ) → slice_get w.workers job ≡ Some (Some k)
+    → k.core ≡ Ended end calls peak low → after ps w (Step job) ≡ w
 unfolding after
 over_stays_at ps w job k end calls peak low f core =
     ap (λ o. step_in w job (start_of ps job) o (slice_get w.desk.leases job)) f
@@ -231,7 +243,8 @@ over_stays_at ps w job k end calls peak low f core =
     by_all (Some s) (Some None) = refl
     by_all (Some s) (Some (Some r)) = ap (λ c. stepped w job r.first k (one_step s.code (machine_of (drop r.first w.cells) c))) core
 
-pub going_stays_at : (ps : Planned) (w : World) (job : ℕ) (k : Worker) (rest : Rest) → slice_get w.workers job ≡ Some (Some k) → k.core ≡ Going rest → after ps w (Give job) ≡ w
+pub going_stays_at : (ps : Planned) (w : World) (job : ℕ) (k : Worker) (rest : Rest) → slice_get w.workers job ≡ Some (Some k) → k.core ≡ Going rest
+    → after ps w (Give job) ≡ w
 unfolding after
 going_stays_at ps w job k rest f core = ap (λ o. give_in w job o (slice_get w.desk.leases job)) f ∙ by_lease (slice_get w.desk.leases job)
   where
@@ -276,7 +289,8 @@ core_again cells (Ended end calls peak low) = refl
 worker_same : (k l : Worker) → k.core ≡ l.core → k.count ≡ l.count → l ≡ k
 worker_same k l core count = λ i. record { core = sym core i; count = sym count i }
 
-equal_in : (arena size : ℕ) (ps qs : Planned) (events others : List WorldEvent) (job other : ℕ) (r q : Run) (k l : Worker) → Holds arena ps → Holds size qs → HaveSamePlan ps qs job other
+equal_in : (arena size : ℕ) (ps qs : Planned) (events others : List WorldEvent) (job other : ℕ) (r q : Run) (k l : Worker) → Holds arena ps
+    → Holds size qs → HaveSamePlan ps qs job other
     → slice_get (world arena ps events).desk.leases job ≡ Some (Some r) → slice_get (world size qs others).desk.leases other ≡ Some (Some q)
     → slice_get (world arena ps events).workers job ≡ Some (Some k) → slice_get (world size qs others).workers other ≡ Some (Some l) → k.count ≡ l.count
     → AreEqual (world arena ps events) (world size qs others) job other r q
@@ -293,7 +307,8 @@ equal_in arena size ps qs events others job other r q k l can may h g g' f f' co
       cells = sym (cells_again (take r.size (drop r.first (world arena ps events).cells)) k.core) ∙ ap cells_of machines ∙ cells_again (take q.size (drop q.first (world size qs others).cells)) l.core;
     }
 
-pub are_equal : (arena size : ℕ) (ps qs : Planned) (events others : List WorldEvent) (job other : ℕ) (r q : Run) (k l : Worker) → CanHold arena ps → CanHold size qs → HaveSamePlan ps qs job other
+pub are_equal : (arena size : ℕ) (ps qs : Planned) (events others : List WorldEvent) (job other : ℕ) (r q : Run) (k l : Worker) → CanHold arena ps
+    → CanHold size qs → HaveSamePlan ps qs job other
     → slice_get (world arena ps events).desk.leases job ≡ Some (Some r) → slice_get (world size qs others).desk.leases other ≡ Some (Some q)
     → slice_get (world arena ps events).workers job ≡ Some (Some k) → slice_get (world size qs others).workers other ≡ Some (Some l) → k.count ≡ l.count
     → AreEqual (world arena ps events) (world size qs others) job other r q

@@ -39,11 +39,13 @@ pub fn isolation_law()
         → HasGivenBack (world arena ps events) (after ps (world arena ps events) (Give job)) job r k }
     // Where the desk has no move, a Next changes nothing, and without a lease neither does a Step or a Give.
     ensures rests { (ps : Planned) (w : World) → move_of ps w ≡ None → after ps w Next ≡ w }
+    // Nothing changes where a job without a lease steps or gives back.
     ensures idle { (ps : Planned) (w : World) (job : ℕ) → ((r : Run) → lease_at w job ≡ Some (Some r) → ⊥)
         → (after ps w (Step job) ≡ w) × (after ps w (Give job) ≡ w) }
     // Nor does a Step of a machine that is over, or a Give of one that goes on.
     ensures over { (ps : Planned) (w : World) (job : ℕ) (k : Worker) (end : End) (calls peak low : ℕ) → worker_at w job ≡ Some (Some k)
         → k.core ≡ Ended end calls peak low → after ps w (Step job) ≡ w }
+    // Nothing changes where a job gives back whose machine goes on.
     ensures going { (ps : Planned) (w : World) (job : ℕ) (k : Worker) (rest : Rest) → worker_at w job ≡ Some (Some k) → k.core ≡ Going rest
         → after ps w (Give job) ≡ w }
     // One event more is that event behind the others.

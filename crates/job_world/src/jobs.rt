@@ -69,7 +69,8 @@ impl Jobs {
     }
 
     /// Plans a run for an arena of so many cells, at most 2^31, and answers its number: the run of an entry of the
-    /// licence of this number on arguments of its kinds, which have at most 65,536 nodes, with so much fuel, at least 1.
+    /// licence of this number on arguments of its kinds, which have at most 65,536 nodes, with so much fuel, at least
+    /// 1.
     ///
     /// # Errors
     ///
@@ -87,9 +88,21 @@ impl Jobs {
         requires arena { arena ≤ 2147483648 }
         requires few { length self.old.plans < 4294967295 }
         // Where it is planned, its number is the next one, and its lease is the licence's, within the arena.
-        ensures planned { IfOk result (λ job. (l : Licensed) → slice_get self.old.licences licence ≡ Some l → (job ≡ length self.old.plans) × (lease l.code l.cert entry args.items ≤ arena)
-            × (self.new.plans ≡ self.old.plans ++ record { licence = licence; entry = entry; args = args.items; fuel = fuel; lease = lease l.code l.cert entry args.items } ∷ [])) }
-        ensures refused { MatchResult result (λ job. self.new.licences ≡ self.old.licences) (λ fault. (self.new ≡ self.old) × IsLarger self.old.licences licence entry args.items arena fault) }
+        ensures planned { IfOk result (λ job. (l : Licensed) → slice_get self.old.licences licence ≡ Some l
+            → (job ≡ length self.old.plans) × (lease l.code l.cert entry args.items ≤ arena)
+            × (self.new.plans ≡ self.old.plans
+            ++ record {
+              licence = licence;
+              entry = entry;
+              args = args.items;
+              fuel = fuel;
+              lease = lease l.code l.cert
+                  entry args.items;
+            } ∷ [])) }
+        // Where it is planned the licences stay. Else all stays, and `Larger` has the lease, which is more than the
+        // arena.
+        ensures refused { MatchResult result (λ job. self.new.licences ≡ self.old.licences)
+            (λ fault. (self.new ≡ self.old) × IsLarger self.old.licences licence entry args.items arena fault) }
     {
         let needs = self.lease_of(licence, entry, &args);
         if needs > arena as u64 {

@@ -10,6 +10,7 @@ mod name;
 mod plan;
 
 pub use fault::AddFault;
+pub use hole_list::Run;
 pub use isolation::isolation_law;
 pub use jobs::Jobs;
 pub use journal_replay::{DeskState, Held, replay};

@@ -1,8 +1,8 @@
 use lease_desk::DeskName;
 use std::marker::Brand;
 
-/// Which jobs they are, and on which desk. A function that serves jobs is generic in it, so that a type may speak of the
-/// jobs without holding them. The call that serves them picks it, by passing [`Brand`].
+/// Which jobs they are, and on which desk. A function that serves jobs is generic in it, so that a type may speak of
+/// the jobs without holding them. The call that serves them picks it, by passing [`Brand`].
 ///
 /// That the sizes of the desk are the leases of the plans isn't told here: a function that needs it says so.
 pub trait JobName: DeskName {

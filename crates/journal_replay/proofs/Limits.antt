@@ -20,11 +20,14 @@ pub take_within : (hs : List Run) (size : ℕ) (t : Taken) → take_run hs size 
 take_within [] size t e all = absurd (let q : None ≡ Some t = e in grind arith)
 take_within (h ∷ hs) size t e all = by_test (nat_le size h.size) refl (λ u k. take_within hs size u k all.1) e
   where
-    by_rest : (o : Option Taken) → take_run hs size ≡ o → ((u : Taken) → take_run hs size ≡ Some u → IsWithin u.run × AreWithin u.holes) → option_map (behind h) o ≡ Some t → IsWithin t.run × AreWithin t.holes
+    by_rest : (o : Option Taken) → take_run hs size ≡ o → ((u : Taken) → take_run hs size ≡ Some u → IsWithin u.run × AreWithin u.holes)
+        → option_map (behind h) o ≡ Some t → IsWithin t.run × AreWithin t.holes
     by_rest None k go q = absurd (let r : None ≡ Some t = q in grind arith)
     by_rest (Some u) k go q = subst (λ (v : Taken). IsWithin v.run × AreWithin v.holes) (some_same (behind h u) t q) ((go u k).0, (all.0, (go u k).1))
 
-    by_test : (b : Bool) → nat_le size h.size ≡ b → ((u : Taken) → take_run hs size ≡ Some u → IsWithin u.run × AreWithin u.holes) → (if b then Some (taken (run h.first size) (rest_of_run h size hs)) else option_map (behind h) (take_run hs size)) ≡ Some t → IsWithin t.run × AreWithin t.holes
+    by_test : (b : Bool) → nat_le size h.size ≡ b → ((u : Taken) → take_run hs size ≡ Some u → IsWithin u.run × AreWithin u.holes)
+        → (if b then Some (taken (run h.first size) (rest_of_run h size hs)) else option_map (behind h) (take_run hs size)) ≡ Some t
+        → IsWithin t.run × AreWithin t.holes
     by_test true k go q =
         let most : size ≤ h.size = grind (arith, nat_tests, k) in
         subst (λ (v : Taken). IsWithin v.run × AreWithin v.holes) (some_same (taken (run h.first size) (rest_of_run h size hs)) t q)

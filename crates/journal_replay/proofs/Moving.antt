@@ -37,14 +37,16 @@ none_waits (x ∷ xs) (suc n) e = none_waits xs n e
 abbrev pub state : ℕ → List ℕ → List Run → List (Option Run) → DeskState
 state asked waiting holes leases = record { asked = asked; waiting = waiting; holes = holes; leases = leases }
 
-pub next_took : (sizes : List ℕ) (asked job size first next : ℕ) (waiting : List ℕ) (old left : List Run) (ls set : List (Option Run)) → slice_get sizes asked ≡ Some size → job ≡ asked → next ≡ asked + 1
+pub next_took : (sizes : List ℕ) (asked job size first next : ℕ) (waiting : List ℕ) (old left : List Run) (ls set : List (Option Run))
+    → slice_get sizes asked ≡ Some size → job ≡ asked → next ≡ asked + 1
     → take_run old size ≡ Some (taken (run first size) left) → set ≡ slice_set ls asked (Some (run first size))
     → Some (move (event.Took job first size) (state next waiting left set)) ≡ next_move sizes (state asked waiting old ls)
 next_took sizes asked job size first next waiting old left ls set is here more fits put =
     let after : next ≡ suc asked = omega (arith, more) in
     (λ i. Some (move (event.Took (here i) first size) (state (after i) waiting left (put i)))) ∙ sym (next_is sizes (state asked waiting old ls) size (Some (taken (run first size) left)) is fits)
 
-pub next_waits : (sizes : List ℕ) (asked job size most next : ℕ) (waiting longer : List ℕ) (old left : List Run) (ls : List (Option Run)) → slice_get sizes asked ≡ Some size → job ≡ asked → next ≡ asked + 1
+pub next_waits : (sizes : List ℕ) (asked job size most next : ℕ) (waiting longer : List ℕ) (old left : List Run) (ls : List (Option Run))
+    → slice_get sizes asked ≡ Some size → job ≡ asked → next ≡ asked + 1
     → take_run old size ≡ None → left ≡ old → most ≡ largest left → longer ≡ waiting ++ job ∷ []
     → Some (move (event.Full job size most) (state next longer left ls)) ≡ next_move sizes (state asked waiting old ls)
 next_waits sizes asked job size most next waiting longer old left ls is here more fits same greatest behind =
@@ -53,18 +55,21 @@ next_waits sizes asked job size most next waiting longer old left ls is here mor
     let long : longer ≡ waiting ++ asked ∷ [] = behind ∙ ap (λ n. waiting ++ n ∷ []) here in
     (λ i. Some (move (event.Full (here i) size (large i)) (state (after i) (long i) (same i) ls))) ∙ sym (next_is sizes (state asked waiting old ls) size None is fits)
 
-left_first : (sizes : List ℕ) (asked : ℕ) (waiting : List ℕ) (old : List Run) (ls : List (Option Run)) → asked ≡ length sizes → is_none_out ls ≡ true → left_move sizes (state asked waiting old ls) ≡ first_left sizes (state asked waiting old ls) waiting
+left_first : (sizes : List ℕ) (asked : ℕ) (waiting : List ℕ) (old : List Run) (ls : List (Option Run)) → asked ≡ length sizes → is_none_out ls ≡ true
+    → left_move sizes (state asked waiting old ls) ≡ first_left sizes (state asked waiting old ls) waiting
 left_first sizes asked waiting old ls all none =
     let eq : (asked == length sizes) ≡ true = grind (arith, nat_tests, all) in
     ap (λ (b : Bool). if b && is_none_out ls then first_left sizes (state asked waiting old ls) waiting else None) eq ∙ ap (λ (b : Bool). if b then first_left sizes (state asked waiting old ls) waiting else None) none
 
-left_sized : (sizes : List ℕ) (asked job size served : ℕ) (xs : List ℕ) (old : List Run) (ls : List (Option Run)) → asked ≡ length sizes → is_none_out ls ≡ true → slice_get xs served ≡ Some job → (o : Option ℕ) → slice_get sizes job ≡ o
+left_sized : (sizes : List ℕ) (asked job size served : ℕ) (xs : List ℕ) (old : List Run) (ls : List (Option Run)) → asked ≡ length sizes
+    → is_none_out ls ≡ true → slice_get xs served ≡ Some job → (o : Option ℕ) → slice_get sizes job ≡ o
     → left_move sizes (state asked (drop served xs) old ls) ≡ left_with (state asked (drop served xs) old ls) (drop (suc served) xs) job o
 left_sized sizes asked job size served xs old ls all none first o is =
     left_first sizes asked (drop served xs) old ls all none ∙ ap (first_left sizes (state asked (drop served xs) old ls)) (first_waits xs served job first)
     ∙ ap (left_with (state asked (drop served xs) old ls) (drop (suc served) xs) job) is
 
-pub left_took : (sizes : List ℕ) (asked job size first served next : ℕ) (xs : List ℕ) (old left : List Run) (ls set : List (Option Run)) → asked ≡ length sizes → is_none_out ls ≡ true → slice_get xs served ≡ Some job
+pub left_took : (sizes : List ℕ) (asked job size first served next : ℕ) (xs : List ℕ) (old left : List Run) (ls set : List (Option Run))
+    → asked ≡ length sizes → is_none_out ls ≡ true → slice_get xs served ≡ Some job
     → slice_get sizes job ≡ Some size → next ≡ served + 1 → take_run old size ≡ Some (taken (run first size) left) → set ≡ slice_set ls job (Some (run first size))
     → Some (move (event.Took job first size) (state asked (drop next xs) left set)) ≡ left_move sizes (state asked (drop served xs) old ls)
 left_took sizes asked job size first served next xs old left ls set all none here is more fits put =
@@ -73,21 +78,25 @@ left_took sizes asked job size first served next xs old left ls set all none her
     ∙ sym (ap (option_map (λ (t : Taken). move (event.Took job t.run.first size) (state asked (drop (suc served) xs) t.holes (slice_set ls job (Some t.run))))) fits)
     ∙ sym (left_sized sizes asked job size served xs old ls all none here (Some size) is)
 
-pub left_large : (sizes : List ℕ) (asked job size served : ℕ) (xs : List ℕ) (old : List Run) (ls : List (Option Run)) → asked ≡ length sizes → is_none_out ls ≡ true → slice_get xs served ≡ Some job
+pub left_large : (sizes : List ℕ) (asked job size served : ℕ) (xs : List ℕ) (old : List Run) (ls : List (Option Run)) → asked ≡ length sizes
+    → is_none_out ls ≡ true → slice_get xs served ≡ Some job
     → slice_get sizes job ≡ Some size → take_run old size ≡ None → None ≡ left_move sizes (state asked (drop served xs) old ls)
 left_large sizes asked job size served xs old ls all none here is fits =
     sym (ap (option_map (λ (t : Taken). move (event.Took job t.run.first size) (state asked (drop (suc served) xs) t.holes (slice_set ls job (Some t.run))))) fits)
     ∙ sym (left_sized sizes asked job size served xs old ls all none here (Some size) is)
 
-pub left_beyond : (sizes : List ℕ) (asked job served : ℕ) (xs : List ℕ) (old : List Run) (ls : List (Option Run)) → asked ≡ length sizes → is_none_out ls ≡ true → slice_get xs served ≡ Some job → slice_get sizes job ≡ None
+pub left_beyond : (sizes : List ℕ) (asked job served : ℕ) (xs : List ℕ) (old : List Run) (ls : List (Option Run)) → asked ≡ length sizes
+    → is_none_out ls ≡ true → slice_get xs served ≡ Some job → slice_get sizes job ≡ None
     → None ≡ left_move sizes (state asked (drop served xs) old ls)
 left_beyond sizes asked job served xs old ls all none here is = sym (left_sized sizes asked job 0 served xs old ls all none here None is)
 
-pub left_none : (sizes : List ℕ) (asked served : ℕ) (xs : List ℕ) (old : List Run) (ls : List (Option Run)) → asked ≡ length sizes → is_none_out ls ≡ true → slice_get xs served ≡ None
+pub left_none : (sizes : List ℕ) (asked served : ℕ) (xs : List ℕ) (old : List Run) (ls : List (Option Run)) → asked ≡ length sizes
+    → is_none_out ls ≡ true → slice_get xs served ≡ None
     → None ≡ left_move sizes (state asked (drop served xs) old ls)
 left_none sizes asked served xs old ls all none is = sym (left_first sizes asked (drop served xs) old ls all none ∙ ap (first_left sizes (state asked (drop served xs) old ls)) (none_waits xs served is))
 
-pub back_gave : (asked job : ℕ) (waiting : List ℕ) (old holes : List Run) (ls set : List (Option Run)) (r : Run) → slice_get ls job ≡ Some (Some r) → holes ≡ give_run old r → set ≡ slice_set ls job None
+pub back_gave : (asked job : ℕ) (waiting : List ℕ) (old holes : List Run) (ls set : List (Option Run)) (r : Run) → slice_get ls job ≡ Some (Some r)
+    → holes ≡ give_run old r → set ≡ slice_set ls job None
     → Some (move (event.Gave job r.first r.size) (state asked waiting holes set)) ≡ give_move (state asked waiting old ls) job
 back_gave asked job waiting old holes ls set r is back put =
     (λ i. Some (move (event.Gave job r.first r.size) (state asked waiting (back i) (put i)))) ∙ sym (ap (give_lease (state asked waiting old ls) job) is)
@@ -148,30 +157,36 @@ module _ (sizes : List ℕ) (s : DeskState) where
   no_left : s.asked < length sizes → left_move sizes s ≡ None
   no_left less = let other : (s.asked == length sizes) ≡ false = grind (arith, nat_tests, less) in ap (λ (b : Bool). if b && is_none_out s.leases then first_left sizes s s.waiting else None) other
 
-  told_next : (e : Event) (o : Option Move) → ((r : Run) → is_event e (event.Gave (job_of e) r.first r.size) ≡ false) → s.asked < length sizes → o ≡ next_move sizes s → as_told e o ≡ after_event sizes s e
+  told_next : (e : Event) (o : Option Move) → ((r : Run) → is_event e (event.Gave (job_of e) r.first r.size) ≡ false) → s.asked < length sizes
+      → o ≡ next_move sizes s → as_told e o ≡ after_event sizes s e
   unfolding after_event
   told_next e o never less is =
       ap (as_told e) is
       ∙ sym (ap (λ a. or_else (as_told e (next_move sizes s)) (or_else (as_told e a) (as_told e (give_move s (job_of e))))) (no_left less)
       ∙ ap (λ a. or_else (as_told e (next_move sizes s)) a) (back_gave_only e (job_of e) never) ∙ only_first (as_told e (next_move sizes s)))
 
-  told_left : (e : Event) (o : Option Move) → ((r : Run) → is_event e (event.Gave (job_of e) r.first r.size) ≡ false) → length sizes ≤ s.asked → o ≡ left_move sizes s → as_told e o ≡ after_event sizes s e
+  told_left : (e : Event) (o : Option Move) → ((r : Run) → is_event e (event.Gave (job_of e) r.first r.size) ≡ false) → length sizes ≤ s.asked
+      → o ≡ left_move sizes s → as_told e o ≡ after_event sizes s e
   unfolding after_event
   told_left e o never over is =
       ap (as_told e) is
       ∙ sym (ap (λ a. or_else (as_told e (option_map (λ size. asked_for s s.asked size (take_run s.holes size)) a)) (or_else (as_told e (left_move sizes s)) (as_told e (give_move s (job_of e))))) (slice_get_past sizes s.asked over)
       ∙ ap (λ a. or_else (as_told e (left_move sizes s)) a) (back_gave_only e (job_of e) never) ∙ only_first (as_told e (left_move sizes s)))
 
-  pub took_next : (j f z : ℕ) (o : Option Move) → s.asked < length sizes → o ≡ next_move sizes s → as_told (event.Took j f z) o ≡ after_event sizes s (event.Took j f z)
+  pub took_next : (j f z : ℕ) (o : Option Move) → s.asked < length sizes → o ≡ next_move sizes s
+      → as_told (event.Took j f z) o ≡ after_event sizes s (event.Took j f z)
   took_next j f z o less is = told_next (event.Took j f z) o (λ r. refl) less is
 
-  pub full_next : (j f z : ℕ) (o : Option Move) → s.asked < length sizes → o ≡ next_move sizes s → as_told (event.Full j f z) o ≡ after_event sizes s (event.Full j f z)
+  pub full_next : (j f z : ℕ) (o : Option Move) → s.asked < length sizes → o ≡ next_move sizes s
+      → as_told (event.Full j f z) o ≡ after_event sizes s (event.Full j f z)
   full_next j f z o less is = told_next (event.Full j f z) o (λ r. refl) less is
 
-  pub took_left : (j f z : ℕ) (o : Option Move) → length sizes ≤ s.asked → o ≡ left_move sizes s → as_told (event.Took j f z) o ≡ after_event sizes s (event.Took j f z)
+  pub took_left : (j f z : ℕ) (o : Option Move) → length sizes ≤ s.asked → o ≡ left_move sizes s
+      → as_told (event.Took j f z) o ≡ after_event sizes s (event.Took j f z)
   took_left j f z o over is = told_left (event.Took j f z) o (λ r. refl) over is
 
-  pub full_left : (j f z : ℕ) (o : Option Move) → length sizes ≤ s.asked → o ≡ left_move sizes s → as_told (event.Full j f z) o ≡ after_event sizes s (event.Full j f z)
+  pub full_left : (j f z : ℕ) (o : Option Move) → length sizes ≤ s.asked → o ≡ left_move sizes s
+      → as_told (event.Full j f z) o ≡ after_event sizes s (event.Full j f z)
   full_left j f z o over is = told_left (event.Full j f z) o (λ r. refl) over is
 
 pub same_event : (e told : Event) (s : DeskState) (o : Option DeskState) → told ≡ e → as_told e (Some (move told s)) ≡ o → Some s ≡ o
@@ -191,7 +206,8 @@ unfolding replay
 replays arena sizes journal = refl
 
 -- an event that no move tells ends them
-pub stops : (arena : ℕ) (sizes : List ℕ) (s : DeskState) (rest journal : List Event) (d : Event) (o : Option DeskState) → 1 ≤ length rest → o ≡ after_event sizes s (get_or rest 0 d) → o ≡ None
+pub stops : (arena : ℕ) (sizes : List ℕ) (s : DeskState) (rest journal : List Event) (d : Event) (o : Option DeskState) → 1 ≤ length rest
+    → o ≡ after_event sizes s (get_or rest 0 d) → o ≡ None
     → after_events sizes (Some s) rest ≡ replay arena sizes journal → None ≡ replayed arena sizes journal
 stops arena sizes s [] journal d o some is none whole = absurd (omega (arith, some))
 stops arena sizes s (e ∷ es) journal d o some is none whole = by_test (are_sizes arena sizes)

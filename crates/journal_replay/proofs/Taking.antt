@@ -16,7 +16,8 @@ abbrev pub IsTaken : List Run → ℕ → List Run → Option ℕ → List Run �
 IsTaken whole size made None rest = (option_map (behind_all made) (take_run rest size) ≡ take_run whole size) × (made ++ rest ≡ whole)
 IsTaken whole size made (Some first) rest = take_run whole size ≡ Some (taken (run first size) (made ++ rest))
 
-behind_one : (made : List Run) (h : Run) (o : Option Taken) → option_map (behind_all (made ++ h ∷ [])) o ≡ option_map (behind_all made) (option_map (behind h) o)
+behind_one : (made : List Run) (h : Run) (o : Option Taken)
+    → option_map (behind_all (made ++ h ∷ [])) o ≡ option_map (behind_all made) (option_map (behind h) o)
 behind_one made h None = refl
 behind_one made h (Some t) = ap (λ hs. Some (taken t.run hs)) (append_assoc made (h ∷ []) t.holes)
 
@@ -27,13 +28,15 @@ taken_start holes size = (by_taken (take_run holes size), refl)
     by_taken None = refl
     by_taken (Some t) = refl
 
-pub taken_small : (whole : List Run) (size : ℕ) (made : List Run) (h : Run) (rest : List Run) → h.size < size → IsTaken whole size made None (h ∷ rest) → IsTaken whole size (made ++ h ∷ []) None rest
+pub taken_small : (whole : List Run) (size : ℕ) (made : List Run) (h : Run) (rest : List Run) → h.size < size
+    → IsTaken whole size made None (h ∷ rest) → IsTaken whole size (made ++ h ∷ []) None rest
 taken_small whole size made h rest less is =
     let no : nat_le size h.size ≡ false = grind (arith, nat_tests, less) in
     let step : take_run (h ∷ rest) size ≡ option_map (behind h) (take_run rest size) = ap (λ b. if b then Some (taken (run h.first size) (rest_of_run h size rest)) else option_map (behind h) (take_run rest size)) no in
     (behind_one made h (take_run rest size) ∙ ap (option_map (behind_all made)) (sym step) ∙ is.0, append_assoc made (h ∷ []) rest ∙ is.1)
 
-pub taken_later : (whole : List Run) (size : ℕ) (made : List Run) (first : ℕ) (h : Run) (rest : List Run) → IsTaken whole size made (Some first) (h ∷ rest) → IsTaken whole size (made ++ h ∷ []) (Some first) rest
+pub taken_later : (whole : List Run) (size : ℕ) (made : List Run) (first : ℕ) (h : Run) (rest : List Run)
+    → IsTaken whole size made (Some first) (h ∷ rest) → IsTaken whole size (made ++ h ∷ []) (Some first) rest
 taken_later whole size made first h rest is = is ∙ ap (λ hs. Some (taken (run first size) hs)) (sym (append_assoc made (h ∷ []) rest))
 
 fits_here : (size : ℕ) (h : Run) (rest : List Run) → size ≤ h.size → take_run (h ∷ rest) size ≡ Some (taken (run h.first size) (rest_of_run h size rest))
@@ -41,7 +44,8 @@ fits_here size h rest most =
     let yes : nat_le size h.size ≡ true = grind (arith, nat_tests, most) in
     ap (λ b. if b then Some (taken (run h.first size) (rest_of_run h size rest)) else option_map (behind h) (take_run rest size)) yes
 
-pub taken_whole : (whole : List Run) (size : ℕ) (made : List Run) (h : Run) (rest : List Run) → size ≤ h.size → h.size ≤ size → IsTaken whole size made None (h ∷ rest) → IsTaken whole size made (Some h.first) rest
+pub taken_whole : (whole : List Run) (size : ℕ) (made : List Run) (h : Run) (rest : List Run) → size ≤ h.size → h.size ≤ size
+    → IsTaken whole size made None (h ∷ rest) → IsTaken whole size made (Some h.first) rest
 taken_whole whole size made h rest most least is =
     let same : (h.size == size) ≡ true = grind (arith, nat_tests, most, least) in
     sym is.0 ∙ ap (option_map (behind_all made)) (fits_here size h rest most)
@@ -75,21 +79,24 @@ module _ (whole : List Run) (given : Run) (made : List Run) (h : Run) (rest : Li
       append_assoc (made ++ r ∷ []) (h ∷ []) rest ∙ append_assoc made (r ∷ []) (h ∷ rest)
       ∙ ap (λ hs. made ++ hs) (sym (ap (λ t. choice r t (end_of r == h.first) (end_of h == r.first)) a)) ∙ is
 
-  pub given_before : (r : Run) → h.first ≤ end_of r → end_of r ≡ h.first → IsGiven whole given made (Some r) (h ∷ rest) → IsGiven whole given (made ++ both r h ∷ []) None rest
+  pub given_before : (r : Run) → h.first ≤ end_of r → end_of r ≡ h.first → IsGiven whole given made (Some r) (h ∷ rest)
+      → IsGiven whole given (made ++ both r h ∷ []) None rest
   given_before r least same is =
       let a : nat_lt (end_of r) h.first ≡ false = grind (arith, nat_tests, least) in
       let b : (end_of r == h.first) ≡ true = grind (arith, nat_tests, same) in
       append_assoc made (both r h ∷ []) rest
       ∙ ap (λ hs. made ++ hs) (sym (ap (λ t. choice r t (end_of r == h.first) (end_of h == r.first)) a ∙ ap (λ t. choice r false t (end_of h == r.first)) b)) ∙ is
 
-  pub given_behind : (r : Run) → h.first ≤ end_of r → ((end_of r ≡ h.first) → ⊥) → end_of h ≡ r.first → IsGiven whole given made (Some r) (h ∷ rest) → IsGiven whole given made (Some (both h r)) rest
+  pub given_behind : (r : Run) → h.first ≤ end_of r → ((end_of r ≡ h.first) → ⊥) → end_of h ≡ r.first → IsGiven whole given made (Some r) (h ∷ rest)
+      → IsGiven whole given made (Some (both h r)) rest
   given_behind r least other meets is =
       let a : nat_lt (end_of r) h.first ≡ false = grind (arith, nat_tests, least) in
       let b : (end_of r == h.first) ≡ false = grind (arith, nat_tests, other) in
       let d : (end_of h == r.first) ≡ true = grind (arith, nat_tests, meets) in
       ap (λ hs. made ++ hs) (sym (ap (λ t. choice r t (end_of r == h.first) (end_of h == r.first)) a ∙ ap (λ t. choice r false t (end_of h == r.first)) b ∙ ap (λ t. choice r false false t) d)) ∙ is
 
-  pub given_past : (r : Run) → h.first ≤ end_of r → ((end_of r ≡ h.first) → ⊥) → ((end_of h ≡ r.first) → ⊥) → IsGiven whole given made (Some r) (h ∷ rest) → IsGiven whole given (made ++ h ∷ []) (Some r) rest
+  pub given_past : (r : Run) → h.first ≤ end_of r → ((end_of r ≡ h.first) → ⊥) → ((end_of h ≡ r.first) → ⊥)
+      → IsGiven whole given made (Some r) (h ∷ rest) → IsGiven whole given (made ++ h ∷ []) (Some r) rest
   given_past r least other apart is =
       let a : nat_lt (end_of r) h.first ≡ false = grind (arith, nat_tests, least) in
       let b : (end_of r == h.first) ≡ false = grind (arith, nat_tests, other) in

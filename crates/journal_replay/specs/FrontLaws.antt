@@ -1,6 +1,6 @@
 -- Laws, for the functions of laws.rt.
--- A journal that comes to something goes on to a legal one: what is out goes back, then each job that wasn't asked for is taken and goes back, and then each
--- that waits.
+-- A journal that comes to something goes on to a legal one: what is out goes back, then each job that wasn't asked for
+-- is taken and goes back, and then each that waits.
 use Rattle.std.proofs.Common.{◌≡◌, ℕ, zero, suc, ◌+◌, ◌-◌, ◌<◌, ◌≤◌, nat_le, ◌&&◌, Bool, true, false, if◌then◌else◌, ◌⊎◌, inl, inr, List, [], ◌∷◌, ◌++◌, length, get_or, Option, Some, None, refl, sym, ap, ◌∙◌, subst, arith, append_assoc, append-nil}
 use Rattle.std.specs.Prelude.{slice_get, slice_set}
 use Rattle.std.specs.Option.{option_map}
@@ -24,7 +24,8 @@ no_items [] h = refl
 no_items (x ∷ xs) h = absurd (omega (arith, h))
 
 -- a lease that went out and came back
-none_again : (ls : List (Option Run)) (job : ℕ) (r : Run) → slice_get ls job ≡ Some None → leased ls ≡ [] → leased (slice_set (slice_set ls job (Some r)) job None) ≡ []
+none_again : (ls : List (Option Run)) (job : ℕ) (r : Run) → slice_get ls job ≡ Some None → leased ls ≡ []
+    → leased (slice_set (slice_set ls job (Some r)) job None) ≡ []
 none_again ls job r free none =
     let within = slice_get_within ls job None free in
     let out = sum_out (λ q. 1) ls job r free in
@@ -54,7 +55,8 @@ module _ (arena : ℕ) (sizes : List ℕ) (some : 1 ≤ arena) (fit : AreSizes a
       ([], subst (λ l. IsLegal arena sizes l) (sym (append-nil es)) (record { fit = fit; last = s; replayed = is; over = record { all = all; none_waits = waits; none_out = none } }))
 
   -- a job is taken, and goes back at once
-  round : (n : ℕ) → Rest n → (es : List Event) (s s' : DeskState) (job size : ℕ) (t : Taken) → replay arena sizes es ≡ Some s → leased s.leases ≡ [] → slice_get s.leases job ≡ Some None
+  round : (n : ℕ) → Rest n → (es : List Event) (s s' : DeskState) (job size : ℕ) (t : Taken) → replay arena sizes es ≡ Some s → leased s.leases ≡ []
+      → slice_get s.leases job ≡ Some None
       → s'.leases ≡ slice_set s.leases job (Some t.run) → after_event sizes s (event.Took job t.run.first size) ≡ Some s' → (length sizes - s'.asked) + length s'.waiting ≤ n → Goes es
   round n go es s s' job size t is none free set took few =
       let e = event.Took job t.run.first size in
@@ -65,7 +67,8 @@ module _ (arena : ℕ) (sizes : List ℕ) (some : 1 ≤ arena) (fit : AreSizes a
       let back = replay_more arena sizes (es ++ e ∷ []) s' (gave s' job t.run) e' after (after_back sizes s' job t.run here) in
       longer es e (longer (es ++ e ∷ []) e' (go ((es ++ e ∷ []) ++ e' ∷ []) (gave s' job t.run) back (ap (λ ls. leased (slice_set ls job None)) set ∙ none_again s.leases job t.run free none) few))
 
-  ask : (n : ℕ) → Rest n → (es : List Event) (s : DeskState) → replay arena sizes es ≡ Some s → leased s.leases ≡ [] → s.asked < length sizes → (length sizes - s.asked) + length s.waiting ≤ suc n → Goes es
+  ask : (n : ℕ) → Rest n → (es : List Event) (s : DeskState) → replay arena sizes es ≡ Some s → leased s.leases ≡ [] → s.asked < length sizes
+      → (length sizes - s.asked) + length s.waiting ≤ suc n → Goes es
   ask n go es s is none less few = by_take (take_run s.holes size) refl
     where
       size : ℕ
@@ -81,7 +84,8 @@ module _ (arena : ℕ) (sizes : List ℕ) (some : 1 ≤ arena) (fit : AreSizes a
           (after_next sizes s (event.Took s.asked t.run.first (get_or sizes s.asked 0)) (took_next s s.asked t) (next_is sizes s (get_or sizes s.asked 0) (Some t) (slice_get-get_or sizes s.asked 0 less) fits))
           (omega (arith, less, few))
 
-  wait : (n : ℕ) → Rest n → (es : List Event) (s : DeskState) (job : ℕ) (ws : List ℕ) → replay arena sizes es ≡ Some s → leased s.leases ≡ [] → s.asked ≡ length sizes → s.waiting ≡ job ∷ ws
+  wait : (n : ℕ) → Rest n → (es : List Event) (s : DeskState) (job : ℕ) (ws : List ℕ) → replay arena sizes es ≡ Some s → leased s.leases ≡ []
+      → s.asked ≡ length sizes → s.waiting ≡ job ∷ ws
       → (length sizes - s.asked) + length s.waiting ≤ suc n → Goes es
   wait n go es s job ws is none all waits few = by_take (take_run s.holes (get_or sizes job 0)) refl
     where
@@ -132,7 +136,8 @@ sizes_fit : (arena : ℕ) (sizes : List ℕ) → are_sizes arena sizes ≡ true 
 sizes_fit arena [] h = tt
 sizes_fit arena (size ∷ sizes) h = by_tests (nat_le 1 size) (nat_le size arena) (are_sizes arena sizes) refl refl (λ k. sizes_fit arena sizes k) h
   where
-    by_tests : (a b c : Bool) → nat_le 1 size ≡ a → nat_le size arena ≡ b → (c ≡ true → AreSizes arena sizes) → ((a && b) && c) ≡ true → ((1 ≤ size) × (size ≤ arena)) × AreSizes arena sizes
+    by_tests : (a b c : Bool) → nat_le 1 size ≡ a → nat_le size arena ≡ b → (c ≡ true → AreSizes arena sizes) → ((a && b) && c) ≡ true
+        → ((1 ≤ size) × (size ≤ arena)) × AreSizes arena sizes
     by_tests true true c p q go k = ((grind (arith, nat_tests, p), grind (arith, nat_tests, q)), go k)
     by_tests true false c p q go k = absurd (grind arith)
     by_tests false b c p q go k = absurd (grind arith)
@@ -144,18 +149,22 @@ fit_sizes arena (size ∷ sizes) h =
     let b : nat_le size arena ≡ true = (let most = h.0.1 in grind (arith, nat_tests, most)) in
     ap (λ t. (t && nat_le size arena) && are_sizes arena sizes) a ∙ ap (λ t. t && are_sizes arena sizes) b ∙ fit_sizes arena sizes h.1
 
-pub goes_on : (arena : ℕ) (sizes : List ℕ) (journal : List Event) (told : Told) → 1 ≤ arena → replayed arena sizes journal ≡ Some told → (later : List Event) × IsLegal arena sizes (journal ++ later)
+pub goes_on : (arena : ℕ) (sizes : List ℕ) (journal : List Event) (told : Told) → 1 ≤ arena → replayed arena sizes journal ≡ Some told
+    → (later : List Event) × IsLegal arena sizes (journal ++ later)
 goes_on arena sizes journal told some is = by_test (are_sizes arena sizes) refl is
   where
-    by_state : are_sizes arena sizes ≡ true → (o : Option DeskState) → replay arena sizes journal ≡ o → option_map told_in o ≡ Some told → (later : List Event) × IsLegal arena sizes (journal ++ later)
+    by_state : are_sizes arena sizes ≡ true → (o : Option DeskState) → replay arena sizes journal ≡ o → option_map told_in o ≡ Some told
+        → (later : List Event) × IsLegal arena sizes (journal ++ later)
     by_state fit None k q = absurd (let r : None ≡ Some told = q in grind arith)
     by_state fit (Some s) k q = backs arena sizes some (sizes_fit arena sizes fit) (length (leased s.leases)) journal s k refl
 
-    by_test : (b : Bool) → are_sizes arena sizes ≡ b → (if b then option_map told_in (replay arena sizes journal) else None) ≡ Some told → (later : List Event) × IsLegal arena sizes (journal ++ later)
+    by_test : (b : Bool) → are_sizes arena sizes ≡ b → (if b then option_map told_in (replay arena sizes journal) else None) ≡ Some told
+        → (later : List Event) × IsLegal arena sizes (journal ++ later)
     by_test true fit q = by_state fit (replay arena sizes journal) refl q
     by_test false fit q = absurd (let r : None ≡ Some told = q in grind arith)
 
-pub comes_to : (arena : ℕ) (sizes : List ℕ) (journal later : List Event) → IsLegal arena sizes (journal ++ later) → (told : Told) × (replayed arena sizes journal ≡ Some told)
+pub comes_to : (arena : ℕ) (sizes : List ℕ) (journal later : List Event) → IsLegal arena sizes (journal ++ later)
+    → (told : Told) × (replayed arena sizes journal ≡ Some told)
 comes_to arena sizes journal later legal =
     let f = legal_fronts arena sizes journal later legal in
     (told_in f.0, ap (λ b. if b then option_map told_in (replay arena sizes journal) else None) (fit_sizes arena sizes legal.fit) ∙ ap (option_map told_in) f.1)

@@ -33,6 +33,7 @@ abbrev pub are_sizes : (arena : ℕ) → (sizes : List ℕ) → Bool
 are_sizes arena [] = true
 are_sizes arena (size ∷ sizes) = (nat_le 1 size && nat_le size arena) && are_sizes arena sizes
 
--- What a journal of jobs of these sizes comes to; none where a size doesn't fit the arena, or an event isn't the next move of a desk behind the events before it.
+-- What a journal of jobs of these sizes comes to; none where a size doesn't fit the arena, or an event isn't the next
+-- move of a desk behind the events before it.
 abbrev pub replayed : (arena : ℕ) → (sizes : List ℕ) → List Event → Option Told
 replayed arena sizes events = if are_sizes arena sizes then option_map told_in (journal.replay arena sizes events) else None

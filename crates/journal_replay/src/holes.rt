@@ -1,4 +1,5 @@
-//! Holes as runs: the front of the first one that has cells enough is taken, and a run that goes back is merged with its neighbours.
+//! Holes as runs: the front of the first one that has cells enough is taken, and a run that goes back is merged with
+//! its neighbours.
 ghost use Rattle.std.specs.Prelude.{◌≡◌, ◌+◌, ◌≤◌, None, Some, MatchOption, IfOk};
 ghost use Rattle.hole_list.specs.Placing.{give_run, largest, run, take_run, taken};
 ghost use Rattle.journal_replay.specs.Within.{AreWithin, IsWithin};
@@ -19,7 +20,8 @@ pub(crate) fn largest(holes: &[Run]) -> u32
     most
 }
 
-/// Takes the front of the first hole that has so many cells: the holes that are left, and where it begins. Where no hole has so many all holes are left.
+/// Takes the front of the first hole that has so many cells: the holes that are left, and where it begins. Where no
+/// hole has so many all holes are left.
 #[tactic(auto, using(crate::proofs::Taking::taken_start, crate::proofs::Taking::taken_small, crate::proofs::Taking::taken_later, crate::proofs::Taking::taken_whole, crate::proofs::Taking::taken_part))]
 pub(crate) fn take(
     alloc: Global,
@@ -27,7 +29,8 @@ pub(crate) fn take(
     size: u32,
 ) -> Result<(Vec<Run>, Option<u32>), AllocError>
     requires { AreWithin holes.items }
-    ensures { IfOk result (λ x. MatchOption x.1 ((take_run holes.items size ≡ None) × (x.0.items ≡ holes.items)) (λ first. take_run holes.items size ≡ Some (taken (run first size) x.0.items))) }
+    ensures { IfOk result (λ x. MatchOption x.1 ((take_run holes.items size ≡ None) × (x.0.items ≡ holes.items))
+        (λ first. take_run holes.items size ≡ Some (taken (run first size) x.0.items))) }
 {
     let mut left = Vec::with_capacity(alloc, holes.len())?;
     let mut found = None;

@@ -43,9 +43,10 @@ fn leases_out(alloc: Global, leases: &[Option<Run>]) -> Result<Vec<Held>, AllocE
     Ok(all)
 }
 
-/// What a journal of jobs of these sizes comes to in an arena of so many cells: the holes and the leases that are out (`specs/Replaying.antt`). `None` exactly where
-/// a size is 0 or larger than the arena, or where an event isn't the next move of a desk behind the events before it. `AllocError` where memory runs out. An
-/// event takes time for each hole, and one that takes a job that waited for each job too.
+/// What a journal of jobs of these sizes comes to in an arena of so many cells: the holes and the leases that are out
+/// (`specs/Replaying.antt`). `None` exactly where a size is 0 or larger than the arena, or where an event isn't the
+/// next move of a desk behind the events before it. `AllocError` where memory runs out. An event takes time for each
+/// hole, and one that takes a job that waited for each job too.
 pub fn replay(
     alloc: Global,
     journal: &[Event],

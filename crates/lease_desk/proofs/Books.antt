@@ -9,7 +9,8 @@ use Rattle.lease_desk.specs.theory.Sound.{none_leased}
 pub none_yet : (ls : List (Option Run)) (n : ℕ) → ls ≡ replicate n None → 0 ≡ length (leased ls)
 none_yet ls n e = sym (ap (λ (l : List (Option Run)). length (leased l)) e ∙ ap (λ (l : List Run). length l) (none_leased n))
 
-pub one_goes : (ls v : List (Option Run)) (job out : ℕ) (r : Run) → ls ≡ v → slice_get v job ≡ Some None → out ≡ length (leased ls) → out + 1 ≡ length (leased (slice_set ls job (Some r)))
+pub one_goes : (ls v : List (Option Run)) (job out : ℕ) (r : Run) → ls ≡ v → slice_get v job ≡ Some None → out ≡ length (leased ls)
+    → out + 1 ≡ length (leased (slice_set ls job (Some r)))
 one_goes ls v job out r same free is =
     let f : slice_get ls job ≡ Some None = ap (λ (l : List (Option Run)). slice_get l job) same ∙ free in
     omega (arith, is, sum_out (λ q. 1) ls job r f, sum_length (leased ls), sum_length (leased (slice_set ls job (Some r))))

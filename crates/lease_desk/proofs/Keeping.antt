@@ -35,7 +35,8 @@ use Rattle.lease_desk.specs.theory.Outs.{out_more, out_less, is_copied, is_out, 
 abbrev OfArena : Arena → List Range → Type 0
 OfArena arena hs = AllByRecursion (λ h. h.arena ≡ arena) hs
 
-taken_arena : (arena : Arena) (hs : List Range) (size : ℕ) (t : TakenCells) → take_cells hs size ≡ Some t → OfArena arena hs → (t.range.arena ≡ arena) × OfArena arena t.holes
+taken_arena : (arena : Arena) (hs : List Range) (size : ℕ) (t : TakenCells) → take_cells hs size ≡ Some t → OfArena arena hs
+    → (t.range.arena ≡ arena) × OfArena arena t.holes
 taken_arena arena [] size t e k = absurd (grind arith)
 taken_arena arena (h ∷ hs) size t e k = by_test (λ u is. taken_arena arena hs size u is k.1) (nat_le size (length h.cells)) e
   where
@@ -43,7 +44,8 @@ taken_arena arena (h ∷ hs) size t e k = by_test (λ u is. taken_arena arena hs
     by_back true = k.1
     by_back false = (k.0, k.1)
 
-    by_rest : (o : Option TakenCells) → ((u : TakenCells) → o ≡ Some u → (u.range.arena ≡ arena) × OfArena arena u.holes) → option_map (behind_cells h) o ≡ Some t
+    by_rest : (o : Option TakenCells) → ((u : TakenCells) → o ≡ Some u → (u.range.arena ≡ arena) × OfArena arena u.holes)
+        → option_map (behind_cells h) o ≡ Some t
         → (t.range.arena ≡ arena) × OfArena arena t.holes
     by_rest None go is = absurd (grind arith)
     by_rest (Some u) go is = subst (λ (v : TakenCells). (v.range.arena ≡ arena) × OfArena arena v.holes) (some_same (behind_cells h u) t is) ((go u refl).0, (k.0, (go u refl).1))
@@ -78,10 +80,12 @@ no_place zero job p e = grind arith
 no_place (suc n) zero p e = let q : None ≡ Some p = some_same None (Some p) e in grind arith
 no_place (suc n) (suc job) p e = no_place n job p e
 
-pub whole_state : (range : Range) (sizes : List ℕ) (most : ℕ) → IsWhole range → state_of (new_holes range most) (new_book sizes) ≡ opened range.arena.cells (length sizes)
+pub whole_state : (range : Range) (sizes : List ℕ) (most : ℕ) → IsWhole range
+    → state_of (new_holes range most) (new_book sizes) ≡ opened range.arena.cells (length sizes)
 whole_state range sizes most w = λ i. record { asked = 0; waiting = []; holes = run (w.from i) (w.all i) ∷ []; leases = replicate (length sizes) None }
 
-pub kept_first : {P : Type 0} (number : P → ℕ) (cells : P → List Cell) (range : Range) (sizes : List ℕ) → IsWhole range → 1 ≤ range.arena.cells → (n : ℕ) → range.cells ≡ replicate n blank
+pub kept_first : {P : Type 0} (number : P → ℕ) (cells : P → List Cell) (range : Range) (sizes : List ℕ) → IsWhole range → 1 ≤ range.arena.cells
+    → (n : ℕ) → range.cells ≡ replicate n blank
     → AreSizes range.arena.cells sizes → IsKept number cells (new_holes range (length sizes)) (new_book sizes) (replicate (length sizes) None) 0
 kept_first {P} number cells range sizes w some n blanks fit = record {
   desk = record {
@@ -170,7 +174,8 @@ module _ {P : Type 0} (number : P → ℕ) (cells : P → List Cell) (h : Holed)
       next_is b.sizes (state_of h b) size (Some (taken (run_of range) (map run_of holes))) is t.0
       ∙ ap (λ n. Some (move (event.Took b.asked range.first n) (took_next (state_of h b) b.asked (taken (run_of range) (map run_of holes))))) (sym t.1)
 
-  pub next_kept : (size : ℕ) (range : Range) (holes : List Range) → slice_get b.sizes b.asked ≡ Some size → take_cells h.holes size ≡ Some (taken_cells range holes)
+  pub next_kept : (size : ℕ) (range : Range) (holes : List Range) → slice_get b.sizes b.asked ≡ Some size
+      → take_cells h.holes size ≡ Some (taken_cells range holes)
       → IsKept number cells (with_holes h holes (with_run h.out (run_of range))) (with_asked (with_lease b b.asked (Some (run_of range)) (event.Took b.asked range.first (length range.cells)))) ps w
   next_kept size range holes is fits =
       moved_kept (event.Took b.asked range.first (length range.cells)) holes (with_run h.out (run_of range))
@@ -181,7 +186,8 @@ module _ {P : Type 0} (number : P → ℕ) (cells : P → List Cell) (h : Holed)
       (taken_holds size range holes (event.Took b.asked range.first (length range.cells)) fits (λ i known. refl))
       (λ job. omega (arith, gave_more job b.journal (event.Took b.asked range.first (length range.cells))))
 
-  pub next_takes : (size : ℕ) (range : Range) (holes : List Range) → slice_get b.sizes b.asked ≡ Some size → take_cells h.holes size ≡ Some (taken_cells range holes)
+  pub next_takes : (size : ℕ) (range : Range) (holes : List Range) → slice_get b.sizes b.asked ≡ Some size
+      → take_cells h.holes size ≡ Some (taken_cells range holes)
       → Takes (next_move b.sizes (state_of h b)) (desk_of h b ps w)
       (desk_of (with_holes h holes (with_run h.out (run_of range))) (with_asked (with_lease b b.asked (Some (run_of range)) (event.Took b.asked range.first (length range.cells)))) ps w)
       (lease b.asked range)
@@ -258,7 +264,8 @@ module _ {P : Type 0} (number : P → ℕ) (cells : P → List Cell) (h : Holed)
   left_never job size none is fits =
       left_fits h.arena.cells b.sizes b.journal (state_of h b) job size k.desk.some sound k.desk.fit none is (not_taken h.holes size fits)
 
-  left_told : (job size : ℕ) (range : Range) (holes : List Range) → b.asked ≡ length b.sizes → leased b.leases ≡ [] → slice_get b.waiting 0 ≡ Some job → slice_get b.sizes job ≡ Some size
+  left_told : (job size : ℕ) (range : Range) (holes : List Range) → b.asked ≡ length b.sizes → leased b.leases ≡ []
+      → slice_get b.waiting 0 ≡ Some job → slice_get b.sizes job ≡ Some size
       → take_cells h.holes size ≡ Some (taken_cells range holes)
       → left_move b.sizes (state_of h b)
       ≡ Some (move (event.Took job range.first (length range.cells)) (took_left (state_of h b) (drop 1 b.waiting) job (taken (run_of range) (map run_of holes))))
@@ -267,7 +274,8 @@ module _ {P : Type 0} (number : P → ℕ) (cells : P → List Cell) (h : Holed)
       left_is b.sizes (state_of h b) job size (drop 1 b.waiting) (taken (run_of range) (map run_of holes)) all none (waiting_is job e) is t.0
       ∙ ap (λ n. Some (move (event.Took job range.first n) (took_left (state_of h b) (drop 1 b.waiting) job (taken (run_of range) (map run_of holes))))) (sym t.1)
 
-  pub left_kept : (job size : ℕ) (range : Range) (holes : List Range) → b.asked ≡ length b.sizes → leased b.leases ≡ [] → slice_get b.waiting 0 ≡ Some job → slice_get b.sizes job ≡ Some size
+  pub left_kept : (job size : ℕ) (range : Range) (holes : List Range) → b.asked ≡ length b.sizes → leased b.leases ≡ []
+      → slice_get b.waiting 0 ≡ Some job → slice_get b.sizes job ≡ Some size
       → take_cells h.holes size ≡ Some (taken_cells range holes)
       → IsKept number cells (with_holes h holes (with_run h.out (run_of range))) (with_served (with_lease b job (Some (run_of range)) (event.Took job range.first (length range.cells)))) ps w
   left_kept job size range holes all none e is fits =
@@ -280,7 +288,8 @@ module _ {P : Type 0} (number : P → ℕ) (cells : P → List Cell) (h : Holed)
       (taken_holds size range holes (event.Took job range.first (length range.cells)) fits (λ i known. refl))
       (λ j. omega (arith, gave_more j b.journal (event.Took job range.first (length range.cells))))
 
-  pub left_takes : (job size : ℕ) (range : Range) (holes : List Range) → b.asked ≡ length b.sizes → leased b.leases ≡ [] → slice_get b.waiting 0 ≡ Some job → slice_get b.sizes job ≡ Some size
+  pub left_takes : (job size : ℕ) (range : Range) (holes : List Range) → b.asked ≡ length b.sizes → leased b.leases ≡ []
+      → slice_get b.waiting 0 ≡ Some job → slice_get b.sizes job ≡ Some size
       → take_cells h.holes size ≡ Some (taken_cells range holes)
       → Takes (left_move b.sizes (state_of h b)) (desk_of h b ps w)
       (desk_of (with_holes h holes (with_run h.out (run_of range))) (with_served (with_lease b job (Some (run_of range)) (event.Took job range.first (length range.cells)))) ps w)
@@ -354,7 +363,8 @@ module _ {P : Type 0} (number : P → ℕ) (cells : P → List Cell) (h : Holed)
         few = omega (arith, few, k.few, length-append b.journal (event.Gave l.job l.range.first (length l.range.cells) ∷ []));
       }
     where
-      by_filed : (job : ℕ) → 1 ≤ gave_times job b.journal → (l.job ≡ job) ⊎ ((l.job ≡ job) → ⊥) → gave_times l.job b.journal ≡ 0 → filed_by cells ps job ≡ filed_by cells qs job
+      by_filed : (job : ℕ) → 1 ≤ gave_times job b.journal → (l.job ≡ job) ⊎ ((l.job ≡ job) → ⊥) → gave_times l.job b.journal ≡ 0
+          → filed_by cells ps job ≡ filed_by cells qs job
       by_filed job m (inl here) z = absurd (omega (arith, m, z, ap (λ j. gave_times j b.journal) here))
       by_filed job m (inr there) z = ap (cells_in cells) (sym (others job there))
 
@@ -371,7 +381,8 @@ module _ {P : Type 0} (number : P → ℕ) (cells : P → List Cell) (h : Holed)
       by_long job p q (inl here) = subst (λ j. slice_get b.sizes j ≡ Some (length (cells p))) here (long p (subst (λ j. slice_get qs j ≡ Some (Some p)) (sym here) q))
       by_long job p q (inr there) = k.desk.sized job p (sym (others job there) ∙ q)
 
-      by_all : v ≡ 0 → (job : ℕ) → 1 ≤ gave_times job (b.journal ++ event.Gave l.job l.range.first (length l.range.cells) ∷ []) → (l.job ≡ job) ⊎ ((l.job ≡ job) → ⊥)
+      by_all : v ≡ 0 → (job : ℕ) → 1 ≤ gave_times job (b.journal ++ event.Gave l.job l.range.first (length l.range.cells) ∷ [])
+          → (l.job ≡ job) ⊎ ((l.job ≡ job) → ⊥)
           → (p : P) × (slice_get qs job ≡ Some (Some p))
       by_all z job m (inl here) = subst (λ j. (p : P) × (slice_get qs j ≡ Some (Some p))) here (all z).1
       by_all z job m (inr there) =

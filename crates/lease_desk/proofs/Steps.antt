@@ -46,17 +46,20 @@ module _ {P : Type 0} (number : P → ℕ) (cells : P → List Cell) (h : Holed)
   pub parts_now : AreParts (run 0 d.arena.cells) d.state.holes (leased d.state.leases)
   parts_now = sound_now.cells
 
-  pub returned_now : d.withdrawn ≡ 0 → (job : ℕ) → job < d.state.asked → times_at job d.state.waiting ≡ 0 → one_out (slice_get d.state.leases job) ≡ 0 → HasPayload number d.payloads job
+  pub returned_now : d.withdrawn ≡ 0 → (job : ℕ) → job < d.state.asked → times_at job d.state.waiting ≡ 0
+      → one_out (slice_get d.state.leases job) ≡ 0 → HasPayload number d.payloads job
   returned_now = subst (λ (x : DeskView P). x.withdrawn ≡ 0 → (job : ℕ) → job < x.state.asked → times_at job x.state.waiting ≡ 0 → one_out (slice_get x.state.leases job) ≡ 0 → HasPayload number x.payloads job) v
       (returned_filed number cells h b ps w k)
 
-  pub filed_now : leased d.state.leases ≡ [] → d.state.asked ≡ length d.sizes → d.state.waiting ≡ [] → d.withdrawn ≡ 0 → AllFiled number (length d.sizes) d.payloads
+  pub filed_now : leased d.state.leases ≡ [] → d.state.asked ≡ length d.sizes → d.state.waiting ≡ [] → d.withdrawn ≡ 0
+      → AllFiled number (length d.sizes) d.payloads
   filed_now = subst (λ (x : DeskView P). leased x.state.leases ≡ [] → x.state.asked ≡ length x.sizes → x.state.waiting ≡ [] → x.withdrawn ≡ 0 → AllFiled number (length x.sizes) x.payloads) v
       (filed_of number cells h b ps w k)
 
   -- ---- the next job
 
-  pub over_now : (j : ℕ) (o : Option ℕ) → j ≡ b.asked → o ≡ slice_get b.sizes j → o ≡ None → (next_move d.sizes d.state ≡ None) × (d.state.asked ≡ length d.sizes) × (d ≡ d)
+  pub over_now : (j : ℕ) (o : Option ℕ) → j ≡ b.asked → o ≡ slice_get b.sizes j → o ≡ None
+      → (next_move d.sizes d.state ≡ None) × (d.state.asked ≡ length d.sizes) × (d ≡ d)
   over_now j o e f g =
       let u = unsized b.sizes j b.asked o e f g in
       subst (λ (x : DeskView P). (next_move x.sizes x.state ≡ None) × (x.state.asked ≡ length x.sizes) × (x ≡ x)) v (over_is number cells h b ps w k u, all_asked number cells h b ps w k u, refl)
@@ -65,10 +68,12 @@ module _ {P : Type 0} (number : P → ℕ) (cells : P → List Cell) (h : Holed)
     is : slice_get b.sizes b.asked ≡ Some size
     is = sized b.sizes j b.asked o size e f g
 
-    pub next_now : (1 ≤ size) × (length h.out < h.most_out) × (slice_get b.leases j ≡ Some None) × (length b.journal < 3 * length b.sizes) × (b.asked < length b.sizes)
+    pub next_now : (1 ≤ size) × (length h.out < h.most_out) × (slice_get b.leases j ≡ Some None) × (length b.journal < 3 * length b.sizes)
+        × (b.asked < length b.sizes)
     next_now = let r = next_ready number cells h b ps w k size is in (r.0, r.1, ap (slice_get b.leases) e ∙ r.2, r.3, r.4)
 
-    took : (b1 b2 : BookView) (first n : ℕ) (range : Range) → b1 ≡ with_lease b j (Some (run first n)) (event.Took j first n) → first ≡ range.first → n ≡ length range.cells → b2 ≡ with_asked b1
+    took : (b1 b2 : BookView) (first n : ℕ) (range : Range) → b1 ≡ with_lease b j (Some (run first n)) (event.Took j first n) → first ≡ range.first
+        → n ≡ length range.cells → b2 ≡ with_asked b1
         → b2 ≡ with_asked (with_lease b b.asked (Some (run_of range)) (event.Took b.asked range.first (length range.cells)))
     took b1 b2 first n range e1 ef en e2 =
         e2 ∙ ap with_asked (taken_book b b1 j first n range e1 ef en ∙ (λ i. with_lease b (e i) (Some (run_of range)) (event.Took (e i) range.first (length range.cells))))
@@ -93,13 +98,15 @@ module _ {P : Type 0} (number : P → ℕ) (cells : P → List Cell) (h : Holed)
         (sym (el ∙ ap (λ m. lease m range) e))
         (next_takes number cells h b ps w k size range h'.holes is q.0))))
 
-    pub waits_keeps : (h' : Holed) (b1 : BookView) (most : ℕ) → take_cells h.holes size ≡ None → h' ≡ h → most ≡ largest (map run_of h'.holes) → b1 ≡ with_waiting b (event.Full b.asked size most)
+    pub waits_keeps : (h' : Holed) (b1 : BookView) (most : ℕ) → take_cells h.holes size ≡ None → h' ≡ h → most ≡ largest (map run_of h'.holes)
+        → b1 ≡ with_waiting b (event.Full b.asked size most)
         → IsKept number cells h' b1 ps w
     waits_keeps h' b1 most none eh em eb =
         subst (λ (x : Holed). IsKept number cells x b1 ps w) (sym eh)
         (subst (λ (y : BookView). IsKept number cells h y ps w) (sym eb) (waits_kept number cells h b ps w k size most is none (em ∙ ap (λ (x : Holed). largest (map run_of x.holes)) eh)))
 
-    pub waits_answers : (h' : Holed) (b1 : BookView) (most : ℕ) → take_cells h.holes size ≡ None → h' ≡ h → most ≡ largest (map run_of h'.holes) → b1 ≡ with_waiting b (event.Full b.asked size most)
+    pub waits_answers : (h' : Holed) (b1 : BookView) (most : ℕ) → take_cells h.holes size ≡ None → h' ≡ h → most ≡ largest (map run_of h'.holes)
+        → b1 ≡ with_waiting b (event.Full b.asked size most)
         → Waits d (desk_of h' b1 ps w) j size most
     waits_answers h' b1 most none eh em eb =
         subst (λ (x : DeskView P). Waits x (desk_of h' b1 ps w) j size most) v
@@ -121,7 +128,8 @@ module _ {P : Type 0} (number : P → ℕ) (cells : P → List Cell) (h : Holed)
     nobody_waits o e f = (subst (λ (x : DeskView P). x.state.waiting ≡ []) v (none_waits number cells h b ps w k (sym e ∙ f)), refl)
 
     module _ (job : ℕ) (o : Option ℕ) (e : o ≡ slice_get b.waiting 0) (f : o ≡ Some job) where
-      pub left_now : (job < length b.sizes) × (1 ≤ length b.waiting) × (length h.out < h.most_out) × (slice_get b.leases job ≡ Some None) × (length b.journal < 3 * length b.sizes)
+      pub left_now : (job < length b.sizes) × (1 ≤ length b.waiting) × (length h.out < h.most_out) × (slice_get b.leases job ≡ Some None)
+          × (length b.journal < 3 * length b.sizes)
       left_now = left_ready number cells h b ps w k job (sym e ∙ f)
 
       pub always_sized : (s : Option ℕ) → s ≡ slice_get b.sizes job → s ≡ None → ⊥
@@ -134,7 +142,8 @@ module _ {P : Type 0} (number : P → ℕ) (cells : P → List Cell) (h : Holed)
         pub always_fits : take_cells h.holes size ≡ None → ⊥
         always_fits = left_never number cells h b ps w k job size none_in (sym es ∙ fs)
 
-        served : (b1 b2 : BookView) (first n : ℕ) (range : Range) → b1 ≡ with_lease b job (Some (run first n)) (event.Took job first n) → first ≡ range.first → n ≡ length range.cells → b2 ≡ with_served b1
+        served : (b1 b2 : BookView) (first n : ℕ) (range : Range) → b1 ≡ with_lease b job (Some (run first n)) (event.Took job first n)
+            → first ≡ range.first → n ≡ length range.cells → b2 ≡ with_served b1
             → b2 ≡ with_served (with_lease b job (Some (run_of range)) (event.Took job range.first (length range.cells)))
         served b1 b2 first n range e1 ef en e2 = e2 ∙ ap with_served (taken_book b b1 job first n range e1 ef en)
 
@@ -165,7 +174,8 @@ module _ {P : Type 0} (number : P → ℕ) (cells : P → List Cell) (h : Holed)
     known_in : IsLeaseOf (desk_of h b ps w) (lease j r)
     known_in = subst (λ (x : DeskView P). IsLeaseOf x (lease j r)) (sym v) (subst (λ (m : LeaseView). IsLeaseOf d m) el known)
 
-    pub give_now : (IsOut h.out (run_of r)) × (length b.journal < 3 * length b.sizes) × (j < length ps) × (r.arena ≡ h.arena) × (slice_get b.leases j ≡ Some (Some (run_of r))) × (j < length b.sizes)
+    pub give_now : (IsOut h.out (run_of r)) × (length b.journal < 3 * length b.sizes) × (j < length ps) × (r.arena ≡ h.arena)
+        × (slice_get b.leases j ≡ Some (Some (run_of r))) × (j < length b.sizes)
     give_now = let n = give_ready number cells h b ps w k (lease j r) known_in in (n.0, n.1, n.2, known_in.0, known_in.1, n.4)
 
     module _ (h' : Holed) (b1 : BookView) (first n : ℕ) (ef : first ≡ r.first) (en : n ≡ length r.cells)
@@ -182,7 +192,8 @@ module _ {P : Type 0} (number : P → ℕ) (cells : P → List Cell) (h : Holed)
           (subst (λ (y : BookView). IsKept number cells (with_holes h (give_cells h.holes r) (without_run h.out r.first)) y ps (w + 1)) (sym (gave_book b b1 j first n r eb ef en))
           (withdrawn_kept number cells h b ps w k (lease j r) known_in))
 
-      gives : (qs : List (Option P)) (u : ℕ) → desk_of h' b1 qs u ≡ desk_of (with_holes h (give_cells h.holes r) (without_run h.out r.first)) (with_lease b j None (event.Gave j r.first (length r.cells))) qs u
+      gives : (qs : List (Option P)) (u : ℕ)
+          → desk_of h' b1 qs u ≡ desk_of (with_holes h (give_cells h.holes r) (without_run h.out r.first)) (with_lease b j None (event.Gave j r.first (length r.cells))) qs u
       gives qs u = λ i. desk_of (eh i) (gave_book b b1 j first n r eb ef en i) qs u
 
       pub filed_answers : (p : P) → desk_of h' b1 (slice_set ps j (Some p)) w ≡ filed_with d l p
@@ -219,7 +230,8 @@ module _ {arena : Arena} {sizes : List ℕ} (h : Holed) (b : BookView) (k : IsNa
   }
 
   -- behind a lease that came back
-  pub gave_named : (h' : Holed) (r : Range) (b1 : BookView) (j first n : ℕ) → h' ≡ with_given h r → b1 ≡ with_lease b j None (event.Gave j first n) → IsNamed arena sizes h' b1
+  pub gave_named : (h' : Holed) (r : Range) (b1 : BookView) (j first n : ℕ) → h' ≡ with_given h r → b1 ≡ with_lease b j None (event.Gave j first n)
+      → IsNamed arena sizes h' b1
   gave_named h' r b1 j first n eh eb = record {
     of_arena = ap (λ (x : Holed). x.arena) eh ∙ k.of_arena;
     of_sizes = ap (λ (y : BookView). y.sizes) eb ∙ k.of_sizes;

@@ -25,8 +25,8 @@ abbrev pub cell_behind : FiledCells → ℕ → Option Cell → List Event → O
 cell_behind filed index known [] = known
 cell_behind filed index known (e ∷ es) = cell_behind filed index (cell_after filed index known e) es
 
--- The cell of this index that a hole holds behind a journal: the one that was filed with the last lease that went back over it, and a blank one where none
--- did. Nothing is known where that lease was withdrawn.
+-- The cell of this index that a hole holds behind a journal: the one that was filed with the last lease that went back
+-- over it, and a blank one where none did. Nothing is known where that lease was withdrawn.
 unfoldable pub filed_cell : FiledCells → List Event → ℕ → Option Cell
 filed_cell filed journal index = cell_behind filed index (Some blank) journal
 

@@ -1,6 +1,7 @@
 -- Cited by contracts.
--- Journals of leases. A desk is asked for one job after the other, and each is given the front of the first hole that has cells enough; a job for which no
--- hole has waits, and is taken once all were asked and no lease is out. A journal is legal where each event of it is what the desk's next move tells.
+-- Journals of leases. A desk is asked for one job after the other, and each is given the front of the first hole that
+-- has cells enough; a job for which no hole has waits, and is taken once all were asked and no lease is out. A journal
+-- is legal where each event of it is what the desk's next move tells.
 use Rattle.std.specs.Prelude.{◌≡◌, ℕ, suc, ◌≤◌, ◌==◌, ◌&&◌, true, false, Bool, if◌then◌else◌, List, [], ◌∷◌, ◌++◌, length, replicate, slice_get, slice_set, Option, Some, None}
 use Rattle.std.specs.List.{AllByRecursion}
 use Rattle.std.specs.Option.{option_map}
@@ -121,7 +122,8 @@ after_events sizes o [] = o
 after_events sizes None (e ∷ es) = None
 after_events sizes (Some s) (e ∷ es) = after_events sizes (after_event sizes s e) es
 
--- the state behind a journal; none where an event isn't the next move of a desk behind the events before it. Whether the sizes fit the arena isn't asked here.
+-- the state behind a journal; none where an event isn't the next move of a desk behind the events before it. Whether
+-- the sizes fit the arena isn't asked here.
 unfoldable pub replay : (arena : ℕ) → (sizes : List ℕ) → List Event → Option DeskState
 replay arena sizes journal = after_events sizes (Some (opened arena (length sizes))) journal
 

@@ -9,27 +9,34 @@ use Rattle.lease_desk.specs.theory.Leases.{none_out_at}
 use Rattle.lease_desk.specs.theory.Moves.{front_replayed}
 use Rattle.lease_desk.specs.theory.Sound.{sound_behind, took_once, gave_once, asked_one}
 
-pub behind_each : (arena : ℕ) (sizes : List ℕ) (journal : List Event) (s : DeskState) → 1 ≤ arena → AreSizes arena sizes → replay arena sizes journal ≡ Some s → IsSound arena sizes journal s
+pub behind_each : (arena : ℕ) (sizes : List ℕ) (journal : List Event) (s : DeskState) → 1 ≤ arena → AreSizes arena sizes
+    → replay arena sizes journal ≡ Some s → IsSound arena sizes journal s
 behind_each arena sizes journal s some fit e = sound_behind arena sizes journal s some fit e
 
-pub parts_behind : (arena : ℕ) (sizes : List ℕ) (journal : List Event) (s : DeskState) → 1 ≤ arena → AreSizes arena sizes → replay arena sizes journal ≡ Some s → AreParts (run 0 arena) s.holes (leased s.leases)
+pub parts_behind : (arena : ℕ) (sizes : List ℕ) (journal : List Event) (s : DeskState) → 1 ≤ arena → AreSizes arena sizes
+    → replay arena sizes journal ≡ Some s → AreParts (run 0 arena) s.holes (leased s.leases)
 parts_behind arena sizes journal s some fit e = (sound_behind arena sizes journal s some fit e).cells
 
-pub took_behind : (arena : ℕ) (sizes : List ℕ) (journal : List Event) (s : DeskState) (job : ℕ) → 1 ≤ arena → AreSizes arena sizes → replay arena sizes journal ≡ Some s → took_times job journal ≤ 1
+pub took_behind : (arena : ℕ) (sizes : List ℕ) (journal : List Event) (s : DeskState) (job : ℕ) → 1 ≤ arena → AreSizes arena sizes
+    → replay arena sizes journal ≡ Some s → took_times job journal ≤ 1
 took_behind arena sizes journal s job some fit e = took_once arena sizes journal s job (sound_behind arena sizes journal s some fit e)
 
-pub gave_behind : (arena : ℕ) (sizes : List ℕ) (journal : List Event) (s : DeskState) (job : ℕ) → 1 ≤ arena → AreSizes arena sizes → replay arena sizes journal ≡ Some s → gave_times job journal ≤ 1
+pub gave_behind : (arena : ℕ) (sizes : List ℕ) (journal : List Event) (s : DeskState) (job : ℕ) → 1 ≤ arena → AreSizes arena sizes
+    → replay arena sizes journal ≡ Some s → gave_times job journal ≤ 1
 gave_behind arena sizes journal s job some fit e = gave_once arena sizes journal s job (sound_behind arena sizes journal s some fit e)
 
-pub fronts_replayed : (arena : ℕ) (sizes : List ℕ) (front later : List Event) (s : DeskState) → replay arena sizes (front ++ later) ≡ Some s → (t : DeskState) × (replay arena sizes front ≡ Some t)
+pub fronts_replayed : (arena : ℕ) (sizes : List ℕ) (front later : List Event) (s : DeskState) → replay arena sizes (front ++ later) ≡ Some s
+    → (t : DeskState) × (replay arena sizes front ≡ Some t)
 unfolding replay
 fronts_replayed arena sizes front later s e = front_replayed sizes (opened arena (length sizes)) s front later e
 
-pub legal_fronts : (arena : ℕ) (sizes : List ℕ) (front later : List Event) → IsLegal arena sizes (front ++ later) → (t : DeskState) × (replay arena sizes front ≡ Some t)
+pub legal_fronts : (arena : ℕ) (sizes : List ℕ) (front later : List Event) → IsLegal arena sizes (front ++ later)
+    → (t : DeskState) × (replay arena sizes front ≡ Some t)
 legal_fronts arena sizes front later k = fronts_replayed arena sizes front later k.last k.replayed
 
 -- in a legal journal each job was taken once and given back once
-pub legal_each : (arena : ℕ) (sizes : List ℕ) (journal : List Event) (job : ℕ) → 1 ≤ arena → IsLegal arena sizes journal → job < length sizes → (took_times job journal ≡ 1) × (gave_times job journal ≡ 1)
+pub legal_each : (arena : ℕ) (sizes : List ℕ) (journal : List Event) (job : ℕ) → 1 ≤ arena → IsLegal arena sizes journal → job < length sizes
+    → (took_times job journal ≡ 1) × (gave_times job journal ≡ 1)
 legal_each arena sizes journal job some k less =
     let s = sound_behind arena sizes journal k.last some k.fit k.replayed in
     let asked : one_if (nat_lt job k.last.asked) ≡ 1 = asked_one k.last.asked job (omega (arith, k.over.all, less)) in

@@ -45,8 +45,8 @@ pub record IsNamed (arena : Arena) (sizes : List ℕ) (h : Holed) (b : BookView)
   pub of_arena : h.arena ≡ arena
   pub of_sizes : b.sizes ≡ sizes
 
--- A lease on a desk of this arena, and of jobs with these numbers of cells: it is of the arena, and has as many cells as
--- its job's size.
+-- A lease on a desk of this arena, and of jobs with these numbers of cells: it is of the arena, and has as many cells
+-- as its job's size.
 pub record IsLease (arena : Arena) (sizes : List ℕ) (job : ℕ) (of : Arena) (size : ℕ) : Type 0 where
   pub of_arena : of ≡ arena
   pub sized : slice_get sizes job ≡ Some size

@@ -1,5 +1,6 @@
 -- Cited by contracts.
--- How often a job occurs: among those that wait, among the leases that are out, and in a journal; and what holds of the state behind each journal.
+-- How often a job occurs: among those that wait, among the leases that are out, and in a journal; and what holds of the
+-- state behind each journal.
 use Rattle.std.specs.Prelude.{◌≡◌, ℕ, ◌+◌, ◌*◌, ◌≤◌, ◌==◌, nat_lt, Bool, if◌then◌else◌, List, [], ◌∷◌, length, slice_get, Option, Some, None}
 use Rattle.hole_list.specs.declared.run.Run.{Run}
 use Rattle.hole_list.specs.Placing.{run, AreApart, AreParts, total}

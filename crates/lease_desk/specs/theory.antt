@@ -1,5 +1,6 @@
 -- Laws, for the laws of journals and for the proofs of this crate.
--- What leases change in sums over those that are out, what events are moves, what holds behind each journal, and what cells holes have.
+-- What leases change in sums over those that are out, what events are moves, what holds behind each journal, and what
+-- cells holes have.
 pub mod Leases
 pub mod Moves
 pub mod Sound

@@ -14,7 +14,8 @@ use std::marker::Model;
 /// The most jobs of a desk.
 const MOST_JOBS: u32 = 4096;
 
-/// The jobs' sizes, how many of them were asked for, those that wait, each one's lease where it is out, and the journal.
+/// The jobs' sizes, how many of them were asked for, those that wait, each one's lease where it is out, and the
+/// journal.
 #[derive(Drop)]
 pub struct Book {
     sizes: Vec<u32>,

@@ -105,6 +105,7 @@ impl<N: DeskName, P: Filed> Desk<N, P> {
     pub fn kept(&self)
         // It is of the arena and of the sizes of its name.
         ensures arena { self.now.arena ≡ N.arena }
+        // The desk's sizes are those of its name.
         ensures sizes { self.now.sizes ≡ N.sizes }
         // Its state is the one behind its journal, and each cell of a hole is the one that was filed.
         ensures desk { IsDesk P.job P.cells self.now }
@@ -113,7 +114,9 @@ impl<N: DeskName, P: Filed> Desk<N, P> {
         // Holes and leases share no cell, and have all cells of the arena and no others.
         ensures parts { AreParts (run 0 self.now.arena.cells) self.now.state.holes (leased self.now.state.leases) }
         // Where none was withdrawn, each job that was asked for, doesn't wait and isn't out has its payload.
-        ensures filed { self.now.withdrawn ≡ 0 → (job : ℕ) → job < self.now.state.asked → times_at job self.now.state.waiting ≡ 0 → one_out (slice_get self.now.state.leases job) ≡ 0 → HasPayload P.job self.now.payloads job }
+        ensures filed { self.now.withdrawn ≡ 0 → (job : ℕ) → job < self.now.state.asked
+            → times_at job self.now.state.waiting ≡ 0 → one_out (slice_get self.now.state.leases job) ≡ 0
+            → HasPayload P.job self.now.payloads job }
     {
         let _ = &self.withdrawn;
     }

@@ -6,8 +6,8 @@ use crate::name::DeskName;
 use cell_span::{Arena, Span};
 use std::marker::{Model, PhantomData};
 
-/// A run of cells that a desk gave to a job. It owns the cells. Its type keeps that they are of the desk's arena, and as
-/// many as the job's size.
+/// A run of cells that a desk gave to a job. It owns the cells. Its type keeps that they are of the desk's arena, and
+/// as many as the job's size.
 pub struct Lease<N: DeskName> {
     job: u32,
     span: Span,
@@ -87,7 +87,9 @@ impl<N: DeskName> Lease<N> {
 
     /// The run of cells and the claim that makes it a lease again.
     pub fn open(self) -> (Span, Claim<N>)
+        // The run is the lease's.
         ensures span { result.0 ≡ self.range }
+        // The claim has the lease's job, and where its run begins and ends.
         ensures claim { result.1 ≡ claim_of self }
     {
         let Lease { job, span, of: _ } = self;
@@ -111,7 +113,8 @@ impl<N: DeskName> Lease<N> {
 }
 
 impl<N: DeskName> Claim<N> {
-    /// The lease again, of a span with the first index, the size and the arena that were claimed; its cells may be others.
+    /// The lease again, of a span with the first index, the size and the arena that were claimed; its cells may be
+    /// others.
     pub fn close(self, span: Span) -> Lease<N>
         requires first { span.first ≡ self.first }
         requires size { length span.cells ≡ self.size }

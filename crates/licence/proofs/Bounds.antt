@@ -32,7 +32,8 @@ below_length (y ∷ xs) (suc i) x e = let less = below_length xs i x e in omega 
 pub entry_there : (l : Licensed) (entry : ℕ) (args : List Value) → IsLicensed l → FitsEntry l entry args → entry < length l.cert.funcs
 entry_there l entry args h fit = by_func (slice_get l.code.funcs entry) fit (slice_get l.cert.funcs entry) refl (h.grants.fits entry 0)
   where
-    by_func : (o : Option Func) → IsSomeAnd o (λ f. ArgumentsFit l.code.types f.params args) → (c : Option FuncCert) → slice_get l.cert.funcs entry ≡ c → Right l.code 0 o c → entry < length l.cert.funcs
+    by_func : (o : Option Func) → IsSomeAnd o (λ f. ArgumentsFit l.code.types f.params args) → (c : Option FuncCert)
+        → slice_get l.cert.funcs entry ≡ c → Right l.code 0 o c → entry < length l.cert.funcs
     by_func None g c e r = absurd g
     by_func (Some f) g None e r = absurd (r refl)
     by_func (Some f) g (Some c) e r = below_length l.cert.funcs entry c e
@@ -41,7 +42,8 @@ length_map : (funcs : List DeclaredFunc) → length (map func_of funcs) ≡ leng
 length_map [] = refl
 length_map (f ∷ fs) = ap suc (length_map fs)
 
-pub index_there : (funcs : List DeclaredFunc) (c : Cert) (l : Licensed) (entry : ℕ) (args : List Value) → map func_of funcs ≡ c.funcs → c ≡ l.cert → IsLicensed l → FitsEntry l entry args → entry < length funcs
+pub index_there : (funcs : List DeclaredFunc) (c : Cert) (l : Licensed) (entry : ℕ) (args : List Value) → map func_of funcs ≡ c.funcs → c ≡ l.cert
+    → IsLicensed l → FitsEntry l entry args → entry < length funcs
 index_there funcs c l entry args is same h fit =
     let less = entry_there l entry args h fit in
     let size : length funcs ≡ length l.cert.funcs = sym (length_map funcs) ∙ ap length is ∙ ap (λ d. length d.funcs) same in
@@ -52,7 +54,8 @@ got_at [] i f e = let c : None ≡ Some f = e in absurd cc
 got_at (g ∷ fs) zero f e = let same : g ≡ f = cc in ap (λ d. Some (func_of d)) same
 got_at (g ∷ fs) (suc i) f e = got_at fs i f e
 
-pub entry_is : (funcs : List DeclaredFunc) (c : Cert) (l : Licensed) (entry : ℕ) (f : DeclaredFunc) → map func_of funcs ≡ c.funcs → c ≡ l.cert → slice_get funcs entry ≡ Some f → slice_get l.cert.funcs entry ≡ Some (func_of f)
+pub entry_is : (funcs : List DeclaredFunc) (c : Cert) (l : Licensed) (entry : ℕ) (f : DeclaredFunc) → map func_of funcs ≡ c.funcs → c ≡ l.cert
+    → slice_get funcs entry ≡ Some f → slice_get l.cert.funcs entry ≡ Some (func_of f)
 entry_is funcs c l entry f is same e = sym (ap (λ fs. slice_get fs entry) (is ∙ ap (λ d. d.funcs) same)) ∙ got_at funcs entry f e
 
 within_at : (fs : List FuncCert) (i : ℕ) (f : FuncCert) → AllByRecursion FuncIsWithin fs → slice_get fs i ≡ Some f → FuncIsWithin f
@@ -64,7 +67,8 @@ pub entry_within : (c d : Cert) (entry : ℕ) (f : FuncCert) → IsCert c → c 
 entry_within c d entry f h same e = within_at c.funcs entry f h.within.funcs (ap (λ x. slice_get x.funcs entry) same ∙ e)
 
 -- the sum is that of the book
-pub units_are : (p : Code) (c : Cert) (entry : ℕ) (f : FuncCert) (vs : List Value) → slice_get c.funcs entry ≡ Some f → f.need + arguments_carry p.types (λ x. at (vector_of f.params x)) 0 vs ≡ units_at p (book_of c) entry vs
+pub units_are : (p : Code) (c : Cert) (entry : ℕ) (f : FuncCert) (vs : List Value) → slice_get c.funcs entry ≡ Some f
+    → f.need + arguments_carry p.types (λ x. at (vector_of f.params x)) 0 vs ≡ units_at p (book_of c) entry vs
 units_are p c entry f vs e =
     let one : f.need ≡ (book_of c).need entry = ap (λ o. option_map_or (λ g. g.need) o 0) (sym e) in
     let two : arguments_carry p.types (λ x. at (vector_of f.params x)) 0 vs ≡ arguments_carry p.types ((book_of c).param entry) 0 vs
@@ -73,19 +77,23 @@ units_are p c entry f vs e =
 
 -- ---- what holds of every run
 
-func_of_entry : (l : Licensed) (entry : ℕ) (args : List Value) → FitsEntry l entry args → (f : Func) × (slice_get l.code.funcs entry ≡ Some f) × ArgumentsFit l.code.types f.params args
+func_of_entry : (l : Licensed) (entry : ℕ) (args : List Value) → FitsEntry l entry args
+    → (f : Func) × (slice_get l.code.funcs entry ≡ Some f) × ArgumentsFit l.code.types f.params args
 func_of_entry l entry args fit = by_func (slice_get l.code.funcs entry) refl fit
   where
-    by_func : (o : Option Func) → slice_get l.code.funcs entry ≡ o → IsSomeAnd o (λ f. ArgumentsFit l.code.types f.params args) → (f : Func) × (slice_get l.code.funcs entry ≡ Some f) × ArgumentsFit l.code.types f.params args
+    by_func : (o : Option Func) → slice_get l.code.funcs entry ≡ o → IsSomeAnd o (λ f. ArgumentsFit l.code.types f.params args)
+        → (f : Func) × (slice_get l.code.funcs entry ≡ Some f) × ArgumentsFit l.code.types f.params args
     by_func None e g = absurd g
     by_func (Some f) e g = (f, e, g)
 
-pub peak_within : (l : Licensed) (entry : ℕ) (args : List Value) → IsLicensed l → IsWithinLimits l.code → HaveBlocks l.code → FitsEntry l entry args → (limit fuel : ℕ) → peak_of (run_of l.code limit entry fuel args) ≤ bound l.code l.cert entry args
+pub peak_within : (l : Licensed) (entry : ℕ) (args : List Value) → IsLicensed l → IsWithinLimits l.code → HaveBlocks l.code → FitsEntry l entry args
+    → (limit fuel : ℕ) → peak_of (run_of l.code limit entry fuel args) ≤ bound l.code l.cert entry args
 peak_within l entry args h limits some fit limit fuel =
     let f = func_of_entry l entry args fit in
     peak_bound l.code l.cert h.well some limits.types h.grants.pays limit entry fuel args f.0 f.1 f.2
 
-pub cells_suffice : (l : Licensed) (entry : ℕ) (args : List Value) → IsLicensed l → IsWithinLimits l.code → HaveBlocks l.code → FitsEntry l entry args → (limit fuel : ℕ)
+pub cells_suffice : (l : Licensed) (entry : ℕ) (args : List Value) → IsLicensed l → IsWithinLimits l.code → HaveBlocks l.code
+    → FitsEntry l entry args → (limit fuel : ℕ)
     → cells_among l.code.types args + peak_of (run_of l.code limit entry fuel args) ≤ lease l.code l.cert entry args
 cells_suffice l entry args h limits some fit limit fuel =
     let f = func_of_entry l entry args fit in
@@ -93,7 +101,8 @@ cells_suffice l entry args h limits some fit limit fuel =
 
 -- ---- the sums of a bound and a lease
 
-pub bound_is : (l : Licensed) (c : Cert) (entry : ℕ) (args : List Value) (units unit : ℕ) → units ≡ units_at l.code (book_of l.cert) entry args → unit ≡ c.unit → c ≡ l.cert → units / unit ≡ bound l.code l.cert entry args
+pub bound_is : (l : Licensed) (c : Cert) (entry : ℕ) (args : List Value) (units unit : ℕ) → units ≡ units_at l.code (book_of l.cert) entry args
+    → unit ≡ c.unit → c ≡ l.cert → units / unit ≡ bound l.code l.cert entry args
 bound_is l c entry args units unit is one same = ap (λ n. n / unit) is ∙ ap (λ m. units_at l.code (book_of l.cert) entry args / m) (one ∙ ap (λ d. d.unit) same)
 
 pub few_cells : (types : List DataType) (args : List Value) → size_all (parts args) ≤ 65536 → cells_among types args ≤ 65536

@@ -35,12 +35,14 @@ split [] i v e = let c : None ≡ Some v = e in absurd cc
 split (w ∷ vars) zero v e = let same : w ≡ v = cc in record { is = ap (λ u. u ∷ vars) same }
 split (w ∷ vars) (suc i) v e = record { is = (split vars i v e).is }
 
-pub here : (vars : List DeclaredVar) (i x : ℕ) (v : DeclaredVar) → slice_get vars i ≡ Some v → vector_of (map var_of (drop i vars)) x ≡ vector_of (map var_of vars) x → v.var ≡ x → v.vector ≡ vector_of (map var_of vars) x
+pub here : (vars : List DeclaredVar) (i x : ℕ) (v : DeclaredVar) → slice_get vars i ≡ Some v
+    → vector_of (map var_of (drop i vars)) x ≡ vector_of (map var_of vars) x → v.var ≡ x → v.vector ≡ vector_of (map var_of vars) x
 here vars i x v at known e =
     let s = split vars i v at in
     var_here (var_of v) (map var_of (drop (suc i) vars)) x e ∙ sym (ap (λ vs. vector_of (map var_of vs) x) s.is) ∙ known
 
-pub later : (vars : List DeclaredVar) (i x : ℕ) (v : DeclaredVar) → slice_get vars i ≡ Some v → vector_of (map var_of (drop i vars)) x ≡ vector_of (map var_of vars) x → (v.var ≡ x → ⊥)
+pub later : (vars : List DeclaredVar) (i x : ℕ) (v : DeclaredVar) → slice_get vars i ≡ Some v
+    → vector_of (map var_of (drop i vars)) x ≡ vector_of (map var_of vars) x → (v.var ≡ x → ⊥)
     → vector_of (map var_of (drop (i + 1) vars)) x ≡ vector_of (map var_of vars) x
 later vars i x v at known n =
     let s = split vars i v at in
@@ -56,7 +58,8 @@ drop_all [] i h = drop_nothing i
 drop_all (x ∷ xs) zero h = absurd (omega (arith, h))
 drop_all (x ∷ xs) (suc i) h = drop_all xs i (omega (arith, h))
 
-pub nowhere : (vars : List DeclaredVar) (i x : ℕ) → length vars ≤ i → vector_of (map var_of (drop i vars)) x ≡ vector_of (map var_of vars) x → [] ≡ vector_of (map var_of vars) x
+pub nowhere : (vars : List DeclaredVar) (i x : ℕ) → length vars ≤ i → vector_of (map var_of (drop i vars)) x ≡ vector_of (map var_of vars) x
+    → [] ≡ vector_of (map var_of vars) x
 nowhere vars i x h known = sym (ap (λ vs. vector_of (map var_of vs) x) (drop_all vars i h)) ∙ known
 
 -- ---- sums
@@ -85,7 +88,8 @@ item_here [] i x e = let c : None ≡ Some x = e in absurd cc
 item_here (y ∷ xs) zero x e = let same : y ≡ x = cc in ap (λ u. u ∷ xs) same
 item_here (y ∷ xs) (suc i) x e = item_here xs i x e
 
-pub one_more : (types : List DataType) (carried : Carried ℕ) (total number i whole : ℕ) (args : List Value) (v : Value) → slice_get args i ≡ Some v → total + arguments_carry types carried number (drop i args) ≡ whole
+pub one_more : (types : List DataType) (carried : Carried ℕ) (total number i whole : ℕ) (args : List Value) (v : Value) → slice_get args i ≡ Some v
+    → total + arguments_carry types carried number (drop i args) ≡ whole
     → total + potential types (carried number) v + arguments_carry types carried (number + 1) (drop (i + 1) args) ≡ whole
 one_more types carried total number i whole args v at known =
     let a : number + 1 ≡ suc number = omega arith in
@@ -95,17 +99,20 @@ one_more types carried total number i whole args v at known =
     omega (arith, rest, here, known)
 
 -- what is still to come is no more than the whole
-pub one_within : (types : List DataType) (carried : Carried ℕ) (total number i whole : ℕ) (args : List Value) (v : Value) → slice_get args i ≡ Some v → total + arguments_carry types carried number (drop i args) ≡ whole
+pub one_within : (types : List DataType) (carried : Carried ℕ) (total number i whole : ℕ) (args : List Value) (v : Value) → slice_get args i ≡ Some v
+    → total + arguments_carry types carried number (drop i args) ≡ whole
     → total + potential types (carried number) v ≤ whole
 one_within types carried total number i whole args v at known =
     let here : arguments_carry types carried number (drop i args) ≡ potential types (carried number) v + arguments_carry types carried (suc number) (drop (suc i) args) = ap (arguments_carry types carried number) (item_here args i v at) in
     omega (arith, here, known)
 
-pub all_added : (types : List DataType) (carried : Carried ℕ) (total number i whole : ℕ) (args : List Value) → length args ≤ i → total + arguments_carry types carried number (drop i args) ≡ whole → total ≡ whole
+pub all_added : (types : List DataType) (carried : Carried ℕ) (total number i whole : ℕ) (args : List Value) → length args ≤ i
+    → total + arguments_carry types carried number (drop i args) ≡ whole → total ≡ whole
 all_added types carried total number i whole args h known =
     let none : arguments_carry types carried number (drop i args) ≡ 0 = ap (arguments_carry types carried number) (drop_all args i h) in omega (arith, none, known)
 
-pub one_more_cells : (types : List DataType) (total i whole : ℕ) (args : List Value) (v : Value) → slice_get args i ≡ Some v → total + cells_among types (drop i args) ≡ whole
+pub one_more_cells : (types : List DataType) (total i whole : ℕ) (args : List Value) (v : Value) → slice_get args i ≡ Some v
+    → total + cells_among types (drop i args) ≡ whole
     → total + cells types v + cells_among types (drop (i + 1) args) ≡ whole
 one_more_cells types total i whole args v at known =
     let b : i + 1 ≡ suc i = omega arith in
@@ -113,12 +120,14 @@ one_more_cells types total i whole args v at known =
     let here : cells_among types (drop i args) ≡ cells types v + cells_among types (drop (suc i) args) = ap (cells_among types) (item_here args i v at) in
     omega (arith, rest, here, known)
 
-pub all_cells : (types : List DataType) (total i whole : ℕ) (args : List Value) → length args ≤ i → total + cells_among types (drop i args) ≡ whole → total ≡ whole
+pub all_cells : (types : List DataType) (total i whole : ℕ) (args : List Value) → length args ≤ i → total + cells_among types (drop i args) ≡ whole
+    → total ≡ whole
 all_cells types total i whole args h known =
     let none : cells_among types (drop i args) ≡ 0 = ap (cells_among types) (drop_all args i h) in omega (arith, none, known)
 
 -- so that the sum fits
-pub cells_fit : (types : List DataType) (total i : ℕ) (args : List Value) (v : Value) → slice_get args i ≡ Some v → total + cells_among types (drop i args) ≡ cells_among types args → size_all (parts args) ≤ 65536
+pub cells_fit : (types : List DataType) (total i : ℕ) (args : List Value) (v : Value) → slice_get args i ≡ Some v
+    → total + cells_among types (drop i args) ≡ cells_among types args → size_all (parts args) ≤ 65536
     → total + cells types v ≤ 65536
 cells_fit types total i args v at known few =
     let here : cells_among types (drop i args) ≡ cells types v + cells_among types (drop (suc i) args) = ap (cells_among types) (item_here args i v at) in
@@ -159,7 +168,8 @@ vector_within (v ∷ vs) x h con = by_test (vector_within vs x h.1 con) (v.var =
     by_test rest true = at_within v.vector 2147483648 (every v.vector h.0.vector) con
     by_test rest false = rest
 
-carry_within : (types : List DataType) (carried : Carried ℕ) (m n : ℕ) (vs : List Value) → ((x con : ℕ) → carried x con ≤ m) → arguments_carry types carried n vs ≤ m * size_all (parts vs)
+carry_within : (types : List DataType) (carried : Carried ℕ) (m n : ℕ) (vs : List Value) → ((x con : ℕ) → carried x con ≤ m)
+    → arguments_carry types carried n vs ≤ m * size_all (parts vs)
 carry_within types carried m n [] h = omega arith
 carry_within types carried m n (v ∷ vs) h =
     let one = potential_within types (carried n) m (h n) v in
@@ -167,11 +177,13 @@ carry_within types carried m n (v ∷ vs) h =
     grind (arith, one, rest)
 
 -- What arguments carry has few digits.
-pub carry_few : (types : List DataType) (vars : List VarCert) (vs : List Value) → AllByRecursion VarIsWithin vars → size_all (parts vs) ≤ 65536 → arguments_carry types (λ x. at (vector_of vars x)) 0 vs ≤ 140737488355328
+pub carry_few : (types : List DataType) (vars : List VarCert) (vs : List Value) → AllByRecursion VarIsWithin vars → size_all (parts vs) ≤ 65536
+    → arguments_carry types (λ x. at (vector_of vars x)) 0 vs ≤ 140737488355328
 carry_few types vars vs h few =
     let within = carry_within types (λ x. at (vector_of vars x)) 2147483648 0 vs (λ x con. vector_within vars x h con) in
     omega (arith, within, few)
 
-pub carried_small : (types : List DataType) (vars vars' : List DeclaredVar) (vs : List Value) → vars ≡ vars' → AllByRecursion VarIsWithin (map var_of vars') → size_all (parts vs) ≤ 65536
+pub carried_small : (types : List DataType) (vars vars' : List DeclaredVar) (vs : List Value) → vars ≡ vars'
+    → AllByRecursion VarIsWithin (map var_of vars') → size_all (parts vs) ≤ 65536
     → arguments_carry types (λ x. at (vector_of (map var_of vars) x)) 0 vs ≤ 140737488355328
 carried_small types vars vars' vs same h few = carry_few types (map var_of vars) vs (subst (λ u. AllByRecursion VarIsWithin (map var_of u)) (sym same) h) few

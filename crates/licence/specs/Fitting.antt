@@ -1,6 +1,6 @@
 -- Cited by contracts.
--- When a certificate fits a code: it has the code's functions in order, a line for each block after the first, and annotations only of
--- parameters and builds of heap types, on constructors that their kinds reach.
+-- When a certificate fits a code: it has the code's functions in order, a line for each block after the first, and
+-- annotations only of parameters and builds of heap types, on constructors that their kinds reach.
 use Rattle.std.specs.Prelude.{◌≡◌, ℕ, ◌-◌, ◌<◌, ◌≤◌, ◌&&◌, nat_le, nat_lt, List, length, map, slice_get, Option, Some, None, IsTrue, IsSomeAnd}
 use Rattle.std.specs.List.{AllByRecursion, range_with_len}
 use Rattle.camelot_values.specs.Kinds.{DataType, type_of}
@@ -53,7 +53,8 @@ pub record IsRightAt (p : Code) (f : Func) (c : FuncCert) (number : ℕ) : Type 
   pub vars : AllByRecursion (λ b. b.block ≡ number → AllByRecursion (VarFits p.types f (params_at f.blocks number)) b.vars) c.blocks
   pub makes : AllByRecursion (λ m. m.block ≡ number → MakeFits p f m) c.makes
 
--- the same of the function of this number; where the code or the certificate has fewer functions, its own lines are wrong
+-- the same of the function of this number; where the code or the certificate has fewer functions, its own lines are
+-- wrong
 abbrev pub Right : Code → ℕ → Option Func → Option FuncCert → Type 0
 Right p number (Some f) (Some c) = IsRightAt p f c number
 Right p number None None = Unit {0}

@@ -10,3 +10,5 @@ pub mod Failing
 pub mod CheckLaws
 pub mod PotentialLaws
 pub mod theory
+pub mod FirstConLaws
+pub mod Sites

@@ -1,5 +1,6 @@
 -- Laws, for the proofs of this crate and of those above it.
--- Potential soundness (Hofmann and Jost 2003): runs of annotated code are paid for by what the entry needs and its arguments carry.
+-- Potential soundness (Hofmann and Jost 2003): runs of annotated code are paid for by what the entry needs and its
+-- arguments carry.
 use Rattle.std.proofs.Common.{◌≡◌, ℕ, ◌+◌, ◌*◌, ◌≤◌, List, length, Some, arith}
 use Rattle.std.specs.Prelude.{◌/◌, max, slice_get}
 use Rattle.camelot_values.specs.Value.{Value}
@@ -22,14 +23,16 @@ use Rattle.licence.specs.Worth.{worth_at}
 use Rattle.licence.specs.Bound.{units_at, bound, lease}
 use Rattle.licence.specs.theory.Sound as sound
 
--- With any fuel and any limit of waiting calls, ended or stopped: the peak costs no more than there was, and at a value the net, what is
--- given back and what the result carries cost no more together.
-pub run_paid : (p : Code) (book : Book ℕ) → IsWellFormed p → HaveBlocks p → AreTypes p.types → Pays p book → (limit entry fuel : ℕ) (args : List Value) (f : Func) → slice_get p.funcs entry ≡ Some f → ArgumentsFit p.types f.params args
+-- With any fuel and any limit of waiting calls, ended or stopped: the peak costs no more than there was, and at a value
+-- the net, what is given back and what the result carries cost no more together.
+pub run_paid : (p : Code) (book : Book ℕ) → IsWellFormed p → HaveBlocks p → AreTypes p.types → Pays p book
+    → (limit entry fuel : ℕ) (args : List Value) (f : Func) → slice_get p.funcs entry ≡ Some f → ArgumentsFit p.types f.params args
     → IsPaidBy book.unit (units_at p book entry args) (λ v. book.back entry + potential p.types (book.result entry) v) (run_of p limit entry fuel args)
 run_paid = sound.run_paid
 
 -- What follows a place is paid for by what the place is worth.
-pub place_paid : (p : Code) (book : Book ℕ) → IsWellFormed p → HaveBlocks p → AreTypes p.types → Pays p book → (limit func number place fuel waits : ℕ) (f : Func) (b : Block) (env : Locals)
+pub place_paid : (p : Code) (book : Book ℕ) → IsWellFormed p → HaveBlocks p → AreTypes p.types → Pays p book
+    → (limit func number place fuel waits : ℕ) (f : Func) (b : Block) (env : Locals)
     → slice_get p.funcs func ≡ Some f → slice_get f.blocks number ≡ Some b → place ≤ length b.lets → FitAt p f b place env
     → IsPaidBy book.unit (worth_at p book func f number b place env) (λ v. book.back func + potential p.types (book.result func) v) (from_place p.types (entering (bodies p) limit) f b number place env fuel waits)
 place_paid = sound.place_paid
@@ -41,7 +44,8 @@ peak_paid u top left (Deep p) h = h
 peak_paid u top left Stuck h = omega arith
 
 -- The peak of every run is within the bound.
-pub peak_bound : (p : Code) (c : Cert) → IsWellFormed p → HaveBlocks p → AreTypes p.types → Pays p (book_of c) → (limit entry fuel : ℕ) (args : List Value) (f : Func) → slice_get p.funcs entry ≡ Some f → ArgumentsFit p.types f.params args
+pub peak_bound : (p : Code) (c : Cert) → IsWellFormed p → HaveBlocks p → AreTypes p.types → Pays p (book_of c)
+    → (limit entry fuel : ℕ) (args : List Value) (f : Func) → slice_get p.funcs entry ≡ Some f → ArgumentsFit p.types f.params args
     → peak_of (run_of p limit entry fuel args) ≤ bound p c entry args
 peak_bound p c well some types pays limit entry fuel args f is fit =
     within c.unit (peak_of (run_of p limit entry fuel args)) (units_at p (book_of c) entry args) pays.some
@@ -51,7 +55,8 @@ peak_bound p c well some types pays limit entry fuel args f is fit =
     within u peak top some h = grind (arith, some, h)
 
 -- A lease has cells for the arguments and for the peak of every run.
-pub lease_suffices : (p : Code) (c : Cert) → IsWellFormed p → HaveBlocks p → AreTypes p.types → Pays p (book_of c) → (limit entry fuel : ℕ) (args : List Value) (f : Func) → slice_get p.funcs entry ≡ Some f → ArgumentsFit p.types f.params args
+pub lease_suffices : (p : Code) (c : Cert) → IsWellFormed p → HaveBlocks p → AreTypes p.types → Pays p (book_of c)
+    → (limit entry fuel : ℕ) (args : List Value) (f : Func) → slice_get p.funcs entry ≡ Some f → ArgumentsFit p.types f.params args
     → cells_among p.types args + peak_of (run_of p limit entry fuel args) ≤ lease p c entry args
 lease_suffices p c well some types pays limit entry fuel args f is fit =
     let h = peak_bound p c well some types pays limit entry fuel args f is fit in

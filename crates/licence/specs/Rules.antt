@@ -1,8 +1,8 @@
 -- Cited by contracts.
--- The rules of annotated code (`CERTIFICATES.md`), as the annotated typing of Hofmann and Jost (2003): at each place so many units are
--- left, and each local's value carries some. A build takes what its value's node is to carry, and a cell's price where it takes a new
--- cell; a case finds what the matched node carries, and a cell's price where it gives the cell back. There is no order of checks here,
--- and no solver.
+-- The rules of annotated code (`CERTIFICATES.md`), as the annotated typing of Hofmann and Jost (2003): at each place so
+-- many units are left, and each local's value carries some. A build takes what its value's node is to carry, and a
+-- cell's price where it takes a new cell; a case finds what the matched node carries, and a cell's price where it gives
+-- the cell back. There is no order of checks here, and no solver.
 use Rattle.std.specs.Prelude.{◌≡◌, ℕ, zero, suc, ◌+◌, ◌-◌, ◌≤◌, ◌==◌, if◌then◌else◌, List, [], ◌∷◌, length, map, take, slice_get, Option, Some, IfSome, cond}
 use Rattle.std.specs.List.{AllByRecursion}
 use Rattle.camelot_values.specs.Kinds.{DataType, constructors}
@@ -53,8 +53,9 @@ build_cost amounts unit place.New carried = amounts.plus carried unit
 build_cost amounts unit place.Inline carried = carried
 build_cost amounts unit (place.Reuse d) carried = carried
 
--- Behind the let at this place, counted from 1: what was taken is gone, what a call gives back is there, and the target's value carries
--- what is said. Values of types that need no cell, ints, truth values and diamonds carry nothing that is ever asked for.
+-- Behind the let at this place, counted from 1: what was taken is gone, what a call gives back is there, and the
+-- target's value carries what is said. Values of types that need no cell, ints, truth values and diamonds carry nothing
+-- that is ever asked for.
 abbrev pub after_op : {A : Type 0} → Amounts A → List DataType → Book A → (func block place : ℕ) → Account A → ℕ → Op → Account A
 after_op amounts types book func block place account x (Copy y) = record { left = account.left; carried = carrying account.carried x (account.carried y) }
 after_op amounts types book func block place account x (Make con args at) = cond (is_heap_con types con)
@@ -83,8 +84,8 @@ opened amounts types account on con fields = record {
   carried = all_carrying account.carried fields (account.carried on);
 }
 
--- What a case finds in an arm, by what becomes of the matched cell: the node is taken apart, and a cell's price is left where the cell is
--- given back.
+-- What a case finds in an arm, by what becomes of the matched cell: the node is taken apart, and a cell's price is left
+-- where the cell is given back.
 abbrev pub found : {A : Type 0} → Amounts A → List DataType → (unit : A) → Account A → (on con : ℕ) → (fields : List ℕ) → CaseCell → Account A
 found amounts types unit account on con fields cell.Free = record {
   left = amounts.plus (opened amounts types account on con fields).left unit;
@@ -172,8 +173,9 @@ pub record BlockPays (p : Code) (f : Func) (book : Book ℕ) (func number : ℕ)
   pub lets : (n : ℕ) (l : Let) → slice_get b.lets n ≡ Some l → LetPays p f book func number (suc n) (account_before naturals p.types book func number b n) l.op
   pub term : TermPays p f book func (account_before naturals p.types book func number b (length b.lets)) b.term
 
--- The amounts of this book pay for every run of this code: a cell costs something, and each rule holds in every block, also in one that
--- no jump leads to.
+-- The amounts of this book pay for every run of this code: a cell costs something, and each rule holds in every block,
+-- also in one that no jump leads to.
 pub record Pays (p : Code) (book : Book ℕ) : Type 0 where
   pub some : 1 ≤ book.unit
-  pub blocks : (func number : ℕ) (f : Func) (b : Block) → slice_get p.funcs func ≡ Some f → slice_get f.blocks number ≡ Some b → BlockPays p f book func number b
+  pub blocks : (func number : ℕ) (f : Func) (b : Block) → slice_get p.funcs func ≡ Some f → slice_get f.blocks number ≡ Some b
+      → BlockPays p f book func number b

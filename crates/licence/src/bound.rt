@@ -108,15 +108,18 @@ fn units_at(licence: &Licence, entry: u32, args: &[Flat]) -> u128
 }
 
 impl Licence {
-    /// The bound of a run from this entry on these arguments, in cells beyond those of the arguments: what the entry needs and its
-    /// arguments carry, by the units of a cell (Hofmann and Jost 2003). The peak of every run is within it, whatever the fuel and the limit of
-    /// waiting calls. It takes no memory.
+    /// The bound of a run from this entry on these arguments, in cells beyond those of the arguments: what the entry
+    /// needs and its arguments carry, by the units of a cell (Hofmann and Jost 2003). The peak of every run is within
+    /// it, whatever the fuel and the limit of waiting calls. It takes no memory.
     #[tactic(auto, using(crate::proofs::Bounds::peak_within))]
     pub fn bound(&self, entry: u32, args: &[Flat]) -> u64
         requires fits { FitsEntry self.now entry args.now }
         requires few { size_all (parts args.now) ≤ 65536 }
+        // It is the bound by the code and the certificate of the licence.
         ensures bound { result ≡ bound self.now.code self.now.cert entry args.now }
+        // The peak of every run is within it, whatever the fuel and the limit of waiting calls.
         ensures peak { (limit fuel : ℕ) → peak_of (run_of self.now.code limit entry fuel args.now) ≤ result }
+        // It is at most 2^48.
         ensures range { result ≤ 281474976710656 }
     {
         self.kept();
@@ -124,14 +127,17 @@ impl Licence {
         (units_at(self, entry, args) / self.cert().unit() as u128) as u64
     }
 
-    /// How many cells a run from this entry on these arguments is given: those of the arguments and as many more as the bound says, and at
-    /// least one. They suffice for every run. It takes no memory.
+    /// How many cells a run from this entry on these arguments is given: those of the arguments and as many more as the
+    /// bound says, and at least one. They suffice for every run. It takes no memory.
     #[tactic(auto, using(crate::proofs::Bounds::cells_suffice))]
     pub fn lease(&self, entry: u32, args: &[Flat]) -> u64
         requires fits { FitsEntry self.now entry args.now }
         requires few { size_all (parts args.now) ≤ 65536 }
+        // It is the lease by the code and the certificate of the licence.
         ensures lease { result ≡ lease self.now.code self.now.cert entry args.now }
+        // The cells of the arguments and the peak of every run fit into it together.
         ensures suffices { (limit fuel : ℕ) → cells_among self.now.code.types args.now + peak_of (run_of self.now.code limit entry fuel args.now) ≤ result }
+        // It is at most 2^48 + 65,536.
         ensures range { result ≤ 281474976776192 }
     {
         self.kept();

@@ -18,19 +18,20 @@ ghost use Rattle.licence.specs.Failing.{RuleFails};
 ghost use Rattle.licence.specs.Bound.{units_at};
 ghost use Rattle.licence.specs.Worth.{worth_at};
 
-/// Potential soundness (Hofmann and Jost 2003), with amounts of any size: where the rules hold of well-formed code, every run from a
-/// function on fitting arguments, with any fuel and any limit of waiting calls, ended or stopped, is paid for by what the function needs
-/// and its arguments carry. The peak costs no more, and at a value the net, what is given back and what the result carries cost no
-/// more together.
+/// Potential soundness (Hofmann and Jost 2003), with amounts of any size: where the rules hold of well-formed code,
+/// every run from a function on fitting arguments, with any fuel and any limit of waiting calls, ended or stopped, is
+/// paid for by what the function needs and its arguments carry. The peak costs no more, and at a value the net, what is
+/// given back and what the result carries cost no more together.
 #[tactic(auto, using(crate::specs::PotentialLaws::run_paid))]
 pub fn law_of_potential()
-    ensures { (p : Code) (book : Book ℕ) → IsWellFormed p → HaveBlocks p → AreTypes p.types → Pays p book → (limit entry fuel : ℕ) (args : List Value) (f : Func)
+    ensures { (p : Code) (book : Book ℕ) → IsWellFormed p → HaveBlocks p → AreTypes p.types → Pays p book
+        → (limit entry fuel : ℕ) (args : List Value) (f : Func)
         → slice_get p.funcs entry ≡ Some f → ArgumentsFit p.types f.params args
         → IsPaidBy book.unit (units_at p book entry args) (λ v. book.back entry + potential p.types (book.result entry) v) (run_of p limit entry fuel args) }
 {}
 
-/// The same from any place on, and not from a function's first let alone: what follows a place, where every ready local has a value of
-/// its kind, is paid for by the units that are left there and what the ready locals carry.
+/// The same from any place on, and not from a function's first let alone: what follows a place, where every ready local
+/// has a value of its kind, is paid for by the units that are left there and what the ready locals carry.
 #[tactic(auto, using(crate::specs::PotentialLaws::place_paid))]
 pub fn law_of_worth()
     ensures { (p : Code) (book : Book ℕ) → IsWellFormed p → HaveBlocks p → AreTypes p.types → Pays p book

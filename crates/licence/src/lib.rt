@@ -2,7 +2,11 @@
 #![tactic(auto)]
 
 mod bound;
+mod constructors;
 pub mod laws;
 mod licence;
+mod site;
 
+pub use constructors::first_con_of;
 pub use licence::Licence;
+pub use site::Site;

@@ -8,7 +8,8 @@ use certificate::Cert;
 use grail_code::Code;
 use std::marker::Model;
 
-/// Code with a certificate that grants it: well-formed code, whose runs all stay within the bounds that the certificate says.
+/// Code with a certificate that grants it: well-formed code, whose runs all stay within the bounds that the certificate
+/// says.
 #[derive(Drop)]
 pub struct Licence {
     code: Code,
@@ -52,8 +53,8 @@ impl Licence {
         &self.cert
     }
 
-    /// What the type keeps: the code is well formed and within the limits of code, and the certificate has its form and grants the code. It
-    /// does nothing; its clause is what whoever holds a licence can use.
+    /// What the type keeps: the code is well formed and within the limits of code, and the certificate has its form and
+    /// grants the code. It does nothing; its clause is what whoever holds a licence can use.
     pub fn kept(&self)
         ensures { IsLicensed self.now }
     {

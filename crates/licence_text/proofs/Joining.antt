@@ -22,15 +22,18 @@ first_left xs i x h is = ap (λ n. x ∷ drop n xs) (add-one i) ∙ sym (drop-co
 grown : (line rest out new all : List ℕ) → out ++ (line ++ rest) ≡ all → new ≡ out ++ line → new ++ rest ≡ all
 grown line rest out new all e f = ap (λ l. l ++ rest) f ∙ append_assoc out line rest ∙ e
 
-pub one_of : {A : Type 0} (t : A → List ℕ) (xs : List A) (i : ℕ) (x : A) (out new all : List ℕ) → i < length xs → x ≡ get_or xs i x → out ++ flat_map t (drop i xs) ≡ all → new ≡ out ++ t x → new ++ flat_map t (drop (i + 1) xs) ≡ all
+pub one_of : {A : Type 0} (t : A → List ℕ) (xs : List A) (i : ℕ) (x : A) (out new all : List ℕ) → i < length xs → x ≡ get_or xs i x
+    → out ++ flat_map t (drop i xs) ≡ all → new ≡ out ++ t x → new ++ flat_map t (drop (i + 1) xs) ≡ all
 one_of t xs i x out new all h is e f = grown (t x) (flat_map t (drop (i + 1) xs)) out new all (ap (λ l. out ++ flat_map t l) (first_left xs i x h is) ∙ e) f
 
 pub all_of : {A : Type 0} (t : A → List ℕ) (xs : List A) (i : ℕ) (out all : List ℕ) → length xs ≤ i → out ++ flat_map t (drop i xs) ≡ all → out ≡ all
 all_of t xs i out all h e = sym (append-nil out) ∙ ap (λ l. out ++ flat_map t l) (sym (drop_of_length-le xs {i = i} h)) ∙ e
 
-pub one_mapped : {A B : Type 0} (t : B → List ℕ) (m : A → B) (xs : List A) (i : ℕ) (x : A) (out new all : List ℕ) → i < length xs → x ≡ get_or xs i x → out ++ flat_map t (map m (drop i xs)) ≡ all → new ≡ out ++ t (m x)
+pub one_mapped : {A B : Type 0} (t : B → List ℕ) (m : A → B) (xs : List A) (i : ℕ) (x : A) (out new all : List ℕ) → i < length xs → x ≡ get_or xs i x
+    → out ++ flat_map t (map m (drop i xs)) ≡ all → new ≡ out ++ t (m x)
     → new ++ flat_map t (map m (drop (i + 1) xs)) ≡ all
 one_mapped t m xs i x out new all h is e f = grown (t (m x)) (flat_map t (map m (drop (i + 1) xs))) out new all (ap (λ l. out ++ flat_map t (map m l)) (first_left xs i x h is) ∙ e) f
 
-pub all_mapped : {A B : Type 0} (t : B → List ℕ) (m : A → B) (xs : List A) (i : ℕ) (out all : List ℕ) → length xs ≤ i → out ++ flat_map t (map m (drop i xs)) ≡ all → out ≡ all
+pub all_mapped : {A B : Type 0} (t : B → List ℕ) (m : A → B) (xs : List A) (i : ℕ) (out all : List ℕ) → length xs ≤ i
+    → out ++ flat_map t (map m (drop i xs)) ≡ all → out ≡ all
 all_mapped t m xs i out all h e = sym (append-nil out) ∙ ap (λ l. out ++ flat_map t (map m l)) (sym (drop_of_length-le xs {i = i} h)) ∙ e

@@ -1,6 +1,7 @@
 -- Cited by contracts.
--- What a licence grants, as text (`CERTIFICATES.md`, "The bounds as text"): a line with the units of a cell, and one for each function of
--- the certificate, in its order. Parameters ascend, in each the constructors ascend, and none has 0 units: certificates keep that.
+-- What a licence grants, as text (`CERTIFICATES.md`, "The bounds as text"): a line with the units of a cell, and one
+-- for each function of the certificate, in its order. Parameters ascend, in each the constructors ascend, and none has
+-- 0 units: certificates keep that.
 use Rattle.std.specs.Prelude.{ℕ, List, ◌++◌, flat_map, codes, decimal}
 use Rattle.camelot_values.specs.Kinds.{DataType, constructor_name}
 use Rattle.certificate.specs.Certificates.{VarCert, FuncCert}

@@ -117,9 +117,10 @@ fn push_unit(out: &mut Vec<u8>, unit: u64) -> Result<(), AllocError>
     out.extend_from_slice(b"\n")
 }
 
-/// The bounds that a licence grants, as text: `accepted unit U`, and for each function of the certificate `function NAME (N + V*CON(I) + ..)/U`, each line
-/// with its line feed. U units are one cell. A run of the function takes at most as many cells beyond those of its arguments as the formula says: N units,
-/// and V units for each node of the constructor CON in the argument of number I, counted from 0. `AllocError` where memory runs out.
+/// The bounds that a licence grants, as text: `accepted unit U`, and for each function of the certificate `function
+/// NAME (N + V*CON(I) + ..)/U`, each line with its line feed. U units are one cell. A run of the function takes at most
+/// as many cells beyond those of its arguments as the formula says: N units, and V units for each node of the
+/// constructor CON in the argument of number I, counted from 0. `AllocError` where memory runs out.
 #[tactic(auto, unfolding(crate::specs::Texts::bounds_text))]
 pub fn bounds_text(alloc: Global, licence: &Licence) -> Result<Vec<u8>, AllocError>
     ensures { IfOk result (λ text. text.items ≡ bounds_text licence.now) }

@@ -12,7 +12,7 @@ use Rattle.camelot_values.specs.NameLaws.{same_name, name_itself}
 use Rattle.camelot_tree.specs.declared.tree.Name.{Name}
 use Rattle.camelot_tree.specs.declared.tree.ArmCell.{ArmCell}
 use Rattle.camelot_tree.specs.declared.tree.ArmCell.TheVariants as cell
-use Rattle.typing_rules.specs.Kinds.{Scope, bind, field_names, cell_names}
+use Rattle.camelot_typing.specs.Kinds.{Scope, bind, field_names, cell_names}
 use Rattle.linear_use.specs.declared.variable.Variable.{Variable}
 use Rattle.linear_use.specs.Uses.{is_bound, use_of}
 use Rattle.linear_use.specs.Flow.{Nothing, Use, name_flow, use_flow, fields_count, cell_count, number_fields, number_cell}
@@ -40,7 +40,8 @@ and_true false = refl
 
 -- ---- one binder
 
-variable_uses : (types : List DataType) (v : Variable) (y : Name) (i : ℕ) → flow_uses i (use_flow types (Some v) y) ≡ only (is_heap types v.kind) (bit (v.number == i))
+variable_uses : (types : List DataType) (v : Variable) (y : Name) (i : ℕ)
+    → flow_uses i (use_flow types (Some v) y) ≡ only (is_heap types v.kind) (bit (v.number == i))
 variable_uses types v y i = at_kind (is_heap types v.kind)
   where
     at_kind : (h : Bool) → flow_uses i (if h then Use v.number y.word y.line else Nothing) ≡ only h (bit (v.number == i))
@@ -73,7 +74,8 @@ bind_other types s w v i x h e m y = at_test (bytes_eq w y.word) refl
         ap (only h) z ∙ only_none h ∙ sym (ap (only (h && false)) z ∙ only_none (h && false))
     kept false f k = ap (λ b. only b (use_of x y)) (sym (and_true h))
 
-    at_test : (b : Bool) → bytes_eq w y.word ≡ b → flow_uses i (use_flow types (if b then Some v else find s y.word) y) ≡ only (h && not (bytes_eq w x)) (use_of x y)
+    at_test : (b : Bool) → bytes_eq w y.word ≡ b
+        → flow_uses i (use_flow types (if b then Some v else find s y.word) y) ≡ only (h && not (bytes_eq w x)) (use_of x y)
     at_test true f =
         let p : w ≡ y.word = same_name w y.word f in
         variable_uses types v y i ∙ hidden (bytes_eq y.word x) ∙ ap (λ z. only (h && not (bytes_eq z x)) (use_of x y)) (sym p)
@@ -91,7 +93,8 @@ bind_here types s w v m y = at_test (bytes_eq w y.word) refl
     other true f k = let q : w ≡ y.word = sym (same_name y.word w k) in let r : bytes_eq w y.word ≡ true = subst (λ z. bytes_eq w z ≡ true) q (name_itself w) in cc
     other false f k = refl
 
-    at_test : (b : Bool) → bytes_eq w y.word ≡ b → flow_uses v.number (use_flow types (if b then Some v else find s y.word) y) ≡ only (is_heap types v.kind) (use_of w y)
+    at_test : (b : Bool) → bytes_eq w y.word ≡ b
+        → flow_uses v.number (use_flow types (if b then Some v else find s y.word) y) ≡ only (is_heap types v.kind) (use_of w y)
     at_test true f =
         let p : w ≡ y.word = same_name w y.word f in
         let q : bytes_eq y.word w ≡ true = subst (λ z. bytes_eq z w ≡ true) p (name_itself w) in

@@ -1,6 +1,7 @@
 -- Laws of the walk through lets, branches and bodies of arms.
 use Rattle.std.proofs.Common.{◌≡◌, ℕ, suc, ◌+◌, ◌-◌, Bool, true, false, if◌then◌else◌, List, [], ◌∷◌, ◌++◌, length, drop, take, Option, Some, None, refl, sym, ap, ◌∙◌, subst, arith, append_assoc, length-append, slice_get}
 use Rattle.std.specs.Prelude.{◌||◌}
+use Rattle.stops.specs.declared.stop.Stop.{Stop}
 use Rattle.camelot_values.specs.Kinds.{DataType}
 use Rattle.camelot_values.specs.declared.kinds.Kind.{Kind}
 use Rattle.camelot_values.specs.declared.kinds.Kind.TheVariants as kind
@@ -8,8 +9,8 @@ use Rattle.camelot_tree.specs.declared.tree.Name.{Name}
 use Rattle.camelot_tree.specs.declared.tree.ArmCell.{ArmCell}
 use Rattle.camelot_tree.specs.declared.tree.ArmCell.TheVariants as cell
 use Rattle.camelot_tree.specs.Tree.{Expression, Let, Branch}
-use Rattle.typing_rules.specs.Kinds.{Globals, Scope, bind, or_else, constructor_number, is_inline, arm_scope, atom_of, atoms_of}
-use Rattle.typing_rules.specs.Typing.{known_kind}
+use Rattle.camelot_typing.specs.Kinds.{Globals, Scope, bind, or_else, constructor_number, is_inline, arm_scope, atom_of, atoms_of}
+use Rattle.camelot_typing.specs.Typing.{known_kind}
 use Rattle.linear_use.specs.declared.fault.UseFault.{UseFault}
 use Rattle.linear_use.specs.declared.fault.UseFault.TheVariants.{ReadMatch}
 use Rattle.linear_use.specs.declared.variable.Variable.{Variable}
@@ -19,7 +20,7 @@ use Rattle.linear_use.specs.Flow.{Flow, Nothing, Fault, After, Either, used, kin
 use Rattle.linear_use.specs.Walk.{first_of, AreAt, Walked, kinds_at, parts_kinds, arm_flow, arm_kinds_at}
 use Rattle.linear_use.proofs.Flows.{nothing_behind}
 use Rattle.linear_use.proofs.Fields.{inner_kinds}
-use Rattle.linear_use.proofs.Walking.{Tells, last_kind, seq_tells, seq_at, seq_walked, walked_count, or_none}
+use Rattle.linear_use.proofs.Walking.{Tells, tells_by, last_kind, seq_tells, seq_at, seq_walked, walked_count, or_none}
 use Rattle.linear_use.proofs.Climbing.{WalkedTerm, WalkedParts}
 use Rattle.linear_use.proofs.Lists.{front_of, back_of, WalkedArm}
 
@@ -32,7 +33,8 @@ left_scope bs s t n e q =
     let m : length t - n ≡ length bs = omega (arith, e, k, l) in
     ap (λ i. drop i t) m ∙ ap (drop (length bs)) q ∙ back_of bs s (length bs) refl
 
-pub scoped_walked : (f : Flow) (free count n : ℕ) (bs : Scope Variable) (s1 s2 s3 s4 : State) → s2.scope ≡ bs ++ s1.scope → s2.spent ≡ s1.spent → s2.position ≡ s1.position → n ≡ length s1.scope
+pub scoped_walked : (f : Flow) (free count n : ℕ) (bs : Scope Variable) (s1 s2 s3 s4 : State) → s2.scope ≡ bs ++ s1.scope → s2.spent ≡ s1.spent
+    → s2.position ≡ s1.position → n ≡ length s1.scope
     → Walked f free count s2 s3 → s4 ≡ record s3 { scope = drop (length s3.scope - n) s3.scope } → Walked f free count s1 s4
 scoped_walked f free count n bs s1 s2 s3 s4 sc sp po e w q = record {
   none = ap (λ l. first_of l f) (sym sp) ∙ w.none;
@@ -57,7 +59,8 @@ pub record Bound (g : Globals Kind) (n : Name) (e : Expression) (s0 s1 s2 : Stat
   pub spent : s2.spent ≡ s1.spent
   pub position : s2.position ≡ s1.position
 
-pub let_bound : (g : Globals Kind) (ex : List Kind) (n : Name) (e b : Expression) (k : Kind) (s0 s1 s2 : State) → AreAt ex s0.position (parts_kinds g (kinds_in s0.scope) (Let n e b)) → WalkedTerm g e s0 s1
+pub let_bound : (g : Globals Kind) (ex : List Kind) (n : Name) (e b : Expression) (k : Kind) (s0 s1 s2 : State)
+    → AreAt ex s0.position (parts_kinds g (kinds_in s0.scope) (Let n e b)) → WalkedTerm g e s0 s1
     → k ≡ or_else (slice_get ex (s1.position - 1)) kind.Int → s2.scope ≡ bind n.word (record { number = s1.next; kind = k }) s1.scope → s2.next ≡ suc s1.next → s2.spent ≡ s1.spent → s2.position ≡ s1.position
     → Bound g n e s0 s1 s2
 let_bound g ex n e b k s0 s1 s2 a w kind sc ne sp po =
@@ -65,7 +68,8 @@ let_bound g ex n e b k s0 s1 s2 a w kind sc ne sp po =
     kind ∙ last_kind g ex (kinds_in s0.scope) e s0.position s1.position (atoms_of known_kind g (bind n.word (atom_of known_kind g (kinds_in s0.scope) e) (kinds_in s0.scope)) b) w.position a in
     record { scope = sc ∙ ap (λ q. bind n.word (record { number = s1.next; kind = q }) s1.scope) is; next = ne; spent = sp; position = po }
 
-pub let_at : (g : Globals Kind) (ex : List Kind) (n : Name) (e b : Expression) (s0 s1 s2 : State) → AreAt ex s0.position (parts_kinds g (kinds_in s0.scope) (Let n e b)) → WalkedTerm g e s0 s1 → Bound g n e s0 s1 s2
+pub let_at : (g : Globals Kind) (ex : List Kind) (n : Name) (e b : Expression) (s0 s1 s2 : State)
+    → AreAt ex s0.position (parts_kinds g (kinds_in s0.scope) (Let n e b)) → WalkedTerm g e s0 s1 → Bound g n e s0 s1 s2
     → AreAt ex s2.position (kinds_at g s2 b)
 let_at g ex n e b s0 s1 s2 a w h =
     let q = atom_of known_kind g (kinds_in s0.scope) e in
@@ -73,14 +77,18 @@ let_at g ex n e b s0 s1 s2 a w h =
     let there : AreAt ex s1.position (K s1.scope) = seq_at ex K (flow g s0.next s0.scope e) (next_of g.types s0.next e) (length (kinds_at g s0 e)) (kinds_at g s0 e) s0 s1 w refl a in
     subst (λ i. AreAt ex i (kinds_at g s2 b)) (sym h.position) (subst (λ s. AreAt ex s1.position (atoms_of known_kind g (kinds_in s) b)) (sym h.scope) there)
 
-pub let_tells : (g : Globals Kind) (n : Name) (e b : Expression) (s0 s1 s2 : State) (fault : UseFault) → WalkedTerm g e s0 s1 → Bound g n e s0 s1 s2 → Tells fault s2.spent (flow g s2.next s2.scope b)
-    → Tells fault s0.spent (After (flow g s0.next s0.scope e) (let_flow g s0 n e b (next_of g.types s0.next e) s0.scope))
-let_tells g n e b s0 s1 s2 fault w h t =
-    let here : Tells fault s1.spent (let_flow g s0 n e b s1.next s1.scope) =
-    λ m. ap (λ l. first_of l (let_flow g s0 n e b s1.next s1.scope)) (sym h.spent) ∙ ap (λ s. first_of s2.spent (flow g (suc s1.next) s b)) (sym h.scope) ∙ ap (λ i. first_of s2.spent (flow g i s2.scope b)) (sym h.next) ∙ t m in
-    seq_tells fault (let_flow g s0 n e b) (flow g s0.next s0.scope e) (next_of g.types s0.next e) (length (kinds_at g s0 e)) s0 s1 w here
+pub let_tells : (g : Globals Kind) (n : Name) (e b : Expression) (s0 s1 s2 : State) (stop : Stop UseFault) → WalkedTerm g e s0 s1
+    → Bound g n e s0 s1 s2 → Tells stop s2.spent (flow g s2.next s2.scope b)
+    → Tells stop s0.spent (After (flow g s0.next s0.scope e) (let_flow g s0 n e b (next_of g.types s0.next e) s0.scope))
+let_tells g n e b s0 s1 s2 stop w h t =
+    let here : Tells stop s1.spent (let_flow g s0 n e b s1.next s1.scope) =
+    tells_by stop s2.spent s1.spent (flow g s2.next s2.scope b) (let_flow g s0 n e b s1.next s1.scope)
+    (ap (λ l. first_of l (let_flow g s0 n e b s1.next s1.scope)) (sym h.spent) ∙ ap (λ s. first_of s2.spent (flow g (suc s1.next) s b)) (sym h.scope) ∙ ap (λ i. first_of s2.spent (flow g i s2.scope b)) (sym h.next))
+    t in
+    seq_tells stop (let_flow g s0 n e b) (flow g s0.next s0.scope e) (next_of g.types s0.next e) (length (kinds_at g s0 e)) s0 s1 w here
 
-pub let_walked : (g : Globals Kind) (n : Name) (e b : Expression) (len : ℕ) (s0 s1 s2 s3 s4 : State) → WalkedTerm g e s0 s1 → len ≡ length s1.scope → Bound g n e s0 s1 s2 → WalkedTerm g b s2 s3
+pub let_walked : (g : Globals Kind) (n : Name) (e b : Expression) (len : ℕ) (s0 s1 s2 s3 s4 : State) → WalkedTerm g e s0 s1 → len ≡ length s1.scope
+    → Bound g n e s0 s1 s2 → WalkedTerm g b s2 s3
     → s4 ≡ record s3 { scope = drop (length s3.scope - len) s3.scope } → WalkedParts g (Let n e b) s0 s4
 let_walked g n e b len s0 s1 s2 s3 s4 w l h v q =
     let k = atom_of known_kind g (kinds_in s0.scope) e in
@@ -97,22 +105,27 @@ let_walked g n e b len s0 s1 s2 s3 s4 w l h v q =
 -- ---- branches
 
 -- The state between two branches: what the first one spent is held.
-pub branches_tell : (g : Globals Kind) (a b : Expression) (start : ℕ) (s0 s1 s2 : State) (fault : UseFault) → WalkedTerm g a s0 s1 → start ≡ length s0.spent → s2.spent ≡ take start s1.spent
-    → s2.next ≡ s1.next → s2.scope ≡ s1.scope → Tells fault s2.spent (flow g s2.next s2.scope b)
-    → Tells fault s0.spent (Either (flow g s0.next s0.scope a) (flow g (next_of g.types s0.next a) s0.scope b))
-branches_tell g a b start s0 s1 s2 fault w st sp ne sc t m =
+pub branches_tell : (g : Globals Kind) (a b : Expression) (start : ℕ) (s0 s1 s2 : State) (stop : Stop UseFault) → WalkedTerm g a s0 s1
+    → start ≡ length s0.spent → s2.spent ≡ take start s1.spent
+    → s2.next ≡ s1.next → s2.scope ≡ s1.scope → Tells stop s2.spent (flow g s2.next s2.scope b)
+    → Tells stop s0.spent (Either (flow g s0.next s0.scope a) (flow g (next_of g.types s0.next a) s0.scope b))
+branches_tell g a b start s0 s1 s2 stop w st sp ne sc t =
     let spent : s2.spent ≡ s0.spent = sp ∙ ap (take start) w.spent ∙ front_of s0.spent (used (flow g s0.next s0.scope a)) start st in
     let next : s2.next ≡ next_of g.types s0.next a = ne ∙ w.next in
     let scope : s2.scope ≡ s0.scope = sc ∙ w.scope in
-    or_none (first_of s0.spent (flow g s0.next s0.scope a)) (first_of s0.spent (flow g (next_of g.types s0.next a) s0.scope b)) w.none
-    ∙ ap (λ l. first_of l (flow g (next_of g.types s0.next a) s0.scope b)) (sym spent) ∙ ap (λ i. first_of s2.spent (flow g i s0.scope b)) (sym next) ∙ ap (λ s. first_of s2.spent (flow g s2.next s b)) (sym scope) ∙ t m
+    tells_by stop s2.spent s0.spent (flow g s2.next s2.scope b) (Either (flow g s0.next s0.scope a) (flow g (next_of g.types s0.next a) s0.scope b))
+    (or_none (first_of s0.spent (flow g s0.next s0.scope a)) (first_of s0.spent (flow g (next_of g.types s0.next a) s0.scope b)) w.none
+    ∙ ap (λ l. first_of l (flow g (next_of g.types s0.next a) s0.scope b)) (sym spent) ∙ ap (λ i. first_of s2.spent (flow g i s0.scope b)) (sym next) ∙ ap (λ s. first_of s2.spent (flow g s2.next s b)) (sym scope))
+    t
 
-pub branches_at : (g : Globals Kind) (ex : List Kind) (a b : Expression) (s0 s1 : State) → AreAt ex s0.position (kinds_at g s0 a ++ kinds_at g s0 b) → WalkedTerm g a s0 s1
+pub branches_at : (g : Globals Kind) (ex : List Kind) (a b : Expression) (s0 s1 : State) → AreAt ex s0.position (kinds_at g s0 a ++ kinds_at g s0 b)
+    → WalkedTerm g a s0 s1
     → AreAt ex s1.position (kinds_at g s1 b)
 branches_at g ex a b s0 s1 h w =
     seq_at ex (λ s. atoms_of known_kind g (kinds_in s) b) (flow g s0.next s0.scope a) (next_of g.types s0.next a) (length (kinds_at g s0 a)) (kinds_at g s0 a) s0 s1 w refl h
 
-pub branches_walked : (g : Globals Kind) (a b : Expression) (start : ℕ) (none held : List ℕ) (s0 s1 s2 s3 s4 : State) → WalkedTerm g a s0 s1 → WalkedTerm g b s2 s3 → start ≡ length s0.spent
+pub branches_walked : (g : Globals Kind) (a b : Expression) (start : ℕ) (none held : List ℕ) (s0 s1 s2 s3 s4 : State) → WalkedTerm g a s0 s1
+    → WalkedTerm g b s2 s3 → start ≡ length s0.spent
     → s2.spent ≡ take start s1.spent → held ≡ drop start s1.spent ++ none → none ≡ [] → s2.next ≡ s1.next → s2.scope ≡ s1.scope → s2.position ≡ s1.position
     → s4.spent ≡ s3.spent ++ held → s4.next ≡ s3.next → s4.scope ≡ s3.scope → s4.position ≡ s3.position
     → Walked (Either (flow g s0.next s0.scope a) (flow g (next_of g.types s0.next a) s0.scope b)) (next_of g.types (next_of g.types s0.next a) b) (length (kinds_at g s0 a ++ kinds_at g s0 b)) s0 s4
@@ -171,7 +184,8 @@ cell_in_front last cell.Plain s = ([], refl)
 cell_in_front last cell.Free s = ([], refl)
 cell_in_front last (cell.Keep n) s = (bind n.word (record { number = last; kind = kind.Dia }) [], refl)
 
-arm_in_front : (types : List DataType) (next : ℕ) (a : Branch) (s : Scope Variable) → (bs : Scope Variable) × (arm_variables types next a.con a.fields a.cell s ≡ bs ++ s)
+arm_in_front : (types : List DataType) (next : ℕ) (a : Branch) (s : Scope Variable)
+    → (bs : Scope Variable) × (arm_variables types next a.con a.fields a.cell s ≡ bs ++ s)
 arm_in_front types next a s =
     let f = fields_in_front next a.fields (con_fields types a.con) s in
     let c = cell_in_front (next + fields_count a.fields (con_fields types a.con)) a.cell (number_fields next a.fields (con_fields types a.con) s) in
@@ -184,11 +198,13 @@ pub record ArmBound (g : Globals Kind) (a : Branch) (s0 s1 : State) : Type 0 whe
   pub spent : s1.spent ≡ s0.spent
   pub position : s1.position ≡ s0.position
 
-arm_kinds : (g : Globals Kind) (a : Branch) (s0 s1 : State) → ArmBound g a s0 s1 → kinds_in s1.scope ≡ arm_scope known_kind g.types a.con a.fields a.cell (kinds_in s0.scope)
+arm_kinds : (g : Globals Kind) (a : Branch) (s0 s1 : State) → ArmBound g a s0 s1
+    → kinds_in s1.scope ≡ arm_scope known_kind g.types a.con a.fields a.cell (kinds_in s0.scope)
 arm_kinds g a s0 s1 h =
     ap kinds_in h.scope ∙ inner_kinds s0.next (s0.next + fields_count a.fields (con_fields g.types a.con)) a.fields (con_fields g.types a.con) a.cell s0.scope
 
-pub arm_at : (g : Globals Kind) (ex : List Kind) (a : Branch) (s0 s1 : State) → AreAt ex s0.position (arm_kinds_at g s0 a) → ArmBound g a s0 s1 → AreAt ex s1.position (kinds_at g s1 a.body)
+pub arm_at : (g : Globals Kind) (ex : List Kind) (a : Branch) (s0 s1 : State) → AreAt ex s0.position (arm_kinds_at g s0 a) → ArmBound g a s0 s1
+    → AreAt ex s1.position (kinds_at g s1 a.body)
 arm_at g ex a s0 s1 h b =
     subst (λ i. AreAt ex i (kinds_at g s1 a.body)) (sym b.position) (subst (λ k. AreAt ex s0.position (atoms_of known_kind g k a.body)) (sym (arm_kinds g a s0 s1 b)) h)
 
@@ -196,15 +212,19 @@ body_flow : (g : Globals Kind) (a : Branch) (s0 s1 : State) → ArmBound g a s0 
     → flow g s1.next s1.scope a.body ≡ flow g (s0.next + arm_count g.types a.con a.fields a.cell) (arm_variables g.types s0.next a.con a.fields a.cell s0.scope) a.body
 body_flow g a s0 s1 h = ap (λ i. flow g i s1.scope a.body) h.next ∙ ap (λ s. flow g (s0.next + arm_count g.types a.con a.fields a.cell) s a.body) h.scope
 
-pub arm_tells : (g : Globals Kind) (a : Branch) (s0 s1 : State) (fault : UseFault) → first_of [] (cell_flow g.types a.con a.cell) ≡ None → ArmBound g a s0 s1 → Tells fault s1.spent (flow g s1.next s1.scope a.body)
-    → Tells fault s0.spent (arm_flow g s0.next s0.scope a)
-arm_tells g a s0 s1 fault n h t m =
+pub arm_tells : (g : Globals Kind) (a : Branch) (s0 s1 : State) (stop : Stop UseFault) → first_of [] (cell_flow g.types a.con a.cell) ≡ None
+    → ArmBound g a s0 s1 → Tells stop s1.spent (flow g s1.next s1.scope a.body)
+    → Tells stop s0.spent (arm_flow g s0.next s0.scope a)
+arm_tells g a s0 s1 stop n h t =
     let body = flow g (s0.next + arm_count g.types a.con a.fields a.cell) (arm_variables g.types s0.next a.con a.fields a.cell s0.scope) a.body in
     let same : s0.spent ++ used (cell_flow g.types a.con a.cell) ≡ s1.spent = ap (λ l. s0.spent ++ l) (cell_uses g.types a.con a.cell) ∙ nothing_behind s0.spent ∙ sym h.spent in
-    or_none (first_of s0.spent (cell_flow g.types a.con a.cell)) (first_of (s0.spent ++ used (cell_flow g.types a.con a.cell)) body) (sym (cell_tells g.types a.con a.cell s0.spent) ∙ n)
-    ∙ ap (λ l. first_of l body) same ∙ ap (first_of s1.spent) (sym (body_flow g a s0 s1 h)) ∙ t m
+    tells_by stop s1.spent s0.spent (flow g s1.next s1.scope a.body) (arm_flow g s0.next s0.scope a)
+    (or_none (first_of s0.spent (cell_flow g.types a.con a.cell)) (first_of (s0.spent ++ used (cell_flow g.types a.con a.cell)) body) (sym (cell_tells g.types a.con a.cell s0.spent) ∙ n)
+    ∙ ap (λ l. first_of l body) same ∙ ap (first_of s1.spent) (sym (body_flow g a s0 s1 h)))
+    t
 
-pub arm_walked : (g : Globals Kind) (a : Branch) (len : ℕ) (s0 s1 s2 s3 : State) → first_of [] (cell_flow g.types a.con a.cell) ≡ None → len ≡ length s0.scope → ArmBound g a s0 s1 → WalkedTerm g a.body s1 s2
+pub arm_walked : (g : Globals Kind) (a : Branch) (len : ℕ) (s0 s1 s2 s3 : State) → first_of [] (cell_flow g.types a.con a.cell) ≡ None
+    → len ≡ length s0.scope → ArmBound g a s0 s1 → WalkedTerm g a.body s1 s2
     → s3 ≡ record s2 { scope = drop (length s2.scope - len) s2.scope } → WalkedArm g a s0 s3
 arm_walked g a len s0 s1 s2 s3 n l h w q =
     let front = arm_in_front g.types s0.next a s0.scope in

@@ -1,16 +1,17 @@
 -- Laws of the walk along a left end.
-use Rattle.std.proofs.Common.{◌≡◌, ℕ, ◌+◌, ◌≤◌, ◌<◌, List, [], ◌∷◌, ◌++◌, map, length, Some, refl, sym, ap, ◌∙◌, subst, arith, length-append}
+use Rattle.std.proofs.Common.{◌≡◌, ℕ, ◌+◌, ◌≤◌, ◌<◌, List, [], ◌∷◌, ◌++◌, map, length, refl, sym, ap, ◌∙◌, subst, arith, length-append}
+use Rattle.stops.specs.declared.stop.Stop.{Stop}
 use Rattle.camelot_values.specs.declared.kinds.Kind.{Kind}
 use Rattle.camelot_tree.specs.Tree.{Expression, Num, Truth, Var, Prim, If, Let, Match, Build, Call}
 use Rattle.camelot_tree.specs.Spine.{spine_of, leaf_of, size}
 use Rattle.camelot_tree.specs.SpineLaws.{NoLarger, spine_no_larger, no_larger_front, no_larger_last}
-use Rattle.typing_rules.specs.Kinds.{Globals, Scope, atom_of, atoms_of}
-use Rattle.typing_rules.specs.Typing.{known_kind}
+use Rattle.camelot_typing.specs.Kinds.{Globals, Scope, atom_of, atoms_of}
+use Rattle.camelot_typing.specs.Typing.{known_kind}
 use Rattle.linear_use.specs.declared.fault.UseFault.{UseFault}
 use Rattle.linear_use.specs.declared.variable.Variable.{Variable}
 use Rattle.linear_use.specs.declared.state.State.{State}
 use Rattle.linear_use.specs.Flow.{After, kinds_in, next_of, flow}
-use Rattle.linear_use.specs.Walk.{first_of, AreAt, Walked, kinds_at, parts_kinds, first_part, rest_flow, rest_next, rest_kinds}
+use Rattle.linear_use.specs.Walk.{AreAt, Walked, kinds_at, parts_kinds, first_part, rest_flow, rest_next, rest_kinds}
 use Rattle.linear_use.proofs.Walking.{Tells, at_front, end_within, kinds_split, seq_tells, seq_at, seq_walked, walked_count, finished, tells_first}
 
 -- an operator or a conditional
@@ -44,7 +45,8 @@ chain_popped : (ps : List Expression) (p d e : Expression) → IsChain (ps ++ p 
 chain_popped [] p d e h = record { chain = h.0; parent = h.1; part = sym h.2 }
 chain_popped (q ∷ ps) p d e h = let r = chain_popped ps p d (first_part q) h.2 in record { chain = (h.0, h.1, r.chain); parent = r.parent; part = r.part }
 
-parent_kinds : (g : Globals Kind) (s : Scope Kind) (p : Expression) → IsParent p → atoms_of known_kind g s p ≡ atoms_of known_kind g s (first_part p) ++ rest_kinds g s p
+parent_kinds : (g : Globals Kind) (s : Scope Kind) (p : Expression) → IsParent p
+    → atoms_of known_kind g s p ≡ atoms_of known_kind g s (first_part p) ++ rest_kinds g s p
 parent_kinds g s (Num z l) h = absurd h
 parent_kinds g s (Truth b l) h = absurd h
 parent_kinds g s (Var n) h = absurd h
@@ -78,20 +80,22 @@ parent_next g next (Match e as' l) h = absurd h
 parent_next g next (Build c es d) h = absurd h
 parent_next g next (Call f es) h = absurd h
 
-chain_at : (g : Globals Kind) (s : Scope Kind) (ex : List Kind) (place : ℕ) (ps : List Expression) (d e : Expression) → IsChain ps d e → AreAt ex place (atoms_of known_kind g s e)
+chain_at : (g : Globals Kind) (s : Scope Kind) (ex : List Kind) (place : ℕ) (ps : List Expression) (d e : Expression) → IsChain ps d e
+    → AreAt ex place (atoms_of known_kind g s e)
     → AreAt ex place (atoms_of known_kind g s d)
 chain_at g s ex place [] d e h a = subst (λ x. AreAt ex place (atoms_of known_kind g s x)) (sym h) a
 chain_at g s ex place (p ∷ ps) d e h a =
     let own : AreAt ex place (atoms_of known_kind g s p) = subst (λ x. AreAt ex place (atoms_of known_kind g s x)) (sym h.0) a in
     chain_at g s ex place ps d (first_part p) h.2 (at_front ex place (atoms_of known_kind g s (first_part p)) (rest_kinds g s p) (subst (AreAt ex place) (parent_kinds g s p h.1) own))
 
-chain_tells : (g : Globals Kind) (next : ℕ) (s : Scope Variable) (spent : List ℕ) (fault : UseFault) (ps : List Expression) (d e : Expression) → IsChain ps d e
-    → Tells fault spent (flow g next s d) → Tells fault spent (flow g next s e)
-chain_tells g next s spent fault [] d e h t m = subst (λ x. first_of spent (flow g next s x) ≡ Some fault) h (t m)
-chain_tells g next s spent fault (p ∷ ps) d e h t m =
-    let below : Tells fault spent (flow g next s (first_part p)) = chain_tells g next s spent fault ps d (first_part p) h.2 t in
-    let own = tells_first fault spent (flow g next s (first_part p)) (rest_flow g (next_of g.types next (first_part p)) s p) below m in
-    subst (λ x. first_of spent (flow g next s x) ≡ Some fault) h.0 (ap (first_of spent) (parent_flow g next s p h.1) ∙ own)
+chain_tells : (g : Globals Kind) (next : ℕ) (s : Scope Variable) (spent : List ℕ) (stop : Stop UseFault) (ps : List Expression) (d e : Expression)
+    → IsChain ps d e
+    → Tells stop spent (flow g next s d) → Tells stop spent (flow g next s e)
+chain_tells g next s spent stop [] d e h t = subst (λ x. Tells stop spent (flow g next s x)) h t
+chain_tells g next s spent stop (p ∷ ps) d e h t =
+    let below : Tells stop spent (flow g next s (first_part p)) = chain_tells g next s spent stop ps d (first_part p) h.2 t in
+    let own = tells_first stop spent (flow g next s (first_part p)) (rest_flow g (next_of g.types next (first_part p)) s p) below in
+    subst (λ x. Tells stop spent (flow g next s x)) h.0 (subst (Tells stop spent) (sym (parent_flow g next s p h.1)) own)
 
 -- ---- the loop
 
@@ -117,7 +121,8 @@ expression_finished g e s0 s1 s2 w q =
     let l = length-append (parts_kinds g (kinds_in s0.scope) e) (atom_of known_kind g (kinds_in s0.scope) e ∷ []) in
     finished (flow g s0.next s0.scope e) (next_of g.types s0.next e) (length (parts_kinds g (kinds_in s0.scope) e)) (length (kinds_at g s0 e)) s0 s1 s2 w q (omega (arith, k, l))
 
-pub climb_begun : (g : Globals Kind) (e leaf : Expression) (ps : List Expression) (s0 s1 s2 : State) → ps ≡ spine_of e → leaf ≡ leaf_of e → WalkedParts g leaf s0 s1
+pub climb_begun : (g : Globals Kind) (e leaf : Expression) (ps : List Expression) (s0 s1 s2 : State) → ps ≡ spine_of e → leaf ≡ leaf_of e
+    → WalkedParts g leaf s0 s1
     → s2 ≡ record s1 { position = s1.position + 1 } → Climbed g e ps s0 s2
 climb_begun g e leaf ps s0 s1 s2 h k w q = record {
   done = leaf;
@@ -126,17 +131,20 @@ climb_begun g e leaf ps s0 s1 s2 h k w q = record {
   few = subst (NoLarger (size e)) (sym h) (spine_no_larger e);
 }
 
-pub leaf_at : (g : Globals Kind) (s : Scope Kind) (ex : List Kind) (place : ℕ) (e leaf : Expression) → leaf ≡ leaf_of e → AreAt ex place (atoms_of known_kind g s e) → AreAt ex place (parts_kinds g s leaf)
+pub leaf_at : (g : Globals Kind) (s : Scope Kind) (ex : List Kind) (place : ℕ) (e leaf : Expression) → leaf ≡ leaf_of e
+    → AreAt ex place (atoms_of known_kind g s e) → AreAt ex place (parts_kinds g s leaf)
 leaf_at g s ex place e leaf h a =
     let own : AreAt ex place (atoms_of known_kind g s (leaf_of e)) = chain_at g s ex place (spine_of e) (leaf_of e) e (chain_spine e) a in
     let is : AreAt ex place (atoms_of known_kind g s leaf) = subst (λ x. AreAt ex place (atoms_of known_kind g s x)) (sym h) own in
     at_front ex place (parts_kinds g s leaf) (atom_of known_kind g s leaf ∷ []) (subst (AreAt ex place) (kinds_split g s leaf) is)
 
-pub leaf_tells : (g : Globals Kind) (s0 : State) (fault : UseFault) (e leaf : Expression) → leaf ≡ leaf_of e → Tells fault s0.spent (flow g s0.next s0.scope leaf) → Tells fault s0.spent (flow g s0.next s0.scope e)
-leaf_tells g s0 fault e leaf h t = chain_tells g s0.next s0.scope s0.spent fault (spine_of e) (leaf_of e) e (chain_spine e) (λ m. ap (λ x. first_of s0.spent (flow g s0.next s0.scope x)) (sym h) ∙ t m)
+pub leaf_tells : (g : Globals Kind) (s0 : State) (stop : Stop UseFault) (e leaf : Expression) → leaf ≡ leaf_of e
+    → Tells stop s0.spent (flow g s0.next s0.scope leaf) → Tells stop s0.spent (flow g s0.next s0.scope e)
+leaf_tells g s0 stop e leaf h t = chain_tells g s0.next s0.scope s0.spent stop (spine_of e) (leaf_of e) e (chain_spine e) (subst (λ x. Tells stop s0.spent (flow g s0.next s0.scope x)) h t)
 
 -- the place of the leaf's own kind
-pub leaf_end : (g : Globals Kind) (ex : List Kind) (e leaf : Expression) (s0 s1 : State) → leaf ≡ leaf_of e → AreAt ex s0.position (kinds_at g s0 e) → WalkedParts g leaf s0 s1 → s1.position < length ex
+pub leaf_end : (g : Globals Kind) (ex : List Kind) (e leaf : Expression) (s0 s1 : State) → leaf ≡ leaf_of e → AreAt ex s0.position (kinds_at g s0 e)
+    → WalkedParts g leaf s0 s1 → s1.position < length ex
 leaf_end g ex e leaf s0 s1 h a w =
     let s = kinds_in s0.scope in
     let own : AreAt ex s0.position (atoms_of known_kind g s (leaf_of e)) = chain_at g s ex s0.position (spine_of e) (leaf_of e) e (chain_spine e) a in
@@ -147,15 +155,18 @@ map_last : {A : Type 0} (f : A → Expression) (xs : List A) (x : A) → map f (
 map_last f [] x = refl
 map_last f (y ∷ xs) x = ap (λ l. f y ∷ l) (map_last f xs x)
 
-climb_popped : {A : Type 0} (f : A → Expression) (g : Globals Kind) (e : Expression) (before after : List A) (p : A) (s0 s1 : State) → before ≡ after ++ p ∷ [] → (c : Climbed g e (map f before) s0 s1)
+climb_popped : {A : Type 0} (f : A → Expression) (g : Globals Kind) (e : Expression) (before after : List A) (p : A) (s0 s1 : State)
+    → before ≡ after ++ p ∷ [] → (c : Climbed g e (map f before) s0 s1)
     → Popped (map f after) (f p) c.done e
 climb_popped f g e before after p s0 s1 h c = chain_popped (map f after) (f p) c.done e (subst (λ l. IsChain l c.done e) (ap (map f) h ∙ map_last f after p) c.chain)
 
-pub climb_smaller : {A : Type 0} (f : A → Expression) (g : Globals Kind) (e : Expression) (before after : List A) (p : A) (s0 s1 : State) → before ≡ after ++ p ∷ [] → Climbed g e (map f before) s0 s1
+pub climb_smaller : {A : Type 0} (f : A → Expression) (g : Globals Kind) (e : Expression) (before after : List A) (p : A) (s0 s1 : State)
+    → before ≡ after ++ p ∷ [] → Climbed g e (map f before) s0 s1
     → size (f p) ≤ size e
 climb_smaller f g e before after p s0 s1 h c = no_larger_last (size e) (map f after) (f p) (subst (NoLarger (size e)) (ap (map f) h ∙ map_last f after p) c.few)
 
-pub climb_at : {A : Type 0} (f : A → Expression) (g : Globals Kind) (e : Expression) (before after : List A) (p : A) (s0 s1 : State) (ex : List Kind) → before ≡ after ++ p ∷ []
+pub climb_at : {A : Type 0} (f : A → Expression) (g : Globals Kind) (e : Expression) (before after : List A) (p : A) (s0 s1 : State) (ex : List Kind)
+    → before ≡ after ++ p ∷ []
     → Climbed g e (map f before) s0 s1 → AreAt ex s0.position (kinds_at g s0 e) → AreAt ex s1.position (rest_kinds g (kinds_in s1.scope) (f p))
 climb_at f g e before after p s0 s1 ex h c a =
     let q = climb_popped f g e before after p s0 s1 h c in
@@ -164,16 +175,17 @@ climb_at f g e before after p s0 s1 ex h c a =
     seq_at ex (λ s. rest_kinds g (kinds_in s) (f p)) (flow g s0.next s0.scope c.done) (next_of g.types s0.next c.done) (length (kinds_at g s0 c.done)) (kinds_at g s0 (first_part (f p))) s0 s1 c.walked
     (ap (λ x. length (kinds_at g s0 x)) (sym q.part)) split
 
-pub climb_tells : {A : Type 0} (f : A → Expression) (g : Globals Kind) (e : Expression) (before after : List A) (p : A) (s0 s1 : State) (fault : UseFault) → before ≡ after ++ p ∷ []
-    → Climbed g e (map f before) s0 s1 → Tells fault s1.spent (rest_flow g s1.next s1.scope (f p)) → Tells fault s0.spent (flow g s0.next s0.scope e)
-climb_tells f g e before after p s0 s1 fault h c t =
+pub climb_tells : {A : Type 0} (f : A → Expression) (g : Globals Kind) (e : Expression) (before after : List A) (p : A) (s0 s1 : State) (stop : Stop UseFault) → before ≡ after ++ p ∷ []
+    → Climbed g e (map f before) s0 s1 → Tells stop s1.spent (rest_flow g s1.next s1.scope (f p)) → Tells stop s0.spent (flow g s0.next s0.scope e)
+climb_tells f g e before after p s0 s1 stop h c t =
     let q = climb_popped f g e before after p s0 s1 h c in
     let walked : WalkedTerm g (first_part (f p)) s0 s1 = subst (λ x. WalkedTerm g x s0 s1) (sym q.part) c.walked in
-    let own : Tells fault s0.spent (After (flow g s0.next s0.scope (first_part (f p))) (rest_flow g (next_of g.types s0.next (first_part (f p))) s0.scope (f p))) =
-    seq_tells fault (λ n s. rest_flow g n s (f p)) (flow g s0.next s0.scope (first_part (f p))) (next_of g.types s0.next (first_part (f p))) (length (kinds_at g s0 (first_part (f p)))) s0 s1 walked t in
-    chain_tells g s0.next s0.scope s0.spent fault (map f after) (f p) e q.chain (λ m. ap (first_of s0.spent) (parent_flow g s0.next s0.scope (f p) q.parent) ∙ own m)
+    let own : Tells stop s0.spent (After (flow g s0.next s0.scope (first_part (f p))) (rest_flow g (next_of g.types s0.next (first_part (f p))) s0.scope (f p))) =
+    seq_tells stop (λ n s. rest_flow g n s (f p)) (flow g s0.next s0.scope (first_part (f p))) (next_of g.types s0.next (first_part (f p))) (length (kinds_at g s0 (first_part (f p)))) s0 s1 walked t in
+    chain_tells g s0.next s0.scope s0.spent stop (map f after) (f p) e q.chain (subst (Tells stop s0.spent) (sym (parent_flow g s0.next s0.scope (f p) q.parent)) own)
 
-pub climbed_on : {A : Type 0} (f : A → Expression) (g : Globals Kind) (e : Expression) (before after : List A) (p : A) (s0 s1 s2 : State) → before ≡ after ++ p ∷ [] → Climbed g e (map f before) s0 s1
+pub climbed_on : {A : Type 0} (f : A → Expression) (g : Globals Kind) (e : Expression) (before after : List A) (p : A) (s0 s1 s2 : State)
+    → before ≡ after ++ p ∷ [] → Climbed g e (map f before) s0 s1
     → WalkedRest g (f p) s1 s2 → Climbed g e (map f after) s0 s2
 climbed_on f g e before after p s0 s1 s2 h c w =
     let q = climb_popped f g e before after p s0 s1 h c in

@@ -7,8 +7,8 @@ use Rattle.camelot_values.specs.declared.kinds.Kind.{Kind}
 use Rattle.camelot_tree.specs.declared.tree.Name.{Name}
 use Rattle.camelot_tree.specs.declared.tree.ArmCell.{ArmCell}
 use Rattle.camelot_tree.specs.Tree.{Expression, Num, Truth, Var, Prim, If, Let, Match, Build, Call, Expressions, NoExpressions, AndExpression, Arms, NoArms, AndArm}
-use Rattle.typing_rules.specs.Kinds.{Globals, Scope, bind, or_else, constructor_number, is_inline, atom_of, bound_names}
-use Rattle.typing_rules.specs.Typing.{known_kind}
+use Rattle.camelot_typing.specs.Kinds.{Globals, Scope, bind, or_else, constructor_number, is_inline, atom_of, bound_names}
+use Rattle.camelot_typing.specs.Typing.{known_kind}
 use Rattle.linear_use.specs.declared.variable.Variable.{Variable}
 use Rattle.linear_use.specs.declared.fault.UseFault.TheVariants.{ReadMatch}
 use Rattle.linear_use.specs.Uses.{is_bound, place_use, uses, all_uses, arms_uses}
@@ -79,7 +79,8 @@ arm_other types c fs x next s i y h full o m =
     inner_other types fs (con_fields types c) x next (next + fields_count fs (con_fields types c)) s i y h full.full refl (λ q. let r = o q in omega (arith, r)) m
 
 mutual
-  pub counted : (g : Globals Kind) (e : Expression) (next : ℕ) (s : Scope Variable) (i : ℕ) (x : List ℕ) (h : Bool) → IsFull g.types e → Outside i next (next_of g.types next e)
+  pub counted : (g : Globals Kind) (e : Expression) (next : ℕ) (s : Scope Variable) (i : ℕ) (x : List ℕ) (h : Bool) → IsFull g.types e
+      → Outside i next (next_of g.types next e)
       → Means g.types s i x h → flow_uses i (flow g next s e) ≡ only h (uses x e)
   counted g (Num z l) next s i x h full o m = sym (only_none h)
   counted g (Truth b l) next s i x h full o m = sym (only_none h)
@@ -127,7 +128,8 @@ mutual
       at_place (Some d) = m d
   counted g (Call f es) next s i x h full o m = all_counted g es next s i x h full o m
 
-  pub all_counted : (g : Globals Kind) (es : Expressions) (next : ℕ) (s : Scope Variable) (i : ℕ) (x : List ℕ) (h : Bool) → AllAreFull g.types es → Outside i next (all_next g.types next es)
+  pub all_counted : (g : Globals Kind) (es : Expressions) (next : ℕ) (s : Scope Variable) (i : ℕ) (x : List ℕ) (h : Bool) → AllAreFull g.types es
+      → Outside i next (all_next g.types next es)
       → Means g.types s i x h → flow_uses i (all_flow g next s es) ≡ only h (all_uses x es)
   all_counted g NoExpressions next s i x h full o m = sym (only_none h)
   all_counted g (AndExpression e es) next s i x h full o m =
@@ -138,7 +140,8 @@ mutual
       (counted g e next s i x h full.0 (λ r. let k = o r in omega (arith, k, p, q)) m)
       (all_counted g es mid s i x h full.1 (λ r. o (omega (arith, r, p))) m)
 
-  pub arms_counted : (g : Globals Kind) (as' : Arms) (next : ℕ) (s : Scope Variable) (i : ℕ) (x : List ℕ) (h : Bool) → ArmsAreFull g.types as' → Outside i next (arms_next g.types next as')
+  pub arms_counted : (g : Globals Kind) (as' : Arms) (next : ℕ) (s : Scope Variable) (i : ℕ) (x : List ℕ) (h : Bool) → ArmsAreFull g.types as'
+      → Outside i next (arms_next g.types next as')
       → Means g.types s i x h → flow_uses i (arms_flow g next s as') ≡ only h (arms_uses x as')
   arms_counted g NoArms next s i x h full o m = sym (only_none h)
   arms_counted g (AndArm c fs cell b as') next s i x h full o m =

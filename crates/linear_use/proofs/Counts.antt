@@ -24,13 +24,15 @@ spent_times x (y ∷ ys) = at_test (spent_times x ys) (y == x)
     at_test ih true = let e : bit true + times x ys ≡ suc (times x ys) = omega arith in ap (nat_lt 0) e ∙ grind (arith, nat_tests)
     at_test ih false = let e : bit false + times x ys ≡ times x ys = omega arith in ap (nat_lt 0) e ∙ ih
 
-pub contained : (counts log view read : List ℕ) (x n : ℕ) → AreCounted counts log → log ≡ view → read ≡ counts → n ≡ slice_index read x → nat_lt 0 n ≡ is_spent x view
+pub contained : (counts log view read : List ℕ) (x n : ℕ) → AreCounted counts log → log ≡ view → read ≡ counts → n ≡ slice_index read x
+    → nat_lt 0 n ≡ is_spent x view
 contained counts log view read x n h v r e = ap (nat_lt 0) (e ∙ ap (λ l. slice_index l x) r ∙ h.each x ∙ ap (times x) v) ∙ spent_times x view
 
 pub absent : (counts log view read : List ℕ) (x : ℕ) → AreCounted counts log → log ≡ view → read ≡ counts → length read ≤ x → false ≡ is_spent x view
 absent counts log view read x h v r e = contained counts log view read x 0 h v r (sym (get_or_past read x 0 e))
 
-pub counted_room_at : (counts grown log more : List ℕ) (x n m : ℕ) → AreCounted counts log → ((y : ℕ) → slice_index grown y ≡ slice_index counts y) → more ≡ log ++ x ∷ [] → x < length grown
+pub counted_room_at : (counts grown log more : List ℕ) (x n m : ℕ) → AreCounted counts log → ((y : ℕ) → slice_index grown y ≡ slice_index counts y)
+    → more ≡ log ++ x ∷ [] → x < length grown
     → n ≡ get_or grown x n → m ≡ length more → n + 1 ≤ m
 counted_room_at counts grown log more x n m h e l w k q =
     let a : n ≡ slice_index grown x = k ∙ get_or_default_zero grown x n w in
@@ -45,7 +47,8 @@ pub counted_same : (old new log : List ℕ) → ((x : ℕ) → slice_index new x
 counted_same old new log e h = record { each = λ x. e x ∙ h.each x }
 
 -- a use of x, where its count has a place
-pub counted_more : (counts log : List ℕ) (x n : ℕ) → AreCounted counts log → x < length counts → n ≡ slice_index counts x + 1 → AreCounted (set counts x n) (log ++ x ∷ [])
+pub counted_more : (counts log : List ℕ) (x n : ℕ) → AreCounted counts log → x < length counts → n ≡ slice_index counts x + 1
+    → AreCounted (set counts x n) (log ++ x ∷ [])
 counted_more counts log x n h w e = record { each = λ y. at_test y (x == y) refl }
   where
     at_test : (y : ℕ) (b : Bool) → (x == y) ≡ b → slice_index (set counts x n) y ≡ times y (log ++ x ∷ [])
@@ -79,7 +82,8 @@ inside (c ∷ counts) (suc x) h = let k = inside counts x h in omega (arith, k)
 pub counted_within : (counts log rest : List ℕ) (x : ℕ) → AreCounted counts log → log ≡ rest ++ x ∷ [] → x < length counts
 counted_within counts log rest x h e = inside counts x (counted_last counts log rest x h e)
 
-pub counted_less : (counts log rest : List ℕ) (x n : ℕ) → AreCounted counts log → log ≡ rest ++ x ∷ [] → n ≡ slice_index counts x - 1 → AreCounted (set counts x n) rest
+pub counted_less : (counts log rest : List ℕ) (x n : ℕ) → AreCounted counts log → log ≡ rest ++ x ∷ [] → n ≡ slice_index counts x - 1
+    → AreCounted (set counts x n) rest
 counted_less counts log rest x n h e m = record { each = λ y. at_test y (x == y) refl }
   where
     within : x < length counts
@@ -114,7 +118,8 @@ drop_within zero xs ys h = refl
 drop_within (suc n) [] ys h = absurd (omega (arith, h))
 drop_within (suc n) (x ∷ xs) ys h = drop_within n xs ys (omega (arith, h))
 
-pub drop_popped : (n : ℕ) (before after held : List ℕ) (x : ℕ) → before ≡ after ++ x ∷ [] → n < length before → drop n after ++ (x ∷ held) ≡ drop n before ++ held
+pub drop_popped : (n : ℕ) (before after held : List ℕ) (x : ℕ) → before ≡ after ++ x ∷ [] → n < length before
+    → drop n after ++ (x ∷ held) ≡ drop n before ++ held
 drop_popped n before after held x e h =
     sym (ap (λ l. drop n l ++ held) e ∙ ap (λ l. l ++ held) (drop_within n after (x ∷ []) (front_pop n before after x e h)) ∙ append_assoc (drop n after) (x ∷ []) held)
 

@@ -11,8 +11,8 @@ use Rattle.camelot_values.specs.NameLaws.{name_itself}
 use Rattle.camelot_tree.specs.declared.tree.Name.{Name}
 use Rattle.camelot_tree.specs.declared.tree.ArmCell.{ArmCell}
 use Rattle.camelot_tree.specs.declared.tree.ArmCell.TheVariants as cell
-use Rattle.typing_rules.specs.Kinds.{Scope, bind, field_names, cell_names, bind_fields, bind_cell}
-use Rattle.typing_rules.specs.Typing.{known_kind}
+use Rattle.camelot_typing.specs.Kinds.{Scope, bind, field_names, cell_names, bind_fields, bind_cell}
+use Rattle.camelot_typing.specs.Typing.{known_kind}
 use Rattle.linear_use.specs.declared.variable.Variable.{Variable}
 use Rattle.linear_use.specs.Uses.{is_bound}
 use Rattle.linear_use.specs.Flow.{kinds_in, fields_count, cell_count, number_fields, number_cell}
@@ -35,7 +35,8 @@ inner_kinds next last (None ∷ fs) (k ∷ ks) x s = inner_kinds next last fs ks
 inner_kinds next last (Some n ∷ fs) (k ∷ ks) x s = inner_kinds (suc next) last fs ks x (bind n.word (record { number = next; kind = k }) s)
 
 -- what a name means stays, where no binder has it
-cell_find : (last : ℕ) (x : ArmCell) (s : Scope Variable) (y : List ℕ) → is_bound y (cell_names x) ≡ false → find (kinds_in (number_cell last x s)) y ≡ find (kinds_in s) y
+cell_find : (last : ℕ) (x : ArmCell) (s : Scope Variable) (y : List ℕ) → is_bound y (cell_names x) ≡ false
+    → find (kinds_in (number_cell last x s)) y ≡ find (kinds_in s) y
 cell_find last cell.Plain s y h = refl
 cell_find last cell.Free s y h = refl
 cell_find last (cell.Keep n) s y h = at_test (bytes_eq n.word y) h
@@ -82,7 +83,8 @@ AllStand types s next last (Some n ∷ fs) (k ∷ ks) x = Stands types s next n 
 abbrev pub Below : List DataType → ℕ → Scope Variable → Type 0
 Below types next s = (i : ℕ) → next ≤ i → Means types s i [] false
 
-pub below_bind : (types : List DataType) (next : ℕ) (s : Scope Variable) (w : List ℕ) (v : Variable) → next ≤ v.number → Below types next s → Below types (suc v.number) (bind w v s)
+pub below_bind : (types : List DataType) (next : ℕ) (s : Scope Variable) (w : List ℕ) (v : Variable) → next ≤ v.number → Below types next s
+    → Below types (suc v.number) (bind w v s)
 below_bind types next s w v h below i p =
     bind_other types s w v i [] false (unequal v.number i (λ q. omega (arith, q, p))) (below i (omega (arith, h, p)))
 
@@ -126,7 +128,8 @@ all_stand types next last (Some n ∷ fs) (k ∷ ks) x s l e apart below =
 
 -- ---- a loop over the fields
 
-pub ended_scope : (next : ℕ) (fs : List (Option Name)) (ks : List Kind) (s : Scope Variable) → (length fs ≡ 0) ⊎ (length ks ≡ 0) → number_fields next fs ks s ≡ s
+pub ended_scope : (next : ℕ) (fs : List (Option Name)) (ks : List Kind) (s : Scope Variable) → (length fs ≡ 0) ⊎ (length ks ≡ 0)
+    → number_fields next fs ks s ≡ s
 ended_scope next [] ks s h = refl
 ended_scope next (None ∷ fs) [] s h = refl
 ended_scope next (Some n ∷ fs) [] s h = refl

@@ -1,5 +1,5 @@
--- A flow has no faults exactly where no Fault stands in it, and each variable is used at most once on each way, a variable that is
--- spent already not at all.
+-- A flow has no faults exactly where no Fault stands in it, and each variable is used at most once on each way, a
+-- variable that is spent already not at all.
 use Rattle.std.proofs.Common.{◌≡◌, ℕ, ◌+◌, ◌≤◌, max, min, Bool, true, false, if◌then◌else◌, List, [], ◌∷◌, ◌++◌, refl, ap, ◌∙◌, subst, arith}
 use Rattle.std.specs.Prelude.{◌==◌, ◌||◌}
 use Rattle.std.proofs.lemmas.Bool.Decides.{nat_tests}

@@ -2,21 +2,23 @@
 use Rattle.std.proofs.Common.{◌≡◌, ℕ, zero, suc, min, Bool, true, false, if◌then◌else◌, List, [], ◌∷◌, ◌++◌, map, length, drop, Option, Some, None, refl, sym, ap, ◌∙◌, subst, arith, slice_get, ◌⊎◌, inl, inr}
 use Rattle.std.specs.Prelude.{Result, Ok, Err, IsErrAnd}
 use Rattle.std.specs.Option.{option_or}
+use Rattle.stops.specs.declared.stop.Stop.{Stop}
+use Rattle.stops.specs.declared.stop.Stop.TheVariants as stop
 use Rattle.camelot_values.specs.Kinds.{DataType}
 use Rattle.camelot_values.specs.declared.kinds.Kind.{Kind}
 use Rattle.camelot_tree.specs.declared.tree.Param.{Param}
 use Rattle.camelot_tree.specs.Tree.{Expression, Function}
-use Rattle.typing_rules.specs.Kinds.{Globals, Scope, atoms_of}
-use Rattle.typing_rules.specs.Typing.{known_kind, params_scope}
-use Rattle.typing_rules.specs.Typed.{FunctionKinds, signature_of, signatures_of, functions_kinds, typing_globals}
-use Rattle.typing_rules.specs.TypedPrograms.{typing_of}
-use Rattle.typing_rules.specs.declared.typed.Typed.{Typed}
+use Rattle.camelot_typing.specs.Kinds.{Globals, Scope, atoms_of}
+use Rattle.camelot_typing.specs.Typing.{known_kind, params_scope}
+use Rattle.camelot_typing.specs.Typed.{FunctionKinds, signature_of, signatures_of, functions_kinds, typing_globals}
+use Rattle.camelot_typing.specs.TypedPrograms.{typing_of}
+use Rattle.camelot_typing.specs.declared.typed.Typed.{Typed}
 use Rattle.linear_use.specs.declared.fault.UseFault.{UseFault}
 use Rattle.linear_use.specs.declared.fault.UseFault.TheVariants.{Twice, ReadMatch}
 use Rattle.linear_use.specs.declared.variable.Variable.{Variable}
 use Rattle.linear_use.specs.declared.state.State.{State}
 use Rattle.linear_use.specs.Flow.{Flow, Nothing, Use, Fault, After, Either, used, is_spent, faults, kinds_in, flow, param_variables, read_flow, function_flow, functions_faults}
-use Rattle.linear_use.specs.Walk.{first_of, is_memory, Finds, AreAt, Walks, globals_in}
+use Rattle.linear_use.specs.Walk.{first_of, StopsAt, Finds, AreAt, Walks, globals_in}
 use Rattle.linear_use.specs.Answers.{first}
 use Rattle.linear_use.proofs.Walking.{or_none, or_some}
 use Rattle.linear_use.proofs.Programs.{param_kinds}
@@ -74,7 +76,8 @@ at_behind front (x ∷ xs) p e =
     counted (y ∷ front) (suc p) e = let h = counted front p (omega (arith, e)) in omega (arith, h)
 
 -- the kinds of a body, where the whole list is theirs
-pub body_at : (g : Globals Kind) (ex list : List Kind) (xs ys : List Param) (ks ls : List Kind) (s : Scope Variable) (e : Expression) → ex ≡ list → list ≡ atoms_of known_kind g (params_scope xs ks) e
+pub body_at : (g : Globals Kind) (ex list : List Kind) (xs ys : List Param) (ks ls : List Kind) (s : Scope Variable) (e : Expression) → ex ≡ list
+    → list ≡ atoms_of known_kind g (params_scope xs ks) e
     → s ≡ param_variables 0 ys ls → ys ≡ xs → ls ≡ ks → AreAt ex 0 (atoms_of known_kind g (kinds_in s) e)
 body_at g ex list xs ys ks ls s e p q h i j =
     let scope : kinds_in s ≡ params_scope xs ks = ap kinds_in h ∙ ap (λ z. kinds_in (param_variables 0 z ls)) i ∙ ap (λ z. kinds_in (param_variables 0 xs z)) j ∙ param_kinds 0 xs ks in
@@ -88,11 +91,12 @@ read_used (x ∷ xs) = at_test x.read (read_used xs)
     at_test true h = h
     at_test false h = h
 
-pub finds_walk : {A : Type 0} (r : Result A UseFault) (f : Flow) (free count : ℕ) (s0 s1 : State) → Walks f free count s0 r s1 → Finds r (first_of s0.spent f)
+pub finds_walk : {A : Type 0} (r : Result A (Stop UseFault)) (f : Flow) (free count : ℕ) (s0 s1 : State) → Walks f free count s0 r s1
+    → Finds r (first_of s0.spent f)
 finds_walk (Ok x) f free count s0 s1 w = w.none
-finds_walk (Err fault) f free count s0 s1 w = w
+finds_walk (Err stop) f free count s0 s1 w = w
 
-pub function_finds : {A : Type 0} (r : Result A UseFault) (g : Globals Kind) (e : Expression) (xs ys zs : List Param) (ks ls : List Kind) (next free count : ℕ) (s0 s1 : State)
+pub function_finds : {A : Type 0} (r : Result A (Stop UseFault)) (g : Globals Kind) (e : Expression) (xs ys zs : List Param) (ks ls : List Kind) (next free count : ℕ) (s0 s1 : State)
     → first_of [] (read_flow ys) ≡ None → ys ≡ xs → s0.next ≡ next → s0.scope ≡ param_variables 0 zs ls → zs ≡ xs → ls ≡ ks → s0.spent ≡ []
     → Walks (flow g s0.next s0.scope e) free count s0 r s1 → Finds r (first_of [] (After (read_flow xs) (flow g next (param_variables 0 xs ks) e)))
 function_finds r g e xs ys zs ks ls next free count s0 s1 n yx nx sc zx lk sp w =
@@ -106,19 +110,22 @@ function_finds r g e xs ys zs ks ls next free count s0 s1 n yx nx sc zx lk sp w 
 
 -- ---- programs
 
-pub functions_on : (g : Globals Kind) (f : Function) (fs : List Function) (k : FunctionKinds) (ks : List FunctionKinds) → first_of [] (function_flow g f (signature_of f k)) ≡ None
+pub functions_on : (g : Globals Kind) (f : Function) (fs : List Function) (k : FunctionKinds) (ks : List FunctionKinds)
+    → first_of [] (function_flow g f (signature_of f k)) ≡ None
     → first (functions_faults g (f ∷ fs) (signatures_of (f ∷ fs) (k ∷ ks))) ≡ first (functions_faults g fs (signatures_of fs ks))
 functions_on g f fs k ks h =
     first_append (faults [] (function_flow g f (signature_of f k))) (functions_faults g fs (signatures_of fs ks))
     ∙ or_none (first (faults [] (function_flow g f (signature_of f k)))) (first (functions_faults g fs (signatures_of fs ks))) (first_faults (function_flow g f (signature_of f k)) [] ∙ h)
 
-pub functions_stop : (g : Globals Kind) (f : Function) (fs : List Function) (k : FunctionKinds) (ks : List FunctionKinds) (fault : UseFault) → first_of [] (function_flow g f (signature_of f k)) ≡ Some fault
+pub functions_stop : (g : Globals Kind) (f : Function) (fs : List Function) (k : FunctionKinds) (ks : List FunctionKinds) (fault : UseFault)
+    → first_of [] (function_flow g f (signature_of f k)) ≡ Some fault
     → first (functions_faults g (f ∷ fs) (signatures_of (f ∷ fs) (k ∷ ks))) ≡ Some fault
 functions_stop g f fs k ks fault h =
     first_append (faults [] (function_flow g f (signature_of f k))) (functions_faults g fs (signatures_of fs ks))
     ∙ or_some (first (faults [] (function_flow g f (signature_of f k)))) (first (functions_faults g fs (signatures_of fs ks))) fault (first_faults (function_flow g f (signature_of f k)) [] ∙ h)
 
-pub functions_over : {A B : Type 0} (g : Globals Kind) (p : A → Function) (q : B → FunctionKinds) (fs : List A) (ks : List B) → (length fs ≡ 0) ⊎ (length ks ≡ 0)
+pub functions_over : {A B : Type 0} (g : Globals Kind) (p : A → Function) (q : B → FunctionKinds) (fs : List A) (ks : List B)
+    → (length fs ≡ 0) ⊎ (length ks ≡ 0)
     → functions_faults g (map p fs) (signatures_of (map p fs) (map q ks)) ≡ []
 functions_over g p q [] ks h = refl
 functions_over g p q (f ∷ fs) [] h = refl
@@ -134,26 +141,30 @@ funs_step p q g fs gs ks ls f k found e d n h =
     sym (functions_on g (p f) (map p gs) (q k) (map q ls) n) ∙ ap (λ l. first (functions_faults g (map p l) (signatures_of (map p l) (q k ∷ map q ls)))) (sym e)
     ∙ ap (λ l. first (functions_faults g (map p fs) (signatures_of (map p fs) (map q l)))) (sym d) ∙ h
 
-pub funs_stop : {A B : Type 0} (p : A → Function) (q : B → FunctionKinds) (g : Globals Kind) (fs gs : List A) (ks ls : List B) (f : A) (k : B) (found : Option UseFault) (fault : UseFault)
-    → fs ≡ f ∷ gs → ks ≡ k ∷ ls → first_of [] (function_flow g (p f) (signature_of (p f) (q k))) ≡ Some fault
-    → first (functions_faults g (map p fs) (signatures_of (map p fs) (map q ks))) ≡ found → found ≡ Some fault
-funs_stop p q g fs gs ks ls f k found fault e d n h =
+pub funs_stop : {A B : Type 0} (p : A → Function) (q : B → FunctionKinds) (g : Globals Kind) (fs gs : List A) (ks ls : List B) (f : A) (k : B) (found : Option UseFault) (stop : Stop UseFault)
+    → fs ≡ f ∷ gs → ks ≡ k ∷ ls → StopsAt (first_of [] (function_flow g (p f) (signature_of (p f) (q k)))) stop
+    → first (functions_faults g (map p fs) (signatures_of (map p fs) (map q ks))) ≡ found → StopsAt found stop
+funs_stop p q g fs gs ks ls f k found (stop.Fault fault) e d n h =
     sym h ∙ ap (λ l. first (functions_faults g (map p fs) (signatures_of (map p fs) (map q l)))) d
     ∙ ap (λ l. first (functions_faults g (map p l) (signatures_of (map p l) (q k ∷ map q ls)))) e ∙ functions_stop g (p f) (map p gs) (q k) (map q ls) fault n
+funs_stop p q g fs gs ks ls f k found stop.Memory e d n h = tt
 
-pub kinds_step : {A B : Type 0} (p : A → Function) (q : B → FunctionKinds) (g : Globals Kind) (fs gs : List A) (ks ls : List B) (f : A) (k : B) → fs ≡ f ∷ gs → ks ≡ k ∷ ls
+pub kinds_step : {A B : Type 0} (p : A → Function) (q : B → FunctionKinds) (g : Globals Kind) (fs gs : List A) (ks ls : List B) (f : A) (k : B)
+    → fs ≡ f ∷ gs → ks ≡ k ∷ ls
     → map q ks ≡ functions_kinds g (map p fs) (signatures_of (map p fs) (map q ks)) → map q ls ≡ functions_kinds g (map p gs) (signatures_of (map p gs) (map q ls))
 kinds_step {A} {B} p q g fs gs ks ls f k e d h =
     let Left : List A → List B → Type 0 = λ x y. map q y ≡ functions_kinds g (map p x) (signatures_of (map p x) (map q y)) in
     let whole : Left (f ∷ gs) (k ∷ ls) = subst (λ x. Left x (k ∷ ls)) e (subst (λ y. Left fs y) d h) in
     tail whole
   where
-    tail : q k ∷ map q ls ≡ functions_kinds g (map p (f ∷ gs)) (signatures_of (map p (f ∷ gs)) (map q (k ∷ ls))) → map q ls ≡ functions_kinds g (map p gs) (signatures_of (map p gs) (map q ls))
+    tail : q k ∷ map q ls ≡ functions_kinds g (map p (f ∷ gs)) (signatures_of (map p (f ∷ gs)) (map q (k ∷ ls)))
+        → map q ls ≡ functions_kinds g (map p gs) (signatures_of (map p gs) (map q ls))
     tail w = cc
 
-pub finds_err : {A : Type 0} (r : Result A UseFault) (fault : UseFault) (found : Option UseFault) → IsErrAnd r (λ e. e ≡ fault) → (is_memory fault ≡ false → found ≡ Some fault) → Finds r found
-finds_err (Ok x) fault found h t = absurd h
-finds_err (Err e) fault found h t = λ m. t (ap is_memory (sym h) ∙ m) ∙ ap Some (sym h)
+pub finds_err : {A : Type 0} (r : Result A (Stop UseFault)) (stop : Stop UseFault) (found : Option UseFault) → IsErrAnd r (λ e. e ≡ stop)
+    → StopsAt found stop → Finds r found
+finds_err (Ok x) stop found h t = absurd h
+finds_err (Err e) stop found h t = subst (StopsAt found) (sym h) t
 
 pub globals_is : (t : Typed) → globals_in t ≡ typing_globals (typing_of t)
 globals_is t = let f : List DataType → Globals Kind = λ types. record { types = types; heads = (typing_of t).signatures } in ap f t.its_types

@@ -2,8 +2,8 @@
 use Rattle.std.proofs.Common.{◌≡◌, ℕ, zero, suc, ◌+◌, ◌<◌, List, [], ◌∷◌, ◌++◌, map, length, drop, take, get_or, refl, sym, ap, ◌∙◌, subst, arith, append_assoc, length-append}
 use Rattle.camelot_values.specs.declared.kinds.Kind.{Kind}
 use Rattle.camelot_tree.specs.Tree.{Expression, Expressions, AndExpression, Arms, AndArm, Branch, expressions, arms}
-use Rattle.typing_rules.specs.Kinds.{Globals, all_atoms, arms_atoms}
-use Rattle.typing_rules.specs.Typing.{known_kind}
+use Rattle.camelot_typing.specs.Kinds.{Globals, all_atoms, arms_atoms}
+use Rattle.camelot_typing.specs.Typing.{known_kind}
 use Rattle.linear_use.specs.declared.state.State.{State}
 use Rattle.linear_use.specs.Flow.{Flow, used, kinds_in, next_of, all_next, arms_next, flow, all_flow, arms_flow}
 use Rattle.linear_use.specs.Walk.{first_of, AreAt, Walked, kinds_at, all_kinds_at, arm_flow, arm_next, arm_kinds_at, arms_kinds_at}
@@ -21,11 +21,13 @@ pub record AllLeft (g : Globals Kind) (ex : List Kind) (all left : Expressions) 
   pub position : s1.position + length (all_kinds_at g s1 left) ≡ s0.position + length (all_kinds_at g s0 all)
   pub kinds : AreAt ex s1.position (all_kinds_at g s1 left)
 
-pub all_at : (g : Globals Kind) (ex : List Kind) (all left rest : Expressions) (e : Expression) (s0 s1 : State) → left ≡ AndExpression e rest → AllLeft g ex all left s0 s1 → AreAt ex s1.position (kinds_at g s1 e)
+pub all_at : (g : Globals Kind) (ex : List Kind) (all left rest : Expressions) (e : Expression) (s0 s1 : State) → left ≡ AndExpression e rest
+    → AllLeft g ex all left s0 s1 → AreAt ex s1.position (kinds_at g s1 e)
 all_at g ex all left rest e s0 s1 q h =
     at_front ex s1.position (kinds_at g s1 e) (all_kinds_at g s1 rest) (subst (λ x. AreAt ex s1.position (all_kinds_at g s1 x)) q h.kinds)
 
-pub all_step : (g : Globals Kind) (ex : List Kind) (all left rest : Expressions) (e : Expression) (s0 s1 s2 : State) → left ≡ AndExpression e rest → AllLeft g ex all left s0 s1 → WalkedTerm g e s1 s2
+pub all_step : (g : Globals Kind) (ex : List Kind) (all left rest : Expressions) (e : Expression) (s0 s1 s2 : State) → left ≡ AndExpression e rest
+    → AllLeft g ex all left s0 s1 → WalkedTerm g e s1 s2
     → AllLeft g ex all rest s0 s2
 all_step g ex all left rest e s0 s1 s2 q h w =
     let own = flow g s1.next s1.scope e in
@@ -54,7 +56,8 @@ all_step g ex all left rest e s0 s1 s2 q h w =
 
 -- ---- a loop over a list
 
-pub left_expressions : {A : Type 0} (f : A → Expression) (xs : List A) (i j : ℕ) (x : A) → j ≡ i + 1 → i < length xs → x ≡ get_or xs i x → expressions (map f (drop i xs)) ≡ AndExpression (f x) (expressions (map f (drop j xs)))
+pub left_expressions : {A : Type 0} (f : A → Expression) (xs : List A) (i j : ℕ) (x : A) → j ≡ i + 1 → i < length xs → x ≡ get_or xs i x
+    → expressions (map f (drop i xs)) ≡ AndExpression (f x) (expressions (map f (drop j xs)))
 left_expressions f [] i j x e h r = absurd (omega (arith, h))
 left_expressions f (y ∷ xs) zero j x e h r = let q : j ≡ 1 = omega (arith, e) in ap (λ z. AndExpression (f z) (expressions (map f xs))) (sym r) ∙ ap (λ k. AndExpression (f x) (expressions (map f (drop k (y ∷ xs))))) (sym q)
 left_expressions f (y ∷ xs) (suc i) zero x e h r = absurd (omega (arith, e))
@@ -97,12 +100,14 @@ pub record ArmsLeft (g : Globals Kind) (ex : List Kind) (all left : Arms) (held 
   pub position : s1.position + length (arms_kinds_at g s1 left) ≡ s0.position + length (arms_kinds_at g s0 all)
   pub kinds : AreAt ex s1.position (arms_kinds_at g s1 left)
 
-pub arms_at : (g : Globals Kind) (ex : List Kind) (all left rest : Arms) (a : Branch) (held : List ℕ) (s0 s1 : State) → left ≡ AndArm a.con a.fields a.cell a.body rest
+pub arms_at : (g : Globals Kind) (ex : List Kind) (all left rest : Arms) (a : Branch) (held : List ℕ) (s0 s1 : State)
+    → left ≡ AndArm a.con a.fields a.cell a.body rest
     → ArmsLeft g ex all left held s0 s1 → AreAt ex s1.position (arm_kinds_at g s1 a)
 arms_at g ex all left rest a held s0 s1 q h =
     at_front ex s1.position (arm_kinds_at g s1 a) (arms_kinds_at g s1 rest) (subst (λ x. AreAt ex s1.position (arms_kinds_at g s1 x)) q h.kinds)
 
-pub arms_step : (g : Globals Kind) (ex : List Kind) (all left rest : Arms) (a : Branch) (held held2 : List ℕ) (start : ℕ) (s0 s1 s2 s3 : State) → left ≡ AndArm a.con a.fields a.cell a.body rest
+pub arms_step : (g : Globals Kind) (ex : List Kind) (all left rest : Arms) (a : Branch) (held held2 : List ℕ) (start : ℕ) (s0 s1 s2 s3 : State)
+    → left ≡ AndArm a.con a.fields a.cell a.body rest
     → ArmsLeft g ex all left held s0 s1 → WalkedArm g a s1 s2 → start ≡ length s0.spent → s3 ≡ record s2 { spent = take start s2.spent } → held2 ≡ drop start s2.spent ++ held
     → ArmsLeft g ex all rest held2 s0 s3
 arms_step g ex all left rest a held held2 start s0 s1 s2 s3 q h w st r d =

@@ -10,8 +10,8 @@ use Rattle.camelot_values.specs.NameLaws.{same_name, name_itself}
 use Rattle.camelot_tree.specs.declared.tree.Name.{Name}
 use Rattle.camelot_tree.specs.declared.tree.Param.{Param}
 use Rattle.camelot_tree.specs.Tree.{Expression, Function, Source}
-use Rattle.typing_rules.specs.Kinds.{Globals, Scope, bind}
-use Rattle.typing_rules.specs.Typing.{Signature, ParamsStand, FunctionFits, FunctionsFit, IsTyped, params_scope, globals_of}
+use Rattle.camelot_typing.specs.Kinds.{Globals, Scope, bind}
+use Rattle.camelot_typing.specs.Typing.{Signature, ParamsStand, FunctionFits, FunctionsFit, IsTyped, params_scope, globals_of}
 use Rattle.linear_use.specs.declared.variable.Variable.{Variable}
 use Rattle.linear_use.specs.declared.fault.UseFault.TheVariants.{ReadMatch}
 use Rattle.linear_use.specs.Uses.{is_bound, uses, IsLinear, ParamsUsedOnce, FunctionIsLinear, FunctionsAreLinear, KeepsRule}
@@ -45,7 +45,8 @@ param_kinds next (x ∷ xs) [] = refl
 param_kinds next (x ∷ xs) (k ∷ ks) = ap (bind x.name.word k) (param_kinds (suc next) xs ks)
 
 -- a number that no parameter has
-params_other : (types : List DataType) (next : ℕ) (xs : List Param) (ks : List Kind) (i : ℕ) → (next ≤ i → next + length xs ≤ i) → Means types (param_variables next xs ks) i [] false
+params_other : (types : List DataType) (next : ℕ) (xs : List Param) (ks : List Kind) (i : ℕ) → (next ≤ i → next + length xs ≤ i)
+    → Means types (param_variables next xs ks) i [] false
 params_other types next [] ks i o n = refl
 params_other types next (x ∷ xs) [] i o n = refl
 params_other types next (x ∷ xs) (k ∷ ks) i o n =
@@ -75,7 +76,8 @@ other_way x y h = at_test (bytes_eq x y) refl
     at_test true e = let q : x ≡ y = same_name x y e in let r : bytes_eq y x ≡ true = subst (λ z. bytes_eq y z ≡ true) (sym q) (name_itself y) in cc
     at_test false e = refl
 
-still_params : (types : List DataType) (s : Scope Variable) (w : List ℕ) (v : Variable) (next : ℕ) (xs : List Param) (ks : List Kind) → v.number < next → is_bound w (param_names xs) ≡ false
+still_params : (types : List DataType) (s : Scope Variable) (w : List ℕ) (v : Variable) (next : ℕ) (xs : List Param) (ks : List Kind)
+    → v.number < next → is_bound w (param_names xs) ≡ false
     → ParamsAre types s next xs ks → ParamsAre types (bind w v s) next xs ks
 still_params types s w v next [] ks h a m = tt
 still_params types s w v next (x ∷ xs) [] h a m = tt
@@ -86,7 +88,8 @@ still_params types s w v next (x ∷ xs) (k ∷ ks) h a m =
       still_params types s w v (suc next) xs ks (omega (arith, h)) (not_second (bytes_eq x.name.word w) (is_bound w (param_names xs)) a) m.1,
     )
 
-params_are : (types : List DataType) (next : ℕ) (xs : List Param) (ks : List Kind) → AreApart (param_names xs) → ParamsAre types (param_variables next xs ks) next xs ks
+params_are : (types : List DataType) (next : ℕ) (xs : List Param) (ks : List Kind) → AreApart (param_names xs)
+    → ParamsAre types (param_variables next xs ks) next xs ks
 params_are types next [] ks a = tt
 params_are types next (x ∷ xs) [] a = tt
 params_are types next (x ∷ xs) (k ∷ ks) a =
@@ -125,7 +128,8 @@ once_params types s f e next (x ∷ xs) (k ∷ ks) count a clean once = (
   once_params types s f e (suc next) xs ks (λ i y h p. count i y h (omega (arith, p))) a.1 clean.1 once,
 )
 
-params_clean : (types : List DataType) (xs : List Param) (ks : List Kind) (e : Expression) → length xs ≡ length ks → ParamsUsedOnce types xs ks e → IsClean (read_flow xs)
+params_clean : (types : List DataType) (xs : List Param) (ks : List Kind) (e : Expression) → length xs ≡ length ks → ParamsUsedOnce types xs ks e
+    → IsClean (read_flow xs)
 params_clean types [] ks e l u = tt
 params_clean types (x ∷ xs) [] e l u = absurd (omega (arith, l))
 params_clean types (x ∷ xs) (k ∷ ks) e l u = (read_clean x x.read u.0, params_clean types xs ks e (omega (arith, l)) u.2)
@@ -191,7 +195,8 @@ function_faultless g f s shape h =
     at_side body quiet early i (inl p) = early i (omega arith) (omega (arith, p))
     at_side body quiet early i (inr p) = quiet.once i p
 
-functions_linear : (p : Source) (g : Globals Kind) (fs : List Function) (ss : List Signature) → FunctionsFit p g fs ss → functions_faults g fs ss ≡ [] → FunctionsAreLinear g fs ss
+functions_linear : (p : Source) (g : Globals Kind) (fs : List Function) (ss : List Signature) → FunctionsFit p g fs ss
+    → functions_faults g fs ss ≡ [] → FunctionsAreLinear g fs ss
 functions_linear p g [] ss fit h = tt
 functions_linear p g (f ∷ fs) [] fit h = tt
 functions_linear p g (f ∷ fs) (s ∷ ss) fit h = (
@@ -199,7 +204,8 @@ functions_linear p g (f ∷ fs) (s ∷ ss) fit h = (
   functions_linear p g fs ss fit.1 (nothing_right (faults [] (function_flow g f s)) (functions_faults g fs ss) h),
 )
 
-functions_faultless : (p : Source) (g : Globals Kind) (fs : List Function) (ss : List Signature) → FunctionsFit p g fs ss → FunctionsAreLinear g fs ss → functions_faults g fs ss ≡ []
+functions_faultless : (p : Source) (g : Globals Kind) (fs : List Function) (ss : List Signature) → FunctionsFit p g fs ss
+    → FunctionsAreLinear g fs ss → functions_faults g fs ss ≡ []
 functions_faultless p g [] ss fit h = refl
 functions_faultless p g (f ∷ fs) [] fit h = refl
 functions_faultless p g (f ∷ fs) (s ∷ ss) fit h =

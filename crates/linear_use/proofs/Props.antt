@@ -9,9 +9,9 @@ use Rattle.camelot_tree.specs.declared.tree.Name.{Name}
 use Rattle.camelot_tree.specs.declared.tree.Param.{Param}
 use Rattle.camelot_tree.specs.declared.tree.ArmCell.{ArmCell}
 use Rattle.camelot_tree.specs.Tree.{Expression, Num, Truth, Var, Prim, If, Let, Match, Build, Call, Expressions, NoExpressions, AndExpression, Arms, NoArms, AndArm, Function}
-use Rattle.typing_rules.specs.Kinds.{Globals, Scope, bind, bound_names, arm_scope, atom_of}
-use Rattle.typing_rules.specs.Typing.{Signature, known_kind, params_scope}
-use Rattle.typing_rules.specs.Typed.{Typing, typing_globals}
+use Rattle.camelot_typing.specs.Kinds.{Globals, Scope, bind, bound_names, arm_scope, atom_of}
+use Rattle.camelot_typing.specs.Typing.{Signature, known_kind, params_scope}
+use Rattle.camelot_typing.specs.Typed.{Typing, typing_globals}
 use Rattle.linear_use.specs.Uses.{UsedOnce, EachUsedOnce, CellTaken, IsLinear, AllAreLinear, ArmsAreLinear, ParamsUsedOnce, FunctionsAreLinear}
 use Rattle.camelot_tree.specs.Cells.{has_cell}
 use Rattle.linear_use.specs.Answers.{KeepsRule}

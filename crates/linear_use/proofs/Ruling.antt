@@ -10,8 +10,8 @@ use Rattle.camelot_tree.specs.declared.tree.Name.{Name}
 use Rattle.camelot_tree.specs.declared.tree.ArmCell.{ArmCell}
 use Rattle.camelot_tree.specs.declared.tree.ArmCell.TheVariants as cell
 use Rattle.camelot_tree.specs.Tree.{Expression, Num, Truth, Var, Prim, If, Let, Match, Build, Call, Expressions, NoExpressions, AndExpression, Arms, NoArms, AndArm}
-use Rattle.typing_rules.specs.Kinds.{Globals, Scope, bind, or_else, constructor_number, is_inline, atom_of, field_names, cell_names, bound_names, arm_scope}
-use Rattle.typing_rules.specs.Typing.{known_kind}
+use Rattle.camelot_typing.specs.Kinds.{Globals, Scope, bind, or_else, constructor_number, is_inline, atom_of, field_names, cell_names, bound_names, arm_scope}
+use Rattle.camelot_typing.specs.Typing.{known_kind}
 use Rattle.linear_use.specs.declared.variable.Variable.{Variable}
 use Rattle.linear_use.specs.declared.fault.UseFault.TheVariants.{ReadMatch}
 use Rattle.linear_use.specs.Uses.{uses, UsedOnce, EachUsedOnce, CellTaken, IsLinear, AllAreLinear, ArmsAreLinear}
@@ -56,7 +56,8 @@ sides (suc i) (suc m) = more (sides i m)
     more (inl h) = inl (omega (arith, h))
     more (inr h) = inr (omega (arith, h))
 
-quiet_after : (next mid : ℕ) (a b : Flow) → IsQuiet next a → IsQuiet mid b → ((i : ℕ) → next ≤ i → i < mid → flow_uses i b ≡ 0) → ((i : ℕ) → next ≤ i → mid ≤ i → flow_uses i a ≡ 0) → IsQuiet next (After a b)
+quiet_after : (next mid : ℕ) (a b : Flow) → IsQuiet next a → IsQuiet mid b → ((i : ℕ) → next ≤ i → i < mid → flow_uses i b ≡ 0)
+    → ((i : ℕ) → next ≤ i → mid ≤ i → flow_uses i a ≡ 0) → IsQuiet next (After a b)
 quiet_after next mid a b p q before behind = record { clean = (p.clean, q.clean); once = λ i h. at_side i h (sides i mid) }
   where
     at_side : (i : ℕ) → next ≤ i → (i < mid) ⊎ (mid ≤ i) → flow_uses i a + flow_uses i b ≤ 1
@@ -154,7 +155,8 @@ once_fields types s f e next last end (Some n ∷ fs) (t ∷ ks) x count l p q a
   once_fields types s f e (suc next) last end fs ks x count (omega (arith, l)) (omega (arith, p)) q a.1 (λ i h. u i (omega (arith, h))),
 )
 
-quiet_arm : (next body : ℕ) (c : Name) (x : ArmCell) (f : Flow) (types : List DataType) → CellTaken types c x → IsQuiet body f → ((i : ℕ) → next ≤ i → i < body → flow_uses i f ≤ 1)
+quiet_arm : (next body : ℕ) (c : Name) (x : ArmCell) (f : Flow) (types : List DataType) → CellTaken types c x → IsQuiet body f
+    → ((i : ℕ) → next ≤ i → i < body → flow_uses i f ≤ 1)
     → IsQuiet next (After (cell_flow types c x) f)
 quiet_arm next body c x f types taken q fields = record {
   clean = (cell_clean types c x taken, q.clean);
@@ -169,13 +171,16 @@ quiet_arm next body c x f types taken q fields = record {
 abbrev none : List ℕ
 none = []
 
-unused : (g : Globals Kind) (e : Expression) (next : ℕ) (s : Scope Variable) (i : ℕ) → IsFull g.types e → Outside i next (next_of g.types next e) → Means g.types s i none false → flow_uses i (flow g next s e) ≡ 0
+unused : (g : Globals Kind) (e : Expression) (next : ℕ) (s : Scope Variable) (i : ℕ) → IsFull g.types e → Outside i next (next_of g.types next e)
+    → Means g.types s i none false → flow_uses i (flow g next s e) ≡ 0
 unused g e next s i full o m = counted g e next s i none false full o m
 
-all_unused : (g : Globals Kind) (es : Expressions) (next : ℕ) (s : Scope Variable) (i : ℕ) → AllAreFull g.types es → Outside i next (all_next g.types next es) → Means g.types s i none false → flow_uses i (all_flow g next s es) ≡ 0
+all_unused : (g : Globals Kind) (es : Expressions) (next : ℕ) (s : Scope Variable) (i : ℕ) → AllAreFull g.types es
+    → Outside i next (all_next g.types next es) → Means g.types s i none false → flow_uses i (all_flow g next s es) ≡ 0
 all_unused g es next s i full o m = all_counted g es next s i none false full o m
 
-arms_unused : (g : Globals Kind) (as' : Arms) (next : ℕ) (s : Scope Variable) (i : ℕ) → ArmsAreFull g.types as' → Outside i next (arms_next g.types next as') → Means g.types s i none false → flow_uses i (arms_flow g next s as') ≡ 0
+arms_unused : (g : Globals Kind) (as' : Arms) (next : ℕ) (s : Scope Variable) (i : ℕ) → ArmsAreFull g.types as'
+    → Outside i next (arms_next g.types next as') → Means g.types s i none false → flow_uses i (arms_flow g next s as') ≡ 0
 arms_unused g as' next s i full o m = arms_counted g as' next s i none false full o m
 
 place_quiet : (g : Globals Kind) (next : ℕ) (s : Scope Variable) (place : Option Name) → Below g.types next s → IsQuiet next (place_flow g.types s place)
@@ -190,15 +195,18 @@ place_quiet g next s (Some d) below = record { clean = clean (find s d.word); on
     clean None = tt
     clean (Some v) = at_kind v (is_heap g.types v.kind)
 
-place_unused : (g : Globals Kind) (next : ℕ) (s : Scope Variable) (place : Option Name) → Below g.types next s → (i : ℕ) → next ≤ i → flow_uses i (place_flow g.types s place) ≡ 0
+place_unused : (g : Globals Kind) (next : ℕ) (s : Scope Variable) (place : Option Name) → Below g.types next s → (i : ℕ) → next ≤ i
+    → flow_uses i (place_flow g.types s place) ≡ 0
 place_unused g next s None below i p = refl
 place_unused g next s (Some d) below i p = below i p d
 
-arm_stand : (types : List DataType) (next : ℕ) (c : Name) (fs : List (Option Name)) (x : ArmCell) (s : Scope Variable) → HeadIsFull types c fs x → Below types next s
+arm_stand : (types : List DataType) (next : ℕ) (c : Name) (fs : List (Option Name)) (x : ArmCell) (s : Scope Variable) → HeadIsFull types c fs x
+    → Below types next s
     → AllStand types (arm_variables types next c fs x s) next (next + fields_count fs (con_fields types c)) fs (con_fields types c) x
 arm_stand types next c fs x s full below = all_stand types next (next + fields_count fs (con_fields types c)) fs (con_fields types c) x s full.full refl full.apart below
 
-arm_below : (types : List DataType) (next : ℕ) (c : Name) (fs : List (Option Name)) (x : ArmCell) (s : Scope Variable) → HeadIsFull types c fs x → Below types next s
+arm_below : (types : List DataType) (next : ℕ) (c : Name) (fs : List (Option Name)) (x : ArmCell) (s : Scope Variable) → HeadIsFull types c fs x
+    → Below types next s
     → Below types (next + arm_count types c fs x) (arm_variables types next c fs x s)
 arm_below types next c fs x s full below =
     let last = next + fields_count fs (con_fields types c) in
@@ -212,7 +220,8 @@ arm_kinds types next c fs x s = inner_kinds next (next + fields_count fs (con_fi
 -- ---- a quiet flow keeps the rule
 
 mutual
-  pub quiet_linear : (g : Globals Kind) (e : Expression) (next : ℕ) (s : Scope Variable) → IsFull g.types e → Below g.types next s → IsQuiet next (flow g next s e) → IsLinear g (kinds_in s) e
+  pub quiet_linear : (g : Globals Kind) (e : Expression) (next : ℕ) (s : Scope Variable) → IsFull g.types e → Below g.types next s
+      → IsQuiet next (flow g next s e) → IsLinear g (kinds_in s) e
   quiet_linear g (Num z l) next s full below q = tt
   quiet_linear g (Truth b l) next s full below q = tt
   quiet_linear g (Var n) next s full below q = tt
@@ -252,7 +261,8 @@ mutual
   quiet_linear g (Build c es place) next s full below q = quiet_all g es next s full below (after_left next (all_flow g next s es) (place_flow g.types s place) q)
   quiet_linear g (Call f es) next s full below q = quiet_all g es next s full below q
 
-  pub quiet_all : (g : Globals Kind) (es : Expressions) (next : ℕ) (s : Scope Variable) → AllAreFull g.types es → Below g.types next s → IsQuiet next (all_flow g next s es) → AllAreLinear g (kinds_in s) es
+  pub quiet_all : (g : Globals Kind) (es : Expressions) (next : ℕ) (s : Scope Variable) → AllAreFull g.types es → Below g.types next s
+      → IsQuiet next (all_flow g next s es) → AllAreLinear g (kinds_in s) es
   quiet_all g NoExpressions next s full below q = tt
   quiet_all g (AndExpression e es) next s full below q =
       let mid = next_of g.types next e in
@@ -261,7 +271,8 @@ mutual
         quiet_all g es mid s full.1 (below_more g.types next mid s p below) (quiet_more next mid _ p (after_right next (flow g next s e) (all_flow g mid s es) q)),
       )
 
-  pub quiet_arms : (g : Globals Kind) (as' : Arms) (next : ℕ) (s : Scope Variable) → ArmsAreFull g.types as' → Below g.types next s → IsQuiet next (arms_flow g next s as') → ArmsAreLinear g (kinds_in s) as'
+  pub quiet_arms : (g : Globals Kind) (as' : Arms) (next : ℕ) (s : Scope Variable) → ArmsAreFull g.types as' → Below g.types next s
+      → IsQuiet next (arms_flow g next s as') → ArmsAreLinear g (kinds_in s) as'
   quiet_arms g NoArms next s full below q = tt
   quiet_arms g (AndArm c fs x b as') next s full below q =
       let body = next + arm_count g.types c fs x in
@@ -284,7 +295,8 @@ mutual
 -- ---- the rule keeps a flow quiet
 
 mutual
-  pub linear_quiet : (g : Globals Kind) (e : Expression) (next : ℕ) (s : Scope Variable) → IsFull g.types e → Below g.types next s → IsLinear g (kinds_in s) e → IsQuiet next (flow g next s e)
+  pub linear_quiet : (g : Globals Kind) (e : Expression) (next : ℕ) (s : Scope Variable) → IsFull g.types e → Below g.types next s
+      → IsLinear g (kinds_in s) e → IsQuiet next (flow g next s e)
   linear_quiet g (Num z l) next s full below q = quiet_none next
   linear_quiet g (Truth b l) next s full below q = quiet_none next
   linear_quiet g (Var n) next s full below q = place_quiet g next s (Some n) below
@@ -344,7 +356,8 @@ mutual
       (λ i h k. all_unused g es next s i full (λ t. k) (below i h))
   linear_quiet g (Call f es) next s full below q = all_quiet g es next s full below q
 
-  pub all_quiet : (g : Globals Kind) (es : Expressions) (next : ℕ) (s : Scope Variable) → AllAreFull g.types es → Below g.types next s → AllAreLinear g (kinds_in s) es → IsQuiet next (all_flow g next s es)
+  pub all_quiet : (g : Globals Kind) (es : Expressions) (next : ℕ) (s : Scope Variable) → AllAreFull g.types es → Below g.types next s
+      → AllAreLinear g (kinds_in s) es → IsQuiet next (all_flow g next s es)
   all_quiet g NoExpressions next s full below q = quiet_none next
   all_quiet g (AndExpression e es) next s full below q =
       let mid = next_of g.types next e in
@@ -355,7 +368,8 @@ mutual
       (λ i h k. all_unused g es mid s i full.1 (λ t. absurd (omega (arith, k, t))) (below i h))
       (λ i h k. unused g e next s i full.0 (λ t. k) (below i h))
 
-  pub arms_quiet : (g : Globals Kind) (as' : Arms) (next : ℕ) (s : Scope Variable) → ArmsAreFull g.types as' → Below g.types next s → ArmsAreLinear g (kinds_in s) as' → IsQuiet next (arms_flow g next s as')
+  pub arms_quiet : (g : Globals Kind) (as' : Arms) (next : ℕ) (s : Scope Variable) → ArmsAreFull g.types as' → Below g.types next s
+      → ArmsAreLinear g (kinds_in s) as' → IsQuiet next (arms_flow g next s as')
   arms_quiet g NoArms next s full below q = quiet_none next
   arms_quiet g (AndArm c fs x b as') next s full below q =
       let body = next + arm_count g.types c fs x in

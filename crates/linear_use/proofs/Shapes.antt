@@ -9,8 +9,8 @@ use Rattle.camelot_values.specs.NameLaws.{same_name}
 use Rattle.camelot_tree.specs.declared.tree.Name.{Name}
 use Rattle.camelot_tree.specs.declared.tree.ArmCell.{ArmCell}
 use Rattle.camelot_tree.specs.Tree.{Expression, Num, Truth, Var, Prim, If, Let, Match, Build, Call, Expressions, NoExpressions, AndExpression, Arms, NoArms, AndArm}
-use Rattle.typing_rules.specs.Kinds.{Globals, Scope, bind, or_else, fields_of, bound_names, arm_scope}
-use Rattle.typing_rules.specs.Typing.{HasKind, HaveKinds, ArmsHaveKind, HeadFits, known_kind}
+use Rattle.camelot_typing.specs.Kinds.{Globals, Scope, bind, or_else, fields_of, bound_names, arm_scope}
+use Rattle.camelot_typing.specs.Typing.{HasKind, HaveKinds, ArmsHaveKind, HeadFits, known_kind}
 use Rattle.linear_use.specs.Uses.{is_bound}
 use Rattle.linear_use.specs.Flow.{con_fields}
 
@@ -23,11 +23,14 @@ never : (b : Bool) → (b ≡ true → ⊥) → b ≡ false
 never true h = absurd (h refl)
 never false h = refl
 
-bound_at : (x : List ℕ) (ns : List Name) → is_bound x ns ≡ true → (before : List (List ℕ)) × (rest : List (List ℕ)) × (map (λ n. n.word) ns ≡ before ++ x ∷ rest)
+bound_at : (x : List ℕ) (ns : List Name) → is_bound x ns ≡ true
+    → (before : List (List ℕ)) × (rest : List (List ℕ)) × (map (λ n. n.word) ns ≡ before ++ x ∷ rest)
 bound_at x [] h = cc
 bound_at x (n ∷ ns) h = at_head (bound_at x ns) (bytes_eq n.word x) refl h
   where
-    at_head : (is_bound x ns ≡ true → (before : List (List ℕ)) × (rest : List (List ℕ)) × (map (λ n. n.word) ns ≡ before ++ x ∷ rest)) → (b : Bool) → bytes_eq n.word x ≡ b → (b || is_bound x ns) ≡ true → (before : List (List ℕ)) × (rest : List (List ℕ)) × (n.word ∷ map (λ n. n.word) ns ≡ before ++ x ∷ rest)
+    at_head : (is_bound x ns ≡ true → (before : List (List ℕ)) × (rest : List (List ℕ)) × (map (λ n. n.word) ns ≡ before ++ x ∷ rest)) → (b : Bool)
+        → bytes_eq n.word x ≡ b → (b || is_bound x ns) ≡ true
+        → (before : List (List ℕ)) × (rest : List (List ℕ)) × (n.word ∷ map (λ n. n.word) ns ≡ before ++ x ∷ rest)
     at_head f true e k = ([], map (λ n. n.word) ns, ap (λ w. w ∷ map (λ n. n.word) ns) (same_name n.word x e))
     at_head f false e k = let p = f k in (n.word ∷ p.0, p.1, ap (λ l. n.word ∷ l) p.2)
 

@@ -1,21 +1,17 @@
 -- The constructors' names are distinct, and few.
-use Rattle.std.proofs.Common.{◌≡◌, ℕ, zero, suc, ◌+◌, ◌≤◌, true, if◌then◌else◌, List, [], ◌∷◌, ◌++◌, map, length, drop, get_or, refl, sym, ap, ◌∙◌, subst, arith, append_assoc}
-use Rattle.std.specs.Prelude.{not, flat_map}
-use Rattle.std.specs.Coded.{×_prop, Unit-prop}
-use Rattle.std.proofs.Math.Bool.{Bool-set}
+use Rattle.std.proofs.Common.{◌≡◌, ℕ, zero, suc, ◌+◌, ◌≤◌, List, [], ◌∷◌, ◌++◌, map, length, drop, get_or, refl, sym, ap, ◌∙◌, subst, arith}
+use Rattle.std.specs.Prelude.{flat_map}
 use Rattle.std.proofs.Math.Logic.{∥∥₁_elim}
-use Rattle.camelot_values.specs.Names.{stands}
 use Rattle.camelot_values.specs.Kinds.{DataType, constructors, constructor_of, data_type_of}
 use Rattle.camelot_values.specs.declared.kinds.Con.{Con}
 use Rattle.camelot_values.specs.declared.kinds.TypeDef.{TypeDef}
 use Rattle.camelot_values.specs.NameLaws.{AreNew, distinct_new}
 use Rattle.camelot_tree.specs.Tree as tree
 use Rattle.camelot_tree.specs.Tree.{Source}
-use Rattle.linear_use.specs.Tables.{with_names}
-use Rattle.linear_use.proofs.Flows.{nothing_behind}
-use Rattle.typing_rules.specs.Kinds.{types_of, data_kinds, constructor_kinds}
+use Rattle.linear_use.specs.TableLaws.{new_prop, left_item}
+use Rattle.camelot_typing.specs.Kinds.{types_of, data_kinds, constructor_kinds}
 use Rattle.camelot_tree.specs.Meaning.{declared_constructors}
-use Rattle.typing_rules.specs.Typed.{Typing, IsTyping}
+use Rattle.camelot_typing.specs.Typed.{Typing, IsTyping}
 
 abbrev pub con_words : List DataType → List (List ℕ)
 con_words types = map (λ c. c.name) (constructors types)
@@ -35,34 +31,13 @@ words_of p (t ∷ ts) =
     ∙ ap (λ l. l ++ con_words (map (data_kinds p) ts)) (same_words p t.cons) ∙ ap (λ l. map (λ c. c.name.word) t.cons ++ l) (words_of p ts)
     ∙ sym (map_append (λ c. c.name.word) t.cons (flat_map (λ t. t.cons) ts))
 
-new_prop : (earlier ws : List (List ℕ)) → IsProp (AreNew earlier ws)
-new_prop earlier [] = Unit-prop
-new_prop earlier (w ∷ ws) = ×_prop (Bool-set (not (stands earlier w)) true) (new_prop (earlier ++ w ∷ []) ws)
-
 words_new : (t : Typing) → IsTyping t → AreNew [] (con_words (types_of t.source))
 words_new t h = subst (AreNew []) (sym (words_of t.source t.source.types)) (distinct_new (map (λ c. c.name.word) (declared_constructors t.source)) h.typed.con_names)
 
 pub names_new : (t : Typing) (types : List DataType) → ∥ IsTyping t ∥₁ → types ≡ types_of t.source → AreNew [] (con_words types)
 names_new t types h e = subst (λ l. AreNew [] (con_words l)) (sym e) (∥∥₁_elim h (new_prop [] (con_words (types_of t.source))) (words_new t))
 
--- ---- adding names
-
-pub with_append : (names xs ys : List (List ℕ)) → with_names names (xs ++ ys) ≡ with_names (with_names names xs) ys
-with_append names [] ys = refl
-with_append names (x ∷ xs) ys = with_append (if not (stands names x) then names ++ x ∷ [] else names) xs ys
-
--- new names are all added
-pub with_new : (names ws : List (List ℕ)) → AreNew names ws → with_names names ws ≡ names ++ ws
-with_new names [] h = sym (nothing_behind names)
-with_new names (w ∷ ws) h =
-    ap (λ b. with_names (if b then names ++ w ∷ [] else names) ws) h.0 ∙ with_new (names ++ w ∷ []) ws h.1 ∙ append_assoc names (w ∷ []) ws
-
--- what is left of a list, at its next item
-pub left_item : {A B : Type 0} (f : A → B) (xs : List A) (i j : ℕ) (x : A) → j ≡ i + 1 → suc i ≤ length xs → x ≡ get_or xs i x → map f (drop i xs) ≡ f x ∷ map f (drop j xs)
-left_item f [] i j x e h r = absurd (omega (arith, h))
-left_item f (y ∷ xs) zero j x e h r = let q : j ≡ 1 = omega (arith, e) in ap (λ z. f z ∷ map f xs) (sym r) ∙ ap (λ k. f x ∷ map f (drop k (y ∷ xs))) (sym q)
-left_item f (y ∷ xs) (suc i) zero x e h r = absurd (omega (arith, e))
-left_item f (y ∷ xs) (suc i) (suc j) x e h r = left_item f xs i j x (omega (arith, e)) (omega (arith, h)) r
+-- ---- types one by one
 
 con_names : (cs : List Con) → map (λ c. c.name) (map constructor_of cs) ≡ map (λ c. c.name) cs
 con_names [] = refl

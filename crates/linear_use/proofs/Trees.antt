@@ -1,6 +1,7 @@
 -- The trees of the code as plain data, and the walk's steps at each sort of expression.
 use Rattle.std.proofs.Common.{◌≡◌, ℕ, suc, ◌+◌, ◌≤◌, ◌<◌, List, [], ◌∷◌, ◌++◌, map, length, Box, Vec, Global, Option, refl, sym, ap, subst, arith, rules, append_assoc, length-append}
 use Rattle.std.specs.Prelude.{Result, Ok, Err}
+use Rattle.stops.specs.declared.stop.Stop.{Stop}
 use Rattle.camelot_values.specs.declared.kinds.Kind.{Kind}
 use Rattle.camelot_values.specs.Operator.{Operator}
 use Rattle.camelot_tree.specs.declared.tree.Name.{Name}
@@ -12,8 +13,8 @@ use Rattle.camelot_tree.specs.declared.tree.Arm.{Arm}
 use Rattle.camelot_tree.specs.declared.tree.Build.{Build as BuildParts}
 use Rattle.camelot_tree.specs.Tree.{Expression, Prim, If, Match, Build, Expressions, Arms, expression_of, branch_of, operator_of, expressions, arms}
 use Rattle.camelot_tree.specs.Spine.{size, arms_size}
-use Rattle.typing_rules.specs.Kinds.{Globals, atom_of, arms_atoms}
-use Rattle.typing_rules.specs.Typing.{known_kind}
+use Rattle.camelot_typing.specs.Kinds.{Globals, atom_of, arms_atoms}
+use Rattle.camelot_typing.specs.Typing.{known_kind}
 use Rattle.linear_use.specs.declared.fault.UseFault.{UseFault}
 use Rattle.linear_use.specs.declared.state.State.{State}
 use Rattle.linear_use.specs.Flow.{Either, kinds_in, place_flow, next_of, all_next, arms_next, flow, all_flow, arms_flow}
@@ -26,13 +27,15 @@ use Rattle.linear_use.proofs.Climbing.{WalkedTerm, WalkedRest}
 pub arm_is : (a : Arm) → branch_of a ≡ record { con = a.con; fields = a.fields.items; cell = a.cell; body = expression_of a.body }
 arm_is a = search (rules, the_lemmas)
 
-pub match_is : (on : Box Expr Global) (as' : Vec Arm Global) (l : ℕ) → expression_of (code.Match l on as') ≡ Match (expression_of on.value) (arms (map branch_of as'.items)) l
+pub match_is : (on : Box Expr Global) (as' : Vec Arm Global) (l : ℕ)
+    → expression_of (code.Match l on as') ≡ Match (expression_of on.value) (arms (map branch_of as'.items)) l
 match_is on as' l = search (rules, the_lemmas)
 
 pub build_is : (b : Box BuildParts Global) → expression_of (code.Build b) ≡ Build b.value.con (expressions (map expression_of b.value.args.items)) b.value.place
 build_is b = search (rules, the_lemmas)
 
-pub prim_is : (op : PrimOp) (a b : Box Expr Global) (l : ℕ) → expression_of (code.Prim op a b l) ≡ Prim (operator_of op) (expression_of a.value) (expression_of b.value) l
+pub prim_is : (op : PrimOp) (a b : Box Expr Global) (l : ℕ)
+    → expression_of (code.Prim op a b l) ≡ Prim (operator_of op) (expression_of a.value) (expression_of b.value) l
 prim_is op a b l = search (rules, the_lemmas)
 
 pub if_is : (c a b : Box Expr Global) (l : ℕ) → expression_of (code.If c a b l) ≡ If (expression_of c.value) (expression_of a.value) (expression_of b.value) l
@@ -40,49 +43,54 @@ if_is c a b l = search (rules, the_lemmas)
 
 -- ---- matches
 
-pub match_at : (g : Globals Kind) (ex : List Kind) (s0 : State) (e on : Expression) (as' : Arms) (l : ℕ) → e ≡ Match on as' l → AreAt ex s0.position (parts_kinds g (kinds_in s0.scope) e)
+pub match_at : (g : Globals Kind) (ex : List Kind) (s0 : State) (e on : Expression) (as' : Arms) (l : ℕ) → e ≡ Match on as' l
+    → AreAt ex s0.position (parts_kinds g (kinds_in s0.scope) e)
     → AreAt ex s0.position (kinds_at g s0 on ++ arms_kinds_at g s0 as')
 match_at g ex s0 e on as' l q h = subst (λ x. AreAt ex s0.position (parts_kinds g (kinds_in s0.scope) x)) q h
 
 pub match_smaller : (e on : Expression) (as' : Arms) (l : ℕ) → e ≡ Match on as' l → suc (size on + arms_size as') ≤ size e
 match_smaller e on as' l q = let k = ap size q in omega (arith, k)
 
-pub match_arms_at : (g : Globals Kind) (ex : List Kind) (s0 s1 : State) (on : Expression) (as' : Arms) → AreAt ex s0.position (kinds_at g s0 on ++ arms_kinds_at g s0 as')
+pub match_arms_at : (g : Globals Kind) (ex : List Kind) (s0 s1 : State) (on : Expression) (as' : Arms)
+    → AreAt ex s0.position (kinds_at g s0 on ++ arms_kinds_at g s0 as')
     → WalkedTerm g on s0 s1 → AreAt ex s1.position (arms_kinds_at g s1 as')
 match_arms_at g ex s0 s1 on as' h w =
     seq_at ex (λ s. arms_atoms known_kind g (kinds_in s) as') (flow g s0.next s0.scope on) (next_of g.types s0.next on) (length (kinds_at g s0 on)) (kinds_at g s0 on) s0 s1 w refl h
 
-pub match_walks : {A : Type 0} (g : Globals Kind) (s0 s1 s2 : State) (on : Expression) (as' : Arms) (l : ℕ) (r : Result A UseFault) → WalkedTerm g on s0 s1 → WalksArms g as' s1 r s2
+pub match_walks : {A : Type 0} (g : Globals Kind) (s0 s1 s2 : State) (on : Expression) (as' : Arms) (l : ℕ) (r : Result A (Stop UseFault))
+    → WalkedTerm g on s0 s1 → WalksArms g as' s1 r s2
     → WalksParts g (Match on as' l) s0 r s2
 match_walks g s0 s1 s2 on as' l (Ok x) w v =
     walked_count _ _ _ _ s0 s2 (sym (length-append (kinds_at g s0 on) (arms_kinds_at g s0 as')))
     (seq_walked (λ n s. arms_flow g n s as') (λ n. arms_next g.types n as') (λ s. arms_atoms known_kind g (kinds_in s) as') (flow g s0.next s0.scope on) (next_of g.types s0.next on) (length (kinds_at g s0 on)) s0 s1 s2 w v)
-match_walks g s0 s1 s2 on as' l (Err fault) w v =
-    seq_tells fault (λ n s. arms_flow g n s as') (flow g s0.next s0.scope on) (next_of g.types s0.next on) (length (kinds_at g s0 on)) s0 s1 w v
+match_walks g s0 s1 s2 on as' l (Err stop) w v =
+    seq_tells stop (λ n s. arms_flow g n s as') (flow g s0.next s0.scope on) (next_of g.types s0.next on) (length (kinds_at g s0 on)) s0 s1 w v
 
-pub match_whole : {A : Type 0} (g : Globals Kind) (s0 s2 : State) (e on : Expression) (as' : Arms) (l : ℕ) (r : Result A UseFault) → e ≡ Match on as' l → WalksParts g (Match on as' 0) s0 r s2
+pub match_whole : {A : Type 0} (g : Globals Kind) (s0 s2 : State) (e on : Expression) (as' : Arms) (l : ℕ) (r : Result A (Stop UseFault))
+    → e ≡ Match on as' l → WalksParts g (Match on as' 0) s0 r s2
     → WalksParts g e s0 r s2
 match_whole g s0 s2 e on as' l r q w = subst (λ x. WalksParts g x s0 r s2) (sym q) w
 
 -- ---- builds
 
-build_walks : {A : Type 0} (g : Globals Kind) (s0 s1 s2 : State) (c : Name) (es : Expressions) (place : Option Name) (r : Result A UseFault)
+build_walks : {A : Type 0} (g : Globals Kind) (s0 s1 s2 : State) (c : Name) (es : Expressions) (place : Option Name) (r : Result A (Stop UseFault))
     → Walked (all_flow g s0.next s0.scope es) (all_next g.types s0.next es) (length (all_kinds_at g s0 es)) s0 s1
     → Walks (place_flow g.types s1.scope place) s1.next 0 s1 r s2 → WalksParts g (Build c es place) s0 r s2
 build_walks g s0 s1 s2 c es place (Ok x) w v =
     walked_count _ _ _ _ s0 s2 (let k : length (all_kinds_at g s0 es) + 0 ≡ length (all_kinds_at g s0 es) = omega arith in k)
     (seq_walked (λ n s. place_flow g.types s place) (λ n. n) (λ s. []) (all_flow g s0.next s0.scope es) (all_next g.types s0.next es) (length (all_kinds_at g s0 es)) s0 s1 s2 w v)
-build_walks g s0 s1 s2 c es place (Err fault) w v =
-    seq_tells fault (λ n s. place_flow g.types s place) (all_flow g s0.next s0.scope es) (all_next g.types s0.next es) (length (all_kinds_at g s0 es)) s0 s1 w v
+build_walks g s0 s1 s2 c es place (Err stop) w v =
+    seq_tells stop (λ n s. place_flow g.types s place) (all_flow g s0.next s0.scope es) (all_next g.types s0.next es) (length (all_kinds_at g s0 es)) s0 s1 w v
 
-pub build_walked : {A : Type 0} (g : Globals Kind) (s0 s1 s2 : State) (e : Expression) (c : Name) (es : Expressions) (place : Option Name) (r : Result A UseFault) → e ≡ Build c es place
+pub build_walked : {A : Type 0} (g : Globals Kind) (s0 s1 s2 : State) (e : Expression) (c : Name) (es : Expressions) (place : Option Name) (r : Result A (Stop UseFault)) → e ≡ Build c es place
     → Walked (all_flow g s0.next s0.scope es) (all_next g.types s0.next es) (length (all_kinds_at g s0 es)) s0 s1
     → Walks (place_flow g.types s1.scope place) s1.next 0 s1 r s2 → WalksParts g e s0 r s2
 build_walked g s0 s1 s2 e c es place r q w v = subst (λ x. WalksParts g x s0 r s2) (sym q) (build_walks g s0 s1 s2 c es place r w v)
 
 -- ---- operators and conditionals
 
-pub prim_at : (g : Globals Kind) (ex : List Kind) (s0 : State) (e a b : Expression) (op : Operator) (l : ℕ) → e ≡ Prim op a b l → AreAt ex s0.position (rest_kinds g (kinds_in s0.scope) e)
+pub prim_at : (g : Globals Kind) (ex : List Kind) (s0 : State) (e a b : Expression) (op : Operator) (l : ℕ) → e ≡ Prim op a b l
+    → AreAt ex s0.position (rest_kinds g (kinds_in s0.scope) e)
     → AreAt ex s0.position (kinds_at g s0 b)
 prim_at g ex s0 e a b op l q h =
     at_front ex s0.position (kinds_at g s0 b) (atom_of known_kind g (kinds_in s0.scope) (Prim op a b l) ∷ []) (subst (λ x. AreAt ex s0.position (rest_kinds g (kinds_in s0.scope) x)) q h)
@@ -95,7 +103,8 @@ prim_walked g s0 s1 s2 e a b op l q w f =
     let k = length-append (kinds_at g s0 b) (atom_of known_kind g (kinds_in s0.scope) (Prim op a b l) ∷ []) in
     subst (λ x. WalkedRest g x s0 s2) (sym q) (finished (flow g s0.next s0.scope b) (next_of g.types s0.next b) (length (kinds_at g s0 b)) _ s0 s1 s2 w f k)
 
-pub if_at : (g : Globals Kind) (ex : List Kind) (s0 : State) (e c a b : Expression) (l : ℕ) → e ≡ If c a b l → AreAt ex s0.position (rest_kinds g (kinds_in s0.scope) e)
+pub if_at : (g : Globals Kind) (ex : List Kind) (s0 : State) (e c a b : Expression) (l : ℕ) → e ≡ If c a b l
+    → AreAt ex s0.position (rest_kinds g (kinds_in s0.scope) e)
     → AreAt ex s0.position (kinds_at g s0 a ++ kinds_at g s0 b)
 if_at g ex s0 e c a b l q h =
     let k = atom_of known_kind g (kinds_in s0.scope) (If c a b l) ∷ [] in
@@ -119,12 +128,14 @@ if_walked g s0 s1 s2 e c a b l q w f =
 
 -- ---- the places of their own kinds
 
-pub prim_end : (g : Globals Kind) (ex : List Kind) (s0 s1 : State) (e a b : Expression) (op : Operator) (l : ℕ) → e ≡ Prim op a b l → AreAt ex s0.position (rest_kinds g (kinds_in s0.scope) e) → WalkedTerm g b s0 s1
+pub prim_end : (g : Globals Kind) (ex : List Kind) (s0 s1 : State) (e a b : Expression) (op : Operator) (l : ℕ) → e ≡ Prim op a b l
+    → AreAt ex s0.position (rest_kinds g (kinds_in s0.scope) e) → WalkedTerm g b s0 s1
     → s1.position < length ex
 prim_end g ex s0 s1 e a b op l q h w =
     end_within ex s0.position s1.position (kinds_at g s0 b) (atom_of known_kind g (kinds_in s0.scope) (Prim op a b l)) w.position (subst (λ x. AreAt ex s0.position (rest_kinds g (kinds_in s0.scope) x)) q h)
 
-pub if_end : (g : Globals Kind) (ex : List Kind) (s0 s1 : State) (e c a b : Expression) (l : ℕ) → e ≡ If c a b l → AreAt ex s0.position (rest_kinds g (kinds_in s0.scope) e) → WalkedBranches g a b s0 s1
+pub if_end : (g : Globals Kind) (ex : List Kind) (s0 s1 : State) (e c a b : Expression) (l : ℕ) → e ≡ If c a b l
+    → AreAt ex s0.position (rest_kinds g (kinds_in s0.scope) e) → WalkedBranches g a b s0 s1
     → s1.position < length ex
 if_end g ex s0 s1 e c a b l q h w =
     let k = atom_of known_kind g (kinds_in s0.scope) (If c a b l) in

@@ -1,21 +1,27 @@
 -- Laws of the walk's steps.
-use Rattle.std.proofs.Common.{◌≡◌, ℕ, zero, suc, ◌+◌, ◌-◌, ◌<◌, false, List, [], ◌∷◌, ◌++◌, length, Option, Some, None, refl, sym, ap, ◌∙◌, subst, arith, slice_get, append_assoc, length-append}
+use Rattle.std.proofs.Common.{◌≡◌, ℕ, zero, suc, ◌+◌, ◌-◌, ◌<◌, List, [], ◌∷◌, ◌++◌, length, Option, Some, None, refl, sym, ap, ◌∙◌, subst, arith, slice_get, append_assoc, length-append}
 use Rattle.std.specs.Prelude.{Result, Ok, Err, IsErrAnd}
 use Rattle.std.specs.Option.{option_or}
+use Rattle.stops.specs.declared.stop.Stop.{Stop}
+use Rattle.stops.specs.declared.stop.Stop.TheVariants.{Fault, Memory}
 use Rattle.camelot_values.specs.declared.kinds.Kind.{Kind}
 use Rattle.camelot_values.specs.declared.kinds.Kind.TheVariants as kind
 use Rattle.camelot_tree.specs.Tree.{Expression, Num, Truth, Var, Prim, If, Let, Match, Build, Call}
-use Rattle.typing_rules.specs.Kinds.{Globals, Scope, bind, or_else, atom_of, atoms_of, arms_atoms}
-use Rattle.typing_rules.specs.Typing.{known_kind}
+use Rattle.camelot_typing.specs.Kinds.{Globals, Scope, bind, or_else, atom_of, atoms_of, arms_atoms}
+use Rattle.camelot_typing.specs.Typing.{known_kind}
 use Rattle.linear_use.specs.declared.fault.UseFault.{UseFault}
 use Rattle.linear_use.specs.declared.variable.Variable.{Variable}
 use Rattle.linear_use.specs.declared.state.State.{State}
 use Rattle.linear_use.specs.Flow.{Flow, After, used}
-use Rattle.linear_use.specs.Walk.{first_of, is_memory, AreAt, Walked, Walks, parts_kinds}
+use Rattle.linear_use.specs.Walk.{first_of, StopsAt, AreAt, Walked, Walks, parts_kinds}
 
 -- what an answer says that isn't Ok: unless memory ran out, it is the first fault
-abbrev pub Tells : UseFault → List ℕ → Flow → Type 0
-Tells fault spent f = is_memory fault ≡ false → first_of spent f ≡ Some fault
+abbrev pub Tells : Stop UseFault → List ℕ → Flow → Type 0
+Tells stop spent f = StopsAt (first_of spent f) stop
+
+-- another flow with the same first fault
+pub tells_by : (stop : Stop UseFault) (s t : List ℕ) (f g : Flow) → first_of t g ≡ first_of s f → Tells stop s f → Tells stop t g
+tells_by stop s t f g e h = subst (λ found. StopsAt found stop) (sym e) h
 
 -- ---- kinds in the list
 
@@ -77,22 +83,28 @@ pub or_some : {A : Type 0} (a b : Option A) (x : A) → a ≡ Some x → option_
 or_some None b x h = cc
 or_some (Some y) b x h = h
 
-pub tells_first : (fault : UseFault) (spent : List ℕ) (a b : Flow) → Tells fault spent a → Tells fault spent (After a b)
-tells_first fault spent a b h m = or_some (first_of spent a) (first_of (spent ++ used a) b) fault (h m)
+pub tells_first : (stop : Stop UseFault) (spent : List ℕ) (a b : Flow) → Tells stop spent a → Tells stop spent (After a b)
+tells_first (Fault fault) spent a b h = or_some (first_of spent a) (first_of (spent ++ used a) b) fault h
+tells_first Memory spent a b h = tt
 
--- A step behind another is told of by what is known after the first: F, N and K give its flow, the number behind it and its kinds.
-pub seq_tells : (fault : UseFault) (F : ℕ → Scope Variable → Flow) (f : Flow) (free count : ℕ) (s0 s1 : State) → Walked f free count s0 s1
-    → Tells fault s1.spent (F s1.next s1.scope) → Tells fault s0.spent (After f (F free s0.scope))
-seq_tells fault F f free count s0 s1 w h m =
-    or_none (first_of s0.spent f) (first_of (s0.spent ++ used f) (F free s0.scope)) w.none
-    ∙ ap (λ l. first_of l (F free s0.scope)) (sym w.spent) ∙ ap (λ n. first_of s1.spent (F n s0.scope)) (sym w.next) ∙ ap (λ s. first_of s1.spent (F s1.next s)) (sym w.scope) ∙ h m
+-- A step behind another is told of by what is known after the first: F, N and K give its flow, the number behind it and
+-- its kinds.
+pub seq_tells : (stop : Stop UseFault) (F : ℕ → Scope Variable → Flow) (f : Flow) (free count : ℕ) (s0 s1 : State) → Walked f free count s0 s1
+    → Tells stop s1.spent (F s1.next s1.scope) → Tells stop s0.spent (After f (F free s0.scope))
+seq_tells stop F f free count s0 s1 w h =
+    tells_by stop s1.spent s0.spent (F s1.next s1.scope) (After f (F free s0.scope))
+    (or_none (first_of s0.spent f) (first_of (s0.spent ++ used f) (F free s0.scope)) w.none
+    ∙ ap (λ l. first_of l (F free s0.scope)) (sym w.spent) ∙ ap (λ n. first_of s1.spent (F n s0.scope)) (sym w.next) ∙ ap (λ s. first_of s1.spent (F s1.next s)) (sym w.scope))
+    h
 
-pub seq_at : (ex : List Kind) (K : Scope Variable → List Kind) (f : Flow) (free count : ℕ) (xs : List Kind) (s0 s1 : State) → Walked f free count s0 s1 → count ≡ length xs
+pub seq_at : (ex : List Kind) (K : Scope Variable → List Kind) (f : Flow) (free count : ℕ) (xs : List Kind) (s0 s1 : State)
+    → Walked f free count s0 s1 → count ≡ length xs
     → AreAt ex s0.position (xs ++ K s0.scope) → AreAt ex s1.position (K s1.scope)
 seq_at ex K f free count xs s0 s1 w e h =
     subst (λ s. AreAt ex s1.position (K s)) (sym w.scope) (at_back ex s0.position s1.position xs (K s0.scope) (w.position ∙ ap (λ n. s0.position + n) e) h)
 
-pub seq_walked : (F : ℕ → Scope Variable → Flow) (N : ℕ → ℕ) (K : Scope Variable → List Kind) (f : Flow) (free count : ℕ) (s0 s1 s2 : State) → Walked f free count s0 s1
+pub seq_walked : (F : ℕ → Scope Variable → Flow) (N : ℕ → ℕ) (K : Scope Variable → List Kind) (f : Flow) (free count : ℕ) (s0 s1 s2 : State)
+    → Walked f free count s0 s1
     → Walked (F s1.next s1.scope) (N s1.next) (length (K s1.scope)) s1 s2 → Walked (After f (F free s0.scope)) (N free) (count + length (K s0.scope)) s0 s2
 seq_walked F N K f free count s0 s1 s2 w v = record {
   none =
@@ -123,10 +135,11 @@ finished f free m n s0 s1 s2 w e q = record {
 -- ---- answers of the code
 
 -- an error that is handed on
-pub err_walks : {A : Type 0} (r : Result A UseFault) (fault : UseFault) (f : Flow) (free count : ℕ) (s0 s1 : State) → IsErrAnd r (λ e. e ≡ fault) → Tells fault s0.spent f
+pub err_walks : {A : Type 0} (r : Result A (Stop UseFault)) (stop : Stop UseFault) (f : Flow) (free count : ℕ) (s0 s1 : State)
+    → IsErrAnd r (λ e. e ≡ stop) → Tells stop s0.spent f
     → Walks f free count s0 r s1
-err_walks (Ok x) fault f free count s0 s1 h t = absurd h
-err_walks (Err e) fault f free count s0 s1 h t = λ m. t (ap is_memory (sym h) ∙ m) ∙ ap Some (sym h)
+err_walks (Ok x) stop f free count s0 s1 h t = absurd h
+err_walks (Err e) stop f free count s0 s1 h t = subst (StopsAt (first_of s0.spent f)) (sym h) t
 
 pub with_scope : (s : State) (a b : Scope Variable) → a ≡ b → let x : State = record s { scope = a } in let y : State = record s { scope = b } in x ≡ y
 with_scope s a b e = ap (λ c. record s { scope = c }) e

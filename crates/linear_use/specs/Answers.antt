@@ -1,9 +1,11 @@
 -- Cited by contracts.
 -- What the check answers.
 use Rattle.std.specs.Prelude.{◌≡◌, Option, Some, None, Result, Ok, Err, List, [], ◌∷◌, ⊤}
-use Rattle.typing_rules.specs.Typed.{Typing}
+use Rattle.stops.specs.declared.stop.Stop.{Stop}
+use Rattle.stops.specs.declared.stop.Stop.TheVariants.{Memory}
+use Rattle.stops.specs.Stopping.{FaultIs, IsFault}
+use Rattle.camelot_typing.specs.Typed.{Typing}
 use Rattle.linear_use.specs.declared.fault.UseFault.{UseFault}
-use Rattle.linear_use.specs.declared.fault.UseFault.TheVariants.{Memory}
 use Rattle.linear_use.specs.Uses as rule
 use Rattle.linear_use.specs.Flow.{program_faults}
 
@@ -20,17 +22,15 @@ first [] = None
 first (fault ∷ faults) = Some fault
 
 -- the first of these faults, unless memory ran out
-abbrev pub IsFirst : List UseFault → UseFault → Type 0
-IsFirst faults Memory = ⊤
-IsFirst faults fault = first faults ≡ Some fault
+abbrev pub IsFirst : List UseFault → Stop UseFault → Type 0
+IsFirst faults = FaultIs (λ fault. first faults ≡ Some fault)
 
 -- Ok, unless memory ran out
-abbrev pub Takes : {A : Type 0} → Result A UseFault → Type 0
+abbrev pub Takes : {A : Type 0} → Result A (Stop UseFault) → Type 0
 Takes (Ok x) = ⊤
-Takes (Err fault) = fault ≡ Memory
+Takes (Err stop) = stop ≡ Memory
 
 -- an error with this fault, unless memory ran out
-abbrev pub Refuses : {A : Type 0} → UseFault → Result A UseFault → Type 0
+abbrev pub Refuses : {A : Type 0} → UseFault → Result A (Stop UseFault) → Type 0
 Refuses fault (Ok x) = ⊥
-Refuses fault (Err Memory) = ⊤
-Refuses fault (Err other) = other ≡ fault
+Refuses fault (Err stop) = IsFault fault stop

@@ -1,7 +1,8 @@
 -- Cited by contracts.
--- The check of uses as a walk in text order. An expression is a flow of uses of heap variables: one after the other, or one of two
--- ways. Each variable that is bound gets a number of its own. A use of a variable that some way up to it used before is a fault, and
--- so is an arm of a boxed constructor without `@` and a parameter that is marked `read`. The first fault in text order is answered.
+-- The check of uses as a walk in text order. An expression is a flow of uses of heap variables: one after the other, or
+-- one of two ways. Each variable that is bound gets a number of its own. A use of a variable that some way up to it
+-- used before is a fault, and so is an arm of a boxed constructor without `@` and a parameter that is marked `read`.
+-- The first fault in text order is answered.
 use Rattle.std.specs.Prelude.{ℕ, suc, ◌+◌, ◌==◌, ◌||◌, Bool, if◌then◌else◌, List, [], ◌∷◌, ◌++◌, length, Option, Some, None}
 use Rattle.std.specs.List.{list_any}
 use Rattle.camelot_values.specs.Names.{find}
@@ -14,8 +15,8 @@ use Rattle.camelot_tree.specs.declared.tree.Param.{Param}
 use Rattle.camelot_tree.specs.declared.tree.ArmCell.{ArmCell}
 use Rattle.camelot_tree.specs.declared.tree.ArmCell.TheVariants as cell
 use Rattle.camelot_tree.specs.Tree.{Expression, Num, Truth, Var, Prim, If, Let, Match, Build, Call, Expressions, NoExpressions, AndExpression, Arms, NoArms, AndArm, Function, Source}
-use Rattle.typing_rules.specs.Kinds.{Globals, Scope, bind, or_else, constructor_number, fields_of, is_inline, atom_of}
-use Rattle.typing_rules.specs.Typing.{Signature, known_kind, globals_of}
+use Rattle.camelot_typing.specs.Kinds.{Globals, Scope, bind, or_else, constructor_number, fields_of, is_inline, atom_of}
+use Rattle.camelot_typing.specs.Typing.{Signature, known_kind, globals_of}
 use Rattle.camelot_tree.specs.Cells.{has_cell}
 use Rattle.linear_use.specs.declared.variable.Variable.{Variable}
 use Rattle.linear_use.specs.declared.fault.UseFault.{UseFault}

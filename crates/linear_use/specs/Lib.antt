@@ -3,5 +3,6 @@ pub mod Uses
 pub mod Flow
 pub mod Counted
 pub mod Tables
+pub mod TableLaws
 pub mod Walk
 pub mod Answers

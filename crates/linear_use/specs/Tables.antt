@@ -1,5 +1,5 @@
--- Private: words for functions of this crate.
--- How the names of constructors are kept.
+-- Laws, for the proofs of this crate and of those above it.
+-- Names in a table: each once, in the order in which they came.
 use Rattle.std.specs.Prelude.{ℕ, not, if◌then◌else◌, List, [], ◌∷◌, ◌++◌}
 use Rattle.camelot_values.specs.Names.{stands}
 

@@ -1,7 +1,7 @@
 -- Cited by contracts.
--- The affine rule of LFPL (Hofmann 2000): every variable of a heap kind is used at most once on each path through its scope. Uses
--- are added over parts that are all evaluated, and the greatest is taken over branches and arms. The check keeps a list of spent
--- variables on a walk; this definition counts.
+-- The affine rule of LFPL (Hofmann 2000): every variable of a heap kind is used at most once on each path through its
+-- scope. Uses are added over parts that are all evaluated, and the greatest is taken over branches and arms. The check
+-- keeps a list of spent variables on a walk; this definition counts.
 use Rattle.std.specs.Prelude.{◌≡◌, ℕ, ◌+◌, ◌≤◌, max, Bool, true, false, if◌then◌else◌, List, ◌∷◌, Option, Some, None}
 use Rattle.std.specs.List.{AllByRecursion, list_any}
 use Rattle.std.specs.Str.{bytes_eq}
@@ -15,8 +15,8 @@ use Rattle.camelot_tree.specs.declared.tree.Param.{Param}
 use Rattle.camelot_tree.specs.declared.tree.ArmCell.{ArmCell}
 use Rattle.camelot_tree.specs.Tree.{Expression, Num, Truth, Var, Prim, If, Let, Match, Build, Call, Expressions, NoExpressions, AndExpression, Arms, NoArms, AndArm, Function, Source}
 use Rattle.camelot_tree.specs.Cells.{has_cell}
-use Rattle.typing_rules.specs.Kinds.{Globals, Scope, bind, or_else, constructor_number, is_inline, bound_names, arm_scope, atom_of}
-use Rattle.typing_rules.specs.Typing.{Signature, known_kind, params_scope, globals_of}
+use Rattle.camelot_typing.specs.Kinds.{Globals, Scope, bind, or_else, constructor_number, is_inline, bound_names, arm_scope, atom_of}
+use Rattle.camelot_typing.specs.Typing.{Signature, known_kind, params_scope, globals_of}
 
 -- the name is one of these
 abbrev pub is_bound : List ℕ → List Name → Bool
@@ -30,8 +30,8 @@ abbrev pub place_use : List ℕ → Option Name → ℕ
 place_use x None = 0
 place_use x (Some d) = use_of x d
 
--- the uses of a variable in an expression: its occurrences, a scrutinee and the diamond that a build names included. A name that is
--- bound anew hides it.
+-- the uses of a variable in an expression: its occurrences, a scrutinee and the diamond that a build names included. A
+-- name that is bound anew hides it.
 abbrev mutual
   pub uses : List ℕ → Expression → ℕ
   uses x (Num z l) = 0

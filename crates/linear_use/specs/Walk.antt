@@ -1,18 +1,20 @@
 -- Private: words for functions of this crate.
--- The walk of the code: it answers the first fault, or goes on with what is spent. It goes along the left end of an expression in a
--- loop, and takes the kinds of expressions from their list.
-use Rattle.std.specs.Prelude.{◌≡◌, ℕ, suc, ◌+◌, Bool, true, false, if◌then◌else◌, List, [], ◌∷◌, ◌++◌, map, length, Option, Some, None, Result, Ok, Err, slice_get}
+-- The walk of the code: it answers the first fault, or goes on with what is spent. It goes along the left end of an
+-- expression in a loop, and takes the kinds of expressions from their list.
+use Rattle.std.specs.Prelude.{◌≡◌, ℕ, suc, ◌+◌, if◌then◌else◌, List, [], ◌∷◌, ◌++◌, map, length, Option, Some, None, Result, Ok, Err, slice_get}
 use Rattle.std.specs.Option.{option_or}
+use Rattle.stops.specs.declared.stop.Stop.{Stop}
+use Rattle.stops.specs.Stopping.{FaultIs}
 use Rattle.camelot_values.specs.Kinds.{DataType}
 use Rattle.camelot_values.specs.declared.kinds.Kind.{Kind}
 use Rattle.camelot_tree.specs.Tree.{Expression, Num, Truth, Var, Prim, If, Let, Match, Build, Call, Expressions, Arms, Branch}
 use Rattle.camelot_tree.specs.Programs.{program_of}
-use Rattle.typing_rules.specs.Kinds.{Globals, Scope, bind, arm_scope, atom_of, atoms_of, all_atoms, arms_atoms}
-use Rattle.typing_rules.specs.Typing.{known_kind}
-use Rattle.typing_rules.specs.Typed.{kinds_of, signatures_of}
-use Rattle.typing_rules.specs.declared.typed.Typed.{Typed}
+use Rattle.camelot_typing.specs.Kinds.{Globals, Scope, bind, arm_scope, atom_of, atoms_of, all_atoms, arms_atoms}
+use Rattle.camelot_typing.specs.Typing.{known_kind}
+use Rattle.camelot_typing.specs.Typed.{kinds_of, signatures_of}
+use Rattle.camelot_typing.specs.declared.typed.Typed.{Typed}
 use Rattle.linear_use.specs.declared.fault.UseFault.{UseFault}
-use Rattle.linear_use.specs.declared.fault.UseFault.TheVariants.{Twice, Memory}
+use Rattle.linear_use.specs.declared.fault.UseFault.TheVariants.{Twice}
 use Rattle.linear_use.specs.declared.variable.Variable.{Variable}
 use Rattle.linear_use.specs.declared.state.State.{State}
 use Rattle.linear_use.specs.Flow.{Flow, Nothing, Use, Fault, After, Either, used, is_spent, kinds_in, cell_flow, arm_variables, arm_count, next_of, all_next, arms_next, flow, all_flow, arms_flow}
@@ -27,14 +29,14 @@ first_of spent (Fault fault) = Some fault
 first_of spent (After a b) = option_or (first_of spent a) (first_of (spent ++ used a) b)
 first_of spent (Either a b) = option_or (first_of spent a) (first_of spent b)
 
-abbrev pub is_memory : UseFault → Bool
-is_memory Memory = true
-is_memory fault = false
+-- this is the fault, unless memory ran out
+abbrev pub StopsAt : Option UseFault → Stop UseFault → Type 0
+StopsAt found = FaultIs (λ fault. found ≡ Some fault)
 
 -- Ok where there is no fault, and else the first one, unless memory runs out
-abbrev pub Finds : {A : Type 0} → Result A UseFault → Option UseFault → Type 0
+abbrev pub Finds : {A : Type 0} → Result A (Stop UseFault) → Option UseFault → Type 0
 Finds (Ok x) found = found ≡ None
-Finds (Err fault) found = is_memory fault ≡ false → found ≡ Some fault
+Finds (Err stop) found = StopsAt found stop
 
 -- ---- what is known of the program
 
@@ -56,14 +58,14 @@ pub record Walked (f : Flow) (free count : ℕ) (before after : State) : Type 0 
   pub scope : after.scope ≡ before.scope
   pub position : after.position ≡ before.position + count
 
-abbrev pub Walks : {A : Type 0} → Flow → ℕ → ℕ → State → Result A UseFault → State → Type 0
+abbrev pub Walks : {A : Type 0} → Flow → ℕ → ℕ → State → Result A (Stop UseFault) → State → Type 0
 Walks f free count before (Ok x) after = Walked f free count before after
-Walks f free count before (Err fault) after = is_memory fault ≡ false → first_of before.spent f ≡ Some fault
+Walks f free count before (Err stop) after = StopsAt (first_of before.spent f) stop
 
 abbrev pub kinds_at : Globals Kind → State → Expression → List Kind
 kinds_at g s e = atoms_of known_kind g (kinds_in s.scope) e
 
-abbrev pub WalksTerm : {A : Type 0} → Globals Kind → Expression → State → Result A UseFault → State → Type 0
+abbrev pub WalksTerm : {A : Type 0} → Globals Kind → Expression → State → Result A (Stop UseFault) → State → Type 0
 WalksTerm g e before result after = Walks (flow g before.next before.scope e) (next_of g.types before.next e) (length (kinds_at g before e)) before result after
 
 -- the kinds of an expression's parts
@@ -82,7 +84,7 @@ abbrev pub parts_kinds_at : Globals Kind → State → Expression → List Kind
 parts_kinds_at g s e = parts_kinds g (kinds_in s.scope) e
 
 -- all of an expression but its own end
-abbrev pub WalksParts : {A : Type 0} → Globals Kind → Expression → State → Result A UseFault → State → Type 0
+abbrev pub WalksParts : {A : Type 0} → Globals Kind → Expression → State → Result A (Stop UseFault) → State → Type 0
 WalksParts g e before result after = Walks (flow g before.next before.scope e) (next_of g.types before.next e) (length (parts_kinds_at g before e)) before result after
 
 -- ---- the parts of an operator or a conditional behind its first part
@@ -107,7 +109,7 @@ rest_kinds g s (Prim op a b l) = atoms_of known_kind g s b ++ atom_of known_kind
 rest_kinds g s (If c a b l) = atoms_of known_kind g s a ++ (atoms_of known_kind g s b ++ atom_of known_kind g s (If c a b l) ∷ [])
 rest_kinds g s e = []
 
-abbrev pub WalksRest : {A : Type 0} → Globals Kind → Expression → State → Result A UseFault → State → Type 0
+abbrev pub WalksRest : {A : Type 0} → Globals Kind → Expression → State → Result A (Stop UseFault) → State → Type 0
 WalksRest g p before result after =
     Walks (rest_flow g before.next before.scope p) (rest_next g.types before.next p) (length (rest_kinds g (kinds_in before.scope) p)) before result after
 
@@ -116,7 +118,7 @@ WalksRest g p before result after =
 abbrev pub all_kinds_at : Globals Kind → State → Expressions → List Kind
 all_kinds_at g s es = all_atoms known_kind g (kinds_in s.scope) es
 
-abbrev pub WalksAll : {A : Type 0} → Globals Kind → Expressions → State → Result A UseFault → State → Type 0
+abbrev pub WalksAll : {A : Type 0} → Globals Kind → Expressions → State → Result A (Stop UseFault) → State → Type 0
 WalksAll g es before result after =
     Walks (all_flow g before.next before.scope es) (all_next g.types before.next es) (length (all_kinds_at g before es)) before result after
 
@@ -130,12 +132,12 @@ arm_next types next a = next_of types (next + arm_count types a.con a.fields a.c
 abbrev pub arm_kinds_at : Globals Kind → State → Branch → List Kind
 arm_kinds_at g s a = atoms_of known_kind g (arm_scope known_kind g.types a.con a.fields a.cell (kinds_in s.scope)) a.body
 
-abbrev pub WalksArm : {A : Type 0} → Globals Kind → Branch → State → Result A UseFault → State → Type 0
+abbrev pub WalksArm : {A : Type 0} → Globals Kind → Branch → State → Result A (Stop UseFault) → State → Type 0
 WalksArm g a before result after = Walks (arm_flow g before.next before.scope a) (arm_next g.types before.next a) (length (arm_kinds_at g before a)) before result after
 
 abbrev pub arms_kinds_at : Globals Kind → State → Arms → List Kind
 arms_kinds_at g s as' = arms_atoms known_kind g (kinds_in s.scope) as'
 
-abbrev pub WalksArms : {A : Type 0} → Globals Kind → Arms → State → Result A UseFault → State → Type 0
+abbrev pub WalksArms : {A : Type 0} → Globals Kind → Arms → State → Result A (Stop UseFault) → State → Type 0
 WalksArms g as' before result after =
     Walks (arms_flow g before.next before.scope as') (arms_next g.types before.next as') (length (arms_kinds_at g before as')) before result after

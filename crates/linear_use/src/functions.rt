@@ -2,10 +2,10 @@
 ghost use Rattle.std.specs.Prelude.{◌≡◌, ◌≤◌, [], map, length, Some, IfOk};
 ghost use Rattle.camelot_values.specs.Kinds.{constructors};
 ghost use Rattle.camelot_tree.specs.Tree.{expression_of, function_of};
-ghost use Rattle.typing_rules.specs.Kinds.{atoms_of};
-ghost use Rattle.typing_rules.specs.Typing.{known_kind, params_scope};
-ghost use Rattle.typing_rules.specs.Typed.{kinds_of, signature_of};
-ghost use Rattle.typing_rules.specs.TypedPrograms.{typing_of};
+ghost use Rattle.camelot_typing.specs.Kinds.{atoms_of};
+ghost use Rattle.camelot_typing.specs.Typing.{known_kind, params_scope};
+ghost use Rattle.camelot_typing.specs.Typed.{kinds_of, signature_of};
+ghost use Rattle.camelot_typing.specs.TypedPrograms.{typing_of};
 ghost use Rattle.linear_use.specs.Flow.{param_variables, read_flow, function_flow};
 ghost use Rattle.linear_use.specs.Walk.{Finds, first_of, globals_in};
 ghost use Rattle.linear_use.specs.Answers.{first};
@@ -20,20 +20,21 @@ use crate::variable::Variable;
 use crate::walk::walk;
 use camelot_names::{Names, Scope};
 use camelot_tree::{FunDecl, Param, Rooms};
+use camelot_typing::{FunKinds, Typed};
 use camelot_values::Kind;
 use std::alloc::{AllocError, Global};
-use typing_rules::{FunKinds, Typed};
+use stops::Stop;
 
 // Refuses a parameter that is marked `read`.
-fn check_read(alloc: Global, params: &[Param]) -> Result<(), UseFault>
+fn check_read(alloc: Global, params: &[Param]) -> Result<(), Stop<UseFault>>
     ensures { Finds result (first_of [] (read_flow params.now)) }
 {
     'params: for param in params {
         if param.read {
-            return Err(UseFault::ReadMatch {
+            return Err(Stop::Fault(UseFault::ReadMatch {
                 name: param.name.word.copy(alloc)?,
                 line: param.name.line as u64,
-            });
+            }));
         }
     }
     Ok(())
@@ -64,10 +65,12 @@ fn walk_function<'a>(
     cons: &Names<'a>,
     decl: &'a FunDecl,
     kinds: &'a FunKinds,
-) -> Result<(), UseFault>
+) -> Result<(), Stop<UseFault>>
     requires names { cons.now ≡ map (λ c. c.name) (constructors typed.now.types) }
     requires few { length (constructors typed.now.types) ≤ 4096 }
-    requires kinds { kinds.now.exprs.items ≡ atoms_of known_kind (globals_in typed.now) (params_scope decl.now.params.items kinds.now.params.items) (expression_of decl.now.body) }
+    requires kinds { kinds.now.exprs.items
+        ≡ atoms_of known_kind (globals_in typed.now) (params_scope decl.now.params.items kinds.now.params.items)
+        (expression_of decl.now.body) }
     ensures { let f = function_of decl.now in Finds result (first_of [] (function_flow (globals_in typed.now) f (signature_of f (kinds_of kinds.now)))) }
 {
     check_read(alloc, &decl.params)?;
@@ -88,7 +91,7 @@ fn walk_function<'a>(
 }
 
 /// The first fault of a typed program.
-pub(crate) fn first_fault(alloc: Global, typed: &Typed) -> Result<(), UseFault>
+pub(crate) fn first_fault(alloc: Global, typed: &Typed) -> Result<(), Stop<UseFault>>
     ensures { Finds result (first (faults_of (typing_of typed.now))) }
 {
     law_of_few(typed);

@@ -2,12 +2,12 @@ ghost use Rattle.std.specs.Prelude.{◌≡◌, ◌≤◌, map, length};
 ghost use Rattle.camelot_values.specs.Kinds.{constructors};
 
 use camelot_names::Names;
+use camelot_typing::Typed;
 use camelot_values::Kind;
 use std::alloc::Global;
-use typing_rules::Typed;
 
-/// What a walk through a function knows: the program, the names of all constructors by their numbers, and the kinds of the function's
-/// expressions.
+/// What a walk through a function knows: the program, the names of all constructors by their numbers, and the kinds of
+/// the function's expressions.
 #[derive(Drop)]
 pub(crate) struct Known<'a, 'n> {
     pub(crate) alloc: Global,

@@ -6,7 +6,7 @@ mod fault;
 mod functions;
 mod known;
 pub mod laws;
-mod names;
+pub mod names;
 mod parts;
 mod spent;
 mod state;

@@ -1,12 +1,12 @@
-//! The names of all constructors.
+//! The names of all constructors, for this crate and those above it.
 ghost use Rattle.std.specs.Prelude.{◌≡◌, ◌≤◌, map, length, IfOk, OnOk};
 ghost use Rattle.camelot_values.specs.Kinds.{constructor_of, constructors};
 ghost use Rattle.linear_use.specs.Tables.{with_names};
 
 use camelot_names::Names;
+use camelot_typing::Typed;
 use camelot_values::Con;
 use std::alloc::{AllocError, Global};
-use typing_rules::Typed;
 
 // Adds the names of a type's constructors.
 fn add_names<'a>(names: &mut Names<'a>, cons: &'a [Con]) -> Result<(), AllocError>
@@ -18,11 +18,9 @@ fn add_names<'a>(names: &mut Names<'a>, cons: &'a [Con]) -> Result<(), AllocErro
     Ok(())
 }
 
-/// The names of a program's constructors, which have their numbers in it.
-pub(crate) fn constructor_names<'a>(
-    alloc: Global,
-    typed: &'a Typed,
-) -> Result<Names<'a>, AllocError>
+/// The names of a program's constructors, which have their numbers in it; `AllocError` where memory runs out.
+pub fn constructor_names<'a>(alloc: Global, typed: &'a Typed) -> Result<Names<'a>, AllocError>
+    // They are in the order of the constructors' numbers.
     ensures { IfOk result (λ names. names ≡ map (λ c. c.name) (constructors typed.now.types)) }
 {
     let mut names = Names::new(alloc);
@@ -33,7 +31,8 @@ pub(crate) fn constructor_names<'a>(
 }
 
 /// A typed program has at most 64 times 64 constructors.
-pub(crate) fn law_of_few(typed: &Typed)
+pub fn law_of_few(typed: &Typed)
+    // They are no more than 4,096.
     ensures { length (constructors typed.now.types) ≤ 4096 }
 {
     typed.types.limits();

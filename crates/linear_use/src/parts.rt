@@ -4,7 +4,7 @@ ghost use Rattle.std.specs.Option.{option_map, option_map_or};
 ghost use Rattle.camelot_values.specs.Kinds.{constructor, constructor_of};
 ghost use Rattle.camelot_values.specs.declared.kinds.Kind.TheVariants.{Int};
 ghost use Rattle.camelot_tree.specs.Tree.{branch_of};
-ghost use Rattle.typing_rules.specs.Kinds.{or_else, constructor_number, is_inline};
+ghost use Rattle.camelot_typing.specs.Kinds.{or_else, constructor_number, is_inline};
 ghost use Rattle.camelot_tree.specs.Cells.{has_cell};
 ghost use Rattle.linear_use.specs.Flow.{name_flow, place_flow, con_fields, cell_flow, number_fields, number_cell, fields_count, cell_count, arm_variables, arm_count};
 ghost use Rattle.linear_use.specs.Walk.{Walks, Finds, first_of};
@@ -15,13 +15,14 @@ use crate::state::State;
 use camelot_tree::{Arm, ArmCell, Name};
 use camelot_values::{Con, Kind};
 use std::alloc::AllocError;
+use stops::Stop;
 
 /// An occurrence of a name.
 pub(crate) fn use_name(
     known: &Known<'_, '_>,
     state: &mut State<'_>,
     name: &Name,
-) -> Result<(), UseFault>
+) -> Result<(), Stop<UseFault>>
     ensures { Walks (name_flow known.now.typed.now.types state.old.scope name.now) state.old.next 0 state.old result state.new }
 {
     let Some(variable) = state.scope.find(name.word.bytes()) else {
@@ -31,10 +32,10 @@ pub(crate) fn use_name(
         return Ok(());
     }
     if state.spent.contains(variable.number) {
-        return Err(UseFault::Twice {
+        return Err(Stop::Fault(UseFault::Twice {
             name: name.word.copy(known.alloc)?,
             line: name.line as u64,
-        });
+        }));
     }
     state.spent.spend(variable.number)?;
     Ok(())
@@ -45,7 +46,7 @@ pub(crate) fn use_place(
     known: &Known<'_, '_>,
     state: &mut State<'_>,
     place: &Option<Name>,
-) -> Result<(), UseFault>
+) -> Result<(), Stop<UseFault>>
     ensures { Walks (place_flow known.now.typed.now.types state.old.scope place.now) state.old.next 0 state.old result state.new }
 {
     match place {
@@ -66,7 +67,8 @@ pub(crate) fn kind_behind(exprs: &[Kind], position: usize) -> Kind
 
 /// The constructor of this name.
 pub(crate) fn constructor<'a>(known: &Known<'a, '_>, name: &[u8]) -> Option<&'a Con>
-    ensures { option_map (λ c. constructor_of c.now) result ≡ constructor known.now.typed.now.types (or_else (constructor_number known.now.typed.now.types name.now) 0) }
+    ensures { option_map (λ c. constructor_of c.now) result
+        ≡ constructor known.now.typed.now.types (or_else (constructor_number known.now.typed.now.types name.now) 0) }
 {
     let number = known.cons.number(name).unwrap_or(0);
     known.typed.types.con(number as u32)
@@ -100,16 +102,20 @@ fn has_cell(cell: &ArmCell) -> bool
 }
 
 /// Refuses an arm of a boxed constructor without `@`.
-pub(crate) fn check_cell(known: &Known<'_, '_>, con: &Name, cell: &ArmCell) -> Result<(), UseFault>
+pub(crate) fn check_cell(
+    known: &Known<'_, '_>,
+    con: &Name,
+    cell: &ArmCell,
+) -> Result<(), Stop<UseFault>>
     ensures { Finds result (first_of [] (cell_flow known.now.typed.now.types con.now cell.now)) }
 {
     if is_inline(known, con) || has_cell(cell) {
         return Ok(());
     }
-    Err(UseFault::ReadMatch {
+    Err(Stop::Fault(UseFault::ReadMatch {
         name: con.word.copy(known.alloc)?,
         line: con.line as u64,
-    })
+    }))
 }
 
 // One field of an arm, which has a name or `_`.
@@ -165,7 +171,8 @@ pub(crate) fn bind_arm<'a>(
     state: &mut State<'a>,
     arm: &'a Arm,
 ) -> Result<(), AllocError>
-    ensures scope { OnOk result (let a = branch_of arm.now in state.new.scope ≡ arm_variables known.now.typed.now.types state.old.next a.con a.fields a.cell state.old.scope) }
+    ensures scope { OnOk result (let a = branch_of arm.now in state.new.scope
+        ≡ arm_variables known.now.typed.now.types state.old.next a.con a.fields a.cell state.old.scope) }
     ensures next { OnOk result (let a = branch_of arm.now in state.new.next ≡ state.old.next + arm_count known.now.typed.now.types a.con a.fields a.cell) }
     ensures spent { OnOk result (state.new.spent ≡ state.old.spent) }
     ensures position { OnOk result (state.new.position ≡ state.old.position) }

@@ -5,8 +5,8 @@ ghost use Rattle.linear_use.specs.Flow.{is_spent};
 use std::alloc::{AllocError, Global};
 use std::marker::Model;
 
-/// The numbers of the variables that are spent, in the order of their uses, and how often each stands among them. So a test is one
-/// look-up, and the last uses can be taken off again.
+/// The numbers of the variables that are spent, in the order of their uses, and how often each stands among them. So a
+/// test is one look-up, and the last uses can be taken off again.
 #[derive(Drop)]
 pub(crate) struct Spent {
     counts: Vec<usize>,

@@ -1,5 +1,5 @@
 ghost use Rattle.std.specs.Prelude.{◌≡◌, ◌<◌, ◌+◌, suc, length, OnOk};
-ghost use Rattle.typing_rules.specs.Kinds.{bind};
+ghost use Rattle.camelot_typing.specs.Kinds.{bind};
 
 use crate::spent::Spent;
 use crate::variable::Variable;

@@ -12,6 +12,7 @@ use crate::parts::{bind_arm, check_cell, kind_behind, use_name, use_place};
 use crate::spent::Held;
 use crate::state::State;
 use camelot_tree::{Arm, Expr, Name, Rooms};
+use stops::Stop;
 
 /// Walks through an expression, along its left end.
 #[cycle(walk)]
@@ -20,7 +21,7 @@ pub(crate) fn walk<'a>(
     state: &mut State<'a>,
     rooms: &mut Rooms<'a>,
     expr: &'a Expr,
-) -> Result<(), UseFault>
+) -> Result<(), Stop<UseFault>>
     requires { AreAt known.now.exprs.now state.old.position (kinds_at (globals_in known.now.typed.now) state.old (expression_of expr.now)) }
     ensures { WalksTerm (globals_in known.now.typed.now) (expression_of expr.now) state.old result state.new }
 {
@@ -42,8 +43,9 @@ fn walk_rest<'a>(
     state: &mut State<'a>,
     rooms: &mut Rooms<'a>,
     parent: &'a Expr,
-) -> Result<(), UseFault>
-    requires { AreAt known.now.exprs.now state.old.position (rest_kinds (globals_in known.now.typed.now) (kinds_in state.old.scope) (expression_of parent.now)) }
+) -> Result<(), Stop<UseFault>>
+    requires { AreAt known.now.exprs.now state.old.position
+        (rest_kinds (globals_in known.now.typed.now) (kinds_in state.old.scope) (expression_of parent.now)) }
     ensures { WalksRest (globals_in known.now.typed.now) (expression_of parent.now) state.old result state.new }
 {
     match parent {
@@ -64,12 +66,15 @@ fn walk_branches<'a>(
     rooms: &mut Rooms<'a>,
     yes: &'a Expr,
     no: &'a Expr,
-) -> Result<(), UseFault>
-    requires { let g = globals_in known.now.typed.now in AreAt known.now.exprs.now state.old.position (kinds_at g state.old (expression_of yes.now) ++ kinds_at g state.old (expression_of no.now)) }
+) -> Result<(), Stop<UseFault>>
+    requires { let g = globals_in known.now.typed.now in AreAt known.now.exprs.now state.old.position
+        (kinds_at g state.old (expression_of yes.now) ++ kinds_at g state.old (expression_of no.now)) }
     ensures { let g = globals_in known.now.typed.now in
         let first = next_of g.types state.old.next (expression_of yes.now) in
         Walks (Either (flow g state.old.next state.old.scope (expression_of yes.now)) (flow g first state.old.scope (expression_of no.now)))
-        (next_of g.types first (expression_of no.now)) (length (kinds_at g state.old (expression_of yes.now) ++ kinds_at g state.old (expression_of no.now))) state.old result state.new }
+        (next_of g.types first (expression_of no.now))
+        (length (kinds_at g state.old (expression_of yes.now) ++ kinds_at g state.old
+        (expression_of no.now))) state.old result state.new }
 {
     let start = state.spent.len();
     let mut held = Held::new(known.alloc);
@@ -87,7 +92,7 @@ fn walk_parts<'a>(
     state: &mut State<'a>,
     rooms: &mut Rooms<'a>,
     expr: &'a Expr,
-) -> Result<(), UseFault>
+) -> Result<(), Stop<UseFault>>
     requires leaf { IsLeaf (expression_of expr.now) }
     requires kinds { AreAt known.now.exprs.now state.old.position (parts_kinds_at (globals_in known.now.typed.now) state.old (expression_of expr.now)) }
     ensures { WalksParts (globals_in known.now.typed.now) (expression_of expr.now) state.old result state.new }
@@ -115,8 +120,10 @@ fn walk_match<'a>(
     rooms: &mut Rooms<'a>,
     on: &'a Expr,
     arms: &'a [Arm],
-) -> Result<(), UseFault>
-    requires { AreAt known.now.exprs.now state.old.position (parts_kinds_at (globals_in known.now.typed.now) state.old (Match (expression_of on.now) (tree.arms (map branch_of arms.now)) 0)) }
+) -> Result<(), Stop<UseFault>>
+    requires { AreAt known.now.exprs.now state.old.position
+        (parts_kinds_at (globals_in known.now.typed.now) state.old
+        (Match (expression_of on.now) (tree.arms (map branch_of arms.now)) 0)) }
     ensures { WalksParts (globals_in known.now.typed.now) (Match (expression_of on.now) (tree.arms (map branch_of arms.now)) 0) state.old result state.new }
 {
     walk(known, state, rooms, on)?;
@@ -132,8 +139,10 @@ fn walk_let<'a>(
     name: &'a Name,
     value: &'a Expr,
     body: &'a Expr,
-) -> Result<(), UseFault>
-    requires { AreAt known.now.exprs.now state.old.position (parts_kinds_at (globals_in known.now.typed.now) state.old (Let name.now (expression_of value.now) (expression_of body.now))) }
+) -> Result<(), Stop<UseFault>>
+    requires { AreAt known.now.exprs.now state.old.position
+        (parts_kinds_at (globals_in known.now.typed.now) state.old
+        (Let name.now (expression_of value.now) (expression_of body.now))) }
     ensures { WalksParts (globals_in known.now.typed.now) (Let name.now (expression_of value.now) (expression_of body.now)) state.old result state.new }
 {
     walk(known, state, rooms, value)?;
@@ -152,8 +161,9 @@ fn walk_args<'a>(
     state: &mut State<'a>,
     rooms: &mut Rooms<'a>,
     args: &'a [Expr],
-) -> Result<(), UseFault>
-    requires { AreAt known.now.exprs.now state.old.position (all_kinds_at (globals_in known.now.typed.now) state.old (expressions (map expression_of args.now))) }
+) -> Result<(), Stop<UseFault>>
+    requires { AreAt known.now.exprs.now state.old.position
+        (all_kinds_at (globals_in known.now.typed.now) state.old (expressions (map expression_of args.now))) }
     ensures { WalksAll (globals_in known.now.typed.now) (expressions (map expression_of args.now)) state.old result state.new }
 {
     'args: for arg in args {
@@ -169,7 +179,7 @@ fn walk_arm<'a>(
     state: &mut State<'a>,
     rooms: &mut Rooms<'a>,
     arm: &'a Arm,
-) -> Result<(), UseFault>
+) -> Result<(), Stop<UseFault>>
     requires { AreAt known.now.exprs.now state.old.position (arm_kinds_at (globals_in known.now.typed.now) state.old (branch_of arm.now)) }
     ensures { WalksArm (globals_in known.now.typed.now) (branch_of arm.now) state.old result state.new }
 {
@@ -188,7 +198,7 @@ fn walk_arms<'a>(
     state: &mut State<'a>,
     rooms: &mut Rooms<'a>,
     arms: &'a [Arm],
-) -> Result<(), UseFault>
+) -> Result<(), Stop<UseFault>>
     requires { AreAt known.now.exprs.now state.old.position (arms_kinds_at (globals_in known.now.typed.now) state.old (tree.arms (map branch_of arms.now))) }
     ensures { WalksArms (globals_in known.now.typed.now) (tree.arms (map branch_of arms.now)) state.old result state.new }
 {

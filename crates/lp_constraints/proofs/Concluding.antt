@@ -1,6 +1,6 @@
 -- The answers of inference, each by what the solver's run came to.
 use Rattle.std.specs.Prelude.{Option, Some, None, MatchOption}
-use Rattle.std.proofs.Common.{◌≡◌, ◌⊎◌, ℕ, ◌<◌, ◌≤◌, List, length, refl, sym, ap, ◌∙◌, subst, inl, inr}
+use Rattle.std.proofs.Common.{◌≡◌, ℕ, ◌<◌, List, length, refl, sym, subst, inl, inr}
 use Rattle.dual_simplex.specs.Run as run
 use Rattle.dual_simplex.specs.Run.{IsOutcome}
 use Rattle.dual_simplex.specs.Feasible.{IsFeasible, IsLeast}
@@ -10,15 +10,17 @@ use Rattle.grail_code.specs.WellFormed.{IsWellFormed}
 use Rattle.licence.specs.Fitting.{Grants}
 use Rattle.grail_code.specs.Code.{Code}
 use Rattle.certificate.specs.Certificates.{Cert, IsWithin, IsCert}
-use Rattle.bound_system.specs.Unknowns.{unknowns_of}
-use Rattle.bound_system.specs.Forms.{rows_of, system_of}
-use Rattle.bound_system.specs.Found.{certificate_of, IsLeastCertificate}
-use Rattle.lp_constraints.specs.Inference.{IsSmall, IsSolution, Found, TooMany, NoBound, Wide, Spent, Infers}
+use Rattle.lp_system.specs.Unknowns.{unknowns_of}
+use Rattle.lp_system.specs.Forms.{rows_of, system_of}
+use Rattle.lp_system.specs.Found.{certificate_of, IsLeastCertificate}
+use Rattle.lp_constraints.specs.Inference.{IsSmall, Found, TooMany, NoBound, Wide, Spent, Infers}
 
-pub found : (p : Code) (unit price_unit : ℕ) (values prices : List ℕ) (c : Cert) → IsSmall p → IsOutcome (system_of p) (run.Least unit values price_unit prices) → c ≡ certificate_of p unit values → IsCert c → Infers p (Found c)
+pub found : (p : Code) (unit price_unit : ℕ) (values prices : List ℕ) (c : Cert) → IsSmall p
+    → IsOutcome (system_of p) (run.Least unit values price_unit prices) → c ≡ certificate_of p unit values → IsCert c → Infers p (Found c)
 found p unit price_unit values prices c small outcome is cert = (small, record { unit = unit; values = values; price_unit = price_unit; prices = prices; outcome = outcome; is = is }, cert.within)
 
-pub wide : (p : Code) (unit price_unit : ℕ) (values prices : List ℕ) → IsSmall p → IsOutcome (system_of p) (run.Least unit values price_unit prices) → (IsWithin (certificate_of p unit values) → ⊥) → Infers p Wide
+pub wide : (p : Code) (unit price_unit : ℕ) (values prices : List ℕ) → IsSmall p → IsOutcome (system_of p) (run.Least unit values price_unit prices)
+    → (IsWithin (certificate_of p unit values) → ⊥) → Infers p Wide
 wide p unit price_unit values prices small outcome never =
     (small, inr (certificate_of p unit values, record { unit = unit; values = values; price_unit = price_unit; prices = prices; outcome = outcome; is = refl }, never))
 
@@ -51,8 +53,10 @@ pub nothing_grants : (p : Code) (variable : ℕ)
 nothing_grants p variable law well limits h c g = law p well limits h c g
 
 -- more unknowns or rows than are solved
-pub too_many_unknowns : (p : Code) (unknowns rows : ℕ) → unknowns ≡ length (unknowns_of p) → rows ≡ length (rows_of p) → 512 < unknowns → Infers p (TooMany unknowns rows)
+pub too_many_unknowns : (p : Code) (unknowns rows : ℕ) → unknowns ≡ length (unknowns_of p) → rows ≡ length (rows_of p) → 512 < unknowns
+    → Infers p (TooMany unknowns rows)
 too_many_unknowns p unknowns rows u r h = (u, r, inl h)
 
-pub too_many_rows : (p : Code) (unknowns rows : ℕ) → unknowns ≡ length (unknowns_of p) → rows ≡ length (rows_of p) → 1536 < rows → Infers p (TooMany unknowns rows)
+pub too_many_rows : (p : Code) (unknowns rows : ℕ) → unknowns ≡ length (unknowns_of p) → rows ≡ length (rows_of p) → 1536 < rows
+    → Infers p (TooMany unknowns rows)
 too_many_rows p unknowns rows u r h = (u, r, inr h)

@@ -1,20 +1,21 @@
 -- Inference has one answer.
-use Rattle.std.proofs.Common.{◌≡◌, ◌⊎◌, ℕ, ◌<◌, ◌≤◌, List, length, Option, Some, None, refl, sym, ap, ◌∙◌, subst, arith, inl, inr}
+use Rattle.std.proofs.Common.{◌≡◌, ◌⊎◌, ℕ, ◌<◌, ◌≤◌, length, Option, Some, None, refl, sym, ap, ◌∙◌, subst, arith, inl, inr}
 use Rattle.dual_simplex.specs.Run as run
 use Rattle.dual_simplex.specs.Run.{Outcome, IsOutcome, HasOneRun}
 use Rattle.dual_simplex.specs.Systems.{Inequalities, IsProper}
 use Rattle.grail_code.specs.Code.{Code}
 use Rattle.certificate.specs.Certificates.{Cert, IsWithin}
-use Rattle.bound_system.specs.Unknowns.{unknowns_of}
-use Rattle.bound_system.specs.Forms.{rows_of, system_of}
-use Rattle.bound_system.specs.Found.{certificate_of}
+use Rattle.lp_system.specs.Unknowns.{unknowns_of}
+use Rattle.lp_system.specs.Forms.{rows_of, system_of}
+use Rattle.lp_system.specs.Found.{certificate_of}
 use Rattle.lp_constraints.specs.Inference.{IsSmall, IsSolution, Inferred, Found, TooMany, NoBound, Wide, Spent, Infers, IsSo, Answers}
 
 -- the system of a small code has one run
 abbrev pub RunsOnce : Code → Type 0
 RunsOnce p = IsSmall p → HasOneRun (system_of p)
 
-pub runs_once : (p : Code) → (length (unknowns_of p) ≤ 512 → length (rows_of p) ≤ 1536 → IsProper (system_of p)) → ((system : Inequalities) → IsProper system → HasOneRun system) → RunsOnce p
+pub runs_once : (p : Code) → (length (unknowns_of p) ≤ 512 → length (rows_of p) ≤ 1536 → IsProper (system_of p))
+    → ((system : Inequalities) → IsProper system → HasOneRun system) → RunsOnce p
 runs_once p proper once small = once (system_of p) (proper small.unknowns small.rows)
 
 one_outcome : (p : Code) (a b : Outcome) → RunsOnce p → IsSmall p → IsOutcome (system_of p) a → IsOutcome (system_of p) b → a ≡ b

@@ -1,7 +1,8 @@
 ghost use Rattle.std.specs.Prelude.{◌≡◌, IfOk, Err};
+ghost use Rattle.stops.specs.declared.stop.Stop.TheVariants.{Fault};
 ghost use Rattle.certificate.specs.Certificates.{Cert as PlainCert};
 ghost use Rattle.licence.specs.Fitting.{Grants};
-ghost use Rattle.bound_system.specs.Found.{IsLeastCertificate};
+ghost use Rattle.lp_system.specs.Found.{IsLeastCertificate};
 ghost use Rattle.grail_code.specs.Code.{code_of};
 ghost use Rattle.grail_code.specs.Limits.{IsNamed};
 ghost use Rattle.grail_code.specs.WellFormed.{IsWellFormed};
@@ -9,17 +10,18 @@ ghost use Rattle.annotations.specs.Tables.{table_of};
 ghost use Rattle.dual_simplex.specs.Run.{Least, plain_answer, IsOutcome};
 ghost use Rattle.dual_simplex.specs.Promises.{SaysLeast, SaysNothing};
 ghost use Rattle.dual_simplex.specs.Feasible.{IsLeast};
-ghost use Rattle.bound_system.specs.Forms.{system_of};
+ghost use Rattle.lp_system.specs.Forms.{system_of};
 ghost use Rattle.lp_constraints.specs.Inference.{IsSmall, inferred_of, IsSo};
 
 use super::fault::NoCert;
 use annotations::ReachTable;
-use bound_system::laws::law_of_least;
 use certificate::Cert;
 use dual_simplex::Solved;
 use grail_code::Code;
-use solution_certificate::certificate;
+use lp_solution::certificate;
+use lp_system::laws::law_of_least;
 use std::alloc::Global;
+use stops::Stop;
 
 // The certificate of a solution, where its numbers are within their limits.
 #[tactic(auto, using(crate::proofs::Concluding::found, crate::proofs::Concluding::least))]
@@ -31,7 +33,7 @@ fn certified(
     values: &[u64],
     price_unit: u64,
     prices: &[u64],
-) -> Result<Cert, NoCert>
+) -> Result<Cert, Stop<NoCert>>
     requires well { IsWellFormed (code_of code.now) }
     requires named { IsNamed (code_of code.now) }
     requires table { table.now ≡ table_of code.now.types }
@@ -40,14 +42,14 @@ fn certified(
     requires least { IsLeast (system_of (code_of code.now)) unit values.now }
     ensures found { IsSo (code_of code.now) (inferred_of result) }
     ensures least { IfOk result (λ cert. IsLeastCertificate (code_of code.now) cert) }
-    ensures bound { (result ≡ Err NoCert.NoBound) → ⊥ }
+    ensures bound { (result ≡ Err (Fault NoCert.NoBound)) → ⊥ }
 {
     code.limits();
     law_of_least();
     match certificate(alloc, code, table, unit, values) {
         Ok(Some(cert)) => Ok(cert),
-        Ok(None) => Err(NoCert::Wide),
-        Err(_) => Err(NoCert::Memory),
+        Ok(None) => Err(Stop::Fault(NoCert::Wide)),
+        Err(_) => Err(Stop::Memory),
     }
 }
 
@@ -58,7 +60,7 @@ pub(crate) fn conclude(
     code: &Code,
     table: &ReachTable,
     solved: Solved,
-) -> Result<Cert, NoCert>
+) -> Result<Cert, Stop<NoCert>>
     requires well { IsWellFormed (code_of code.now) }
     requires named { IsNamed (code_of code.now) }
     requires table { table.now ≡ table_of code.now.types }
@@ -68,7 +70,7 @@ pub(crate) fn conclude(
     requires nothing { SaysNothing (system_of (code_of code.now)) (plain_answer solved) }
     ensures found { IsSo (code_of code.now) (inferred_of result) }
     ensures least { IfOk result (λ cert. IsLeastCertificate (code_of code.now) cert) }
-    ensures none { (c : PlainCert) → (result ≡ Err NoCert.NoBound) → Grants (code_of code.now) c → ⊥ }
+    ensures none { (c : PlainCert) → (result ≡ Err (Fault NoCert.NoBound)) → Grants (code_of code.now) c → ⊥ }
 {
     code.limits();
     law_of_least();
@@ -79,8 +81,8 @@ pub(crate) fn conclude(
             price_unit,
             prices,
         } => certified(alloc, code, table, unit, &values, price_unit, &prices),
-        Solved::Nothing { .. } => Err(NoCert::NoBound),
-        Solved::Wide { .. } => Err(NoCert::Wide),
-        Solved::Spent => Err(NoCert::Spent),
+        Solved::Nothing { .. } => Err(Stop::Fault(NoCert::NoBound)),
+        Solved::Wide { .. } => Err(Stop::Fault(NoCert::Wide)),
+        Solved::Spent => Err(Stop::Fault(NoCert::Spent)),
     }
 }

@@ -15,7 +15,4 @@ pub enum NoCert {
     /// The solver's run has no end within 4,096 pivots.
     #[error("spent")]
     Spent,
-    /// Memory ran out.
-    #[error("out of memory")]
-    Memory,
 }

@@ -2,7 +2,7 @@
 use Rattle.std.proofs.Common.{◌≡◌, ℕ, ◌≤◌, List, [], ◌∷◌, ◌++◌, map, length, refl, sym, ap, ◌∙◌, subst, arith}
 use Rattle.camelot_tree.specs.Tree.{Expression, Num, Truth, Var, Prim, If, Let, Match, Build, Call, Source}
 use Rattle.camelot_tree.specs.Spine.{spine_of, leaf_of}
-use Rattle.typing_rules.specs.Kinds.{Scope}
+use Rattle.camelot_typing.specs.Kinds.{Scope}
 use Rattle.normal_form.specs.Normal.{made, ends}
 use Rattle.normal_form.specs.Parts.{Piece, value_piece, first_part}
 
@@ -83,7 +83,8 @@ pub record Climbed (p : Source) (s : Scope ℕ) (next number : ℕ) (e : Express
   pub chain : IsChain ps done e
   pub is : part ≡ value_piece p s next number done
 
-pub climb_begun : (p : Source) (s : Scope ℕ) (next number : ℕ) (e leaf : Expression) (ps : List Expression) (part : Piece) → ps ≡ spine_of e → leaf ≡ leaf_of e → part ≡ value_piece p s next number leaf → Climbed p s next number e ps part
+pub climb_begun : (p : Source) (s : Scope ℕ) (next number : ℕ) (e leaf : Expression) (ps : List Expression) (part : Piece) → ps ≡ spine_of e
+    → leaf ≡ leaf_of e → part ≡ value_piece p s next number leaf → Climbed p s next number e ps part
 climb_begun p s next number e leaf ps part h k is = record {
   done = leaf;
   chain = subst (λ x. IsChain x leaf e) (sym h) (subst (λ x. IsChain (spine_of e) x e) (sym k) (chain_spine e));
@@ -112,10 +113,12 @@ next_parent f p s next number e before after x part h c =
       ended = chain_ends p (map f after) (f x) e r.chain;
     }
 
-pub climbed_on : (p : Source) (s : Scope ℕ) (next number : ℕ) (e parent : Expression) (ps : List Expression) (part last : Piece) → Parent p s next number e ps parent part → last ≡ value_piece p s next number parent → Climbed p s next number e ps last
+pub climbed_on : (p : Source) (s : Scope ℕ) (next number : ℕ) (e parent : Expression) (ps : List Expression) (part last : Piece)
+    → Parent p s next number e ps parent part → last ≡ value_piece p s next number parent → Climbed p s next number e ps last
 climbed_on p s next number e parent ps part last h is = record { done = parent; chain = h.chain; is = is }
 
-pub climbed_up : {A : Type 0} (f : A → Expression) (p : Source) (s : Scope ℕ) (next number : ℕ) (e : Expression) (items : List A) (part : Piece) → length items ≡ 0 → Climbed p s next number e (map f items) part → part ≡ value_piece p s next number e
+pub climbed_up : {A : Type 0} (f : A → Expression) (p : Source) (s : Scope ℕ) (next number : ℕ) (e : Expression) (items : List A) (part : Piece)
+    → length items ≡ 0 → Climbed p s next number e (map f items) part → part ≡ value_piece p s next number e
 climbed_up f p s next number e [] part none c = c.is ∙ ap (value_piece p s next number) c.chain
 climbed_up f p s next number e (x ∷ items) part none c = absurd (omega (arith, none))
 

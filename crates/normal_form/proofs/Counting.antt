@@ -78,7 +78,8 @@ map_last f [] x = refl
 map_last f (y ∷ xs) x = ap (λ l. f y ∷ l) (map_last f xs x)
 
 -- one parent more is counted
-pub spine_popped : {A : Type 0} (f : A → Expression) (p : Source) (before after : List A) (x : A) (counts rest next whole : Counts) → before ≡ after ++ x ∷ [] → both counts (counted (rests_made p (map f before)) (rests_ends p (map f before))) ≡ whole
+pub spine_popped : {A : Type 0} (f : A → Expression) (p : Source) (before after : List A) (x : A) (counts rest next whole : Counts)
+    → before ≡ after ++ x ∷ [] → both counts (counted (rests_made p (map f before)) (rests_ends p (map f before))) ≡ whole
     → rest ≡ rest_counts p (f x) → next ≡ both counts rest → both next (counted (rests_made p (map f after)) (rests_ends p (map f after))) ≡ whole
 spine_popped f p before after x counts rest next whole h k r n =
     ap (λ c. both c (counted (rests_made p (map f after)) (rests_ends p (map f after)))) (n ∙ ap (both counts) r)
@@ -127,17 +128,20 @@ branch_tail_ends_for p (AndArm c fs x b as') con = by_test (is_that (constructor
     by_test true h = refl
     by_test false h = h
 
-pub over_total : (count : Option Branch → ℕ) (own : ℕ → ℕ) (p : Source) (as' : Arms) → ((con : ℕ) → count (arm_for p as' con) ≡ own con) → (cons : List ℕ) → over count (map (arm_for p as') cons) ≡ total own cons
+pub over_total : (count : Option Branch → ℕ) (own : ℕ → ℕ) (p : Source) (as' : Arms) → ((con : ℕ) → count (arm_for p as' con) ≡ own con)
+    → (cons : List ℕ) → over count (map (arm_for p as') cons) ≡ total own cons
 over_total count own p as' h [] = refl
 over_total count own p as' h (con ∷ cons) = let one = h con in let rest = over_total count own p as' h cons in omega (arith, one, rest)
 
-pub arms_counted : (p : Source) (as' : Arms) (order : List (Option Branch)) → order ≡ map (arm_for p as') (cons_of p as') → counted (over (branch_made p) order) (over (branch_ends p) order) ≡ arms_counts p as'
+pub arms_counted : (p : Source) (as' : Arms) (order : List (Option Branch)) → order ≡ map (arm_for p as') (cons_of p as')
+    → counted (over (branch_made p) order) (over (branch_ends p) order) ≡ arms_counts p as'
 arms_counted p as' order h =
     ap (λ l. counted (over (branch_made p) l) (over (branch_ends p) l)) h
     ∙ ap (λ m. counted m (over (branch_ends p) (map (arm_for p as') (cons_of p as')))) (over_total (branch_made p) (arm_made p as') p as' (branch_made_for p as') (cons_of p as'))
     ∙ ap (counted (total (arm_made p as') (cons_of p as'))) (over_total (branch_ends p) (arm_ends p as') p as' (branch_ends_for p as') (cons_of p as'))
 
-pub tail_arms_counted : (p : Source) (as' : Arms) (order : List (Option Branch)) → order ≡ map (arm_for p as') (cons_of p as') → counted (over (branch_tail_made p) order) (over (branch_tail_ends p) order) ≡ arms_tail_counts p as'
+pub tail_arms_counted : (p : Source) (as' : Arms) (order : List (Option Branch)) → order ≡ map (arm_for p as') (cons_of p as')
+    → counted (over (branch_tail_made p) order) (over (branch_tail_ends p) order) ≡ arms_tail_counts p as'
 tail_arms_counted p as' order h =
     ap (λ l. counted (over (branch_tail_made p) l) (over (branch_tail_ends p) l)) h
     ∙ ap (λ m. counted m (over (branch_tail_ends p) (map (arm_for p as') (cons_of p as')))) (over_total (branch_tail_made p) (arm_tail_made p as') p as' (branch_tail_made_for p as') (cons_of p as'))
@@ -145,21 +149,26 @@ tail_arms_counted p as' order h =
 
 -- ---- at the end of a loop
 
-pub spine_done : {A : Type 0} (f : A → Expression) (p : Source) (items : List A) (counts whole : Counts) → length items ≡ 0 → both counts (counted (rests_made p (map f items)) (rests_ends p (map f items))) ≡ whole
+pub spine_done : {A : Type 0} (f : A → Expression) (p : Source) (items : List A) (counts whole : Counts) → length items ≡ 0
+    → both counts (counted (rests_made p (map f items)) (rests_ends p (map f items))) ≡ whole
     → both counts (counted 0 0) ≡ counts → counts ≡ whole
 spine_done f p [] counts whole none h still = sym still ∙ h
 spine_done f p (x ∷ items) counts whole none h still = absurd (omega (arith, none))
 
-pub all_done : (p : Source) (rest es : List Expression) (counts : Counts) → rest ≡ [] → both counts (all_counts p (expressions rest)) ≡ all_counts p (expressions es) → both counts (counted 0 0) ≡ counts → counts ≡ all_counts p (expressions es)
+pub all_done : (p : Source) (rest es : List Expression) (counts : Counts) → rest ≡ []
+    → both counts (all_counts p (expressions rest)) ≡ all_counts p (expressions es) → both counts (counted 0 0) ≡ counts
+    → counts ≡ all_counts p (expressions es)
 all_done p rest es counts none h still = sym still ∙ ap (λ l. both counts (all_counts p (expressions l))) (sym none) ∙ h
 
-pub arms_done : (made_by ends_by : Option Branch → ℕ) (rest all : List (Option Branch)) (counts whole : Counts) → rest ≡ [] → both counts (counted (over made_by rest) (over ends_by rest)) ≡ counted (over made_by all) (over ends_by all)
+pub arms_done : (made_by ends_by : Option Branch → ℕ) (rest all : List (Option Branch)) (counts whole : Counts) → rest ≡ []
+    → both counts (counted (over made_by rest) (over ends_by rest)) ≡ counted (over made_by all) (over ends_by all)
     → both counts (counted 0 0) ≡ counts → counted (over made_by all) (over ends_by all) ≡ whole → counts ≡ whole
 arms_done made_by ends_by rest all counts whole none h still e = sym still ∙ ap (λ l. both counts (counted (over made_by l) (over ends_by l))) (sym none) ∙ h ∙ e
 
 -- ---- a match
 
-pub match_counted : (p : Source) (e on : Expression) (as' : Arms) (l : ℕ) (first second both_are one result : Counts) → e ≡ Match on as' l → first ≡ counts_of p on → second ≡ arms_counts p as' → both_are ≡ both first second → one ≡ counted 1 1
+pub match_counted : (p : Source) (e on : Expression) (as' : Arms) (l : ℕ) (first second both_are one result : Counts) → e ≡ Match on as' l
+    → first ≡ counts_of p on → second ≡ arms_counts p as' → both_are ≡ both first second → one ≡ counted 1 1
     → result ≡ both both_are one → result ≡ counts_of p e
 match_counted p e on as' l first second both_are one result is f s b o r =
     let n = total (arm_made p as') (cons_of p as') in

@@ -25,6 +25,7 @@ next_closed blocks more lets none t rest all whole m a n h =
     ap (λ l. more ++ cut (map Bind l ++ rest)) n ∙ ap (λ l. l ++ cut rest) m ∙ append_assoc blocks ((let b : NormalBlock = record { lets = lets; term = t } in b) ∷ []) (cut rest)
     ∙ ap (λ l. blocks ++ l) (sym (cut_closed lets t rest)) ∙ ap (λ l. blocks ++ cut (map Bind lets ++ l)) (sym a) ∙ h
 
-pub all_cut : {A : Type 0} (f : A → Line) (blocks : List NormalBlock) (lets : List block.Let) (items : List A) (whole : List NormalBlock) → length items ≡ 0 → blocks ++ cut (map Bind lets ++ map f items) ≡ whole → blocks ≡ whole
+pub all_cut : {A : Type 0} (f : A → Line) (blocks : List NormalBlock) (lets : List block.Let) (items : List A) (whole : List NormalBlock)
+    → length items ≡ 0 → blocks ++ cut (map Bind lets ++ map f items) ≡ whole → blocks ≡ whole
 all_cut f blocks lets [] whole none h = sym (append-nil blocks) ∙ ap (λ l. blocks ++ l) (sym (cut_open lets)) ∙ ap (λ l. blocks ++ cut l) (sym (append-nil (map Bind lets))) ∙ h
 all_cut f blocks lets (x ∷ items) whole none h = absurd (omega (arith, none))

@@ -3,7 +3,7 @@ use Rattle.std.proofs.Common.{◌≡◌, ℕ, suc, ◌+◌, Bool, true, false, L
 use Rattle.std.specs.Prelude.{if◌then◌else◌}
 use Rattle.camelot_tree.specs.Tree.{Expression, Num, Truth, Var, Prim, If, Let, Match, Build, Call, Expressions, NoExpressions, AndExpression, Arms, NoArms, AndArm, Source}
 use Rattle.camelot_tree.specs.Meaning.{constructor_number, is_that}
-use Rattle.typing_rules.specs.Kinds.{Scope, bind}
+use Rattle.camelot_typing.specs.Kinds.{Scope, bind}
 use Rattle.grail_blocks.specs.Blocks as block
 use Rattle.grail_blocks.specs.Blocks.{Op, Term}
 use Rattle.normal_form.specs.Normal.{Line, Close, new, cons_of, bound_count, in_arm, total, in_turn, made, arm_made, ends, all_ends, arm_ends, local_of, joining, value, values, arm_value, tail_made, arm_tail_made, tail_ends, arm_tail_ends, tail, arm_tail}
@@ -11,7 +11,8 @@ use Rattle.normal_form.proofs.Lines.{closes, IsClosed, EndsClosed, closes_append
 
 -- ---- parts
 
-pub closes_turn : (locals blocks : ℕ → ℕ) (part : ℕ → ℕ → ℕ → List Line) → ((con next number : ℕ) → closes (part con next number) ≡ blocks con) → (cons : List ℕ) (next first : ℕ)
+pub closes_turn : (locals blocks : ℕ → ℕ) (part : ℕ → ℕ → ℕ → List Line) → ((con next number : ℕ) → closes (part con next number) ≡ blocks con)
+    → (cons : List ℕ) (next first : ℕ)
     → closes (in_turn locals blocks part cons next first) ≡ total blocks cons
 closes_turn locals blocks part h [] next first = omega arith
 closes_turn locals blocks part h (con ∷ cons) next first =
@@ -20,7 +21,8 @@ closes_turn locals blocks part h (con ∷ cons) next first =
     let rest = closes_turn locals blocks part h cons (next + locals con) (first + blocks con) in
     omega (arith, both, own, rest)
 
-pub closed_turn : (locals blocks : ℕ → ℕ) (part : ℕ → ℕ → ℕ → List Line) → ((con next number : ℕ) → IsClosed (part con next number)) → (cons : List ℕ) (next first : ℕ) → IsClosed (in_turn locals blocks part cons next first)
+pub closed_turn : (locals blocks : ℕ → ℕ) (part : ℕ → ℕ → ℕ → List Line) → ((con next number : ℕ) → IsClosed (part con next number))
+    → (cons : List ℕ) (next first : ℕ) → IsClosed (in_turn locals blocks part cons next first)
 closed_turn locals blocks part h [] next first = tt
 closed_turn locals blocks part h (con ∷ cons) next first =
     closed_append (part con next first) (in_turn locals blocks part cons (next + locals con) (first + blocks con)) (h con next first) (closed_turn locals blocks part h cons (next + locals con) (first + blocks con))
@@ -87,7 +89,8 @@ mutual
   closes_values p (AndExpression e es) s next number =
       two_parts (value p e s next number) _ (ends p e) (all_ends p es) (closes_value p e s next number) (closes_values p es s (next + made p e) (number + ends p e))
 
-  pub closes_arm : (p : Source) (as' : Arms) (con : ℕ) (s : Scope ℕ) (next number result join : ℕ) → closes (arm_value p as' con s next number result join) ≡ arm_ends p as' con
+  pub closes_arm : (p : Source) (as' : Arms) (con : ℕ) (s : Scope ℕ) (next number result join : ℕ)
+      → closes (arm_value p as' con s next number result join) ≡ arm_ends p as' con
   closes_arm p NoArms con s next number result join = omega arith
   closes_arm p (AndArm c fs x b as') con s next number result join =
       chosen_closes (is_that (constructor_number p c) con) _ _ (suc (ends p b)) (arm_ends p as' con)
@@ -123,7 +126,8 @@ mutual
       ended_then (value p e s next number) _ _ (ends p e) (total (arm_tail_ends p as') (cons_of p as')) (closes_value p e s next number)
       (closes_turn (arm_tail_made p as') (arm_tail_ends p as') (λ con m n. arm_tail p as' con s m n) (λ con m n. closes_arm_tail p as' con s m n) (cons_of p as') (next + made p e) (suc (number + ends p e)))
 
-  pub closes_arm_tail : (p : Source) (as' : Arms) (con : ℕ) (s : Scope ℕ) (next number : ℕ) → closes (arm_tail p as' con s next number) ≡ arm_tail_ends p as' con
+  pub closes_arm_tail : (p : Source) (as' : Arms) (con : ℕ) (s : Scope ℕ) (next number : ℕ)
+      → closes (arm_tail p as' con s next number) ≡ arm_tail_ends p as' con
   closes_arm_tail p NoArms con s next number = omega arith
   closes_arm_tail p (AndArm c fs x b as') con s next number =
       chosen_closes (is_that (constructor_number p c) con) _ _ (tail_ends p b) (arm_tail_ends p as' con) (closes_tail p b (in_arm fs x next s) (next + bound_count fs x) number) (closes_arm_tail p as' con s next number)

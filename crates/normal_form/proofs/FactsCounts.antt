@@ -2,10 +2,10 @@
 use Rattle.std.proofs.Common.{suc, ◌≤◌, List, [], ◌∷◌, length, refl, sym, ◌∙◌, subst, arith}
 use Rattle.std.specs.List.{AllByRecursion}
 use Rattle.camelot_tree.specs.Tree.{Function, Source}
-use Rattle.typing_rules.specs.Kinds.{numbered}
-use Rattle.typing_rules.specs.Typing.{Signature, params_scope, globals_of, FunctionFits, FunctionsFit}
-use Rattle.typing_rules.specs.TypingLaws.{params_full}
-use Rattle.typing_rules.specs.Typed.{Typing, IsTyping}
+use Rattle.camelot_typing.specs.Kinds.{numbered}
+use Rattle.camelot_typing.specs.Typing.{Signature, params_scope, globals_of, FunctionFits, FunctionsFit}
+use Rattle.camelot_typing.specs.TypingLaws.{params_full}
+use Rattle.camelot_typing.specs.Typed.{Typing, IsTyping}
 use Rattle.normal_form.specs.Normal.{cut, tail, tail_made, normal_function, normal_functions, normal_form}
 use Rattle.normal_form.specs.Facts.{IsCounted, AreCounted}
 use Rattle.normal_form.proofs.Ends.{closes_tail}
@@ -14,7 +14,8 @@ use Rattle.normal_form.proofs.FactsUse.{Computed, frame}
 use Rattle.normal_form.proofs.FitTails.{length_cut, tail_ends_some}
 use Rattle.normal_form.proofs.FewLets.{tail_makes, lets_few}
 
-function_counted : (p : Source) (sigs : List Signature) (f : Function) (s : Signature) → FunctionsFit p (globals_of p sigs) p.funs sigs → Computed → FunctionFits p (globals_of p sigs) f s → IsCounted p f (normal_function p sigs f s)
+function_counted : (p : Source) (sigs : List Signature) (f : Function) (s : Signature) → FunctionsFit p (globals_of p sigs) p.funs sigs → Computed
+    → FunctionFits p (globals_of p sigs) f s → IsCounted p f (normal_function p sigs f s)
 function_counted p sigs f s fit computed own =
     let F = frame p sigs f s fit computed in
     let l = params_scope f.params (numbered 0 f.params) in
@@ -32,7 +33,8 @@ function_counted p sigs f s fit computed own =
       few_lets = subst (λ n. AllByRecursion (λ b. length b.lets ≤ suc n) (cut lines)) (sym made) (lets_few lines (tail_made p f.body) makes.end makes.few).1;
     }
 
-functions_counted : (p : Source) (sigs : List Signature) (fs : List Function) (ss : List Signature) → FunctionsFit p (globals_of p sigs) p.funs sigs → Computed → FunctionsFit p (globals_of p sigs) fs ss → AreCounted p fs (normal_functions p sigs fs ss)
+functions_counted : (p : Source) (sigs : List Signature) (fs : List Function) (ss : List Signature) → FunctionsFit p (globals_of p sigs) p.funs sigs
+    → Computed → FunctionsFit p (globals_of p sigs) fs ss → AreCounted p fs (normal_functions p sigs fs ss)
 functions_counted p sigs [] [] fit computed own = tt
 functions_counted p sigs [] (s ∷ ss) fit computed own = absurd own
 functions_counted p sigs (f ∷ fs) [] fit computed own = absurd own

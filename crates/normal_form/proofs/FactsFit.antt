@@ -4,10 +4,10 @@ use Rattle.std.specs.Prelude.{slice_get, IsSomeAnd}
 use Rattle.std.specs.List.{AllByRecursion, list_all}
 use Rattle.camelot_tree.specs.Tree.{Function, Source}
 use Rattle.camelot_tree.specs.Tokens.{expression_has_ints}
-use Rattle.typing_rules.specs.Kinds.{types_of, numbered}
-use Rattle.typing_rules.specs.Typing.{Signature, params_scope, globals_of, FunctionFits, FunctionsFit}
-use Rattle.typing_rules.specs.TypingLaws.{params_full, both_hold}
-use Rattle.typing_rules.specs.Typed.{Typing, IsTyping}
+use Rattle.camelot_typing.specs.Kinds.{types_of, numbered}
+use Rattle.camelot_typing.specs.Typing.{Signature, params_scope, globals_of, FunctionFits, FunctionsFit}
+use Rattle.camelot_typing.specs.TypingLaws.{params_full, both_hold}
+use Rattle.camelot_typing.specs.Typed.{Typing, IsTyping}
 use Rattle.linear_use.specs.Uses.{FunctionIsLinear, FunctionsAreLinear}
 use Rattle.linear_use.specs.Answers.{KeepsRule}
 use Rattle.normal_form.specs.Normal.{cut, tail, tail_kinds, normal_function, normal_functions, normal_form}
@@ -22,7 +22,8 @@ use Rattle.normal_form.proofs.FitTails.{length_cut, length_coded, tail_fits}
 use Rattle.normal_form.proofs.KnownKinds.{all_append, params_known, stands_known, params_scope_known, tail_kinds_known}
 
 -- a function's code has its signature
-callees_are : (takes : BlockParams) (p : Source) (sigs : List Signature) (fs : List Function) (ss : List Signature) (i : ℕ) (s : Signature) → FunctionsFit p (globals_of p sigs) fs ss → slice_get ss i ≡ Some s
+callees_are : (takes : BlockParams) (p : Source) (sigs : List Signature) (fs : List Function) (ss : List Signature) (i : ℕ) (s : Signature)
+    → FunctionsFit p (globals_of p sigs) fs ss → slice_get ss i ≡ Some s
     → IsSomeAnd (slice_get (map (coded takes) (normal_functions p sigs fs ss)) i) (λ callee. (callee.params ≡ s.params) × (callee.result ≡ s.result))
 callees_are takes p sigs [] [] i s fit e = let k : None ≡ Some s = e in absurd cc
 callees_are takes p sigs [] (t ∷ ss) i s fit e = absurd fit
@@ -30,7 +31,9 @@ callees_are takes p sigs (f ∷ fs) [] i s fit e = absurd fit
 callees_are takes p sigs (f ∷ fs) (t ∷ ss) zero s fit e = let same : t ≡ s = cc in (ap (λ u. u.params) same, ap (λ u. u.result) same)
 callees_are takes p sigs (f ∷ fs) (t ∷ ss) (suc i) s fit e = callees_are takes p sigs fs ss i s fit.1 e
 
-function_fits : (takes : BlockParams) (t : Typing) (f : Function) (s : Signature) → FunctionsFit t.source (globals_of t.source t.signatures) t.source.funs t.signatures → Computed → FunctionFits t.source (globals_of t.source t.signatures) f s
+function_fits : (takes : BlockParams) (t : Typing) (f : Function) (s : Signature)
+    → FunctionsFit t.source (globals_of t.source t.signatures) t.source.funs t.signatures → Computed
+    → FunctionFits t.source (globals_of t.source t.signatures) f s
     → FunctionIsLinear (globals_of t.source t.signatures) f s → expression_has_ints f.body ≡ true → FitsAsCode takes (normal_form t) (normal_function t.source t.signatures f s)
 function_fits takes t f s fit computed own lin ints =
     let p = t.source in
@@ -64,7 +67,8 @@ function_fits takes t f s fit computed own lin ints =
           (tail_fits F C f.body sk l n 0 s.result st own.body lin.1 ints (at_back F.kinds 0 n s.params further (omega (arith, full)) at) refl (omega (arith, blocks, count, ended)));
     }
 
-functions_fit : (takes : BlockParams) (t : Typing) (fs : List Function) (ss : List Signature) → FunctionsFit t.source (globals_of t.source t.signatures) t.source.funs t.signatures → Computed
+functions_fit : (takes : BlockParams) (t : Typing) (fs : List Function) (ss : List Signature)
+    → FunctionsFit t.source (globals_of t.source t.signatures) t.source.funs t.signatures → Computed
     → FunctionsFit t.source (globals_of t.source t.signatures) fs ss → FunctionsAreLinear (globals_of t.source t.signatures) fs ss → list_all (λ f. expression_has_ints f.body) fs ≡ true
     → AllByRecursion (FitsAsCode takes (normal_form t)) (normal_functions t.source t.signatures fs ss)
 functions_fit takes t [] [] fit computed own lin ints = tt
@@ -74,5 +78,6 @@ functions_fit takes t (f ∷ fs) (s ∷ ss) fit computed own lin ints =
     let both = both_hold (expression_has_ints f.body) (list_all (λ f. expression_has_ints f.body) fs) ints in
     (function_fits takes t f s fit computed own.0 lin.0 both.0, functions_fit takes t fs ss fit computed own.1 lin.1 both.1)
 
-pub program_fits : Computed → (takes : BlockParams) (t : Typing) → IsTyping t → KeepsRule t → AllByRecursion (FitsAsCode takes (normal_form t)) (normal_form t).functions
+pub program_fits : Computed → (takes : BlockParams) (t : Typing) → IsTyping t → KeepsRule t
+    → AllByRecursion (FitsAsCode takes (normal_form t)) (normal_form t).functions
 program_fits computed takes t typing rule = functions_fit takes t t.source.funs t.signatures typing.typed.functions computed typing.typed.functions rule typing.typed.literals

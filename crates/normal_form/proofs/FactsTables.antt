@@ -4,10 +4,10 @@ use Rattle.std.specs.Prelude.{flat_map}
 use Rattle.camelot_values.specs.Names.{AreDistinct}
 use Rattle.camelot_tree.specs.Tree as tree
 use Rattle.camelot_tree.specs.Tree.{Function, Source}
-use Rattle.typing_rules.specs.Kinds.{constructor_kinds, data_kinds}
-use Rattle.typing_rules.specs.Typing.{Signature, globals_of, FunctionsFit}
-use Rattle.typing_rules.specs.Typed.{Typing, IsTyping}
-use Rattle.typing_rules.specs.NumberLaws.{constructors_same}
+use Rattle.camelot_typing.specs.Kinds.{constructor_kinds, data_kinds}
+use Rattle.camelot_typing.specs.Typing.{Signature, globals_of, FunctionsFit}
+use Rattle.camelot_typing.specs.Typed.{Typing, IsTyping}
+use Rattle.camelot_typing.specs.NumberLaws.{constructors_same}
 use Rattle.normal_form.specs.Normal.{normal_functions, normal_form}
 use Rattle.normal_form.specs.Facts.{TablesFit}
 use Rattle.normal_form.proofs.KnownKinds.{constructors_known}
@@ -20,7 +20,8 @@ con_names_are : (p : Source) (cs : List tree.Constructor) → map (λ c. c.name)
 con_names_are p [] = refl
 con_names_are p (c ∷ cs) = ap (λ l. c.name.word ∷ l) (con_names_are p cs)
 
-function_names_are : (p : Source) (sigs : List Signature) (fs : List Function) (ss : List Signature) → FunctionsFit p (globals_of p sigs) fs ss → map (λ f. f.name) (normal_functions p sigs fs ss) ≡ map (λ f. f.name.word) fs
+function_names_are : (p : Source) (sigs : List Signature) (fs : List Function) (ss : List Signature) → FunctionsFit p (globals_of p sigs) fs ss
+    → map (λ f. f.name) (normal_functions p sigs fs ss) ≡ map (λ f. f.name.word) fs
 function_names_are p sigs [] [] fit = refl
 function_names_are p sigs [] (s ∷ ss) fit = absurd fit
 function_names_are p sigs (f ∷ fs) [] fit = absurd fit

@@ -5,10 +5,10 @@ use Rattle.std.specs.List.{AllByRecursion}
 use Rattle.std.proofs.lemmas.Bool.Decides.{nat_tests}
 use Rattle.camelot_values.specs.declared.kinds.Kind.{Kind}
 use Rattle.camelot_tree.specs.Tree.{Expression, Function, Source}
-use Rattle.typing_rules.specs.Kinds.{Globals, Scope, types_of, numbered, atom_of}
-use Rattle.typing_rules.specs.Typing.{Signature, known_kind, params_scope, globals_of, HasKind, FunctionFits, FunctionsFit}
-use Rattle.typing_rules.specs.TypingLaws.{params_full}
-use Rattle.typing_rules.specs.Typed.{Typing, IsTyping}
+use Rattle.camelot_typing.specs.Kinds.{Globals, Scope, types_of, numbered, atom_of}
+use Rattle.camelot_typing.specs.Typing.{Signature, known_kind, params_scope, globals_of, HasKind, FunctionFits, FunctionsFit}
+use Rattle.camelot_typing.specs.TypingLaws.{params_full}
+use Rattle.camelot_typing.specs.Typed.{Typing, IsTyping}
 use Rattle.linear_use.specs.Uses.{FunctionIsLinear, FunctionsAreLinear}
 use Rattle.linear_use.specs.Answers.{KeepsRule}
 use Rattle.normal_form.specs.Normal.{NormalBlock, cut, tail, tail_kinds, normal_function, normal_functions, normal_form}
@@ -52,7 +52,8 @@ bound_below true u n x e most none = by_order (nat_lt x n) refl
     by_order true t = grind (arith, nat_tests, t)
     by_order false t = let more : n ≤ x = grind (arith, nat_tests, t) in let k = none more in absurd (omega (arith, k, most))
 
-pub function_fairly : (p : Source) (sigs : List Signature) (f : Function) (s : Signature) → FunctionsFit p (globals_of p sigs) p.funs sigs → Computed → FunctionFits p (globals_of p sigs) f s → FunctionIsLinear (globals_of p sigs) f s
+pub function_fairly : (p : Source) (sigs : List Signature) (f : Function) (s : Signature) → FunctionsFit p (globals_of p sigs) p.funs sigs → Computed
+    → FunctionFits p (globals_of p sigs) f s → FunctionIsLinear (globals_of p sigs) f s
     → UsesFairly (types_of p) (normal_function p sigs f s)
 function_fairly p sigs f s fit computed own lin =
     let F = frame p sigs f s fit computed in
@@ -75,7 +76,8 @@ function_fairly p sigs f s fit computed own lin =
       once = cut_once (heap_in F) 0 lines closed plain.once;
     }
 
-functions_fairly : (p : Source) (sigs : List Signature) (fs : List Function) (ss : List Signature) → FunctionsFit p (globals_of p sigs) p.funs sigs → Computed → FunctionsFit p (globals_of p sigs) fs ss
+functions_fairly : (p : Source) (sigs : List Signature) (fs : List Function) (ss : List Signature) → FunctionsFit p (globals_of p sigs) p.funs sigs
+    → Computed → FunctionsFit p (globals_of p sigs) fs ss
     → FunctionsAreLinear (globals_of p sigs) fs ss → AllByRecursion (UsesFairly (types_of p)) (normal_functions p sigs fs ss)
 functions_fairly p sigs [] [] fit computed own lin = tt
 functions_fairly p sigs [] (s ∷ ss) fit computed own lin = tt

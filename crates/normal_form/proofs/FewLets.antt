@@ -1,10 +1,11 @@
--- A block has at most one let more than the function makes locals: each let makes one, but for a copy, which ends its block.
+-- A block has at most one let more than the function makes locals: each let makes one, but for a copy, which ends its
+-- block.
 use Rattle.std.proofs.Common.{◌≡◌, ℕ, suc, ◌+◌, ◌≤◌, Bool, true, false, List, [], ◌∷◌, ◌++◌, length, refl, ap, arith}
 use Rattle.std.specs.Prelude.{if◌then◌else◌}
 use Rattle.std.specs.List.{AllByRecursion}
 use Rattle.camelot_tree.specs.Tree.{Expression, Num, Truth, Var, Prim, If, Let, Match, Build, Call, Expressions, NoExpressions, AndExpression, Arms, NoArms, AndArm, Source}
 use Rattle.camelot_tree.specs.Meaning.{constructor_number, is_that}
-use Rattle.typing_rules.specs.Kinds.{Scope, bind}
+use Rattle.camelot_typing.specs.Kinds.{Scope, bind}
 use Rattle.grail_blocks.specs.Blocks as block
 use Rattle.grail_blocks.specs.Blocks.{Op, Term}
 use Rattle.normal_form.specs.Normal.{NormalBlock, Line, Bind, Close, new, in_first, cut, cons_of, bound_count, in_arm, total, in_turn, made, all_made, arm_made, ends, arm_ends, local_of, joining, value, values, arm_value, tail_made, arm_tail_made, tail_ends, arm_tail_ends, tail, arm_tail}
@@ -71,7 +72,8 @@ joining_makes : (lines : List Line) (from to target n : ℕ) → Makes lines n �
 joining_makes lines from to target n h =
     more_make (joining lines from to target) (n + 0) n (omega arith) (both_make lines (new to (block.Copy from) ∷ Close (block.Goto target) ∷ []) n 0 h (record { few = omega arith; end = (tt, tt) }))
 
-turn_makes : (locals blocks : ℕ → ℕ) (part : ℕ → ℕ → ℕ → List Line) → ((con next number : ℕ) → Makes (part con next number) (locals con)) → (cons : List ℕ) (next first : ℕ) → Makes (in_turn locals blocks part cons next first) (total locals cons)
+turn_makes : (locals blocks : ℕ → ℕ) (part : ℕ → ℕ → ℕ → List Line) → ((con next number : ℕ) → Makes (part con next number) (locals con))
+    → (cons : List ℕ) (next first : ℕ) → Makes (in_turn locals blocks part cons next first) (total locals cons)
 turn_makes locals blocks part h [] next first = record { few = omega arith; end = tt }
 turn_makes locals blocks part h (con ∷ cons) next first =
     both_make (part con next first) (in_turn locals blocks part cons (next + locals con) (first + blocks con)) (locals con) (total locals cons) (h con next first) (turn_makes locals blocks part h cons (next + locals con) (first + blocks con))
@@ -125,7 +127,8 @@ mutual
   values_make p (AndExpression e es) s next number =
       both_make (value p e s next number) (values p es s (next + made p e) (number + ends p e)) (made p e) (all_made p es) (value_makes p e s next number) (values_make p es s (next + made p e) (number + ends p e))
 
-  pub arm_makes : (p : Source) (as' : Arms) (con : ℕ) (s : Scope ℕ) (next number result join : ℕ) → Makes (arm_value p as' con s next number result join) (arm_made p as' con)
+  pub arm_makes : (p : Source) (as' : Arms) (con : ℕ) (s : Scope ℕ) (next number result join : ℕ)
+      → Makes (arm_value p as' con s next number result join) (arm_made p as' con)
   arm_makes p NoArms con s next number result join = record { few = omega arith; end = tt }
   arm_makes p (AndArm c fs x b as') con s next number result join =
       let lines = value p b (in_arm fs x next s) (next + bound_count fs x) number in
@@ -136,7 +139,8 @@ mutual
 
 -- ---- tails
 
-returned_makes : (p : Source) (e : Expression) (s : Scope ℕ) (next number : ℕ) → Makes (value p e s next number ++ (Close (block.Ret (local_of p e s next)) ∷ [])) (made p e)
+returned_makes : (p : Source) (e : Expression) (s : Scope ℕ) (next number : ℕ)
+    → Makes (value p e s next number ++ (Close (block.Ret (local_of p e s next)) ∷ [])) (made p e)
 returned_makes p e s next number =
     let lines = value p e s next number in
     more_make (lines ++ (Close (block.Ret (local_of p e s next)) ∷ [])) (made p e + 0) (made p e) (omega arith)
@@ -186,7 +190,8 @@ abbrev AllFew : ℕ → List NormalBlock → Type 0
 AllFew n bs = AllByRecursion (λ b. length b.lets ≤ n) bs
 
 -- one more let in front
-few_first : (l : block.Let) (bs : List NormalBlock) (n : ℕ) → suc (first_lets bs) ≤ n → AllFew n bs → (first_lets (in_first l bs) ≤ suc (first_lets bs)) × AllFew n (in_first l bs)
+few_first : (l : block.Let) (bs : List NormalBlock) (n : ℕ) → suc (first_lets bs) ≤ n → AllFew n bs
+    → (first_lets (in_first l bs) ≤ suc (first_lets bs)) × AllFew n (in_first l bs)
 few_first l [] n h all = (omega arith, tt)
 few_first l (b ∷ bs) n h all = (omega arith, (h, all.1))
 
@@ -195,7 +200,8 @@ lets_few [] n end few = (omega arith, tt)
 lets_few (Close t ∷ lines) n end few = (omega arith, (omega arith, (lets_few lines n end few).1))
 lets_few (Bind l ∷ lines) n end few = by_op l.op end.0 (lets_few lines n end.1 (omega (arith, few))) refl
   where
-    plainly : plain_op l.op ≡ 1 → (first_lets (cut lines) ≤ suc (plain lines)) × AllFew (suc n) (cut lines) → (first_lets (in_first l (cut lines)) ≤ suc (plain_op l.op + plain lines)) × AllFew (suc n) (in_first l (cut lines))
+    plainly : plain_op l.op ≡ 1 → (first_lets (cut lines) ≤ suc (plain lines)) × AllFew (suc n) (cut lines)
+        → (first_lets (in_first l (cut lines)) ≤ suc (plain_op l.op + plain lines)) × AllFew (suc n) (in_first l (cut lines))
     plainly e r = let first = r.0 in let k = few_first l (cut lines) (suc n) (omega (arith, first, few, e)) r.1 in let up = k.0 in (omega (arith, up, first, e), k.1)
 
     copied : (rest : List Line) → EndsAfter (block.Copy 0) rest → first_lets (cut rest) ≡ 0

@@ -11,10 +11,10 @@ use Rattle.camelot_tree.specs.declared.tree.ArmCell.{ArmCell}
 use Rattle.camelot_tree.specs.declared.tree.ArmCell.TheVariants as cell
 use Rattle.camelot_tree.specs.Tree.{Expression, Expressions, NoExpressions, AndExpression}
 use Rattle.camelot_tree.specs.Cells.{has_cell}
-use Rattle.typing_rules.specs.Kinds.{Scope, or_else, types_of, fields_of, is_inline, built_kind, numbered}
-use Rattle.typing_rules.specs.Typing as typing
-use Rattle.typing_rules.specs.Typing.{Signature, globals_of, HaveKinds}
-use Rattle.typing_rules.specs.NumberLaws.{At as HasItem}
+use Rattle.camelot_typing.specs.Kinds.{Scope, or_else, types_of, fields_of, is_inline, built_kind, numbered}
+use Rattle.camelot_typing.specs.Typing as typing
+use Rattle.camelot_typing.specs.Typing.{Signature, globals_of, HaveKinds}
+use Rattle.camelot_typing.specs.NumberLaws.{At as HasItem}
 use Rattle.grail_blocks.specs.declared.blocks.Place.TheVariants as place
 use Rattle.grail_blocks.specs.Blocks as block
 use Rattle.grail_blocks.specs.Blocks.{Op, CaseArm, Term}
@@ -35,19 +35,22 @@ pub record Coding (F : Frame) : Type 0 where
   pub func : Func
   pub types_are : program.types ≡ types_of F.source
   pub kinds_are : local_kinds func ≡ F.kinds
-  pub callees : (i : ℕ) (s : Signature) → slice_get F.sigs i ≡ Some s → IsSomeAnd (slice_get program.funcs i) (λ callee. (callee.params ≡ s.params) × (callee.result ≡ s.result))
+  pub callees : (i : ℕ) (s : Signature) → slice_get F.sigs i ≡ Some s
+      → IsSomeAnd (slice_get program.funcs i) (λ callee. (callee.params ≡ s.params) × (callee.result ≡ s.result))
 
 abbrev pub LinesFit : Code → Func → ℕ → List Line → Type 0
 LinesFit p f number [] = Unit {0}
 LinesFit p f number (Bind l ∷ lines) = LetFits p f l × LinesFit p f number lines
 LinesFit p f number (Close t ∷ lines) = TermFits p f number t × LinesFit p f (suc number) lines
 
-pub fit_append : (p : Code) (f : Func) (number m : ℕ) (xs ys : List Line) → m ≡ number + closes xs → LinesFit p f number xs → LinesFit p f m ys → LinesFit p f number (xs ++ ys)
+pub fit_append : (p : Code) (f : Func) (number m : ℕ) (xs ys : List Line) → m ≡ number + closes xs → LinesFit p f number xs → LinesFit p f m ys
+    → LinesFit p f number (xs ++ ys)
 fit_append p f number m [] ys is h k = let same : m ≡ number = omega (arith, is) in subst (λ n. LinesFit p f n ys) same k
 fit_append p f number m (Bind l ∷ xs) ys is h k = (h.0, fit_append p f number m xs ys is h.1 k)
 fit_append p f number m (Close t ∷ xs) ys is h k = (h.0, fit_append p f (suc number) m xs ys (omega (arith, is)) h.1 k)
 
-first_fits : (p : Code) (f : Func) (number : ℕ) (l : block.Let) (bs : List NormalBlock) → LetFits p f l → BodyFits p f number bs → BodyFits p f number (in_first l bs)
+first_fits : (p : Code) (f : Func) (number : ℕ) (l : block.Let) (bs : List NormalBlock) → LetFits p f l → BodyFits p f number bs
+    → BodyFits p f number (in_first l bs)
 first_fits p f number l [] h k = tt
 first_fits p f number l (b ∷ bs) h k = ((h, k.0), k.1, k.2)
 
@@ -63,7 +66,8 @@ let_fits p f x op q is gives = subst (λ o. IsSomeAnd o (Gives p f op)) (sym is)
 pub kind_at : (F : Frame) (C : Coding F) (x : ℕ) (q : Kind) → slice_get F.kinds x ≡ Some q → kind_of C.func x ≡ Some q
 kind_at F C x q is = ap (λ ks. slice_get ks x) C.kinds_are ∙ is
 
-pub values_kinds : (F : Frame) (C : Coding F) (es : Expressions) (s : Scope Kind) (l : Scope ℕ) (next : ℕ) (ks : List Kind) → Named F s l next → HaveKinds (globals_of F.source F.sigs) s es ks → At F.kinds next (all_kinds F.source F.sigs s es)
+pub values_kinds : (F : Frame) (C : Coding F) (es : Expressions) (s : Scope Kind) (l : Scope ℕ) (next : ℕ) (ks : List Kind) → Named F s l next
+    → HaveKinds (globals_of F.source F.sigs) s es ks → At F.kinds next (all_kinds F.source F.sigs s es)
     → code.HaveKinds C.func (locals_of F.source es l next) ks
 values_kinds F C NoExpressions s l next [] st has at = refl
 values_kinds F C NoExpressions s l next (k ∷ ks) st has at = absurd has
@@ -85,7 +89,8 @@ inline_is types con c e = ap (λ o. option_map_or (λ d. d.inline) o false) e
 pub fields_are : (types : List DataType) (con : ℕ) (c : Constructor) → constructor types con ≡ Some c → fields_of types con ≡ c.fields
 fields_are types con c e = ap (λ o. option_map_or (λ d. d.fields) o []) e
 
-place_fits : (F : Frame) (C : Coding F) (s : Scope Kind) (l : Scope ℕ) (next con : ℕ) (place : Option Name) (inline : Bool) → Named F s l next → is_inline (types_of F.source) con ≡ inline
+place_fits : (F : Frame) (C : Coding F) (s : Scope Kind) (l : Scope ℕ) (next con : ℕ) (place : Option Name) (inline : Bool) → Named F s l next
+    → is_inline (types_of F.source) con ≡ inline
     → typing.PlaceFits s (is_inline (types_of F.source) con) place → code.PlaceFits C.func inline (place_in F.source con place l)
 place_fits F C s l next con None inline st is fit = by_test (is_inline (types_of F.source) con) is
   where
@@ -96,7 +101,8 @@ place_fits F C s l next con (Some d) inline st is fit =
     let r = named_local F s l next d.word kind.Dia st fit.1 in
     (sym is ∙ fit.0, ap (λ o. kind_of C.func (or_else o 0)) r.found ∙ kind_at F C r.x kind.Dia r.kind)
 
-pub build_fits : (F : Frame) (C : Coding F) (s : Scope Kind) (l : Scope ℕ) (next con : ℕ) (c : Name) (place : Option Name) (args : List ℕ) (q : Kind) → Named F s l next → built_kind (types_of F.source) con ≡ Some q
+pub build_fits : (F : Frame) (C : Coding F) (s : Scope Kind) (l : Scope ℕ) (next con : ℕ) (c : Name) (place : Option Name) (args : List ℕ) (q : Kind)
+    → Named F s l next → built_kind (types_of F.source) con ≡ Some q
     → HasItem (constructors (types_of F.source)) con → code.HaveKinds C.func args (fields_of (types_of F.source) con) → typing.PlaceFits s (is_inline (types_of F.source) con) place
     → Gives C.program C.func (block.Make con args (place_in F.source con place l)) q
 build_fits F C s l next con c place args q st built item args_fit fit =
@@ -147,14 +153,16 @@ bound_distinct con fs cell.Plain b n target = subst AreDistinct (sym (nothing_mo
 bound_distinct con fs cell.Free b n target = subst AreDistinct (sym (nothing_more (numbered n fs))) (counted_distinct n (numbered n fs) (counted_numbers n fs))
 bound_distinct con fs (cell.Keep d) b n target = counted_distinct n (numbered n fs ++ ((n + length fs) ∷ [])) (λ i x e. numbered_more n fs (n + length fs) i x refl e)
 
-numbered_kinds : (F : Frame) (C : Coding F) (n : ℕ) (fs : List (Option Name)) (ks : List Kind) → length fs ≡ length ks → At F.kinds n ks → code.HaveKinds C.func (numbered n fs) ks
+numbered_kinds : (F : Frame) (C : Coding F) (n : ℕ) (fs : List (Option Name)) (ks : List Kind) → length fs ≡ length ks → At F.kinds n ks
+    → code.HaveKinds C.func (numbered n fs) ks
 numbered_kinds F C n [] [] full at = refl
 numbered_kinds F C n [] (k ∷ ks) full at = absurd (omega (arith, full))
 numbered_kinds F C n (f ∷ fs) [] full at = absurd (omega (arith, full))
 numbered_kinds F C n (f ∷ fs) (k ∷ ks) full at =
     ap (λ o. o ∷ map (kind_of C.func) (numbered (suc n) fs)) (kind_at F C n k (at_head F.kinds n k ks at)) ∙ ap (λ l. Some k ∷ l) (numbered_kinds F C (suc n) fs ks (omega (arith, full)) (at_rest F.kinds n k ks at))
 
-cell_fits : (F : Frame) (C : Coding F) (x : ArmCell) (m : ℕ) (inline : Bool) → typing.CellFits inline x → (inline ≡ false → has_cell x ≡ true) → At F.kinds m (diamond_kinds x) → code.CellFits C.func inline (cell_in x m)
+cell_fits : (F : Frame) (C : Coding F) (x : ArmCell) (m : ℕ) (inline : Bool) → typing.CellFits inline x → (inline ≡ false → has_cell x ≡ true)
+    → At F.kinds m (diamond_kinds x) → code.CellFits C.func inline (cell_in x m)
 cell_fits F C cell.Plain m true fit taken at = refl
 cell_fits F C cell.Plain m false fit taken at = let e : false ≡ true = taken refl in absurd cc
 cell_fits F C cell.Free m inline fit taken at = fit

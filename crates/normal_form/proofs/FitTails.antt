@@ -8,11 +8,11 @@ use Rattle.camelot_values.specs.declared.kinds.Kind.TheVariants as kind
 use Rattle.camelot_tree.specs.Tree.{Expression, Num, Truth, Var, Prim, If, Let, Match, Build, Call, Arms, NoArms, AndArm}
 use Rattle.camelot_tree.specs.Meaning.{constructor_number, is_that}
 use Rattle.camelot_tree.specs.Tokens.{expression_has_ints, arms_have_ints}
-use Rattle.typing_rules.specs.Kinds as typed
-use Rattle.typing_rules.specs.Kinds.{Scope, bind, arm_scope, types_of}
-use Rattle.typing_rules.specs.Typing.{known_kind, globals_of, ArmsHaveKind, arms_with}
-use Rattle.typing_rules.specs.NumberLaws.{number_same}
-use Rattle.typing_rules.specs.TypingLaws.{both_hold}
+use Rattle.camelot_typing.specs.Kinds as typed
+use Rattle.camelot_typing.specs.Kinds.{Scope, bind, arm_scope, types_of}
+use Rattle.camelot_typing.specs.Typing.{known_kind, globals_of, ArmsHaveKind, arms_with}
+use Rattle.camelot_typing.specs.NumberLaws.{number_same}
+use Rattle.camelot_typing.specs.TypingLaws.{both_hold}
 use Rattle.linear_use.specs.Uses.{ArmsAreLinear}
 use Rattle.grail_blocks.specs.Blocks as block
 use Rattle.normal_form.specs.Normal.{NormalBlock, Line, Bind, Close, in_first, cut, fun_of, cons_of, arm_for, bound_count, in_arm, case_arm, case_arms, in_turn, made, ends, all_ends, local_of, locals_of, value, values, bound_kinds, kind_in, all_of, kinds, tail_made, arm_tail_made, tail_ends, arm_tail_ends, tail, arm_tail, tail_kinds, arm_tail_kinds}
@@ -56,7 +56,8 @@ length_coded takes number (b ∷ bs) = ap suc (length_coded takes (suc number) b
 
 -- ---- tails
 
-returned_fits : (F : Frame) (C : Coding F) (e : Expression) (s : Scope Kind) (l : Scope ℕ) (next number : ℕ) (q : Kind) → Named F s l next → Typed F s e q → Linear F s e → expression_has_ints e ≡ true → At F.kinds next (kinds F.source F.sigs s e)
+returned_fits : (F : Frame) (C : Coding F) (e : Expression) (s : Scope Kind) (l : Scope ℕ) (next number : ℕ) (q : Kind) → Named F s l next
+    → Typed F s e q → Linear F s e → expression_has_ints e ≡ true → At F.kinds next (kinds F.source F.sigs s e)
     → q ≡ C.func.result → number + suc (ends F.source e) ≤ length C.func.blocks → LinesFit C.program C.func number (value F.source e l next number ++ (Close (block.Ret (local_of F.source e l next)) ∷ []))
 returned_fits F C e s l next number q st has lin ints at is room =
     let x = local_is F e s l next q st has at in
@@ -65,7 +66,8 @@ returned_fits F C e s l next number q st has lin ints at is room =
     (value_fits F C e s l next number q st has lin ints at (omega (arith, room))) (kind_at F C (local_of F.source e l next) q x.kind ∙ ap Some is, tt)
 
 mutual
-  pub tail_fits : (F : Frame) (C : Coding F) (e : Expression) (s : Scope Kind) (l : Scope ℕ) (next number : ℕ) (q : Kind) → Named F s l next → Typed F s e q → Linear F s e → expression_has_ints e ≡ true → At F.kinds next (tail_kinds F.source F.sigs s e)
+  pub tail_fits : (F : Frame) (C : Coding F) (e : Expression) (s : Scope Kind) (l : Scope ℕ) (next number : ℕ) (q : Kind) → Named F s l next
+      → Typed F s e q → Linear F s e → expression_has_ints e ≡ true → At F.kinds next (tail_kinds F.source F.sigs s e)
       → q ≡ C.func.result → number + tail_ends F.source e ≤ length C.func.blocks → LinesFit C.program C.func number (tail F.source e l next number)
   tail_fits F C (Var n) s l next number q st has lin ints at is room = returned_fits F C (Var n) s l next number q st has lin ints at is room
   tail_fits F C (Num z l0) s l next number q st has lin ints at is room = returned_fits F C (Num z l0) s l next number q st has lin ints at is room
@@ -145,7 +147,8 @@ mutual
       fit_append C.program C.func number b0 (value p e l next number) (Close (block.Case xe (case_arms p arms (arm_tail_made p arms) (arm_tail_ends p arms) n1 first)) ∷ in_turn (arm_tail_made p arms) (arm_tail_ends p arms) part (cons_of p arms) n1 first)
       (omega (arith, count)) (value_fits F C e s l next number (kind.Of has.0) st has.1 lin.0 both.0 at_e (omega (arith, room))) (goes.term, goes.fit)
 
-  pub arm_tail_fits : (F : Frame) (C : Coding F) (as' : Arms) (s : Scope Kind) (l : Scope ℕ) (number n i con t : ℕ) (q : Kind) (def : Constructor) → Named F s l n → ArmsHaveKind (globals_of F.source F.sigs) s t as' q
+  pub arm_tail_fits : (F : Frame) (C : Coding F) (as' : Arms) (s : Scope Kind) (l : Scope ℕ) (number n i con t : ℕ) (q : Kind) (def : Constructor)
+      → Named F s l n → ArmsHaveKind (globals_of F.source F.sigs) s t as' q
       → ArmsAreLinear (globals_of F.source F.sigs) s as' → arms_have_ints as' ≡ true → 1 ≤ arms_with (types_of F.source) con as' → constructor (types_of F.source) con ≡ Some def → At F.kinds n (arm_tail_kinds F.source F.sigs s as' con)
       → number < i → q ≡ C.func.result → i + arm_tail_ends F.source as' con ≤ length C.func.blocks → ArmGoes C.program C.func number def (case_arm (arm_for F.source as' con) n i) i (arm_tail F.source as' con l n i)
   arm_tail_fits F C NoArms s l number n i con t q def st has lin ints some known at more is room = absurd (omega (arith, some))

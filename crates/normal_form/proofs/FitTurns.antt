@@ -6,7 +6,7 @@ use Rattle.camelot_values.specs.Kinds.{Constructor, DataType, constructors, cons
 use Rattle.camelot_values.specs.declared.kinds.Kind.{Kind}
 use Rattle.camelot_values.specs.declared.kinds.Kind.TheVariants as kind
 use Rattle.camelot_tree.specs.Tree.{Branch}
-use Rattle.typing_rules.specs.Kinds.{types_of, numbered, numbers_from, numbers_of}
+use Rattle.camelot_typing.specs.Kinds.{types_of, numbered, numbers_from, numbers_of}
 use Rattle.grail_blocks.specs.Blocks as block
 use Rattle.grail_blocks.specs.Blocks.{CaseArm}
 use Rattle.grail_code.specs.Code.{Func, Code}
@@ -22,7 +22,8 @@ type_least : (number : ℕ) (types : List DataType) (c t : ℕ) → type_from nu
 type_least number [] c t e = absurd cc
 type_least number (d ∷ ds) c t e = by_test (nat_lt c (length d.cons)) (λ k. type_least (suc number) ds (c - length d.cons) t k) e
   where
-    by_test : (b : Bool) → (type_from (suc number) ds (c - length d.cons) ≡ Some t → (suc number ≤ t) × (t < suc number + length ds)) → (if b then Some number else type_from (suc number) ds (c - length d.cons)) ≡ Some t
+    by_test : (b : Bool) → (type_from (suc number) ds (c - length d.cons) ≡ Some t → (suc number ≤ t) × (t < suc number + length ds))
+        → (if b then Some number else type_from (suc number) ds (c - length d.cons)) ≡ Some t
         → (number ≤ t) × (t < number + suc (length ds))
     by_test true rec e = let same : number ≡ t = cc in (omega (arith, same), omega (arith, same))
     by_test false rec e = let k = rec e in (omega (arith, k), omega (arith, k))
@@ -87,7 +88,8 @@ pub record TurnsFit (p : Code) (f : Func) (number : ℕ) (cs : List Constructor)
 pub turns_fit : (p : Code) (f : Func) (types : List DataType) (all : List Kind) (number low end : ℕ) (arms_of : ℕ → Option Branch) (locals blocks : ℕ → ℕ) (part : ℕ → ℕ → ℕ → List Line) (kinds : ℕ → List Kind) (Covered : ℕ → Type 0)
     → ((con n i : ℕ) → closes (part con n i) ≡ blocks con) → ((con : ℕ) → length (kinds con) ≡ locals con)
     → ((con n i : ℕ) (c : Constructor) → Covered con → constructor types con ≡ Some c → At all n (kinds con) → low ≤ n → number < i → i + blocks con ≤ end → ArmGoes p f number c (case_arm (arms_of con) n i) i (part con n i))
-    → (cs : List Constructor) (k n i : ℕ) → ((j : ℕ) (c : Constructor) → slice_get cs j ≡ Some c → constructor types (k + j) ≡ Some c) → AllByRecursion Covered (numbered k cs) → At all n (all_of kinds (numbered k cs)) → low ≤ n → number < i
+    → (cs : List Constructor) (k n i : ℕ) → ((j : ℕ) (c : Constructor) → slice_get cs j ≡ Some c → constructor types (k + j) ≡ Some c)
+    → AllByRecursion Covered (numbered k cs) → At all n (all_of kinds (numbered k cs)) → low ≤ n → number < i
     → i + total blocks (numbered k cs) ≤ end
     → TurnsFit p f number cs (in_turn locals blocks (λ con n b. case_arm (arms_of con) n b ∷ []) (numbered k cs) n i) i (in_turn locals blocks part (numbered k cs) n i)
 turns_fit p f types all number low end arms_of locals blocks part kinds Covered count lengths each [] k n i is covered at least more room = record { each = tt; fit = tt }
@@ -110,7 +112,8 @@ pub case_goes : (F : Frame) (C : Coding F) (number low end x t : ℕ) (arms_of :
     → ((con n i : ℕ) → closes (part con n i) ≡ blocks con) → ((con : ℕ) → length (kinds con) ≡ locals con)
     → ((con n i : ℕ) (c : Constructor) → Covered con → constructor (types_of F.source) con ≡ Some c → At F.kinds n (kinds con) → low ≤ n → number < i → i + blocks con ≤ end
     → ArmGoes C.program C.func number c (case_arm (arms_of con) n i) i (part con n i))
-    → (cons : List ℕ) (n i : ℕ) → cons ≡ numbers_of (types_of F.source) t → slice_get F.kinds x ≡ Some (kind.Of t) → t < length (types_of F.source) → AllByRecursion Covered cons → At F.kinds n (all_of kinds cons) → low ≤ n → number < i
+    → (cons : List ℕ) (n i : ℕ) → cons ≡ numbers_of (types_of F.source) t → slice_get F.kinds x ≡ Some (kind.Of t) → t < length (types_of F.source)
+    → AllByRecursion Covered cons → At F.kinds n (all_of kinds cons) → low ≤ n → number < i
     → i + total blocks cons ≤ end → CaseGoes C.program C.func number x (in_turn locals blocks (λ con n b. case_arm (arms_of con) n b ∷ []) cons n i) i (in_turn locals blocks part cons n i)
 case_goes F C number low end x t arms_of locals blocks part kinds Covered count lengths each cons n i are of_type there covered at least more room =
     let types = types_of F.source in

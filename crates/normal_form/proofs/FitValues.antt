@@ -12,12 +12,12 @@ use Rattle.camelot_tree.specs.Cells.{has_cell}
 use Rattle.camelot_tree.specs.Tree.{Expression, Num, Truth, Var, Prim, If, Let, Match, Build, Call, Expressions, NoExpressions, AndExpression, Arms, NoArms, AndArm}
 use Rattle.camelot_tree.specs.Meaning.{constructor_number, is_that}
 use Rattle.camelot_tree.specs.Tokens.{expression_has_ints, expressions_have_ints, arms_have_ints}
-use Rattle.typing_rules.specs.Kinds as typed
-use Rattle.typing_rules.specs.Kinds.{Scope, bind, arm_scope, or_else, types_of, fields_of, is_inline}
-use Rattle.typing_rules.specs.Typing as typing
-use Rattle.typing_rules.specs.Typing.{Signature, known_kind, globals_of, HaveKinds, ArmsHaveKind, HeadFits, arms_with}
-use Rattle.typing_rules.specs.NumberLaws.{number_same, head_number, numbered_constructor}
-use Rattle.typing_rules.specs.TypingLaws.{both_hold}
+use Rattle.camelot_typing.specs.Kinds as typed
+use Rattle.camelot_typing.specs.Kinds.{Scope, bind, arm_scope, or_else, types_of, fields_of, is_inline}
+use Rattle.camelot_typing.specs.Typing as typing
+use Rattle.camelot_typing.specs.Typing.{Signature, known_kind, globals_of, HaveKinds, ArmsHaveKind, HeadFits, arms_with}
+use Rattle.camelot_typing.specs.NumberLaws.{number_same, head_number, numbered_constructor}
+use Rattle.camelot_typing.specs.TypingLaws.{both_hold}
 use Rattle.linear_use.specs.Uses.{AllAreLinear, ArmsAreLinear, CellTaken}
 use Rattle.grail_blocks.specs.Blocks as block
 use Rattle.grail_blocks.specs.Blocks.{Term}
@@ -42,10 +42,12 @@ pub record CalleeIs (p : Code) (func : ℕ) (s : Signature) : Type 0 where
   pub params : callee.params ≡ s.params
   pub result : callee.result ≡ s.result
 
-pub callee_is : (p : Code) (func : ℕ) (s : Signature) → IsSomeAnd (slice_get p.funcs func) (λ callee. (callee.params ≡ s.params) × (callee.result ≡ s.result)) → CalleeIs p func s
+pub callee_is : (p : Code) (func : ℕ) (s : Signature)
+    → IsSomeAnd (slice_get p.funcs func) (λ callee. (callee.params ≡ s.params) × (callee.result ≡ s.result)) → CalleeIs p func s
 callee_is p func s h = by_cases (slice_get p.funcs func) refl h
   where
-    by_cases : (o : Option Func) → slice_get p.funcs func ≡ o → IsSomeAnd o (λ callee. (callee.params ≡ s.params) × (callee.result ≡ s.result)) → CalleeIs p func s
+    by_cases : (o : Option Func) → slice_get p.funcs func ≡ o → IsSomeAnd o (λ callee. (callee.params ≡ s.params) × (callee.result ≡ s.result))
+        → CalleeIs p func s
     by_cases None e h = absurd h
     by_cases (Some callee) e h = record { callee = callee; is = e; params = h.0; result = h.1 }
 
@@ -55,12 +57,14 @@ called F C f h e =
     let n = head_number F.source (globals_of F.source F.sigs) F.source.funs F.sigs f.word h F.fit e in
     subst (λ i. CalleeIs C.program i h) (sym (ap (λ o. or_else o 0) n.is)) (callee_is C.program n.number h (C.callees n.number h n.at))
 
-call_gives : (F : Frame) (C : Coding F) (f : Name) (h : Signature) (args : List ℕ) (q : Kind) → typed.head_of F.sigs f.word ≡ Some h → h.result ≡ q → code.HaveKinds C.func args h.params → Gives C.program C.func (block.Call (fun_of F.source f) args) q
+call_gives : (F : Frame) (C : Coding F) (f : Name) (h : Signature) (args : List ℕ) (q : Kind) → typed.head_of F.sigs f.word ≡ Some h → h.result ≡ q
+    → code.HaveKinds C.func args h.params → Gives C.program C.func (block.Call (fun_of F.source f) args) q
 call_gives F C f h args q e result fit =
     let c = called F C f h e in
     subst (λ o. IsSomeAnd o (λ callee. code.HaveKinds C.func args callee.params × (q ≡ callee.result))) (sym c.is) (subst (code.HaveKinds C.func args) (sym c.params) fit, sym result ∙ sym c.result)
 
-pub tail_call_fits : (F : Frame) (C : Coding F) (f : Name) (h : Signature) (args : List ℕ) (number : ℕ) → typed.head_of F.sigs f.word ≡ Some h → h.result ≡ C.func.result → code.HaveKinds C.func args h.params
+pub tail_call_fits : (F : Frame) (C : Coding F) (f : Name) (h : Signature) (args : List ℕ) (number : ℕ) → typed.head_of F.sigs f.word ≡ Some h
+    → h.result ≡ C.func.result → code.HaveKinds C.func args h.params
     → TermFits C.program C.func number (block.Tail (fun_of F.source f) args)
 tail_call_fits F C f h args number e result fit =
     let c = called F C f h e in
@@ -74,7 +78,8 @@ pub record HeadOf (F : Frame) (c : Name) (fs : List (Option Name)) (x : ArmCell)
   pub place : typing.CellFits (is_inline (types_of F.source) con) x
   pub taken : is_inline (types_of F.source) con ≡ false → has_cell x ≡ true
 
-pub head_of_arm : (F : Frame) (t con : ℕ) (c : Name) (fs : List (Option Name)) (x : ArmCell) → HeadFits (types_of F.source) t c fs x → CellTaken (types_of F.source) c x → is_that (constructor_number F.source c) con ≡ true → HeadOf F c fs x con
+pub head_of_arm : (F : Frame) (t con : ℕ) (c : Name) (fs : List (Option Name)) (x : ArmCell) → HeadFits (types_of F.source) t c fs x
+    → CellTaken (types_of F.source) c x → is_that (constructor_number F.source c) con ≡ true → HeadOf F c fs x con
 head_of_arm F t con c fs x head taken test =
     let a = arm_for_con F.source t con c fs x head test in
     let both : Some head.con ≡ Some con = sym head.is ∙ a.is in
@@ -86,7 +91,8 @@ head_of_arm F t con c fs x head taken test =
     }
 
 -- the end of a branch
-joined_fits : (F : Frame) (C : Coding F) (number m : ℕ) (lines : List Line) (x result join : ℕ) (q : Kind) → m ≡ number + closes lines → LinesFit C.program C.func number lines → slice_get F.kinds x ≡ Some q → slice_get F.kinds result ≡ Some q
+joined_fits : (F : Frame) (C : Coding F) (number m : ℕ) (lines : List Line) (x result join : ℕ) (q : Kind) → m ≡ number + closes lines
+    → LinesFit C.program C.func number lines → slice_get F.kinds x ≡ Some q → slice_get F.kinds result ≡ Some q
     → m < join → join < length C.func.blocks → LinesFit C.program C.func number (joining lines x result join)
 joined_fits F C number m lines x result join q is fit from to less there =
     fit_append C.program C.func number m lines (new result (block.Copy x) ∷ Close (block.Goto join) ∷ []) is fit
@@ -96,14 +102,17 @@ arm_ends_some : (F : Frame) (as' : Arms) (con : ℕ) → 1 ≤ arms_with (types_
 arm_ends_some F NoArms con some = absurd (omega (arith, some))
 arm_ends_some F (AndArm c fs x b as') con some = by_test (is_that (constructor_number F.source c) con) (ap (λ o. is_that o con) (number_same F.source c)) (arm_ends_some F as' con)
   where
-    by_test : (t : Bool) → is_that (typed.constructor_number (types_of F.source) c.word) con ≡ t → (1 ≤ arms_with (types_of F.source) con as' → 1 ≤ arm_ends F.source as' con) → 1 ≤ (if t then suc (ends F.source b) else arm_ends F.source as' con)
+    by_test : (t : Bool) → is_that (typed.constructor_number (types_of F.source) c.word) con ≡ t
+        → (1 ≤ arms_with (types_of F.source) con as' → 1 ≤ arm_ends F.source as' con)
+        → 1 ≤ (if t then suc (ends F.source b) else arm_ends F.source as' con)
     by_test true e later = omega arith
     by_test false e later = later (fewer (is_that (typed.constructor_number (types_of F.source) c.word) con) (arms_with (types_of F.source) con as') e some)
 
 -- ---- expressions
 
 mutual
-  pub value_fits : (F : Frame) (C : Coding F) (e : Expression) (s : Scope Kind) (l : Scope ℕ) (next number : ℕ) (q : Kind) → Named F s l next → Typed F s e q → Linear F s e → expression_has_ints e ≡ true → At F.kinds next (kinds F.source F.sigs s e)
+  pub value_fits : (F : Frame) (C : Coding F) (e : Expression) (s : Scope Kind) (l : Scope ℕ) (next number : ℕ) (q : Kind) → Named F s l next
+      → Typed F s e q → Linear F s e → expression_has_ints e ≡ true → At F.kinds next (kinds F.source F.sigs s e)
       → number + ends F.source e < length C.func.blocks → LinesFit C.program C.func number (value F.source e l next number)
   value_fits F C (Var n) s l next number q st has lin ints at room = tt
   value_fits F C (Num z l0) s l next number q st has lin ints at room = (let_fits C.program C.func next (block.Lit z) kind.Int (kind_at F C next kind.Int (at_head F.kinds next kind.Int [] at)) (refl, passing_int z ints), tt)
@@ -237,7 +246,8 @@ mutual
       fit_append C.program C.func number b0 (value p e l next number) (Close (block.Case xe (case_arms p arms (arm_made p arms) (arm_ends p arms) n1 first)) ∷ in_turn (arm_made p arms) (arm_ends p arms) part (cons_of p arms) n1 first) (omega (arith, count))
       (value_fits F C e s l next number (kind.Of has.0) st has.1 lin.0 both.0 at_e (omega (arith, room))) (goes.term, goes.fit)
 
-  pub values_fit : (F : Frame) (C : Coding F) (es : Expressions) (s : Scope Kind) (l : Scope ℕ) (next number : ℕ) (ks : List Kind) → Named F s l next → HaveKinds (globals_of F.source F.sigs) s es ks → AllAreLinear (globals_of F.source F.sigs) s es
+  pub values_fit : (F : Frame) (C : Coding F) (es : Expressions) (s : Scope Kind) (l : Scope ℕ) (next number : ℕ) (ks : List Kind) → Named F s l next
+      → HaveKinds (globals_of F.source F.sigs) s es ks → AllAreLinear (globals_of F.source F.sigs) s es
       → expressions_have_ints es ≡ true → At F.kinds next (all_kinds F.source F.sigs s es) → number + all_ends F.source es < length C.func.blocks → LinesFit C.program C.func number (values F.source es l next number)
   values_fit F C NoExpressions s l next number ks st has lin ints at room = tt
   values_fit F C (AndExpression e es) s l next number [] st has lin ints at room = absurd has

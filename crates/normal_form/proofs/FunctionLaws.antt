@@ -7,8 +7,8 @@ use Rattle.std.proofs.Math.Logic.{∥∥₁_elim}
 use Rattle.camelot_values.specs.declared.kinds.Kind.{Kind}
 use Rattle.camelot_tree.specs.declared.tree.Param.{Param}
 use Rattle.camelot_tree.specs.Tree.{Function, Source}
-use Rattle.typing_rules.specs.Typing.{Signature, params_scope}
-use Rattle.typing_rules.specs.Typed.{FunctionKinds, Typing, IsTyping, signatures_of}
+use Rattle.camelot_typing.specs.Typing.{Signature, params_scope}
+use Rattle.camelot_typing.specs.Typed.{FunctionKinds, Typing, IsTyping, signatures_of}
 use Rattle.normal_form.specs.declared.fault.NormalFault.{NormalFault}
 use Rattle.normal_form.specs.Answers.{first_fault}
 use Rattle.normal_form.specs.Normal.{NormalFunction, normal_functions}
@@ -42,7 +42,8 @@ forms_over f k p sigs (a ∷ as') [] done whole over w = sym (append-nil done) �
 forms_over f k p sigs (a ∷ as') (b ∷ bs) done whole (inl h) w = absurd (omega (arith, h))
 forms_over f k p sigs (a ∷ as') (b ∷ bs) done whole (inr h) w = absurd (omega (arith, h))
 
-pub faults_over : {A B : Type 0} (f : A → Function) (k : B → FunctionKinds) (p : Source) (as' : List A) (bs : List B) (whole : Option NormalFault) → (length as' ≡ 0) ⊎ (length bs ≡ 0)
+pub faults_over : {A B : Type 0} (f : A → Function) (k : B → FunctionKinds) (p : Source) (as' : List A) (bs : List B) (whole : Option NormalFault)
+    → (length as' ≡ 0) ⊎ (length bs ≡ 0)
     → first_fault p (map f as') (signatures_of (map f as') (map k bs)) ≡ whole → whole ≡ None
 faults_over f k p [] bs whole over w = sym w
 faults_over f k p (a ∷ as') [] whole over w = sym w

@@ -15,10 +15,10 @@ use Rattle.camelot_tree.specs.declared.tree.ArmCell.{ArmCell}
 use Rattle.camelot_tree.specs.declared.tree.ArmCell.TheVariants as cell
 use Rattle.camelot_tree.specs.Tree.{Expression, Num, Truth, Var, Prim, If, Let, Match, Build, Call, Expressions, NoExpressions, AndExpression, Arms, NoArms, AndArm, Source}
 use Rattle.camelot_tree.specs.Meaning.{constructor_number, is_that}
-use Rattle.typing_rules.specs.Kinds as typed
-use Rattle.typing_rules.specs.Kinds.{Scope, bind, bind_fields, bind_cell, arm_scope, or_else, types_of, fields_of, atom_of, numbers_of}
-use Rattle.typing_rules.specs.Typing.{Signature, known_kind, globals_of, FunctionsFit, HasKind, HaveKinds, ArmsHaveKind, HeadFits, arms_with}
-use Rattle.typing_rules.specs.NumberLaws.{number_same, is_among_numbers}
+use Rattle.camelot_typing.specs.Kinds as typed
+use Rattle.camelot_typing.specs.Kinds.{Scope, bind, bind_fields, bind_cell, arm_scope, or_else, types_of, fields_of, atom_of, numbers_of}
+use Rattle.camelot_typing.specs.Typing.{Signature, known_kind, globals_of, FunctionsFit, HasKind, HaveKinds, ArmsHaveKind, HeadFits, arms_with}
+use Rattle.camelot_typing.specs.NumberLaws.{number_same, is_among_numbers}
 use Rattle.normal_form.specs.Normal.{con_of, local, cons_of, diamonds, bound_count, with_fields, with_cell, in_arm, total, made, all_made, arm_made, local_of, diamond_kinds, bound_kinds, of_first, kind_in, arm_kind, all_of, kinds, all_kinds, arm_kinds}
 use Rattle.normal_form.proofs.Values.{cons_are, number_found, fewer}
 
@@ -83,7 +83,8 @@ named_kept F s l next more n up = record { at = λ name. kept (find s name) (fin
     kept (Some k) None h = absurd h
     kept (Some k) (Some x) h = (h.0, (let less = h.1 in omega (arith, less, up)))
 
-pub named_bind : (F : Frame) (s : Scope Kind) (l : Scope ℕ) (next : ℕ) (n : List ℕ) (k : Kind) (x : ℕ) → Named F s l next → slice_get F.kinds x ≡ Some k → x < next → Named F (bind n k s) (bind n x l) next
+pub named_bind : (F : Frame) (s : Scope Kind) (l : Scope ℕ) (next : ℕ) (n : List ℕ) (k : Kind) (x : ℕ) → Named F s l next
+    → slice_get F.kinds x ≡ Some k → x < next → Named F (bind n k s) (bind n x l) next
 named_bind F s l next n k x st is less = record { at = λ name. by_test name (bytes_eq n name) }
   where
     by_test : (name : List ℕ) (b : Bool) → Agreed F.kinds next (if b then Some k else find s name) (if b then Some x else find l name)
@@ -97,7 +98,8 @@ pub record HasLocal (all : List Kind) (l : Scope ℕ) (next : ℕ) (name : List 
   pub kind : slice_get all x ≡ Some k
   pub below : x < next
 
-pub named_local : (F : Frame) (s : Scope Kind) (l : Scope ℕ) (next : ℕ) (name : List ℕ) (k : Kind) → Named F s l next → find s name ≡ Some k → HasLocal F.kinds l next name k
+pub named_local : (F : Frame) (s : Scope Kind) (l : Scope ℕ) (next : ℕ) (name : List ℕ) (k : Kind) → Named F s l next → find s name ≡ Some k
+    → HasLocal F.kinds l next name k
 named_local F s l next name k st e = by_cases (find s name) (find l name) refl e (st.at name)
   where
     by_cases : (o : Option Kind) (q : Option ℕ) → find l name ≡ q → o ≡ Some k → Agreed F.kinds next o q → HasLocal F.kinds l next name k
@@ -112,7 +114,8 @@ pub record HasName (F : Frame) (s : Scope Kind) (next : ℕ) (name : List ℕ) (
   pub kind : slice_get F.kinds x ≡ Some k
   pub below : x < next
 
-pub named_name : (F : Frame) (s : Scope Kind) (l : Scope ℕ) (next : ℕ) (name : List ℕ) (x : ℕ) → Named F s l next → find l name ≡ Some x → HasName F s next name x
+pub named_name : (F : Frame) (s : Scope Kind) (l : Scope ℕ) (next : ℕ) (name : List ℕ) (x : ℕ) → Named F s l next → find l name ≡ Some x
+    → HasName F s next name x
 named_name F s l next name x st e = by_cases (find s name) (find l name) refl e (st.at name)
   where
     by_cases : (o : Option Kind) (q : Option ℕ) → find s name ≡ o → q ≡ Some x → Agreed F.kinds next o q → HasName F s next name x
@@ -124,7 +127,8 @@ named_name F s l next name x st e = by_cases (find s name) (find l name) refl e 
 
 -- ---- arms
 
-pub named_fields : (F : Frame) (s : Scope Kind) (l : Scope ℕ) (n : ℕ) (fs : List (Option Name)) (ks : List Kind) → Named F s l n → length fs ≡ length ks → At F.kinds n ks
+pub named_fields : (F : Frame) (s : Scope Kind) (l : Scope ℕ) (n : ℕ) (fs : List (Option Name)) (ks : List Kind) → Named F s l n
+    → length fs ≡ length ks → At F.kinds n ks
     → Named F (bind_fields known_kind fs ks s) (with_fields fs n l) (n + length fs)
 named_fields F s l n [] [] st full at = named_kept F s l n (n + 0) st (omega arith)
 named_fields F s l n [] (k ∷ ks) st full at = absurd (omega (arith, full))
@@ -139,7 +143,8 @@ named_fields F s l n (Some f ∷ fs) (k ∷ ks) st full at =
     (named_fields F (bind f.word k s) (bind f.word n l) (suc n) fs ks
     (named_bind F s l (suc n) f.word k n (named_kept F s l n (suc n) st (omega arith)) (at_head F.kinds n k ks at) (omega arith)) (omega (arith, full)) (at_rest F.kinds n k ks at))
 
-pub named_cell : (F : Frame) (s : Scope Kind) (l : Scope ℕ) (n : ℕ) (x : ArmCell) → Named F s l n → At F.kinds n (diamond_kinds x) → Named F (bind_cell known_kind x s) (with_cell x n l) (n + diamonds x)
+pub named_cell : (F : Frame) (s : Scope Kind) (l : Scope ℕ) (n : ℕ) (x : ArmCell) → Named F s l n → At F.kinds n (diamond_kinds x)
+    → Named F (bind_cell known_kind x s) (with_cell x n l) (n + diamonds x)
 named_cell F s l n cell.Plain st at = named_kept F s l n (n + 0) st (omega arith)
 named_cell F s l n cell.Free st at = named_kept F s l n (n + 0) st (omega arith)
 named_cell F s l n (cell.Keep d) st at =
@@ -151,7 +156,8 @@ pub record ArmFor (p : Source) (c : Name) (fs : List (Option Name)) (con : ℕ) 
   pub con_is : con_of p c ≡ con
   pub full : length fs ≡ length (fields_of (types_of p) con)
 
-pub arm_for_con : (p : Source) (t con : ℕ) (c : Name) (fs : List (Option Name)) (x : ArmCell) → HeadFits (types_of p) t c fs x → is_that (constructor_number p c) con ≡ true → ArmFor p c fs con
+pub arm_for_con : (p : Source) (t con : ℕ) (c : Name) (fs : List (Option Name)) (x : ArmCell) → HeadFits (types_of p) t c fs x
+    → is_that (constructor_number p c) con ≡ true → ArmFor p c fs con
 arm_for_con p t con c fs x head test =
     let number : typed.constructor_number (types_of p) c.word ≡ Some con = number_same p c ∙ number_found (constructor_number p c) con test in
     let both : Some head.con ≡ Some con = sym head.is ∙ number in
@@ -173,7 +179,8 @@ bound_same p con c fs x a = ap (λ n. fields_of (types_of p) n ++ diamond_kinds 
 pub bound_are : (p : Source) (con : ℕ) (c : Name) (fs : List (Option Name)) (x : ArmCell) → ArmFor p c fs con → length (bound_of p con x) ≡ bound_count fs x
 bound_are p con c fs x a = let e = length-append (fields_of (types_of p) con) (diamond_kinds x) in let d = diamonds_are x in let full = a.full in omega (arith, e, d, full)
 
-pub named_arm : (F : Frame) (s : Scope Kind) (l : Scope ℕ) (n con : ℕ) (c : Name) (fs : List (Option Name)) (x : ArmCell) → Named F s l n → ArmFor F.source c fs con → At F.kinds n (bound_of F.source con x)
+pub named_arm : (F : Frame) (s : Scope Kind) (l : Scope ℕ) (n con : ℕ) (c : Name) (fs : List (Option Name)) (x : ArmCell) → Named F s l n
+    → ArmFor F.source c fs con → At F.kinds n (bound_of F.source con x)
     → Named F (arm_scope known_kind (types_of F.source) c fs x s) (in_arm fs x n l) (n + bound_count fs x)
 named_arm F s l n con c fs x st a at =
     let types = types_of F.source in
@@ -200,7 +207,8 @@ two_parts xs ys m n h k = let e = length-append xs ys in omega (arith, e, h, k)
 
 -- ---- the kind of an expression
 
-of_first_is : (kind_of : ℕ → Kind) (q : Kind) (P : ℕ → Type 0) (cons : List ℕ) (con : ℕ) → ((con : ℕ) → P con → q ≡ kind_of con) → AllByRecursion P cons → is_among cons con ≡ true → q ≡ of_first kind_of cons
+of_first_is : (kind_of : ℕ → Kind) (q : Kind) (P : ℕ → Type 0) (cons : List ℕ) (con : ℕ) → ((con : ℕ) → P con → q ≡ kind_of con)
+    → AllByRecursion P cons → is_among cons con ≡ true → q ≡ of_first kind_of cons
 of_first_is kind_of q P [] con each all some = absurd cc
 of_first_is kind_of q P (c ∷ cons) con each all some = each c all.0
 
@@ -224,28 +232,33 @@ mutual
       (λ con covered. arm_kind_is F (AndArm c fs x b as') s has.0 con q has.3 (omega (arith, covered))) has.2 (is_among_numbers types has.3.0.con has.0 has.3.0.owned)
       ∙ ap (of_first (arm_kind F.source F.sigs s arms)) (sym (cons_are F.source has.0 c fs x b as' has.3.0))
 
-  pub arm_kind_is : (F : Frame) (as' : Arms) (s : Scope Kind) (t con : ℕ) (q : Kind) → ArmsHaveKind (globals_of F.source F.sigs) s t as' q → 1 ≤ arms_with (types_of F.source) con as' → q ≡ arm_kind F.source F.sigs s as' con
+  pub arm_kind_is : (F : Frame) (as' : Arms) (s : Scope Kind) (t con : ℕ) (q : Kind) → ArmsHaveKind (globals_of F.source F.sigs) s t as' q
+      → 1 ≤ arms_with (types_of F.source) con as' → q ≡ arm_kind F.source F.sigs s as' con
   arm_kind_is F NoArms s t con q has some = absurd (omega (arith, some))
   arm_kind_is F (AndArm c fs x b as') s t con q has some =
       by_test (is_that (constructor_number F.source c) con) (ap (λ o. is_that o con) (number_same F.source c)) (kind_is F b (arm_scope known_kind (types_of F.source) c fs x s) q has.1) (λ more. arm_kind_is F as' s t con q has.2 more)
     where
-      by_test : (test : Bool) → is_that (typed.constructor_number (types_of F.source) c.word) con ≡ test → q ≡ kind_in F.source F.sigs (arm_scope known_kind (types_of F.source) c fs x s) b
+      by_test : (test : Bool) → is_that (typed.constructor_number (types_of F.source) c.word) con ≡ test
+          → q ≡ kind_in F.source F.sigs (arm_scope known_kind (types_of F.source) c fs x s) b
           → (1 ≤ arms_with (types_of F.source) con as' → q ≡ arm_kind F.source F.sigs s as' con)
           → q ≡ (if test then kind_in F.source F.sigs (arm_scope known_kind (types_of F.source) c fs x s) b else arm_kind F.source F.sigs s as' con)
       by_test true e own rest = own
       by_test false e own rest = rest (fewer (is_that (typed.constructor_number (types_of F.source) c.word) con) (arms_with (types_of F.source) con as') e some)
 
 -- a let's body is typed in the scope of its computed kind
-pub in_let : (F : Frame) (s : Scope Kind) (n : Name) (a b : Expression) (r q : Kind) → HasKind (globals_of F.source F.sigs) s a r → HasKind (globals_of F.source F.sigs) (bind n.word r s) b q
+pub in_let : (F : Frame) (s : Scope Kind) (n : Name) (a b : Expression) (r q : Kind) → HasKind (globals_of F.source F.sigs) s a r
+    → HasKind (globals_of F.source F.sigs) (bind n.word r s) b q
     → HasKind (globals_of F.source F.sigs) (bind n.word (kind_in F.source F.sigs s a) s) b q
 in_let F s n a b r q h k = subst (λ o. HasKind (globals_of F.source F.sigs) (bind n.word o s) b q) (kind_is F a s r h) k
 
 -- and it is the one that typing computes
-pub kind_same : (F : Frame) (a : Expression) (s : Scope Kind) (q : Kind) → HasKind (globals_of F.source F.sigs) s a q → atom_of known_kind (globals_of F.source F.sigs) s a ≡ kind_in F.source F.sigs s a
+pub kind_same : (F : Frame) (a : Expression) (s : Scope Kind) (q : Kind) → HasKind (globals_of F.source F.sigs) s a q
+    → atom_of known_kind (globals_of F.source F.sigs) s a ≡ kind_in F.source F.sigs s a
 kind_same F a s q has = sym (F.computed s a q has) ∙ kind_is F a s q has
 
 mutual
-  pub kinds_made : (F : Frame) (e : Expression) (s : Scope Kind) (q : Kind) → HasKind (globals_of F.source F.sigs) s e q → length (kinds F.source F.sigs s e) ≡ made F.source e
+  pub kinds_made : (F : Frame) (e : Expression) (s : Scope Kind) (q : Kind) → HasKind (globals_of F.source F.sigs) s e q
+      → length (kinds F.source F.sigs s e) ≡ made F.source e
   kinds_made F (Var n) s q has = refl
   kinds_made F (Num z l) s q has = refl
   kinds_made F (Truth b l) s q has = refl
@@ -275,13 +288,15 @@ mutual
       (kinds_made F e s (kind.Of has.0) has.1) (ap suc all) in
       omega (arith, e)
 
-  pub all_kinds_made : (F : Frame) (es : Expressions) (s : Scope Kind) (ks : List Kind) → HaveKinds (globals_of F.source F.sigs) s es ks → length (all_kinds F.source F.sigs s es) ≡ all_made F.source es
+  pub all_kinds_made : (F : Frame) (es : Expressions) (s : Scope Kind) (ks : List Kind) → HaveKinds (globals_of F.source F.sigs) s es ks
+      → length (all_kinds F.source F.sigs s es) ≡ all_made F.source es
   all_kinds_made F NoExpressions s ks has = refl
   all_kinds_made F (AndExpression e es) s [] has = absurd has
   all_kinds_made F (AndExpression e es) s (k ∷ ks) has =
       two_parts (kinds F.source F.sigs s e) (all_kinds F.source F.sigs s es) (made F.source e) (all_made F.source es) (kinds_made F e s k has.0) (all_kinds_made F es s ks has.1)
 
-  pub arm_kinds_made : (F : Frame) (as' : Arms) (s : Scope Kind) (t con : ℕ) (q : Kind) → ArmsHaveKind (globals_of F.source F.sigs) s t as' q → length (arm_kinds F.source F.sigs s as' con) ≡ arm_made F.source as' con
+  pub arm_kinds_made : (F : Frame) (as' : Arms) (s : Scope Kind) (t con : ℕ) (q : Kind) → ArmsHaveKind (globals_of F.source F.sigs) s t as' q
+      → length (arm_kinds F.source F.sigs s as' con) ≡ arm_made F.source as' con
   arm_kinds_made F NoArms s t con q has = refl
   arm_kinds_made F (AndArm c fs x b as') s t con q has =
       by_test (is_that (constructor_number F.source c) con) refl (kinds_made F b (arm_scope known_kind (types_of F.source) c fs x s) q has.1) (arm_kinds_made F as' s t con q has.2)
@@ -302,10 +317,12 @@ pub record LocalIs (F : Frame) (x top : ℕ) (q : Kind) : Type 0 where
   pub kind : slice_get F.kinds x ≡ Some q
   pub below : x < top
 
-behind_at : (all : List Kind) (next x : ℕ) (xs : List Kind) (k : Kind) (ys : List Kind) → x ≡ next + length xs → At all next (xs ++ (k ∷ ys)) → slice_get all x ≡ Some k
+behind_at : (all : List Kind) (next x : ℕ) (xs : List Kind) (k : Kind) (ys : List Kind) → x ≡ next + length xs → At all next (xs ++ (k ∷ ys))
+    → slice_get all x ≡ Some k
 behind_at all next x xs k ys is h = at_head all x k ys (at_back all next x xs (k ∷ ys) is h)
 
-pub local_is : (F : Frame) (e : Expression) (s : Scope Kind) (l : Scope ℕ) (next : ℕ) (q : Kind) → Named F s l next → HasKind (globals_of F.source F.sigs) s e q → At F.kinds next (kinds F.source F.sigs s e)
+pub local_is : (F : Frame) (e : Expression) (s : Scope Kind) (l : Scope ℕ) (next : ℕ) (q : Kind) → Named F s l next
+    → HasKind (globals_of F.source F.sigs) s e q → At F.kinds next (kinds F.source F.sigs s e)
     → LocalIs F (local_of F.source e l next) (next + made F.source e) q
 local_is F (Var n) s l next q st has at =
     let r = named_local F s l next n.word q st has in

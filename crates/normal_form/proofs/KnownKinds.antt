@@ -20,10 +20,10 @@ use Rattle.camelot_tree.specs.declared.tree.ArmCell.TheVariants as cell
 use Rattle.camelot_tree.specs.Tree as tree
 use Rattle.camelot_tree.specs.Tree.{Expression, Num, Truth, Var, Prim, If, Let, Match, Build, Call, Expressions, NoExpressions, AndExpression, Arms, NoArms, AndArm, Function, Source}
 use Rattle.camelot_tree.specs.Meaning.{is_that, constructor_number}
-use Rattle.typing_rules.specs.Kinds as typed
-use Rattle.typing_rules.specs.Kinds.{Globals, Scope, bind, bind_fields, bind_cell, arm_scope, or_else, kind_of_atom, field_kind, constructor_kinds, data_kinds, types_of, fields_of, built_kind, head_of}
-use Rattle.typing_rules.specs.Typing.{Signature, known_kind, params_scope, globals_of, IsDeclared, Stands, ParamsStand, FunctionsFit, HaveKinds, ArmsHaveKind}
-use Rattle.typing_rules.specs.NumberLaws.{constructors_same}
+use Rattle.camelot_typing.specs.Kinds as typed
+use Rattle.camelot_typing.specs.Kinds.{Globals, Scope, bind, bind_fields, bind_cell, arm_scope, or_else, kind_of_atom, field_kind, constructor_kinds, data_kinds, types_of, fields_of, built_kind, head_of}
+use Rattle.camelot_typing.specs.Typing.{Signature, known_kind, params_scope, globals_of, IsDeclared, Stands, ParamsStand, FunctionsFit, HaveKinds, ArmsHaveKind}
+use Rattle.camelot_typing.specs.NumberLaws.{constructors_same}
 use Rattle.grail_code.specs.WellFormed.{IsKnownKind}
 use Rattle.normal_form.specs.Normal.{con_of, cons_of, diamond_kinds, bound_kinds, kind_in, all_of, kinds, all_kinds, arm_kinds, tail_kinds, arm_tail_kinds}
 use Rattle.normal_form.proofs.KindsAt.{Frame, kind_is, in_let}
@@ -53,7 +53,8 @@ place_below (n ∷ ns) name i e = by_test (bytes_eq n name) (λ j. place_below n
     by_place None rec e = absurd cc
     by_place (Some j) rec e = let same : suc j ≡ i = cc in let k = rec j refl in omega (arith, same, k)
 
-    by_test : (b : Bool) → ((j : ℕ) → place_among ns name ≡ Some j → j < length ns) → (if b then Some 0 else option_map suc (place_among ns name)) ≡ Some i → i < suc (length ns)
+    by_test : (b : Bool) → ((j : ℕ) → place_among ns name ≡ Some j → j < length ns)
+        → (if b then Some 0 else option_map suc (place_among ns name)) ≡ Some i → i < suc (length ns)
     by_test true rec e = let same : 0 ≡ i = cc in omega (arith, same)
     by_test false rec e = by_place (place_among ns name) rec e
 
@@ -98,7 +99,8 @@ declared_fields p (c ∷ cs) = (fields_known p c.fields, declared_fields p cs)
 pub constructors_known : (p : Source) → FieldsKnown (types_of p) (constructors (types_of p))
 constructors_known p = subst (FieldsKnown (types_of p)) (sym (constructors_same p p.types)) (declared_fields p (flat_map (λ t. t.cons) p.types))
 
-fields_at : (types : List DataType) (cs : List Constructor) (con : ℕ) → FieldsKnown types cs → AllKnown types (option_map_or (λ c. c.fields) (slice_get cs con) [])
+fields_at : (types : List DataType) (cs : List Constructor) (con : ℕ) → FieldsKnown types cs
+    → AllKnown types (option_map_or (λ c. c.fields) (slice_get cs con) [])
 fields_at types [] con h = tt
 fields_at types (c ∷ cs) zero h = h.0
 fields_at types (c ∷ cs) (suc con) h = fields_at types cs con h.1
@@ -116,13 +118,15 @@ params_known p [] (k ∷ ks) h = absurd h
 params_known p (x ∷ xs) [] h = absurd h
 params_known p (x ∷ xs) (k ∷ ks) h = (stands_known p x.kind k h.0, params_known p xs ks h.1)
 
-head_known : (p : Source) (g : Globals Kind) (fs : List Function) (sigs : List Signature) (name : List ℕ) (h : Signature) → FunctionsFit p g fs sigs → head_of sigs name ≡ Some h → IsKnownKind (types_of p) h.result
+head_known : (p : Source) (g : Globals Kind) (fs : List Function) (sigs : List Signature) (name : List ℕ) (h : Signature) → FunctionsFit p g fs sigs
+    → head_of sigs name ≡ Some h → IsKnownKind (types_of p) h.result
 head_known p g [] [] name h fit e = absurd cc
 head_known p g [] (s ∷ sigs) name h fit e = absurd fit
 head_known p g (f ∷ fs) [] name h fit e = absurd fit
 head_known p g (f ∷ fs) (s ∷ sigs) name h fit e = by_test (bytes_eq s.name name) (λ k. head_known p g fs sigs name h fit.1 k) e
   where
-    by_test : (b : Bool) → (head_of sigs name ≡ Some h → IsKnownKind (types_of p) h.result) → (if b then Some s else head_of sigs name) ≡ Some h → IsKnownKind (types_of p) h.result
+    by_test : (b : Bool) → (head_of sigs name ≡ Some h → IsKnownKind (types_of p) h.result) → (if b then Some s else head_of sigs name) ≡ Some h
+        → IsKnownKind (types_of p) h.result
     by_test true rec e = let same : s ≡ h = cc in subst (λ u. IsKnownKind (types_of p) u.result) same (stands_known p f.result s.result fit.0.result)
     by_test false rec e = rec e
 
@@ -138,7 +142,8 @@ bound_known types s n q h own name k e = by_test (bytes_eq n name) e
     by_test true e = let same : q ≡ k = cc in subst (IsKnownKind types) same own
     by_test false e = h name k e
 
-fields_bound_known : (types : List DataType) (fs : List (Option Name)) (ks : List Kind) (s : Scope Kind) → ScopeKnown types s → AllKnown types ks → ScopeKnown types (bind_fields known_kind fs ks s)
+fields_bound_known : (types : List DataType) (fs : List (Option Name)) (ks : List Kind) (s : Scope Kind) → ScopeKnown types s → AllKnown types ks
+    → ScopeKnown types (bind_fields known_kind fs ks s)
 fields_bound_known types [] ks s h all = h
 fields_bound_known types (None ∷ fs) [] s h all = h
 fields_bound_known types (Some n ∷ fs) [] s h all = h
@@ -150,7 +155,8 @@ cell_bound_known types cell.Plain s h = h
 cell_bound_known types cell.Free s h = h
 cell_bound_known types (cell.Keep d) s h = bound_known types s d.word kind.Dia h tt
 
-arm_known : (p : Source) (c : Name) (fs : List (Option Name)) (x : ArmCell) (s : Scope Kind) → ScopeKnown (types_of p) s → ScopeKnown (types_of p) (arm_scope known_kind (types_of p) c fs x s)
+arm_known : (p : Source) (c : Name) (fs : List (Option Name)) (x : ArmCell) (s : Scope Kind) → ScopeKnown (types_of p) s
+    → ScopeKnown (types_of p) (arm_scope known_kind (types_of p) c fs x s)
 arm_known p c fs x s h =
     let con = or_else (typed.constructor_number (types_of p) c.word) 0 in
     cell_bound_known (types_of p) x (bind_fields known_kind fs (fields_of (types_of p) con) s) (fields_bound_known (types_of p) fs (fields_of (types_of p) con) s h (constructor_fields p con))
@@ -193,10 +199,12 @@ kind_known F (Build c es place) s q h has = built_known (types_of F.source) has.
 kind_known F (Call f es) s q h has = subst (IsKnownKind (types_of F.source)) has.2 (head_known F.source (globals_of F.source F.sigs) F.source.funs F.sigs f.word has.0 F.fit has.1)
 
 -- the computed kind
-in_known : (F : Frame) (e : Expression) (s : Scope Kind) (q : Kind) → ScopeKnown (types_of F.source) s → Typed F s e q → IsKnownKind (types_of F.source) (kind_in F.source F.sigs s e)
+in_known : (F : Frame) (e : Expression) (s : Scope Kind) (q : Kind) → ScopeKnown (types_of F.source) s → Typed F s e q
+    → IsKnownKind (types_of F.source) (kind_in F.source F.sigs s e)
 in_known F e s q h has = subst (IsKnownKind (types_of F.source)) (kind_is F e s q has) (kind_known F e s q h has)
 
-all_of_known : (types : List DataType) (kinds_of : ℕ → List Kind) → ((con : ℕ) → AllKnown types (kinds_of con)) → (cons : List ℕ) → AllKnown types (all_of kinds_of cons)
+all_of_known : (types : List DataType) (kinds_of : ℕ → List Kind) → ((con : ℕ) → AllKnown types (kinds_of con)) → (cons : List ℕ)
+    → AllKnown types (all_of kinds_of cons)
 all_of_known types kinds_of h [] = tt
 all_of_known types kinds_of h (con ∷ cons) = all_append types (kinds_of con) (all_of kinds_of cons) (h con) (all_of_known types kinds_of h cons)
 
@@ -213,7 +221,8 @@ chosen_known types true xs ys h k = h
 chosen_known types false xs ys h k = k
 
 mutual
-  pub kinds_known : (F : Frame) (e : Expression) (s : Scope Kind) (q : Kind) → ScopeKnown (types_of F.source) s → Typed F s e q → AllKnown (types_of F.source) (kinds F.source F.sigs s e)
+  pub kinds_known : (F : Frame) (e : Expression) (s : Scope Kind) (q : Kind) → ScopeKnown (types_of F.source) s → Typed F s e q
+      → AllKnown (types_of F.source) (kinds F.source F.sigs s e)
   kinds_known F (Var n) s q h has = tt
   kinds_known F (Num z l) s q h has = (tt, tt)
   kinds_known F (Truth b l) s q h has = (tt, tt)
@@ -239,12 +248,14 @@ mutual
       all_append (types_of F.source) (kinds F.source F.sigs s e) (kind_in F.source F.sigs s (Match e arms l) ∷ all_of (arm_kinds F.source F.sigs s arms) (cons_of F.source arms)) (kinds_known F e s (kind.Of has.0) h has.1)
       (in_known F (Match e (AndArm c fs x b as') l) s q h has, all_of_known (types_of F.source) (arm_kinds F.source F.sigs s arms) (λ con. arm_kinds_known F (AndArm c fs x b as') s has.0 con q h has.3) (cons_of F.source arms))
 
-  pub all_kinds_known : (F : Frame) (es : Expressions) (s : Scope Kind) (ks : List Kind) → ScopeKnown (types_of F.source) s → HaveKinds (globals_of F.source F.sigs) s es ks → AllKnown (types_of F.source) (all_kinds F.source F.sigs s es)
+  pub all_kinds_known : (F : Frame) (es : Expressions) (s : Scope Kind) (ks : List Kind) → ScopeKnown (types_of F.source) s
+      → HaveKinds (globals_of F.source F.sigs) s es ks → AllKnown (types_of F.source) (all_kinds F.source F.sigs s es)
   all_kinds_known F NoExpressions s ks h has = tt
   all_kinds_known F (AndExpression e es) s [] h has = absurd has
   all_kinds_known F (AndExpression e es) s (k ∷ ks) h has = all_append (types_of F.source) (kinds F.source F.sigs s e) (all_kinds F.source F.sigs s es) (kinds_known F e s k h has.0) (all_kinds_known F es s ks h has.1)
 
-  pub arm_kinds_known : (F : Frame) (as' : Arms) (s : Scope Kind) (t con : ℕ) (q : Kind) → ScopeKnown (types_of F.source) s → ArmsHaveKind (globals_of F.source F.sigs) s t as' q → AllKnown (types_of F.source) (arm_kinds F.source F.sigs s as' con)
+  pub arm_kinds_known : (F : Frame) (as' : Arms) (s : Scope Kind) (t con : ℕ) (q : Kind) → ScopeKnown (types_of F.source) s
+      → ArmsHaveKind (globals_of F.source F.sigs) s t as' q → AllKnown (types_of F.source) (arm_kinds F.source F.sigs s as' con)
   arm_kinds_known F NoArms s t con q h has = tt
   arm_kinds_known F (AndArm c fs x b as') s t con q h has =
       let inner = arm_scope known_kind (types_of F.source) c fs x s in
@@ -253,7 +264,8 @@ mutual
       (arm_kinds_known F as' s t con q h has.2)
 
 mutual
-  pub tail_kinds_known : (F : Frame) (e : Expression) (s : Scope Kind) (q : Kind) → ScopeKnown (types_of F.source) s → Typed F s e q → AllKnown (types_of F.source) (tail_kinds F.source F.sigs s e)
+  pub tail_kinds_known : (F : Frame) (e : Expression) (s : Scope Kind) (q : Kind) → ScopeKnown (types_of F.source) s → Typed F s e q
+      → AllKnown (types_of F.source) (tail_kinds F.source F.sigs s e)
   tail_kinds_known F (Var n) s q h has = tt
   tail_kinds_known F (Num z l) s q h has = (tt, tt)
   tail_kinds_known F (Truth b l) s q h has = (tt, tt)
@@ -274,7 +286,8 @@ mutual
       all_append (types_of F.source) (kinds F.source F.sigs s e) (all_of (arm_tail_kinds F.source F.sigs s arms) (cons_of F.source arms)) (kinds_known F e s (kind.Of has.0) h has.1)
       (all_of_known (types_of F.source) (arm_tail_kinds F.source F.sigs s arms) (λ con. arm_tail_kinds_known F (AndArm c fs x b as') s has.0 con q h has.3) (cons_of F.source arms))
 
-  pub arm_tail_kinds_known : (F : Frame) (as' : Arms) (s : Scope Kind) (t con : ℕ) (q : Kind) → ScopeKnown (types_of F.source) s → ArmsHaveKind (globals_of F.source F.sigs) s t as' q → AllKnown (types_of F.source) (arm_tail_kinds F.source F.sigs s as' con)
+  pub arm_tail_kinds_known : (F : Frame) (as' : Arms) (s : Scope Kind) (t con : ℕ) (q : Kind) → ScopeKnown (types_of F.source) s
+      → ArmsHaveKind (globals_of F.source F.sigs) s t as' q → AllKnown (types_of F.source) (arm_tail_kinds F.source F.sigs s as' con)
   arm_tail_kinds_known F NoArms s t con q h has = tt
   arm_tail_kinds_known F (AndArm c fs x b as') s t con q h has =
       let inner = arm_scope known_kind (types_of F.source) c fs x s in

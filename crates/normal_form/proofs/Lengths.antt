@@ -11,10 +11,10 @@ use Rattle.camelot_tree.specs.declared.tree.ArmCell.{ArmCell}
 use Rattle.camelot_tree.specs.declared.tree.ArmCell.TheVariants as cell
 use Rattle.camelot_tree.specs.Tree.{Expression, Num, Truth, Var, Prim, If, Let, Match, Build, Call, Expressions, NoExpressions, AndExpression, Arms, NoArms, AndArm, Source}
 use Rattle.camelot_tree.specs.Meaning.{constructor_number, is_that}
-use Rattle.typing_rules.specs.Kinds as typed
-use Rattle.typing_rules.specs.Kinds.{Scope, bind, or_else, types_of, fields_of, built_kind, arm_scope, numbered}
-use Rattle.typing_rules.specs.Typing.{Signature, known_kind, globals_of, HasKind, HaveKinds, ArmsHaveKind, HeadFits, arms_with}
-use Rattle.typing_rules.specs.NumberLaws.{number_same}
+use Rattle.camelot_typing.specs.Kinds as typed
+use Rattle.camelot_typing.specs.Kinds.{Scope, bind, or_else, types_of, fields_of, built_kind, arm_scope, numbered}
+use Rattle.camelot_typing.specs.Typing.{Signature, known_kind, globals_of, HasKind, HaveKinds, ArmsHaveKind, HeadFits, arms_with}
+use Rattle.camelot_typing.specs.NumberLaws.{number_same}
 use Rattle.grail_blocks.specs.Blocks as block
 use Rattle.normal_form.specs.Normal.{NormalBlock, Line, Bind, Close, in_first, cut, con_of, cons_of, diamonds, bound_count, total, made, all_made, arm_made, tail_made, arm_tail_made, tail_ends, tail, diamond_kinds, bound_kinds, of_first, kind_in, arm_kind, all_of, kinds, all_kinds, arm_kinds, tail_kinds, arm_tail_kinds}
 use Rattle.normal_form.proofs.Lines.{closes, IsClosed, EndsClosed, ends_is_closed}
@@ -50,7 +50,8 @@ diamonds_counted cell.Plain = refl
 diamonds_counted cell.Free = refl
 diamonds_counted (cell.Keep d) = refl
 
-bound_counted : (p : Source) (t : ℕ) (c : Name) (fs : List (Option Name)) (x : ArmCell) → HeadFits (types_of p) t c fs x → length (bound_kinds p c x) ≡ bound_count fs x
+bound_counted : (p : Source) (t : ℕ) (c : Name) (fs : List (Option Name)) (x : ArmCell) → HeadFits (types_of p) t c fs x
+    → length (bound_kinds p c x) ≡ bound_count fs x
 bound_counted p t c fs x head =
     let number : con_of p c ≡ head.con = ap (λ o. or_else o 0) (sym (number_same p c) ∙ head.is) in
     let fields = ap (λ n. length (fields_of (types_of p) n)) number in
@@ -59,7 +60,8 @@ bound_counted p t c fs x head =
     let full = head.full in
     omega (arith, both, fields, own, full)
 
-all_counted : (count : ℕ → ℕ) (kinds_by : ℕ → List Kind) → ((con : ℕ) → length (kinds_by con) ≡ count con) → (cons : List ℕ) → length (all_of kinds_by cons) ≡ total count cons
+all_counted : (count : ℕ → ℕ) (kinds_by : ℕ → List Kind) → ((con : ℕ) → length (kinds_by con) ≡ count con) → (cons : List ℕ)
+    → length (all_of kinds_by cons) ≡ total count cons
 all_counted count kinds_by h [] = refl
 all_counted count kinds_by h (con ∷ cons) =
     let both = length-append (kinds_by con) (all_of kinds_by cons) in
@@ -72,7 +74,8 @@ chosen_counted true xs ys m n h k = h
 chosen_counted false xs ys m n h k = k
 
 -- the kind that a typed expression has is the one that is computed
-first_known : (P : ℕ → Type 0) (kind_of : ℕ → Kind) (k : Kind) (cons : List ℕ) (i con : ℕ) → slice_get cons i ≡ Some con → ((c : ℕ) → P c → kind_of c ≡ k) → AllByRecursion P cons → of_first kind_of cons ≡ k
+first_known : (P : ℕ → Type 0) (kind_of : ℕ → Kind) (k : Kind) (cons : List ℕ) (i con : ℕ) → slice_get cons i ≡ Some con
+    → ((c : ℕ) → P c → kind_of c ≡ k) → AllByRecursion P cons → of_first kind_of cons ≡ k
 first_known P kind_of k [] i con e h each = absurd cc
 first_known P kind_of k (c ∷ cons) i con e h each = h c each.0
 
@@ -94,12 +97,14 @@ mutual
   kind_is p sigs s (Build c es place) k h = ap (λ o. or_else (built_kind (types_of p) (or_else o 0)) kind.Int) h.1 ∙ ap (λ o. or_else o kind.Int) h.2
   kind_is p sigs s (Call f es) k h = ap (λ o. option_map_or (λ f. f.result) o kind.Int) h.1 ∙ h.2
 
-  pub arm_kind_is : (p : Source) (sigs : List Signature) (s : Scope Kind) (t : ℕ) (as' : Arms) (k : Kind) (con : ℕ) → ArmsHaveKind (globals_of p sigs) s t as' k → 1 ≤ arms_with (types_of p) con as' → arm_kind p sigs s as' con ≡ k
+  pub arm_kind_is : (p : Source) (sigs : List Signature) (s : Scope Kind) (t : ℕ) (as' : Arms) (k : Kind) (con : ℕ)
+      → ArmsHaveKind (globals_of p sigs) s t as' k → 1 ≤ arms_with (types_of p) con as' → arm_kind p sigs s as' con ≡ k
   arm_kind_is p sigs s t NoArms k con h some = absurd (omega (arith, some))
   arm_kind_is p sigs s t (AndArm c fs x b as') k con h some =
       by_test (is_that (constructor_number p c) con) refl (kind_is p sigs (arm_scope known_kind (types_of p) c fs x s) b k h.1) (λ more. arm_kind_is p sigs s t as' k con h.2 more)
     where
-      by_test : (t : Bool) → is_that (constructor_number p c) con ≡ t → kind_in p sigs (arm_scope known_kind (types_of p) c fs x s) b ≡ k → (1 ≤ arms_with (types_of p) con as' → arm_kind p sigs s as' con ≡ k)
+      by_test : (t : Bool) → is_that (constructor_number p c) con ≡ t → kind_in p sigs (arm_scope known_kind (types_of p) c fs x s) b ≡ k
+          → (1 ≤ arms_with (types_of p) con as' → arm_kind p sigs s as' con ≡ k)
           → (if t then kind_in p sigs (arm_scope known_kind (types_of p) c fs x s) b else arm_kind p sigs s as' con) ≡ k
       by_test true e here later = here
       by_test false e here later =
@@ -113,7 +118,8 @@ two_parts : (xs ys : List Kind) (m n : ℕ) → length xs ≡ m → length ys �
 two_parts xs ys m n h k = let e = length-append xs ys in omega (arith, e, h, k)
 
 mutual
-  pub kinds_counted : (p : Source) (sigs : List Signature) (s : Scope Kind) (e : Expression) (k : Kind) → HasKind (globals_of p sigs) s e k → length (kinds p sigs s e) ≡ made p e
+  pub kinds_counted : (p : Source) (sigs : List Signature) (s : Scope Kind) (e : Expression) (k : Kind) → HasKind (globals_of p sigs) s e k
+      → length (kinds p sigs s e) ≡ made p e
   kinds_counted p sigs s (Num z l) k h = refl
   kinds_counted p sigs s (Truth b l) k h = refl
   kinds_counted p sigs s (Var n) k h = refl
@@ -141,12 +147,14 @@ mutual
   kinds_counted p sigs s (Build c es place) k h = one_more (all_kinds p sigs s es) (kind_in p sigs s (Build c es place)) (all_made p es) (args_counted p sigs s es (fields_of (types_of p) h.0) h.3)
   kinds_counted p sigs s (Call f es) k h = one_more (all_kinds p sigs s es) (kind_in p sigs s (Call f es)) (all_made p es) (args_counted p sigs s es h.0.params h.3)
 
-  pub args_counted : (p : Source) (sigs : List Signature) (s : Scope Kind) (es : Expressions) (ks : List Kind) → HaveKinds (globals_of p sigs) s es ks → length (all_kinds p sigs s es) ≡ all_made p es
+  pub args_counted : (p : Source) (sigs : List Signature) (s : Scope Kind) (es : Expressions) (ks : List Kind)
+      → HaveKinds (globals_of p sigs) s es ks → length (all_kinds p sigs s es) ≡ all_made p es
   args_counted p sigs s NoExpressions ks h = refl
   args_counted p sigs s (AndExpression e es) [] h = absurd h
   args_counted p sigs s (AndExpression e es) (k ∷ ks) h = two_parts (kinds p sigs s e) (all_kinds p sigs s es) (made p e) (all_made p es) (kinds_counted p sigs s e k h.0) (args_counted p sigs s es ks h.1)
 
-  pub arm_counted : (p : Source) (sigs : List Signature) (s : Scope Kind) (t : ℕ) (as' : Arms) (k : Kind) (con : ℕ) → ArmsHaveKind (globals_of p sigs) s t as' k → length (arm_kinds p sigs s as' con) ≡ arm_made p as' con
+  pub arm_counted : (p : Source) (sigs : List Signature) (s : Scope Kind) (t : ℕ) (as' : Arms) (k : Kind) (con : ℕ)
+      → ArmsHaveKind (globals_of p sigs) s t as' k → length (arm_kinds p sigs s as' con) ≡ arm_made p as' con
   arm_counted p sigs s t NoArms k con h = refl
   arm_counted p sigs s t (AndArm c fs x b as') k con h =
       chosen_counted (is_that (constructor_number p c) con) (bound_kinds p c x ++ kinds p sigs (arm_scope known_kind (types_of p) c fs x s) b) (arm_kinds p sigs s as' con) (bound_count fs x + made p b) (arm_made p as' con)
@@ -154,7 +162,8 @@ mutual
       (arm_counted p sigs s t as' k con h.2)
 
 mutual
-  pub locals_counted : (p : Source) (sigs : List Signature) (s : Scope Kind) (e : Expression) (k : Kind) → HasKind (globals_of p sigs) s e k → length (tail_kinds p sigs s e) ≡ tail_made p e
+  pub locals_counted : (p : Source) (sigs : List Signature) (s : Scope Kind) (e : Expression) (k : Kind) → HasKind (globals_of p sigs) s e k
+      → length (tail_kinds p sigs s e) ≡ tail_made p e
   locals_counted p sigs s (Num z l) k h = refl
   locals_counted p sigs s (Truth b l) k h = refl
   locals_counted p sigs s (Var n) k h = refl
@@ -173,7 +182,8 @@ mutual
       (kinds_counted p sigs s e (kind.Of h.0) h.1)
       (all_counted (arm_tail_made p (AndArm c fs x b as')) (arm_tail_kinds p sigs s (AndArm c fs x b as')) (λ con. arm_locals_counted p sigs s h.0 (AndArm c fs x b as') k con h.3) (cons_of p (AndArm c fs x b as')))
 
-  pub arm_locals_counted : (p : Source) (sigs : List Signature) (s : Scope Kind) (t : ℕ) (as' : Arms) (k : Kind) (con : ℕ) → ArmsHaveKind (globals_of p sigs) s t as' k → length (arm_tail_kinds p sigs s as' con) ≡ arm_tail_made p as' con
+  pub arm_locals_counted : (p : Source) (sigs : List Signature) (s : Scope Kind) (t : ℕ) (as' : Arms) (k : Kind) (con : ℕ)
+      → ArmsHaveKind (globals_of p sigs) s t as' k → length (arm_tail_kinds p sigs s as' con) ≡ arm_tail_made p as' con
   arm_locals_counted p sigs s t NoArms k con h = refl
   arm_locals_counted p sigs s t (AndArm c fs x b as') k con h =
       chosen_counted (is_that (constructor_number p c) con) (bound_kinds p c x ++ tail_kinds p sigs (arm_scope known_kind (types_of p) c fs x s) b) (arm_tail_kinds p sigs s as' con) (bound_count fs x + tail_made p b) (arm_tail_made p as' con)

@@ -1,4 +1,5 @@
--- What lines mean, and that the blocks into which they are cut mean the same. A jump to a block is what begins behind as many ends.
+-- What lines mean, and that the blocks into which they are cut mean the same. A jump to a block is what begins behind
+-- as many ends.
 use Rattle.std.proofs.Common.{◌≡◌, ℕ, suc, ◌+◌, ◌≤◌, Bool, true, false, List, [], ◌∷◌, ◌++◌, map, refl, sym, ap, ◌∙◌, arith}
 use Rattle.std.specs.Prelude.{◌==◌, if◌then◌else◌}
 use Rattle.std.proofs.lemmas.Bool.Decides.{nat_tests}
@@ -148,7 +149,8 @@ close_behind types enter number t lines first later b j u e =
     ∙ ap (λ o. if b == suc number then here types enter (suc number) lines j u e else o) (later b j u e)
 
 mutual
-  cut_here : (types : List DataType) (enter : Enter) (number : ℕ) (lines : List Line) → IsClosed lines → (k w : ℕ) (env : Locals) → from_first types enter number (cut lines) k w env ≡ here types enter number lines k w env
+  cut_here : (types : List DataType) (enter : Enter) (number : ℕ) (lines : List Line) → IsClosed lines → (k w : ℕ) (env : Locals)
+      → from_first types enter number (cut lines) k w env ≡ here types enter number lines k w env
   cut_here types enter number [] h k w env = refl
   cut_here types enter number (Bind l ∷ lines) h k w env =
       let r = ends_block lines h in
@@ -168,7 +170,8 @@ mutual
       close_behind types enter number t lines (cut_here types enter (suc number) lines h) (cut_behind types enter (suc number) lines h) b j u e
 
 -- The blocks mean what the lines mean.
-pub blocks_are_lines : (types : List DataType) (enter : Enter) (lines : List Line) → IsClosed lines → (k w : ℕ) (env : Locals) → blocks_run types enter (map everything (cut lines)) k w env ≡ here types enter 0 lines k w env
+pub blocks_are_lines : (types : List DataType) (enter : Enter) (lines : List Line) → IsClosed lines → (k w : ℕ) (env : Locals)
+    → blocks_run types enter (map everything (cut lines)) k w env ≡ here types enter 0 lines k w env
 blocks_are_lines types enter lines h k w env = whole (cut lines) ∙ cut_here types enter 0 lines h k w env
   where
     whole : (bs : List NormalBlock) → blocks_run types enter (map everything bs) k w env ≡ from_first types enter 0 bs k w env

@@ -16,8 +16,8 @@ use Rattle.camelot_tree.specs.declared.tree.ArmCell.{ArmCell}
 use Rattle.camelot_tree.specs.declared.tree.ArmCell.TheVariants as cell
 use Rattle.camelot_tree.specs.Tree.{Expression, Arms, AndArm, Branch}
 use Rattle.camelot_tree.specs.Meaning.{is_that}
-use Rattle.typing_rules.specs.Kinds.{Scope, bind, bind_fields, arm_scope, or_else, types_of, fields_of, field_names, bound_names, numbered}
-use Rattle.typing_rules.specs.Typing.{known_kind}
+use Rattle.camelot_typing.specs.Kinds.{Scope, bind, bind_fields, arm_scope, or_else, types_of, fields_of, field_names, bound_names, numbered}
+use Rattle.camelot_typing.specs.Typing.{known_kind}
 use Rattle.linear_use.specs.Uses.{is_bound, UsedOnce, EachUsedOnce}
 use Rattle.grail_blocks.specs.Blocks.{CaseArm}
 use Rattle.grail_blocks.specs.Events.{bound_by}
@@ -43,30 +43,35 @@ bound_append v (x ∷ xs) ys = ap (λ b. bytes_eq x.word v || b) (bound_append v
 differ_test : (n y : ℕ) → y < n → (n == y) ≡ true → ⊥
 differ_test n y less e = let same : n ≡ y = grind (arith, nat_tests, e) in omega (arith, same, less)
 
-fields_old : (fs : List (Option Name)) (n : ℕ) (l : Scope ℕ) (y : ℕ) (v : List ℕ) → y < n → named (with_fields fs n l) y v ≡ true → (named l y v ≡ true) × (is_bound v (field_names fs) ≡ false)
+fields_old : (fs : List (Option Name)) (n : ℕ) (l : Scope ℕ) (y : ℕ) (v : List ℕ) → y < n → named (with_fields fs n l) y v ≡ true
+    → (named l y v ≡ true) × (is_bound v (field_names fs) ≡ false)
 fields_old [] n l y v less e = (e, refl)
 fields_old (None ∷ fs) n l y v less e = fields_old fs (suc n) l y v (omega (arith, less)) e
 fields_old (Some f ∷ fs) n l y v less e =
     let r = fields_old fs (suc n) (bind f.word n l) y v (omega (arith, less)) e in
     by_test (bytes_eq f.word v) r.0 r.1
   where
-    by_test : (b : Bool) → is_that (if b then Some n else find l v) y ≡ true → is_bound v (field_names fs) ≡ false → (is_that (find l v) y ≡ true) × ((b || is_bound v (field_names fs)) ≡ false)
+    by_test : (b : Bool) → is_that (if b then Some n else find l v) y ≡ true → is_bound v (field_names fs) ≡ false
+        → (is_that (find l v) y ≡ true) × ((b || is_bound v (field_names fs)) ≡ false)
     by_test true q k = absurd (differ_test n y less q)
     by_test false q k = (q, k)
 
-arm_old : (fs : List (Option Name)) (x : ArmCell) (n : ℕ) (l : Scope ℕ) (y : ℕ) (v : List ℕ) → y < n → named (in_arm fs x n l) y v ≡ true → (named l y v ≡ true) × (is_bound v (bound_names fs x) ≡ false)
+arm_old : (fs : List (Option Name)) (x : ArmCell) (n : ℕ) (l : Scope ℕ) (y : ℕ) (v : List ℕ) → y < n → named (in_arm fs x n l) y v ≡ true
+    → (named l y v ≡ true) × (is_bound v (bound_names fs x) ≡ false)
 arm_old fs cell.Plain n l y v less e = let r = fields_old fs n l y v less e in (r.0, bound_append v (field_names fs) [] ∙ ap (λ b. b || false) r.1)
 arm_old fs cell.Free n l y v less e = let r = fields_old fs n l y v less e in (r.0, bound_append v (field_names fs) [] ∙ ap (λ b. b || false) r.1)
 arm_old fs (cell.Keep d) n l y v less e = by_test (bytes_eq d.word v) refl e
   where
-    by_test : (b : Bool) → bytes_eq d.word v ≡ b → is_that (if b then Some (n + length fs) else find (with_fields fs n l) v) y ≡ true → (named l y v ≡ true) × (is_bound v (field_names fs ++ (d ∷ [])) ≡ false)
+    by_test : (b : Bool) → bytes_eq d.word v ≡ b → is_that (if b then Some (n + length fs) else find (with_fields fs n l) v) y ≡ true
+        → (named l y v ≡ true) × (is_bound v (field_names fs ++ (d ∷ [])) ≡ false)
     by_test true t q = absurd (differ_test (n + length fs) y (omega (arith, less)) q)
     by_test false t q =
         let r = fields_old fs n l y v less q in
         (r.0, bound_append v (field_names fs) (d ∷ []) ∙ ap (λ b. b || (bytes_eq d.word v || false)) r.1 ∙ ap (λ b. b || false) t)
 
 -- names of a local from before aren't those that the arm binds
-pub arm_old_used : (fs : List (Option Name)) (x : ArmCell) (n : ℕ) (l : Scope ℕ) (y : ℕ) (b : Expression) → y < n → used (named (in_arm fs x n l) y) b ≤ used (without_all (bound_names fs x) (named l y)) b
+pub arm_old_used : (fs : List (Option Name)) (x : ArmCell) (n : ℕ) (l : Scope ℕ) (y : ℕ) (b : Expression) → y < n
+    → used (named (in_arm fs x n l) y) b ≤ used (without_all (bound_names fs x) (named l y)) b
 arm_old_used fs x n l y b less = fewer_used (named (in_arm fs x n l) y) (without_all (bound_names fs x) (named l y)) b some
   where
     some : AreSome (named (in_arm fs x n l) y) (without_all (bound_names fs x) (named l y))
@@ -124,7 +129,8 @@ bound_above l f n z less none v = by_test (bytes_eq f.word v)
     by_test true = unequal (n == z) refl
     by_test false = none v
 
-fields_owner : (P : Name → Type 0) (fs : List (Option Name)) (n : ℕ) (l : Scope ℕ) (y : ℕ) → n ≤ y → ((z : ℕ) → n ≤ z → AreNone (named l z)) → AllByRecursion P (field_names fs) → Owner P (named (with_fields fs n l) y)
+fields_owner : (P : Name → Type 0) (fs : List (Option Name)) (n : ℕ) (l : Scope ℕ) (y : ℕ) → n ≤ y → ((z : ℕ) → n ≤ z → AreNone (named l z))
+    → AllByRecursion P (field_names fs) → Owner P (named (with_fields fs n l) y)
 fields_owner P [] n l y h none all = NoOwner (none y h)
 fields_owner P (None ∷ fs) n l y h none all = either (λ k. fields_owner P fs (suc n) l y k (λ z j. none z (omega (arith, j))) all) (same_or_not n y)
   where
@@ -134,7 +140,8 @@ fields_owner P (None ∷ fs) n l y h none all = either (λ k. fields_owner P fs 
 fields_owner P (Some f ∷ fs) n l y h none all =
     either (λ k. fields_owner P fs (suc n) (bind f.word n l) y k (λ z j. bound_above l f n z (omega (arith, j)) (none z (omega (arith, j)))) all.1) (same_or_not n y)
   where
-    either : (suc n ≤ y → Owner P (named (with_fields fs (suc n) (bind f.word n l)) y)) → (n ≡ y) ⊎ (n ≡ y → ⊥) → Owner P (named (with_fields fs (suc n) (bind f.word n l)) y)
+    either : (suc n ≤ y → Owner P (named (with_fields fs (suc n) (bind f.word n l)) y)) → (n ≡ y) ⊎ (n ≡ y → ⊥)
+        → Owner P (named (with_fields fs (suc n) (bind f.word n l)) y)
     either later (inl same) =
         subst (λ z. Owner P (named (with_fields fs (suc n) (bind f.word n l)) z)) same
         (owner_fewer P (named (with_fields fs (suc n) (bind f.word n l)) n) (named (bind f.word n l) n) (λ v e. (fields_old fs (suc n) (bind f.word n l) n v (omega arith) e).0)
@@ -149,7 +156,8 @@ all_back : (P : Name → Type 0) (xs ys : List Name) → AllByRecursion P (xs ++
 all_back P [] ys h = h
 all_back P (x ∷ xs) ys h = all_back P xs ys h.1
 
-arm_owner : (P : Name → Type 0) (fs : List (Option Name)) (x : ArmCell) (n : ℕ) (l : Scope ℕ) (y : ℕ) → n ≤ y → ((z : ℕ) → n ≤ z → AreNone (named l z)) → ((z : ℕ) → n + length fs ≤ z → AreNone (named (with_fields fs n l) z))
+arm_owner : (P : Name → Type 0) (fs : List (Option Name)) (x : ArmCell) (n : ℕ) (l : Scope ℕ) (y : ℕ) → n ≤ y
+    → ((z : ℕ) → n ≤ z → AreNone (named l z)) → ((z : ℕ) → n + length fs ≤ z → AreNone (named (with_fields fs n l) z))
     → AllByRecursion P (bound_names fs x) → Owner P (named (in_arm fs x n l) y)
 arm_owner P fs cell.Plain n l y h none above all = fields_owner P fs n l y h none (all_front P (field_names fs) [] all)
 arm_owner P fs cell.Free n l y h none above all = fields_owner P fs n l y h none (all_front P (field_names fs) [] all)
@@ -158,7 +166,8 @@ arm_owner P fs (cell.Keep d) n l y h none above all = either (same_or_not (n + l
     other : (n + length fs ≡ y → ⊥) → AreSome (named (bind d.word (n + length fs) (with_fields fs n l)) y) (named (with_fields fs n l) y)
     other differ v = by_test (bytes_eq d.word v)
       where
-        by_test : (b : Bool) → is_that (if b then Some (n + length fs) else find (with_fields fs n l) v) y ≡ true → is_that (find (with_fields fs n l) v) y ≡ true
+        by_test : (b : Bool) → is_that (if b then Some (n + length fs) else find (with_fields fs n l) v) y ≡ true
+            → is_that (find (with_fields fs n l) v) y ≡ true
         by_test true q = absurd (differ (grind (arith, nat_tests, q)))
         by_test false q = q
 
@@ -174,7 +183,8 @@ arm_owner P fs (cell.Keep d) n l y h none above all = either (same_or_not (n + l
 -- ---- an arm that keeps the rule
 
 -- A local that an arm makes is used once, where it is of a heap kind.
-pub arm_new_used : (F : Frame) (s : Scope Kind) (l : Scope ℕ) (n con : ℕ) (c : Name) (fs : List (Option Name)) (x : ArmCell) (b : Expression) (y : ℕ) → Named F s l n → ArmFor F.source c fs con → At F.kinds n (bound_of F.source con x)
+pub arm_new_used : (F : Frame) (s : Scope Kind) (l : Scope ℕ) (n con : ℕ) (c : Name) (fs : List (Option Name)) (x : ArmCell) (b : Expression) (y : ℕ)
+    → Named F s l n → ArmFor F.source c fs con → At F.kinds n (bound_of F.source con x)
     → EachUsedOnce (types_of F.source) (arm_scope known_kind (types_of F.source) c fs x s) (bound_names fs x) b → n ≤ y → heap_in F y ≡ true → used (named (in_arm fs x n l) y) b ≤ 1
 arm_new_used F s l n con c fs x b y st a at each h heap =
     by_owner (arm_owner (λ f. UsedOnce (types_of F.source) (or_else (find (arm_scope known_kind (types_of F.source) c fs x s) f.word) kind.Int) f.word b) fs x n l y h (λ z k. above_none F s l n z st k)
@@ -298,5 +308,6 @@ pub arm_split : (h : ℕ → Bool) (t : Bool) (first : Branch) (other : Option B
 arm_split h true first other n number xs ys follow most one rest = one refl
 arm_split h false first other n number xs ys follow most one rest = rest refl
 
-pub arm_more : (h : ℕ → Bool) (a : CaseArm) (number : ℕ) (lines : List Line) (most more : ℕ → ℕ) → ((y : ℕ) → most y ≤ more y) → ArmLives h a number lines most → ArmLives h a number lines more
+pub arm_more : (h : ℕ → Bool) (a : CaseArm) (number : ℕ) (lines : List Line) (most more : ℕ → ℕ) → ((y : ℕ) → most y ≤ more y)
+    → ArmLives h a number lines most → ArmLives h a number lines more
 arm_more h a number lines most more up r = record { live = λ y. (let a = r.live y in let b = up y in omega (arith, a, b)); once = r.once }

@@ -72,7 +72,8 @@ either_false : (t : Bool) → (if t then false else false) ≡ false
 either_false true = refl
 either_false false = refl
 
-live_split : (first : ℕ) (bs : List NormalBlock) (b y : ℕ) → live_from first bs b y ≡ (if b == first then first_live first bs y else live_from (suc first) (behind_first bs) b y)
+live_split : (first : ℕ) (bs : List NormalBlock) (b y : ℕ)
+    → live_from first bs b y ≡ (if b == first then first_live first bs y else live_from (suc first) (behind_first bs) b y)
 live_split first [] b y = sym (either_false (b == first))
 live_split first (x ∷ bs) b y = refl
 
@@ -89,7 +90,8 @@ abbrev pub later_lines : ℕ → List Line → LaterMarks
 later_lines number lines b y = if b == suc number then live_here (suc number) lines y else live_behind (suc number) lines b y
 
 close_live : (number : ℕ) (lines : List Line) → ((y : ℕ) → first_live (suc number) (cut lines) y ≡ live_here (suc number) lines y)
-    → ((b y : ℕ) → live_from (suc (suc number)) (behind_first (cut lines)) b y ≡ live_behind (suc number) lines b y) → (b y : ℕ) → live_from (suc number) (cut lines) b y ≡ later_lines number lines b y
+    → ((b y : ℕ) → live_from (suc (suc number)) (behind_first (cut lines)) b y ≡ live_behind (suc number) lines b y) → (b y : ℕ)
+    → live_from (suc number) (cut lines) b y ≡ later_lines number lines b y
 close_live number lines first later b y =
     live_split (suc number) (cut lines) b y
     ∙ ap (λ o. if b == suc number then o else live_from (suc (suc number)) (behind_first (cut lines)) b y) (first y)
@@ -105,13 +107,15 @@ mutual
   cut_live number (Close t ∷ lines) h y =
       ap (λ later. term_live later t y) (λ i b x. close_live number lines (cut_live (suc number) lines h) (cut_later (suc number) lines h) b x i)
 
-  pub cut_later : (number : ℕ) (lines : List Line) → IsClosed lines → (b y : ℕ) → live_from (suc number) (behind_first (cut lines)) b y ≡ live_behind number lines b y
+  pub cut_later : (number : ℕ) (lines : List Line) → IsClosed lines → (b y : ℕ)
+      → live_from (suc number) (behind_first (cut lines)) b y ≡ live_behind number lines b y
   cut_later number [] h b y = refl
   cut_later number (Bind l ∷ lines) h b y = ap (λ bs. live_from (suc number) bs b y) (behind_cut l (cut lines)) ∙ cut_later number lines (ends_is_closed lines h) b y
   cut_later number (Close t ∷ lines) h b y = close_live number lines (cut_live (suc number) lines h) (cut_later (suc number) lines h) b y
 
 -- one more let in front of the first block
-once_let : (h : ℕ → Bool) (number : ℕ) (l : block.Let) (b : NormalBlock) (bs : List NormalBlock) (after : Marks) → first_live number (b ∷ bs) ≡ after → Once h (operands_of l.op) (unless_bound l.target after)
+once_let : (h : ℕ → Bool) (number : ℕ) (l : block.Let) (b : NormalBlock) (bs : List NormalBlock) (after : Marks) → first_live number (b ∷ bs) ≡ after
+    → Once h (operands_of l.op) (unless_bound l.target after)
     → BlocksOnce h number (b ∷ bs) → BlocksOnce h number (in_first l (b ∷ bs))
 once_let h number l b bs after e one all = (record { lets = (subst (λ m. Once h (operands_of l.op) (unless_bound l.target m)) (sym e) one, all.0.lets); term = all.0.term }, all.1)
 

@@ -1,4 +1,5 @@
--- Bounds of what is live in front of lines, by the uses that the source counts; the parts of the proof that hold for any lines.
+-- Bounds of what is live in front of lines, by the uses that the source counts; the parts of the proof that hold for
+-- any lines.
 use Rattle.std.proofs.Common.{◌≡◌, ℕ, suc, ◌+◌, ◌≤◌, Bool, true, false, List, [], ◌∷◌, ◌++◌, refl, sym, ap, subst, arith, append_assoc}
 use Rattle.std.specs.Prelude.{◌==◌, ◌||◌, ◌&&◌, not, if◌then◌else◌}
 use Rattle.camelot_values.specs.Lists.{is_among}
@@ -50,11 +51,13 @@ pub record Lives (h : ℕ → Bool) (number : ℕ) (lines : List Line) (most : �
   pub live : (y : ℕ) → bit (live_here number lines y) ≤ most y
   pub once : AllOnce h number lines
 
-pub lives_more : (h : ℕ → Bool) (number : ℕ) (lines : List Line) (most more : ℕ → ℕ) → ((y : ℕ) → most y ≤ more y) → Lives h number lines most → Lives h number lines more
+pub lives_more : (h : ℕ → Bool) (number : ℕ) (lines : List Line) (most more : ℕ → ℕ) → ((y : ℕ) → most y ≤ more y) → Lives h number lines most
+    → Lives h number lines more
 lives_more h number lines most more up r = record { live = λ y. (let a = r.live y in let b = up y in omega (arith, a, b)); once = r.once }
 
 -- a new local in front of lines
-pub new_lives : (h : ℕ → Bool) (number x : ℕ) (op : Op) (rest : List Line) (out : ℕ → ℕ) → ((y : ℕ) → h y ≡ true → times y (operands_of op) + out y ≤ 1) → Lives h number rest (λ y. one x y + out y)
+pub new_lives : (h : ℕ → Bool) (number x : ℕ) (op : Op) (rest : List Line) (out : ℕ → ℕ)
+    → ((y : ℕ) → h y ≡ true → times y (operands_of op) + out y ≤ 1) → Lives h number rest (λ y. one x y + out y)
     → Lives h number (new x op ∷ rest) (λ y. times y (operands_of op) + out y)
 new_lives h number x op rest out once r = record {
   live = λ y.
@@ -66,8 +69,10 @@ new_lives h number x op rest out once r = record {
 }
 
 -- the end of a block in front of lines
-pub close_lives : (h : ℕ → Bool) (number : ℕ) (t : Term) (rest : List Line) (onward : ℕ → ℕ) → ((y : ℕ) → bit (onward_live (later_lines number rest) t y) ≤ onward y)
-    → ((y : ℕ) → h y ≡ true → times y (term_uses t) + onward y ≤ 1) → AllOnce h (suc number) rest → Lives h number (Close t ∷ rest) (λ y. times y (term_uses t) + onward y)
+pub close_lives : (h : ℕ → Bool) (number : ℕ) (t : Term) (rest : List Line) (onward : ℕ → ℕ)
+    → ((y : ℕ) → bit (onward_live (later_lines number rest) t y) ≤ onward y)
+    → ((y : ℕ) → h y ≡ true → times y (term_uses t) + onward y ≤ 1) → AllOnce h (suc number) rest
+    → Lives h number (Close t ∷ rest) (λ y. times y (term_uses t) + onward y)
 close_lives h number t rest onward most once all = record {
   live = λ y.
       (let a = bit_or (is_among (term_uses t) y) (onward_live (later_lines number rest) t y) in
@@ -80,7 +85,8 @@ close_lives h number t rest onward most once all = record {
 -- A branch that joins: its value is copied to `result`, and the joining block is at `rest`.
 pub joining_lives : (h : ℕ → Bool) (number mid : ℕ) (lines : List Line) (x result join m : ℕ) (follow rest : List Line) (out : ℕ → ℕ) (most : ℕ → ℕ)
     → (Lives h mid (new result (block.Copy x) ∷ Close (block.Goto join) ∷ follow) (λ y. one x y + out y) → Lives h number (lines ++ (new result (block.Copy x) ∷ Close (block.Goto join) ∷ follow)) most)
-    → ((y : ℕ) → h y ≡ true → one x y + out y ≤ 1) → ((y : ℕ) → later_lines mid follow join y ≡ live_here m rest y) → AllOnce h (suc mid) follow → ((y : ℕ) → bit (live_here m rest y) ≤ one result y + out y)
+    → ((y : ℕ) → h y ≡ true → one x y + out y ≤ 1) → ((y : ℕ) → later_lines mid follow join y ≡ live_here m rest y) → AllOnce h (suc mid) follow
+    → ((y : ℕ) → bit (live_here m rest y) ≤ one result y + out y)
     → Lives h number (joining lines x result join ++ follow) most
 joining_lives h number mid lines x result join m follow rest out most run once jump all goes =
     subst (λ l. Lives h number l most) (sym (append_assoc lines (new result (block.Copy x) ∷ Close (block.Goto join) ∷ []) follow))

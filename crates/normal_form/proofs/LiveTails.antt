@@ -13,10 +13,10 @@ use Rattle.camelot_values.specs.declared.kinds.Kind.TheVariants as kind
 use Rattle.camelot_tree.specs.declared.tree.Param.{Param}
 use Rattle.camelot_tree.specs.Tree.{Expression, Num, Truth, Var, Prim, If, Let, Match, Build, Call, Arms, NoArms, AndArm}
 use Rattle.camelot_tree.specs.Meaning.{constructor_number, is_that}
-use Rattle.typing_rules.specs.Kinds as typed
-use Rattle.typing_rules.specs.Kinds.{Scope, bind, arm_scope, types_of, numbered}
-use Rattle.typing_rules.specs.Typing.{known_kind, params_scope, globals_of, ArmsHaveKind, arms_with}
-use Rattle.typing_rules.specs.NumberLaws.{number_same}
+use Rattle.camelot_typing.specs.Kinds as typed
+use Rattle.camelot_typing.specs.Kinds.{Scope, bind, arm_scope, types_of, numbered}
+use Rattle.camelot_typing.specs.Typing.{known_kind, params_scope, globals_of, ArmsHaveKind, arms_with}
+use Rattle.camelot_typing.specs.NumberLaws.{number_same}
 use Rattle.linear_use.specs.Uses.{UsedOnce, ParamsUsedOnce, ArmsAreLinear}
 use Rattle.grail_blocks.specs.Blocks as block
 use Rattle.normal_form.specs.Normal.{Line, Close, fun_of, cons_of, arm_for, bound_count, in_arm, case_arm, case_arms, total, in_turn, made, ends, all_ends, local_of, locals_of, value, values, bound_kinds, kind_in, all_of, kinds, tail_made, arm_tail_made, tail_ends, arm_tail_ends, tail, arm_tail, tail_kinds, arm_tail_kinds}
@@ -36,7 +36,8 @@ use Rattle.normal_form.proofs.LiveValues.{AtMostOnce, Typed, Linear, let_once, l
 -- ---- as many kinds as locals
 
 mutual
-  pub tail_kinds_made : (F : Frame) (e : Expression) (s : Scope Kind) (q : Kind) → Typed F s e q → length (tail_kinds F.source F.sigs s e) ≡ tail_made F.source e
+  pub tail_kinds_made : (F : Frame) (e : Expression) (s : Scope Kind) (q : Kind) → Typed F s e q
+      → length (tail_kinds F.source F.sigs s e) ≡ tail_made F.source e
   tail_kinds_made F (Var n) s q has = refl
   tail_kinds_made F (Num z l) s q has = refl
   tail_kinds_made F (Truth b l) s q has = refl
@@ -58,7 +59,8 @@ mutual
       let all = all_of_made (arm_tail_kinds p F.sigs s arms) (arm_tail_made p arms) (λ con. arm_tail_kinds_made F (AndArm c fs x b as') s has.0 con q has.3) (cons_of p arms) in
       two_parts (kinds p F.sigs s e) (all_of (arm_tail_kinds p F.sigs s arms) (cons_of p arms)) (made p e) (total (arm_tail_made p arms) (cons_of p arms)) (kinds_made F e s (kind.Of has.0) has.1) all
 
-  pub arm_tail_kinds_made : (F : Frame) (as' : Arms) (s : Scope Kind) (t con : ℕ) (q : Kind) → ArmsHaveKind (globals_of F.source F.sigs) s t as' q → length (arm_tail_kinds F.source F.sigs s as' con) ≡ arm_tail_made F.source as' con
+  pub arm_tail_kinds_made : (F : Frame) (as' : Arms) (s : Scope Kind) (t con : ℕ) (q : Kind) → ArmsHaveKind (globals_of F.source F.sigs) s t as' q
+      → length (arm_tail_kinds F.source F.sigs s as' con) ≡ arm_tail_made F.source as' con
   arm_tail_kinds_made F NoArms s t con q has = refl
   arm_tail_kinds_made F (AndArm c fs x b as') s t con q has =
       by_test (is_that (constructor_number F.source c) con) refl (tail_kinds_made F b (arm_scope known_kind (types_of F.source) c fs x s) q has.1) (arm_tail_kinds_made F as' s t con q has.2)
@@ -76,7 +78,8 @@ mutual
 -- ---- tails
 
 -- the value is handed on
-returned_lives : (F : Frame) (e : Expression) (s : Scope Kind) (l : Scope ℕ) (next number : ℕ) (q : Kind) (rest : List Line) → Named F s l next → Typed F s e q → Linear F s e → At F.kinds next (kinds F.source F.sigs s e)
+returned_lives : (F : Frame) (e : Expression) (s : Scope Kind) (l : Scope ℕ) (next number : ℕ) (q : Kind) (rest : List Line) → Named F s l next
+    → Typed F s e q → Linear F s e → At F.kinds next (kinds F.source F.sigs s e)
     → AtMostOnce F (λ y. used (named l y) e) (λ y. 0) → AllOnce (heap_in F) (number + suc (ends F.source e)) rest
     → Lives (heap_in F) number ((value F.source e l next number ++ (Close (block.Ret (local_of F.source e l next)) ∷ [])) ++ rest) (λ y. used (named l y) e)
 returned_lives F e s l next number q rest st has lin at once behind =
@@ -91,7 +94,8 @@ returned_lives F e s l next number q rest st has lin at once behind =
     (lives_more (heap_in F) number (value p e l next number ++ (Close (block.Ret x) ∷ rest)) (λ y. used (named l y) e + 0) (λ y. used (named l y) e) (λ y. omega arith) run)
 
 mutual
-  pub tail_lives : (F : Frame) (e : Expression) (s : Scope Kind) (l : Scope ℕ) (next number : ℕ) (q : Kind) (rest : List Line) → Named F s l next → Typed F s e q → Linear F s e → At F.kinds next (tail_kinds F.source F.sigs s e)
+  pub tail_lives : (F : Frame) (e : Expression) (s : Scope Kind) (l : Scope ℕ) (next number : ℕ) (q : Kind) (rest : List Line) → Named F s l next
+      → Typed F s e q → Linear F s e → At F.kinds next (tail_kinds F.source F.sigs s e)
       → AtMostOnce F (λ y. used (named l y) e) (λ y. 0) → AllOnce (heap_in F) (number + tail_ends F.source e) rest → Lives (heap_in F) number (tail F.source e l next number ++ rest) (λ y. used (named l y) e)
   tail_lives F (Var n) s l next number q rest st has lin at once behind = returned_lives F (Var n) s l next number q rest st has lin at once behind
   tail_lives F (Num z l0) s l next number q rest st has lin at once behind = returned_lives F (Num z l0) s l next number q rest st has lin at once behind
@@ -219,7 +223,8 @@ mutual
       (lives_more (heap_in F) b0 (Close end ∷ (all ++ rest)) (λ y. (one xe y + 0) + uses y) (λ y. one xe y + uses y) (λ y. omega arith) taken_apart) in
       subst (λ lines. Lives (heap_in F) number lines (λ y. used (named l y) e + arms_used (named l y) arms)) (sym (two (value p e l next number) (Close end ∷ all) rest)) run
 
-  pub arm_tail_lives : (F : Frame) (as' : Arms) (s : Scope Kind) (l : Scope ℕ) (n number con t : ℕ) (q : Kind) (follow : List Line) → Named F s l n → ArmsHaveKind (globals_of F.source F.sigs) s t as' q
+  pub arm_tail_lives : (F : Frame) (as' : Arms) (s : Scope Kind) (l : Scope ℕ) (n number con t : ℕ) (q : Kind) (follow : List Line) → Named F s l n
+      → ArmsHaveKind (globals_of F.source F.sigs) s t as' q
       → ArmsAreLinear (globals_of F.source F.sigs) s as' → 1 ≤ arms_with (types_of F.source) con as' → At F.kinds n (arm_tail_kinds F.source F.sigs s as' con) → AtMostOnce F (λ y. arms_used (named l y) as') (λ y. 0)
       → AllOnce (heap_in F) (number + arm_tail_ends F.source as' con) follow
       → ArmLives (heap_in F) (case_arm (arm_for F.source as' con) n number) number (arm_tail F.source as' con l n number ++ follow) (λ y. arms_used (named l y) as')
@@ -259,11 +264,13 @@ params_above : (xs : List Param) (first : ℕ) (v : List ℕ) (y : ℕ) → find
 params_above [] first v y e = absurd cc
 params_above (x ∷ xs) first v y e = by_test (λ k. params_above xs (suc first) v y k) (bytes_eq x.name.word v) e
   where
-    by_test : (find (params_scope xs (numbered (suc first) xs)) v ≡ Some y → suc first ≤ y) → (b : Bool) → (if b then Some first else find (params_scope xs (numbered (suc first) xs)) v) ≡ Some y → first ≤ y
+    by_test : (find (params_scope xs (numbered (suc first) xs)) v ≡ Some y → suc first ≤ y) → (b : Bool)
+        → (if b then Some first else find (params_scope xs (numbered (suc first) xs)) v) ≡ Some y → first ≤ y
     by_test rest true q = let same : first ≡ y = cc in omega (arith, same)
     by_test rest false q = let k = rest q in omega (arith, k)
 
-pub named_params : (F : Frame) (xs : List Param) (ks : List Kind) (first : ℕ) → length xs ≡ length ks → At F.kinds first ks → Named F (params_scope xs ks) (params_scope xs (numbered first xs)) (first + length xs)
+pub named_params : (F : Frame) (xs : List Param) (ks : List Kind) (first : ℕ) → length xs ≡ length ks → At F.kinds first ks
+    → Named F (params_scope xs ks) (params_scope xs (numbered first xs)) (first + length xs)
 named_params F [] [] first full at = record { at = λ name. tt }
 named_params F [] (k ∷ ks) first full at = absurd (omega (arith, full))
 named_params F (x ∷ xs) [] first full at = absurd (omega (arith, full))
@@ -273,7 +280,8 @@ named_params F (x ∷ xs) (k ∷ ks) first full at =
     let more = subst (Named F (params_scope xs ks) (params_scope xs (numbered (suc first) xs))) same rest in
     named_bind F (params_scope xs ks) (params_scope xs (numbered (suc first) xs)) (first + suc (length xs)) x.name.word k first more (at_head F.kinds first k ks at) (omega arith)
 
-pub params_once : (F : Frame) (xs : List Param) (ks : List Kind) (first : ℕ) (e : Expression) (y : ℕ) → length xs ≡ length ks → At F.kinds first ks → ParamsUsedOnce (types_of F.source) xs ks e → heap_in F y ≡ true
+pub params_once : (F : Frame) (xs : List Param) (ks : List Kind) (first : ℕ) (e : Expression) (y : ℕ) → length xs ≡ length ks → At F.kinds first ks
+    → ParamsUsedOnce (types_of F.source) xs ks e → heap_in F y ≡ true
     → used (named (params_scope xs (numbered first xs)) y) e ≤ 1
 params_once F [] ks first e y full at once heap = let k = none_used (named [] y) e (λ v. refl) in omega (arith, k)
 params_once F (x ∷ xs) [] first e y full at once heap = absurd (omega (arith, full))
@@ -283,18 +291,21 @@ params_once F (x ∷ xs) (k ∷ ks) first e y full at once heap =
     own : first ≡ y → AreOne x.name.word (named (params_scope (x ∷ xs) (numbered first (x ∷ xs))) y)
     own same v = by_test (bytes_eq x.name.word v) refl
       where
-        by_test : (b : Bool) → bytes_eq x.name.word v ≡ b → is_that (if b then Some first else find (params_scope xs (numbered (suc first) xs)) v) y ≡ true → bytes_eq v x.name.word ≡ true
+        by_test : (b : Bool) → bytes_eq x.name.word v ≡ b
+            → is_that (if b then Some first else find (params_scope xs (numbered (suc first) xs)) v) y ≡ true → bytes_eq v x.name.word ≡ true
         by_test true t q = let equal : x.name.word ≡ v = same_name x.name.word v t in ap (λ w. bytes_eq w x.name.word) (sym equal) ∙ name_itself x.name.word
         by_test false t q = let above = params_above xs (suc first) v y (number_found (find (params_scope xs (numbered (suc first) xs)) v) y q) in absurd (omega (arith, above, same))
 
     others : (first ≡ y → ⊥) → AreSome (named (params_scope (x ∷ xs) (numbered first (x ∷ xs))) y) (named (params_scope xs (numbered (suc first) xs)) y)
     others differ v = by_test (bytes_eq x.name.word v)
       where
-        by_test : (b : Bool) → is_that (if b then Some first else find (params_scope xs (numbered (suc first) xs)) v) y ≡ true → is_that (find (params_scope xs (numbered (suc first) xs)) v) y ≡ true
+        by_test : (b : Bool) → is_that (if b then Some first else find (params_scope xs (numbered (suc first) xs)) v) y ≡ true
+            → is_that (find (params_scope xs (numbered (suc first) xs)) v) y ≡ true
         by_test true q = absurd (differ (grind (arith, nat_tests, q)))
         by_test false q = q
 
-    either : used (named (params_scope xs (numbered (suc first) xs)) y) e ≤ 1 → (first ≡ y) ⊎ (first ≡ y → ⊥) → used (named (params_scope (x ∷ xs) (numbered first (x ∷ xs))) y) e ≤ 1
+    either : used (named (params_scope xs (numbered (suc first) xs)) y) e ≤ 1 → (first ≡ y) ⊎ (first ≡ y → ⊥)
+        → used (named (params_scope (x ∷ xs) (numbered first (x ∷ xs))) y) e ≤ 1
     either rest (inl same) =
         let is : slice_get F.kinds y ≡ Some k = ap (slice_get F.kinds) (sym same) ∙ at_head F.kinds first k ks at in
         let of_kind : is_heap (types_of F.source) k ≡ true = sym (ap (λ o. option_map_or (is_heap (types_of F.source)) o false) is) ∙ heap in

@@ -25,7 +25,8 @@ target_is : (o : Option Branch) (n b : ℕ) → (case_arm o n b).target ≡ b
 target_is None n b = refl
 target_is (Some a) n b = refl
 
--- parts that are written in turn, for the arms of a case that ends block `b0`; behind them are the lines `rest`, in block `end`
+-- parts that are written in turn, for the arms of a case that ends block `b0`; behind them are the lines `rest`, in
+-- block `end`
 pub record Turning : Type 1 where
   pub heap : ℕ → Bool
   pub all : List Kind
@@ -42,7 +43,8 @@ pub record Turning : Type 1 where
   pub count : (con n i : ℕ) → closes (part con n i) ≡ blocks con
   pub closed : (con n i : ℕ) → IsClosed (part con n i)
   pub lengths : (con : ℕ) → length (kinds con) ≡ locals con
-  pub each : (con n i : ℕ) (back : List Line) → Covered con → At all n (kinds con) → low ≤ n → IsClosed back → (i + blocks con) + closes back ≡ end → AllOnce heap (i + blocks con) (back ++ rest)
+  pub each : (con n i : ℕ) (back : List Line) → Covered con → At all n (kinds con) → low ≤ n → IsClosed back → (i + blocks con) + closes back ≡ end
+      → AllOnce heap (i + blocks con) (back ++ rest)
       → ArmLives heap (case_arm (arms_of con) n i) i (part con n i ++ (back ++ rest)) most
   pub rest_once : AllOnce heap end rest
 
@@ -56,7 +58,8 @@ arms_in T cons n i = in_turn T.locals T.blocks (λ c n b. case_arm (T.arms_of c)
 abbrev pub wanted : ℕ → List Line → ℕ → List block.CaseArm → Bool
 wanted b0 whole y arms = list_any (λ a. not (is_among (bound_by a) y) && later_lines b0 whole a.target y) arms
 
-turns_once : (T : Turning) (cons : List ℕ) (n i : ℕ) → T.low ≤ n → At T.all n (all_of T.kinds cons) → AllByRecursion T.Covered cons → i + total T.blocks cons ≡ T.end → AllOnce T.heap i (parts_in T cons n i ++ T.rest)
+turns_once : (T : Turning) (cons : List ℕ) (n i : ℕ) → T.low ≤ n → At T.all n (all_of T.kinds cons) → AllByRecursion T.Covered cons
+    → i + total T.blocks cons ≡ T.end → AllOnce T.heap i (parts_in T cons n i ++ T.rest)
 turns_once T [] n i least at covered is = let same : T.end ≡ i = omega (arith, is) in subst (λ e. AllOnce T.heap e T.rest) same T.rest_once
 turns_once T (con ∷ cons) n i least at covered is =
     let back = parts_in T cons (n + T.locals con) (i + T.blocks con) in
@@ -66,7 +69,8 @@ turns_once T (con ∷ cons) n i least at covered is =
     subst (AllOnce T.heap i) (sym (append_assoc (T.part con n i) back T.rest))
     (T.each con n i back covered.0 (at_front T.all n (T.kinds con) (all_of T.kinds cons) at) least (closed_turn T.locals T.blocks T.part T.closed cons (n + T.locals con) (i + T.blocks con)) (omega (arith, ends, is)) later).once
 
-turns_live : (T : Turning) (b0 : ℕ) (whole front : List Line) (cons : List ℕ) (n i y : ℕ) → T.low ≤ n → At T.all n (all_of T.kinds cons) → AllByRecursion T.Covered cons → i + total T.blocks cons ≡ T.end
+turns_live : (T : Turning) (b0 : ℕ) (whole front : List Line) (cons : List ℕ) (n i y : ℕ) → T.low ≤ n → At T.all n (all_of T.kinds cons)
+    → AllByRecursion T.Covered cons → i + total T.blocks cons ≡ T.end
     → whole ≡ front ++ (parts_in T cons n i ++ T.rest) → IsClosed front → i ≡ b0 + suc (closes front) → bit (wanted b0 whole y (arms_in T cons n i)) ≤ T.most y
 turns_live T b0 whole front [] n i y least at covered is split closed begins = omega arith
 turns_live T b0 whole front (con ∷ cons) n i y least at covered is split closed begins =
@@ -96,7 +100,8 @@ pub record CaseLives (T : Turning) (b0 : ℕ) (cons : List ℕ) (n : ℕ) : Type
   pub live : (y : ℕ) → bit (wanted b0 (parts_in T cons n (suc b0) ++ T.rest) y (arms_in T cons n (suc b0))) ≤ T.most y
   pub once : AllOnce T.heap (suc b0) (parts_in T cons n (suc b0) ++ T.rest)
 
-pub case_lives : (T : Turning) (b0 : ℕ) (cons : List ℕ) (n : ℕ) → T.low ≤ n → At T.all n (all_of T.kinds cons) → AllByRecursion T.Covered cons → suc b0 + total T.blocks cons ≡ T.end → CaseLives T b0 cons n
+pub case_lives : (T : Turning) (b0 : ℕ) (cons : List ℕ) (n : ℕ) → T.low ≤ n → At T.all n (all_of T.kinds cons) → AllByRecursion T.Covered cons
+    → suc b0 + total T.blocks cons ≡ T.end → CaseLives T b0 cons n
 case_lives T b0 cons n least at covered is = record {
   live = λ y. turns_live T b0 (parts_in T cons n (suc b0) ++ T.rest) [] cons n (suc b0) y least at covered is refl tt (omega arith);
   once = turns_once T cons n (suc b0) least at covered is;

@@ -1,4 +1,5 @@
--- In front of an expression's lines no more uses are to come of a local than the source counts of its names, and none is of a local that is spent.
+-- In front of an expression's lines no more uses are to come of a local than the source counts of its names, and none
+-- is of a local that is spent.
 use Rattle.std.proofs.Common.{◌≡◌, ℕ, suc, ◌+◌, ◌≤◌, ◌<◌, Bool, true, false, List, [], ◌∷◌, ◌++◌, Option, Some, None, refl, sym, ap, ◌∙◌, subst, arith, append_assoc, inl, inr}
 use Rattle.std.specs.Prelude.{max, if◌then◌else◌, slice_get, ◌⊎◌}
 use Rattle.std.specs.List.{AllByRecursion}
@@ -10,10 +11,10 @@ use Rattle.camelot_values.specs.declared.kinds.Kind.TheVariants as kind
 use Rattle.camelot_tree.specs.declared.tree.Name.{Name}
 use Rattle.camelot_tree.specs.Tree.{Expression, Num, Truth, Var, Prim, If, Let, Match, Build, Call, Expressions, NoExpressions, AndExpression, Arms, NoArms, AndArm}
 use Rattle.camelot_tree.specs.Meaning.{constructor_number, is_that}
-use Rattle.typing_rules.specs.Kinds as typed
-use Rattle.typing_rules.specs.Kinds.{Scope, bind, arm_scope, or_else, types_of, fields_of, is_inline, numbers_of}
-use Rattle.typing_rules.specs.Typing.{known_kind, globals_of, HasKind, HaveKinds, ArmsHaveKind, PlaceFits, arms_with}
-use Rattle.typing_rules.specs.NumberLaws.{number_same}
+use Rattle.camelot_typing.specs.Kinds as typed
+use Rattle.camelot_typing.specs.Kinds.{Scope, bind, arm_scope, or_else, types_of, fields_of, is_inline, numbers_of}
+use Rattle.camelot_typing.specs.Typing.{known_kind, globals_of, HasKind, HaveKinds, ArmsHaveKind, PlaceFits, arms_with}
+use Rattle.camelot_typing.specs.NumberLaws.{number_same}
 use Rattle.linear_use.specs.Uses.{UsedOnce, IsLinear, AllAreLinear, ArmsAreLinear}
 use Rattle.grail_blocks.specs.declared.blocks.Place.TheVariants as place
 use Rattle.grail_blocks.specs.Blocks as block
@@ -45,7 +46,8 @@ Typed F s e q = HasKind (globals_of F.source F.sigs) s e q
 abbrev pub Linear : Frame → Scope Kind → Expression → Type 0
 Linear F s e = IsLinear (globals_of F.source F.sigs) s e
 
-pub without_above : (F : Frame) (s : Scope Kind) (l : Scope ℕ) (next y : ℕ) (n : Name) (b : Expression) → Named F s l next → next ≤ y → used (without n (named l y)) b ≡ 0
+pub without_above : (F : Frame) (s : Scope Kind) (l : Scope ℕ) (next y : ℕ) (n : Name) (b : Expression) → Named F s l next → next ≤ y
+    → used (without n (named l y)) b ≡ 0
 without_above F s l next y n b st h = none_used (without n (named l y)) b (λ v. hidden v (above_none F s l next y st h v))
   where
     hidden : (v : List ℕ) → named l y v ≡ false → without n (named l y) v ≡ false
@@ -58,7 +60,8 @@ without_above F s l next y n b st h = none_used (without n (named l y)) b (λ v.
 -- ---- a name that is bound
 
 -- what a let's body and what follows use of the local that it names
-pub let_once : (F : Frame) (s : Scope Kind) (l : Scope ℕ) (next : ℕ) (n : Name) (a b : Expression) (r : Kind) (out : ℕ → ℕ) → Named F s l next → Typed F s a r → At F.kinds next (kinds F.source F.sigs s a)
+pub let_once : (F : Frame) (s : Scope Kind) (l : Scope ℕ) (next : ℕ) (n : Name) (a b : Expression) (r : Kind) (out : ℕ → ℕ) → Named F s l next
+    → Typed F s a r → At F.kinds next (kinds F.source F.sigs s a)
     → UsedOnce (types_of F.source) r n.word b → Below next out → AtMostOnce F (λ y. used (named l y) a + used (without n (named l y)) b) out
     → AtMostOnce F (λ y. used (named (bind n.word (local_of F.source a l next) l) y) b) out
 let_once F s l next n a b r out st has at single below once y heap = either (same_or_not (local_of F.source a l next) y)
@@ -76,7 +79,8 @@ let_once F s l next n a b r out st has at single below once y heap = either (sam
         let own = one_same (local_of F.source a l next) y same in
         omega (arith, few, k, none, own)
 
-pub let_live : (F : Frame) (number : ℕ) (lines : List Line) (l : Scope ℕ) (n : Name) (xa : ℕ) (b : Expression) (out : ℕ → ℕ) → Lives (heap_in F) number lines (λ y. used (named (bind n.word xa l) y) b + out y)
+pub let_live : (F : Frame) (number : ℕ) (lines : List Line) (l : Scope ℕ) (n : Name) (xa : ℕ) (b : Expression) (out : ℕ → ℕ)
+    → Lives (heap_in F) number lines (λ y. used (named (bind n.word xa l) y) b + out y)
     → Lives (heap_in F) number lines (λ y. one xa y + (used (without n (named l y)) b + out y))
 let_live F number lines l n xa b out r = record { live = λ y. either y (same_or_not xa y); once = r.once }
   where
@@ -87,14 +91,16 @@ let_live F number lines l n xa b out r = record { live = λ y. either y (same_or
 -- ---- one part and then another
 
 -- what follows may use what it uses, and the value of the part before it
-pub after_once : (F : Frame) (a : Expression) (s : Scope Kind) (l : Scope ℕ) (next : ℕ) (q : Kind) (more out : ℕ → ℕ) → Named F s l next → Typed F s a q → At F.kinds next (kinds F.source F.sigs s a)
+pub after_once : (F : Frame) (a : Expression) (s : Scope Kind) (l : Scope ℕ) (next : ℕ) (q : Kind) (more out : ℕ → ℕ) → Named F s l next
+    → Typed F s a q → At F.kinds next (kinds F.source F.sigs s a)
     → Below next more → Below next out → AtMostOnce F (λ y. used (named l y) a + more y) out → AtMostOnce F more (λ y. one (local_of F.source a l next) y + out y)
 after_once F a s l next q more out st has at none below once y heap =
     let all = once y heap in
     let k = local_once F a s l next q y (more y + out y) st has at (omega (arith, all)) (λ h. (let p = none y h in let r = below y h in omega (arith, p, r))) in
     omega (arith, k)
 
-pub after_below : (F : Frame) (a : Expression) (s : Scope Kind) (l : Scope ℕ) (next : ℕ) (q : Kind) (out : ℕ → ℕ) → Named F s l next → Typed F s a q → At F.kinds next (kinds F.source F.sigs s a) → Below next out
+pub after_below : (F : Frame) (a : Expression) (s : Scope Kind) (l : Scope ℕ) (next : ℕ) (q : Kind) (out : ℕ → ℕ) → Named F s l next → Typed F s a q
+    → At F.kinds next (kinds F.source F.sigs s a) → Below next out
     → Below (next + made F.source a) (λ y. one (local_of F.source a l next) y + out y)
 after_below F a s l next q out st has at below y h =
     let is = local_is F a s l next q st has at in
@@ -103,7 +109,8 @@ after_below F a s l next q out st has at below y h =
     let k = below y (omega (arith, h)) in
     omega (arith, none, k)
 
-pub locals_once : (F : Frame) (es : Expressions) (s : Scope Kind) (l : Scope ℕ) (next : ℕ) (ks : List Kind) (y n : ℕ) → Named F s l next → HaveKinds (globals_of F.source F.sigs) s es ks → At F.kinds next (all_kinds F.source F.sigs s es)
+pub locals_once : (F : Frame) (es : Expressions) (s : Scope Kind) (l : Scope ℕ) (next : ℕ) (ks : List Kind) (y n : ℕ) → Named F s l next
+    → HaveKinds (globals_of F.source F.sigs) s es ks → At F.kinds next (all_kinds F.source F.sigs s es)
     → all_used (named l y) es + n ≤ 1 → (next ≤ y → n ≡ 0) → times y (locals_of F.source es l next) + n ≤ 1
 locals_once F NoExpressions s l next ks y n st has at once zero = omega (arith, once)
 locals_once F (AndExpression e es) s l next [] y n st has at once zero = absurd has
@@ -126,7 +133,8 @@ times_append y [] ys = omega arith
 times_append y (x ∷ xs) ys = let e = times_append y xs ys in omega (arith, e)
 
 -- the diamond that a build takes is what its place uses
-place_taken : (F : Frame) (s : Scope Kind) (l : Scope ℕ) (next con : ℕ) (inline : Bool) (place : Option Name) (y : ℕ) → Named F s l next → PlaceFits s inline place
+place_taken : (F : Frame) (s : Scope Kind) (l : Scope ℕ) (next con : ℕ) (inline : Bool) (place : Option Name) (y : ℕ) → Named F s l next
+    → PlaceFits s inline place
     → times y (taken (place_in F.source con place l)) ≡ place_used (named l y) place
 place_taken F s l next con inline None y st fit = by_test (is_inline (types_of F.source) con)
   where
@@ -158,7 +166,8 @@ three : (xs ys us zs : List Line) → (xs ++ (ys ++ us)) ++ zs ≡ xs ++ (ys ++ 
 three xs ys us zs = append_assoc xs (ys ++ us) zs ∙ ap (λ l. xs ++ l) (append_assoc ys us zs)
 
 mutual
-  pub value_lives : (F : Frame) (e : Expression) (s : Scope Kind) (l : Scope ℕ) (next number m : ℕ) (q : Kind) (rest : List Line) (out : ℕ → ℕ) → m ≡ number + ends F.source e → Named F s l next → Typed F s e q → Linear F s e
+  pub value_lives : (F : Frame) (e : Expression) (s : Scope Kind) (l : Scope ℕ) (next number m : ℕ) (q : Kind) (rest : List Line) (out : ℕ → ℕ)
+      → m ≡ number + ends F.source e → Named F s l next → Typed F s e q → Linear F s e
       → At F.kinds next (kinds F.source F.sigs s e) → Below next out → AtMostOnce F (λ y. used (named l y) e) out → Lives (heap_in F) m rest (λ y. one (local_of F.source e l next) y + out y)
       → Lives (heap_in F) number (value F.source e l next number ++ rest) (λ y. used (named l y) e + out y)
   value_lives F (Var n) s l next number m q rest out is st has lin at below once r =

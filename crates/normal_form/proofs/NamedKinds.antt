@@ -9,11 +9,11 @@ use Rattle.camelot_tree.specs.declared.tree.Name.{Name}
 use Rattle.camelot_tree.specs.declared.tree.ArmCell.{ArmCell}
 use Rattle.camelot_tree.specs.declared.tree.ArmCell.TheVariants as cell
 use Rattle.camelot_tree.specs.Tree.{Function, Source}
-use Rattle.typing_rules.specs.declared.kinds.FunKinds.{FunKinds}
-use Rattle.typing_rules.specs.Kinds.{Scope, bind_fields, bind_cell, arm_scope, types_of, fields_of, or_else, head_of}
-use Rattle.typing_rules.specs.Typing.{Signature, known_kind}
-use Rattle.typing_rules.specs.Typed.{kinds_of, signatures_of}
-use Rattle.typing_rules.specs.NumberLaws.{number_same}
+use Rattle.camelot_typing.specs.declared.kinds.FunKinds.{FunKinds}
+use Rattle.camelot_typing.specs.Kinds.{Scope, bind_fields, bind_cell, arm_scope, types_of, fields_of, or_else, head_of}
+use Rattle.camelot_typing.specs.Typing.{Signature, known_kind}
+use Rattle.camelot_typing.specs.Typed.{kinds_of, signatures_of}
+use Rattle.camelot_typing.specs.NumberLaws.{number_same}
 use Rattle.normal_form.specs.Normal.{con_of}
 
 -- ---- functions
@@ -41,12 +41,14 @@ unnamed [] ks name e = refl
 unnamed (f ∷ fs) [] name e = refl
 unnamed (f ∷ fs) (k ∷ ks) name e = by_test (bytes_eq f.name.word name) (λ h. unnamed fs ks name h) e
   where
-    by_test : (b : Bool) → (place_among (words fs) name ≡ None → result_in fs ks name ≡ kind.Int) → (if b then Some 0 else option_map suc (place_among (words fs) name)) ≡ None
+    by_test : (b : Bool) → (place_among (words fs) name ≡ None → result_in fs ks name ≡ kind.Int)
+        → (if b then Some 0 else option_map suc (place_among (words fs) name)) ≡ None
         → option_map_or (λ h. h.result) (if b then Some (let s : Signature = record { name = f.name.word; params = k.params.items; result = k.result } in s) else head_of (signatures_of fs (map kinds_of ks)) name) kind.Int ≡ kind.Int
     by_test true rec e = absurd cc
     by_test false rec e = rec (never (place_among (words fs) name) e)
 
-pub named : (fs : List Function) (ks : List FunKinds) (name : List ℕ) (i : ℕ) (k : FunKinds) → place_among (words fs) name ≡ Some i → i < length ks → k ≡ get_or ks i k → result_in fs ks name ≡ k.result
+pub named : (fs : List Function) (ks : List FunKinds) (name : List ℕ) (i : ℕ) (k : FunKinds) → place_among (words fs) name ≡ Some i → i < length ks
+    → k ≡ get_or ks i k → result_in fs ks name ≡ k.result
 named [] ks name i k e less at = absurd cc
 named (f ∷ fs) [] name i k e less at = absurd (omega (arith, less))
 named (f ∷ fs) (q ∷ ks) name i k e less at = by_test (bytes_eq f.name.word name) (λ j h l a. named fs ks name j k h l a) e
@@ -63,7 +65,8 @@ named (f ∷ fs) (q ∷ ks) name i k e less at = by_test (bytes_eq f.name.word n
         let next : i ≡ suc r.0 = r.2 in
         rec r.0 r.1 (omega (arith, less, next)) (at ∙ ap (λ j. get_or (q ∷ ks) j k) next)
 
-pub named_beyond : (fs : List Function) (ks : List FunKinds) (name : List ℕ) (i : ℕ) → place_among (words fs) name ≡ Some i → length ks ≤ i → result_in fs ks name ≡ kind.Int
+pub named_beyond : (fs : List Function) (ks : List FunKinds) (name : List ℕ) (i : ℕ) → place_among (words fs) name ≡ Some i → length ks ≤ i
+    → result_in fs ks name ≡ kind.Int
 named_beyond [] ks name i e more = absurd cc
 named_beyond (f ∷ fs) [] name i e more = refl
 named_beyond (f ∷ fs) (q ∷ ks) name i e more = by_test (bytes_eq f.name.word name) (λ j h l. named_beyond fs ks name j h l) e
@@ -79,7 +82,8 @@ named_beyond (f ∷ fs) (q ∷ ks) name i e more = by_test (bytes_eq f.name.word
 
 -- ---- arms
 
-pub arm_scope_named : (p : Source) (c : Name) (fs : List (Option Name)) (x : ArmCell) (s : Scope Kind) → bind_cell known_kind x (bind_fields known_kind fs (fields_of (types_of p) (con_of p c)) s) ≡ arm_scope known_kind (types_of p) c fs x s
+pub arm_scope_named : (p : Source) (c : Name) (fs : List (Option Name)) (x : ArmCell) (s : Scope Kind)
+    → bind_cell known_kind x (bind_fields known_kind fs (fields_of (types_of p) (con_of p c)) s) ≡ arm_scope known_kind (types_of p) c fs x s
 arm_scope_named p c fs x s = ap (λ o. bind_cell known_kind x (bind_fields known_kind fs (fields_of (types_of p) (or_else o 0)) s)) (sym (number_same p c))
 
 pub fields_ended : (fs : List (Option Name)) (ks : List Kind) (s : Scope Kind) → (length fs ≡ 0) ⊎ (length ks ≡ 0) → bind_fields known_kind fs ks s ≡ s

@@ -9,8 +9,8 @@ use Rattle.camelot_values.specs.declared.kinds.Kind.{Kind}
 use Rattle.camelot_tree.specs.declared.tree.Name.{Name}
 use Rattle.camelot_tree.specs.Tree.{Expression, Num, Truth, Var, Prim, If, Let, Match, Build, Call}
 use Rattle.camelot_tree.specs.Meaning.{is_that}
-use Rattle.typing_rules.specs.Kinds.{Scope, bind, or_else}
-use Rattle.typing_rules.specs.Typing.{globals_of, HasKind}
+use Rattle.camelot_typing.specs.Kinds.{Scope, bind, or_else}
+use Rattle.camelot_typing.specs.Typing.{globals_of, HasKind}
 use Rattle.linear_use.specs.Uses.{uses}
 use Rattle.normal_form.specs.Live.{bit}
 use Rattle.normal_form.specs.Normal.{local, made, local_of, kind_in, kinds}
@@ -94,14 +94,16 @@ bind_same l n x y b =
     let q = one_used n.word (itself n) b (λ v h. h) in
     omega (arith, p, q)
   where
-    by_test : (v : List ℕ) (b : Bool) → bytes_eq n.word v ≡ b → is_that (if b then Some x else find l v) y ≡ true → ((if b then false else is_that (find l v) y) ≡ true) ⊎ (bytes_eq v n.word ≡ true)
+    by_test : (v : List ℕ) (b : Bool) → bytes_eq n.word v ≡ b → is_that (if b then Some x else find l v) y ≡ true
+        → ((if b then false else is_that (find l v) y) ≡ true) ⊎ (bytes_eq v n.word ≡ true)
     by_test v true t e = let same : n.word ≡ v = same_name n.word v t in inr (ap (λ w. bytes_eq w n.word) (sym same) ∙ name_itself n.word)
     by_test v false t e = inl e
 
 -- ---- what an expression gives
 
 -- An expression whose local was there before uses a name of it.
-pub old_used : (F : Frame) (e : Expression) (s : Scope Kind) (l : Scope ℕ) (next : ℕ) (q : Kind) → Named F s l next → HasKind (globals_of F.source F.sigs) s e q → At F.kinds next (kinds F.source F.sigs s e)
+pub old_used : (F : Frame) (e : Expression) (s : Scope Kind) (l : Scope ℕ) (next : ℕ) (q : Kind) → Named F s l next
+    → HasKind (globals_of F.source F.sigs) s e q → At F.kinds next (kinds F.source F.sigs s e)
     → local_of F.source e l next < next → 1 ≤ used (named l (local_of F.source e l next)) e
 old_used F (Var n) s l next q st has at less =
     let r = named_local F s l next n.word q st has in
@@ -129,12 +131,14 @@ old_used F (Let n a b) s l next q st has at less =
     (in_let F s n a b has.0 q has.1 has.2) (at_back F.kinds next na (kinds p F.sigs s a) (kinds p F.sigs (bind n.word r s) b) (omega (arith, ka)) at) (omega (arith, less)) in
     either (local_of p b (bind n.word xa l) na) xa less own (old_used F a s l next has.0 st has.1 at_a) (same_or_not xa (local_of p b (bind n.word xa l) na))
   where
-    either : (y xa : ℕ) → y < next → 1 ≤ used (named (bind n.word xa l) y) b → (xa < next → 1 ≤ used (named l xa) a) → (xa ≡ y) ⊎ (xa ≡ y → ⊥) → 1 ≤ used (named l y) a + used (without n (named l y)) b
+    either : (y xa : ℕ) → y < next → 1 ≤ used (named (bind n.word xa l) y) b → (xa < next → 1 ≤ used (named l xa) a) → (xa ≡ y) ⊎ (xa ≡ y → ⊥)
+        → 1 ≤ used (named l y) a + used (without n (named l y)) b
     either y xa less own first (inl same) = let k = subst (λ z. 1 ≤ used (named l z) a) same (first (omega (arith, less, same))) in omega (arith, k)
     either y xa less own first (inr differ) = let k = bind_other l n xa y b differ in omega (arith, k, own)
 
 -- The local of an expression is no other that is still used: what stands behind it counts together with it.
-pub local_once : (F : Frame) (e : Expression) (s : Scope Kind) (l : Scope ℕ) (next : ℕ) (q : Kind) (y n : ℕ) → Named F s l next → HasKind (globals_of F.source F.sigs) s e q → At F.kinds next (kinds F.source F.sigs s e)
+pub local_once : (F : Frame) (e : Expression) (s : Scope Kind) (l : Scope ℕ) (next : ℕ) (q : Kind) (y n : ℕ) → Named F s l next
+    → HasKind (globals_of F.source F.sigs) s e q → At F.kinds next (kinds F.source F.sigs s e)
     → used (named l y) e + n ≤ 1 → (next ≤ y → n ≡ 0) → one (local_of F.source e l next) y + n ≤ 1
 local_once F e s l next q y n st has at once zero =
     either (local_of F.source e l next) (old_used F e s l next q st has at) (same_or_not (local_of F.source e l next) y)

@@ -2,7 +2,7 @@
 use Rattle.std.proofs.Common.{◌≡◌, ℕ, suc, ◌+◌, Bool, true, false, if◌then◌else◌, List, [], ◌∷◌, ◌++◌, map, Option, Some, None, refl, sym, ap, ◌∙◌, arith, append_assoc, append-nil}
 use Rattle.camelot_tree.specs.Tree.{Expression, Prim, Match, Arms, NoArms, AndArm, Branch, Source}
 use Rattle.camelot_tree.specs.Meaning.{constructor_number, is_that}
-use Rattle.typing_rules.specs.Kinds.{Scope}
+use Rattle.camelot_typing.specs.Kinds.{Scope}
 use Rattle.grail_blocks.specs.Blocks as block
 use Rattle.grail_blocks.specs.Blocks.{Op, CaseArm}
 use Rattle.normal_form.specs.Normal.{Line, Close, cons_of, arm_for, bound_count, in_arm, case_arm, total, in_turn, made, arm_made, ends, arm_ends, local_of, joining, value, arm_value}
@@ -29,7 +29,8 @@ branch_value p s None n number result join = []
 branch_value p s (Some b) n number result join =
     joining (value p b.body (in_arm b.fields b.cell n s) (n + bound_count b.fields b.cell) number) (local_of p b.body (in_arm b.fields b.cell n s) (n + bound_count b.fields b.cell)) result join
 
-value_for : (p : Source) (s : Scope ℕ) (as' : Arms) (con n number result join : ℕ) → arm_value p as' con s n number result join ≡ branch_value p s (arm_for p as' con) n number result join
+value_for : (p : Source) (s : Scope ℕ) (as' : Arms) (con n number result join : ℕ)
+    → arm_value p as' con s n number result join ≡ branch_value p s (arm_for p as' con) n number result join
 value_for p s NoArms con n number result join = refl
 value_for p s (AndArm c fs x b as') con n number result join = by_test (is_that (constructor_number p c) con) (value_for p s as' con n number result join)
   where
@@ -39,7 +40,8 @@ value_for p s (AndArm c fs x b as') con n number result join = by_test (is_that 
     by_test true h = refl
     by_test false h = h
 
-joined_last : (to target : ℕ) (bs : List PlainBody) (b : PlainBody) → joined_bodies to target (bs ++ b ∷ []) ≡ joined_bodies to target bs ++ joining b.lines b.local to target
+joined_last : (to target : ℕ) (bs : List PlainBody) (b : PlainBody)
+    → joined_bodies to target (bs ++ b ∷ []) ≡ joined_bodies to target bs ++ joining b.lines b.local to target
 joined_last to target [] b = append-nil (joining b.lines b.local to target)
 joined_last to target (c ∷ bs) b = ap (λ l. joining c.lines c.local to target ++ l) (joined_last to target bs b) ∙ sym (append_assoc (joining c.lines c.local to target) (joined_bodies to target bs) (joining b.lines b.local to target))
 
@@ -64,7 +66,8 @@ one_more p s a (Some b) result join = record {
 
 -- all of them
 record AllTold (p : Source) (s : Scope ℕ) (as' : Arms) (a : PlainArms) (cons : List ℕ) (result join : ℕ) : Type 0 where
-  cases : (arms_and p s a (map (arm_for p as') cons)).cases ≡ a.cases ++ in_turn (arm_made p as') (arm_ends p as') (λ con n b. case_arm (arm_for p as' con) n b ∷ []) cons a.next a.number
+  cases : (arms_and p s a (map (arm_for p as') cons)).cases ≡ a.cases
+      ++ in_turn (arm_made p as') (arm_ends p as') (λ con n b. case_arm (arm_for p as' con) n b ∷ []) cons a.next a.number
   lines : joined_bodies result join (arms_and p s a (map (arm_for p as') cons)).bodies
       ≡ joined_bodies result join a.bodies ++ in_turn (arm_made p as') (arm_ends p as') (λ con n b. arm_value p as' con s n b result join) cons a.next a.number
   next : (arms_and p s a (map (arm_for p as') cons)).next ≡ a.next + total (arm_made p as') cons

@@ -17,11 +17,11 @@ use Rattle.camelot_tree.specs.Tree.{Function, Source}
 use Rattle.camelot_tree.specs.Meaning as meaning
 use Rattle.camelot_tree.specs.Meaning.{Environment, put_params, eval}
 use Rattle.camelot_tree.specs.Tokens.{expression_has_ints}
-use Rattle.typing_rules.specs.Kinds.{types_of, numbered}
-use Rattle.typing_rules.specs.Typing.{Signature, params_scope, globals_of, FunctionFits, IsTyped}
-use Rattle.typing_rules.specs.Typed.{Typing, IsTyping}
-use Rattle.typing_rules.specs.NumberLaws.{signature_function}
-use Rattle.typing_rules.specs.TypingLaws.{param_names, found_among, params_bound, params_full, calls_fit, each_holds}
+use Rattle.camelot_typing.specs.Kinds.{types_of, numbered}
+use Rattle.camelot_typing.specs.Typing.{Signature, params_scope, globals_of, FunctionFits, IsTyped}
+use Rattle.camelot_typing.specs.Typed.{Typing, IsTyping}
+use Rattle.camelot_typing.specs.NumberLaws.{signature_function}
+use Rattle.camelot_typing.specs.TypingLaws.{param_names, found_among, params_bound, params_full, calls_fit, each_holds}
 use Rattle.grail_blocks.specs.Running.{arguments, blocks_run}
 use Rattle.normal_form.specs.Normal.{tail, cut, normal_function, normal_functions, normal_form}
 use Rattle.normal_form.specs.Running.{everything, body_run, bodies, run_of}
@@ -34,11 +34,13 @@ use Rattle.normal_form.proofs.Tails.{tail_runs}
 -- ---- parameters
 
 -- parameters are numbered from `first` on
-found_within : (xs : List Param) (first : ℕ) (name : List ℕ) (y : ℕ) → find (params_scope xs (numbered first xs)) name ≡ Some y → (first ≤ y) × (y < first + length xs)
+found_within : (xs : List Param) (first : ℕ) (name : List ℕ) (y : ℕ) → find (params_scope xs (numbered first xs)) name ≡ Some y
+    → (first ≤ y) × (y < first + length xs)
 found_within [] first name y e = absurd cc
 found_within (x ∷ xs) first name y e = by_test (bytes_eq x.name.word name) (λ k. found_within xs (suc first) name y k) e
   where
-    by_test : (b : Bool) → (find (params_scope xs (numbered (suc first) xs)) name ≡ Some y → (suc first ≤ y) × (y < suc first + length xs)) → (if b then Some first else find (params_scope xs (numbered (suc first) xs)) name) ≡ Some y
+    by_test : (b : Bool) → (find (params_scope xs (numbered (suc first) xs)) name ≡ Some y → (suc first ≤ y) × (y < suc first + length xs))
+        → (if b then Some first else find (params_scope xs (numbered (suc first) xs)) name) ≡ Some y
         → (first ≤ y) × (y < first + suc (length xs))
     by_test true rec e = let same : first ≡ y = cc in (omega (arith, same), omega (arith, same))
     by_test false rec e = let r = rec e in let least = r.0 in let less = r.1 in (omega (arith, least), omega (arith, less))
@@ -48,7 +50,8 @@ abbrev bound_to : Environment → List Value → ℕ → List ℕ → Option ℕ
 bound_to base vs first name None = base name
 bound_to base vs first name (Some y) = slice_get vs (y - first)
 
-params_match : (xs : List Param) (vs : List Value) (first : ℕ) (base bound : Environment) → put_params base xs vs ≡ Some bound → AreDistinct (param_names xs) → (name : List ℕ)
+params_match : (xs : List Param) (vs : List Value) (first : ℕ) (base bound : Environment) → put_params base xs vs ≡ Some bound
+    → AreDistinct (param_names xs) → (name : List ℕ)
     → bound name ≡ bound_to base vs first name (find (params_scope xs (numbered first xs)) name)
 params_match [] [] first base bound e distinct name = let same : base ≡ bound = cc in ap (λ env. env name) (sym same)
 params_match [] (v ∷ vs) first base bound e distinct name = absurd cc
@@ -57,7 +60,8 @@ params_match (x ∷ xs) (v ∷ vs) first base bound e distinct name =
     by_test (bytes_eq x.name.word name) refl
     (params_match xs vs (suc first) (meaning.put base x.name.word v) bound e (λ w before between rest k. distinct w (x.name.word ∷ before) between rest (ap (λ l. x.name.word ∷ l) k)) name)
   where
-    absent : (o : Option ℕ) → find (params_scope xs (numbered (suc first) xs)) x.name.word ≡ o → find (params_scope xs (numbered (suc first) xs)) x.name.word ≡ None
+    absent : (o : Option ℕ) → find (params_scope xs (numbered (suc first) xs)) x.name.word ≡ o
+        → find (params_scope xs (numbered (suc first) xs)) x.name.word ≡ None
     absent None k = k
     absent (Some y) k =
         let a = found_among xs (numbered (suc first) xs) x.name.word y k in
@@ -72,7 +76,8 @@ params_match (x ∷ xs) (v ∷ vs) first base bound e distinct name =
         let same : suc (y - suc first) ≡ y - first = omega (arith, least) in
         ap (slice_get (v ∷ vs)) same
 
-    by_test : (b : Bool) → bytes_eq x.name.word name ≡ b → bound name ≡ bound_to (meaning.put base x.name.word v) vs (suc first) name (find (params_scope xs (numbered (suc first) xs)) name)
+    by_test : (b : Bool) → bytes_eq x.name.word name ≡ b
+        → bound name ≡ bound_to (meaning.put base x.name.word v) vs (suc first) name (find (params_scope xs (numbered (suc first) xs)) name)
         → bound name ≡ bound_to base (v ∷ vs) first name (if b then Some first else find (params_scope xs (numbered (suc first) xs)) name)
     by_test true b h =
         let none : find (params_scope xs (numbered (suc first) xs)) name ≡ None = ap (find (params_scope xs (numbered (suc first) xs))) (sym (same_name x.name.word name b)) ∙ absent (find (params_scope xs (numbered (suc first) xs)) x.name.word) refl in
@@ -88,14 +93,16 @@ full types [] (v ∷ vs) h = absurd h
 full types (k ∷ ks) [] h = absurd h
 full types (k ∷ ks) (v ∷ vs) h = ap suc (full types ks vs h.1)
 
-function_at : (p : Source) (sigs : List Signature) (fs : List Function) (ss : List Signature) (i : ℕ) (f : Function) (s : Signature) → slice_get fs i ≡ Some f → slice_get ss i ≡ Some s
+function_at : (p : Source) (sigs : List Signature) (fs : List Function) (ss : List Signature) (i : ℕ) (f : Function) (s : Signature)
+    → slice_get fs i ≡ Some f → slice_get ss i ≡ Some s
     → slice_get (normal_functions p sigs fs ss) i ≡ Some (normal_function p sigs f s)
 function_at p sigs [] ss i f s e k = absurd cc
 function_at p sigs (g ∷ fs) [] i f s e k = absurd cc
 function_at p sigs (g ∷ fs) (t ∷ ss) zero f s e k = let same : g ≡ f = cc in let equal : t ≡ s = cc in ap (λ x. Some (normal_function p sigs x t)) same ∙ ap (λ x. Some (normal_function p sigs f x)) equal
 function_at p sigs (g ∷ fs) (t ∷ ss) (suc i) f s e k = function_at p sigs fs ss i f s e k
 
-body_agrees : (S : Setting) (f : Function) (s : Signature) (k w : ℕ) (args : List Value) → expression_has_ints f.body ≡ true → FunctionFits S.source (globals_of S.source S.sigs) f s → ArgumentsFit (types_of S.source) s.params args
+body_agrees : (S : Setting) (f : Function) (s : Signature) (k w : ℕ) (args : List Value) → expression_has_ints f.body ≡ true
+    → FunctionFits S.source (globals_of S.source S.sigs) f s → ArgumentsFit (types_of S.source) s.params args
     → body_run (types_of S.source) S.code (Some (normal_function S.source S.sigs f s)) k w args ≡ meaning.body_run S.source S.enter (Some f) k w args
 body_agrees S f s k w args ints fit args_fit =
     let p = S.source in
@@ -143,12 +150,14 @@ calls_agree p sigs typed limit (suc clock) (suc k) w t i args s is fit =
     ∙ ap (λ o. meaning.body_run p (calls (meaning.bodies p) limit clock) o k (cond t w (suc w)) args) (sym f.is))
 
 -- The meaning is kept: value, calls, peak and net, and each stop.
-pub runs_agree : (t : Typing) (limit func fuel : ℕ) (args : List Value) (s : Signature) → IsTyping t → slice_get t.signatures func ≡ Some s → ArgumentsFit (types_of t.source) s.params args
+pub runs_agree : (t : Typing) (limit func fuel : ℕ) (args : List Value) (s : Signature) → IsTyping t → slice_get t.signatures func ≡ Some s
+    → ArgumentsFit (types_of t.source) s.params args
     → run_of (normal_form t) limit func fuel args ≡ meaning.run_of t.source limit func fuel args
 runs_agree t limit func fuel args s h is fit = calls_agree t.source t.signatures h.typed limit fuel fuel 0 true func args s is fit
 
 -- The same of a program that is known to be typed, however it is.
-pub means_same : (t : Typing) → ∥ IsTyping t ∥₁ → (limit func fuel : ℕ) (args : List Value) (s : Signature) → slice_get t.signatures func ≡ Some s → ArgumentsFit (types_of t.source) s.params args
+pub means_same : (t : Typing) → ∥ IsTyping t ∥₁ → (limit func fuel : ℕ) (args : List Value) (s : Signature) → slice_get t.signatures func ≡ Some s
+    → ArgumentsFit (types_of t.source) s.params args
     → run_of (normal_form t) limit func fuel args ≡ meaning.run_of t.source limit func fuel args
 means_same t h limit func fuel args s is fit =
     ∥∥₁_elim h (outcome_set (run_of (normal_form t) limit func fuel args) (meaning.run_of t.source limit func fuel args)) (λ k. runs_agree t limit func fuel args s k is fit)

@@ -1,5 +1,5 @@
--- The normal forms of small functions, worked by hand: a tail call behind `if`; `if` in both operands of an operator; a match whose arms stand in another
--- order than the constructors; a list that is doubled.
+-- The normal forms of small functions, worked by hand: a tail call behind `if`; `if` in both operands of an operator; a
+-- match whose arms stand in another order than the constructors; a list that is doubled.
 use Rattle.std.proofs.Common.{◌≡◌, ℕ, List, [], ◌∷◌, Some, None, false, true, refl}
 use Rattle.std.specs.Prelude.{codes, pos}
 use Rattle.camelot_values.specs.Operator as operator

@@ -22,10 +22,10 @@ use Rattle.camelot_tree.specs.declared.tree.ArmCell.TheVariants as cell
 use Rattle.camelot_tree.specs.Tree.{Source}
 use Rattle.camelot_tree.specs.Meaning as meaning
 use Rattle.camelot_tree.specs.Meaning.{Environment, put_fields}
-use Rattle.typing_rules.specs.Kinds.{Scope, bind, bind_fields, bind_cell, arm_scope, or_else, types_of, constructor_number, fields_of, numbered}
-use Rattle.typing_rules.specs.Typing.{Signature, known_kind, FunctionsFit, HeadFits, globals_of}
-use Rattle.typing_rules.specs.Fitting.{Scoped, CallsFit}
-use Rattle.typing_rules.specs.TypingLaws.{scoped_bind}
+use Rattle.camelot_typing.specs.Kinds.{Scope, bind, bind_fields, bind_cell, arm_scope, or_else, types_of, constructor_number, fields_of, numbered}
+use Rattle.camelot_typing.specs.Typing.{Signature, known_kind, FunctionsFit, HeadFits, globals_of}
+use Rattle.camelot_typing.specs.Fitting.{Scoped, CallsFit}
+use Rattle.camelot_typing.specs.TypingLaws.{scoped_bind}
 use Rattle.grail_blocks.specs.Running.{Locals, put, put_all, cell_run}
 use Rattle.normal_form.specs.Normal.{with_fields, with_cell, in_arm, bound_count, diamonds, cell_in}
 
@@ -63,7 +63,8 @@ pub record Stands (types : List DataType) (s : Scope Kind) (l : Scope ℕ) (env 
   pub matches : (name : List ℕ) → env name ≡ seen locals (find l name)
   pub below : (name : List ℕ) (x : ℕ) → find l name ≡ Some x → x < next
 
-pub stands_kept : (types : List DataType) (s : Scope Kind) (l : Scope ℕ) (env : Environment) (locals last : Locals) (next more : ℕ) → Stands types s l env locals next
+pub stands_kept : (types : List DataType) (s : Scope Kind) (l : Scope ℕ) (env : Environment) (locals last : Locals) (next more : ℕ)
+    → Stands types s l env locals next
     → ((y : ℕ) → y < next → last y ≡ locals y) → next ≤ more → Stands types s l env last more
 stands_kept types s l env locals last next more st kept up = record {
   scoped = st.scoped;
@@ -101,7 +102,8 @@ pub record Known (types : List DataType) (l : Scope ℕ) (env : Environment) (lo
   pub fits : Fits types q v
   pub below : x < next
 
-pub known_name : (types : List DataType) (s : Scope Kind) (l : Scope ℕ) (env : Environment) (locals : Locals) (next : ℕ) (name : List ℕ) (q : Kind) → Stands types s l env locals next → find s name ≡ Some q
+pub known_name : (types : List DataType) (s : Scope Kind) (l : Scope ℕ) (env : Environment) (locals : Locals) (next : ℕ) (name : List ℕ) (q : Kind)
+    → Stands types s l env locals next → find s name ≡ Some q
     → Known types l env locals next name q
 known_name types s l env locals next name q st e = by_local (find l name) refl (st.matches name) (st.scoped.holds name q e)
   where
@@ -124,13 +126,15 @@ pub record Came (types : List DataType) (q : Kind) (next top x : ℕ) (v : Value
   pub below : x < top
   pub holds : last x ≡ Some v
 
-pub then_where : {A B : Type 0} (P : A → Type 0) (k : ℕ) (o : Outcome A) (next last : ℕ → A → Outcome B) → Yields P o → ((j : ℕ) (v : A) → P v → next j v ≡ last j v) → first_then k o next ≡ first_then k o last
+pub then_where : {A B : Type 0} (P : A → Type 0) (k : ℕ) (o : Outcome A) (next last : ℕ → A → Outcome B) → Yields P o
+    → ((j : ℕ) (v : A) → P v → next j v ≡ last j v) → first_then k o next ≡ first_then k o last
 then_where P k (Done v c p g) next last h e = ap (after c p g) (e (k - c) v h)
 then_where P k (Fuel c p) next last h e = refl
 then_where P k (Deep p) next last h e = refl
 then_where P k Stuck next last h e = refl
 
-pub chosen_then : (v : Value) (j : ℕ) (a b : Outcome Value) (go : ℕ → Value → Outcome Value) → chosen v (first_then j a go) (first_then j b go) ≡ first_then j (chosen v a b) go
+pub chosen_then : (v : Value) (j : ℕ) (a b : Outcome Value) (go : ℕ → Value → Outcome Value)
+    → chosen v (first_then j a go) (first_then j b go) ≡ first_then j (chosen v a b) go
 chosen_then (value.Flag true) j a b go = refl
 chosen_then (value.Flag false) j a b go = refl
 chosen_then (value.Int z) j a b go = refl
@@ -227,7 +231,8 @@ cell_agrees types s l (cell.Keep n) env locals d code source st go =
 
 -- The arm of the value's constructor: code and source go on with the same names.
 pub arm_agrees : (types : List DataType) (s : Scope Kind) (l : Scope ℕ) (c : Name) (fs : List (Option Name)) (x : ArmCell) (t con : ℕ) (def : values.Constructor) (vs : Values) (env : Environment) (locals : Locals) (n : ℕ)
-    (code : Locals → Outcome Value) (source : Environment → Outcome Value) → HeadFits types t c fs x → constructor_number types c.word ≡ Some con → constructor types con ≡ Some def → FitAll types def.fields vs
+    (code : Locals → Outcome Value) (source : Environment → Outcome Value) → HeadFits types t c fs x → constructor_number types c.word ≡ Some con
+    → constructor types con ≡ Some def → FitAll types def.fields vs
     → Stands types s l env locals n
     → ((bound : Environment) (last : Locals) → Stands types (arm_scope known_kind types c fs x s) (in_arm fs x n l) bound last (n + bound_count fs x) → ((y : ℕ) → y < n → last y ≡ locals y) → code last ≡ source bound)
     → given (put_all locals (numbered n fs) vs) (λ last. cell_run (cell_in x (n + length fs)) last code) ≡ given (put_fields env fs vs) (λ bound. meaning.cell_run x bound source)

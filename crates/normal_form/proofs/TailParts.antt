@@ -2,7 +2,7 @@
 use Rattle.std.proofs.Common.{◌≡◌, ℕ, suc, ◌+◌, Bool, true, false, if◌then◌else◌, List, [], ◌∷◌, ◌++◌, map, Option, Some, None, refl, sym, ap, ◌∙◌, arith, append_assoc, append-nil}
 use Rattle.camelot_tree.specs.Tree.{Expression, Match, Arms, NoArms, AndArm, Branch, Source}
 use Rattle.camelot_tree.specs.Meaning.{constructor_number, is_that}
-use Rattle.typing_rules.specs.Kinds.{Scope}
+use Rattle.camelot_typing.specs.Kinds.{Scope}
 use Rattle.grail_blocks.specs.Blocks as block
 use Rattle.normal_form.specs.Normal.{Line, Close, cons_of, arm_for, bound_count, in_arm, case_arm, total, in_turn, made, ends, local_of, value, arm_tail_made, arm_tail_ends, tail, arm_tail}
 use Rattle.normal_form.specs.Counts.{branch_tail_made, branch_tail_ends, over}
@@ -40,8 +40,10 @@ one_more p s a None = record { cases = refl; lines = sym (append-nil a.lines); n
 one_more p s a (Some b) = record { cases = refl; lines = refl; next = omega arith; number = refl }
 
 record AllTold (p : Source) (s : Scope ℕ) (as' : Arms) (a : PlainTails) (cons : List ℕ) : Type 0 where
-  cases : (tail_arms_and p s a (map (arm_for p as') cons)).cases ≡ a.cases ++ in_turn (arm_tail_made p as') (arm_tail_ends p as') (λ con n b. case_arm (arm_for p as' con) n b ∷ []) cons a.next a.number
-  lines : (tail_arms_and p s a (map (arm_for p as') cons)).lines ≡ a.lines ++ in_turn (arm_tail_made p as') (arm_tail_ends p as') (λ con n b. arm_tail p as' con s n b) cons a.next a.number
+  cases : (tail_arms_and p s a (map (arm_for p as') cons)).cases ≡ a.cases
+      ++ in_turn (arm_tail_made p as') (arm_tail_ends p as') (λ con n b. case_arm (arm_for p as' con) n b ∷ []) cons a.next a.number
+  lines : (tail_arms_and p s a (map (arm_for p as') cons)).lines ≡ a.lines
+      ++ in_turn (arm_tail_made p as') (arm_tail_ends p as') (λ con n b. arm_tail p as' con s n b) cons a.next a.number
   next : (tail_arms_and p s a (map (arm_for p as') cons)).next ≡ a.next + total (arm_tail_made p as') cons
   number : (tail_arms_and p s a (map (arm_for p as') cons)).number ≡ a.number + total (arm_tail_ends p as') cons
 
@@ -86,8 +88,10 @@ tail_match_whole p s next number l e as' =
     (ap (λ x. V ++ Close (block.Case xe x) ∷ all.lines) r.cases ∙ ap (λ x. V ++ Close (block.Case xe (heads (b0 + 1))) ∷ x) r.lines ∙ ap (λ x. V ++ Close (block.Case xe (heads x)) ∷ parts x) e2)
     (omega (arith, next_is)) (omega (arith, number_is))
 
-pub over_tail_made : (p : Source) (as' : Arms) (order : List (Option Branch)) → order ≡ map (arm_for p as') (cons_of p as') → over (branch_tail_made p) order ≡ total (arm_tail_made p as') (cons_of p as')
+pub over_tail_made : (p : Source) (as' : Arms) (order : List (Option Branch)) → order ≡ map (arm_for p as') (cons_of p as')
+    → over (branch_tail_made p) order ≡ total (arm_tail_made p as') (cons_of p as')
 over_tail_made p as' order h = ap (over (branch_tail_made p)) h ∙ over_total (branch_tail_made p) (arm_tail_made p as') p as' (branch_tail_made_for p as') (cons_of p as')
 
-pub over_tail_ends : (p : Source) (as' : Arms) (order : List (Option Branch)) → order ≡ map (arm_for p as') (cons_of p as') → over (branch_tail_ends p) order ≡ total (arm_tail_ends p as') (cons_of p as')
+pub over_tail_ends : (p : Source) (as' : Arms) (order : List (Option Branch)) → order ≡ map (arm_for p as') (cons_of p as')
+    → over (branch_tail_ends p) order ≡ total (arm_tail_ends p as') (cons_of p as')
 over_tail_ends p as' order h = ap (over (branch_tail_ends p)) h ∙ over_total (branch_tail_ends p) (arm_tail_ends p as') p as' (branch_tail_ends_for p as') (cons_of p as')

@@ -16,11 +16,11 @@ use Rattle.camelot_tree.specs.Tree.{Expression, Num, Truth, Var, Prim, If, Let, 
 use Rattle.camelot_tree.specs.Meaning as meaning
 use Rattle.camelot_tree.specs.Meaning.{Environment, constructor_number, function_number, put_fields, is_that, on_constructor, eval, eval_all, arms_run}
 use Rattle.camelot_tree.specs.Tokens.{expression_has_ints, arms_have_ints}
-use Rattle.typing_rules.specs.Kinds as typed
-use Rattle.typing_rules.specs.Kinds.{Scope, bind, arm_scope, or_else, types_of, numbered}
-use Rattle.typing_rules.specs.Typing.{known_kind, globals_of, HasKind, ArmsHaveKind, arms_with}
-use Rattle.typing_rules.specs.NumberLaws.{number_same, head_number, among_numbers}
-use Rattle.typing_rules.specs.TypingLaws.{both_hold}
+use Rattle.camelot_typing.specs.Kinds as typed
+use Rattle.camelot_typing.specs.Kinds.{Scope, bind, arm_scope, or_else, types_of, numbered}
+use Rattle.camelot_typing.specs.Typing.{known_kind, globals_of, HasKind, ArmsHaveKind, arms_with}
+use Rattle.camelot_typing.specs.NumberLaws.{number_same, head_number, among_numbers}
+use Rattle.camelot_typing.specs.TypingLaws.{both_hold}
 use Rattle.grail_blocks.specs.Blocks as block
 use Rattle.grail_blocks.specs.Running.{Locals, put_all, cell_run}
 use Rattle.normal_form.specs.Normal.{Line, Close, fun_of, cons_of, arm_for, bound_count, in_arm, cell_in, case_arm, case_arms, in_turn, made, ends, local_of, locals_of, value, values, tail_made, arm_tail_made, tail_ends, arm_tail_ends, tail, arm_tail}

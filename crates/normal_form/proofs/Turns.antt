@@ -8,7 +8,7 @@ use Rattle.camelot_values.specs.Kinds.{DataType, type_from, type_of, place_of}
 use Rattle.camelot_values.specs.Outcome.{given}
 use Rattle.camelot_values.specs.Runs.{Enter}
 use Rattle.camelot_tree.specs.Tree.{Branch}
-use Rattle.typing_rules.specs.Kinds.{numbered, numbers_from}
+use Rattle.camelot_typing.specs.Kinds.{numbered, numbers_from}
 use Rattle.grail_blocks.specs.Blocks as block
 use Rattle.grail_blocks.specs.Blocks.{CaseArm, Term}
 use Rattle.grail_blocks.specs.Running.{Locals, put_all, cell_run, arm_at, arm_run, case_run}
@@ -29,7 +29,8 @@ type_least : (number : ℕ) (types : List DataType) (c t : ℕ) → type_from nu
 type_least number [] c t e = absurd cc
 type_least number (d ∷ ds) c t e = by_test (nat_lt c (length d.cons)) (λ k. type_least (suc number) ds (c - length d.cons) t k) e
   where
-    by_test : (b : Bool) → (type_from (suc number) ds (c - length d.cons) ≡ Some t → suc number ≤ t) → (if b then Some number else type_from (suc number) ds (c - length d.cons)) ≡ Some t → number ≤ t
+    by_test : (b : Bool) → (type_from (suc number) ds (c - length d.cons) ≡ Some t → suc number ≤ t)
+        → (if b then Some number else type_from (suc number) ds (c - length d.cons)) ≡ Some t → number ≤ t
     by_test true rec e = let same : number ≡ t = some_same number t e in omega (arith, same)
     by_test false rec e = let less : suc number ≤ t = rec e in omega (arith, less)
 
@@ -43,13 +44,15 @@ placed_from : (number first c t : ℕ) (types : List DataType) → type_from num
 placed_from number first c t [] e = absurd cc
 placed_from number first c zero (d ∷ ds) e = by_test (nat_lt c (length d.cons)) refl e
   where
-    by_test : (b : Bool) → nat_lt c (length d.cons) ≡ b → (if b then Some number else type_from (suc number) ds (c - length d.cons)) ≡ Some (number + 0) → Placed (d ∷ ds) first zero c
+    by_test : (b : Bool) → nat_lt c (length d.cons) ≡ b
+        → (if b then Some number else type_from (suc number) ds (c - length d.cons)) ≡ Some (number + 0) → Placed (d ∷ ds) first zero c
     by_test true b e = let less : c < length d.cons = grind (arith, nat_tests, b) in
         record { i = c; is = ap (λ x. if x then Some c else place_of ds (c - length d.cons)) b; at = numbered_at first d.cons c less }
     by_test false b e = let less : suc number ≤ number + 0 = type_least (suc number) ds (c - length d.cons) (number + 0) e in absurd (omega (arith, less))
 placed_from number first c (suc t) (d ∷ ds) e = by_test (nat_lt c (length d.cons)) refl (λ k. placed_from (suc number) (first + length d.cons) (c - length d.cons) t ds k) e
   where
-    by_test : (b : Bool) → nat_lt c (length d.cons) ≡ b → (type_from (suc number) ds (c - length d.cons) ≡ Some (suc number + t) → Placed ds (first + length d.cons) t (c - length d.cons))
+    by_test : (b : Bool) → nat_lt c (length d.cons) ≡ b
+        → (type_from (suc number) ds (c - length d.cons) ≡ Some (suc number + t) → Placed ds (first + length d.cons) t (c - length d.cons))
         → (if b then Some number else type_from (suc number) ds (c - length d.cons)) ≡ Some (number + suc t) → Placed (d ∷ ds) first (suc t) c
     by_test true b rec e = let same : number ≡ number + suc t = some_same number (number + suc t) e in absurd (omega (arith, same))
     by_test false b rec e =
@@ -79,9 +82,12 @@ pub record Turn (locals blocks : ℕ → ℕ) (part : ℕ → ℕ → ℕ → Li
   pub above : next ≤ n
   pub room : n + locals con ≤ next + total locals cons
 
-pub turn_at : (locals blocks : ℕ → ℕ) (part : ℕ → ℕ → ℕ → List Line) (arm : ℕ → ℕ → ℕ → CaseArm) → ((con next number : ℕ) → closes (part con next number) ≡ blocks con)
-    → ((con next number : ℕ) → IsClosed (part con next number)) → ((cs : List ℕ) (next first : ℕ) → closes (in_turn locals blocks part cs next first) ≡ total blocks cs)
-    → ((cs : List ℕ) (next first : ℕ) → IsClosed (in_turn locals blocks part cs next first)) → (cons : List ℕ) (next first i con : ℕ) → slice_get cons i ≡ Some con → Turn locals blocks part arm cons next first i con
+pub turn_at : (locals blocks : ℕ → ℕ) (part : ℕ → ℕ → ℕ → List Line) (arm : ℕ → ℕ → ℕ → CaseArm)
+    → ((con next number : ℕ) → closes (part con next number) ≡ blocks con)
+    → ((con next number : ℕ) → IsClosed (part con next number))
+    → ((cs : List ℕ) (next first : ℕ) → closes (in_turn locals blocks part cs next first) ≡ total blocks cs)
+    → ((cs : List ℕ) (next first : ℕ) → IsClosed (in_turn locals blocks part cs next first)) → (cons : List ℕ) (next first i con : ℕ)
+    → slice_get cons i ≡ Some con → Turn locals blocks part arm cons next first i con
 turn_at locals blocks part arm count closed all_count all_closed [] next first i con e = absurd cc
 turn_at locals blocks part arm count closed all_count all_closed (c ∷ cs) next first zero con e =
     let same : c ≡ con = cc in

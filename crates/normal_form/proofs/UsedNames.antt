@@ -1,11 +1,12 @@
--- Uses of any of some names, counted as the rule of use counts those of one: added over parts that are all evaluated, the greatest over branches.
+-- Uses of any of some names, counted as the rule of use counts those of one: added over parts that are all evaluated,
+-- the greatest over branches.
 use Rattle.std.proofs.Common.{◌≡◌, ℕ, ◌+◌, ◌≤◌, Bool, true, false, List, Option, Some, None, refl, sym, ap, ◌∙◌, arith, inl, inr}
 use Rattle.std.specs.Prelude.{max, if◌then◌else◌, ◌⊎◌}
 use Rattle.std.specs.Str.{bytes_eq}
 use Rattle.camelot_values.specs.NameLaws.{same_name}
 use Rattle.camelot_tree.specs.declared.tree.Name.{Name}
 use Rattle.camelot_tree.specs.Tree.{Expression, Num, Truth, Var, Prim, If, Let, Match, Build, Call, Expressions, NoExpressions, AndExpression, Arms, NoArms, AndArm}
-use Rattle.typing_rules.specs.Kinds.{bound_names}
+use Rattle.camelot_typing.specs.Kinds.{bound_names}
 use Rattle.linear_use.specs.Uses.{is_bound, place_use, uses, all_uses, arms_uses}
 use Rattle.normal_form.specs.Live.{bit}
 
@@ -88,7 +89,8 @@ mutual
 abbrev pub AreSplit : Names → Names → Names → Type 0
 AreSplit names first second = (v : List ℕ) → names v ≡ true → (first v ≡ true) ⊎ (second v ≡ true)
 
-hidden_split : (t a b c : Bool) → (a ≡ true → (b ≡ true) ⊎ (c ≡ true)) → (if t then false else a) ≡ true → ((if t then false else b) ≡ true) ⊎ ((if t then false else c) ≡ true)
+hidden_split : (t a b c : Bool) → (a ≡ true → (b ≡ true) ⊎ (c ≡ true)) → (if t then false else a) ≡ true
+    → ((if t then false else b) ≡ true) ⊎ ((if t then false else c) ≡ true)
 hidden_split true a b c h e = absurd cc
 hidden_split false a b c h e = h e
 

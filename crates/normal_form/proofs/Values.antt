@@ -23,11 +23,11 @@ use Rattle.camelot_tree.specs.Tree.{Expression, Num, Truth, Var, Prim, If, Let, 
 use Rattle.camelot_tree.specs.Meaning as meaning
 use Rattle.camelot_tree.specs.Meaning.{Environment, constructor_number, function_number, declared_constructors, put_fields, in_cell, is_that, on_constructor, eval, eval_all, arms_run}
 use Rattle.camelot_tree.specs.Tokens.{expression_has_ints, expressions_have_ints, arms_have_ints}
-use Rattle.typing_rules.specs.Kinds as typed
-use Rattle.typing_rules.specs.Kinds.{Scope, bind, bind_fields, arm_scope, or_else, types_of, fields_of, is_inline, built_kind, numbers_of, numbered, constructor_kinds}
-use Rattle.typing_rules.specs.Typing.{known_kind, globals_of, HasKind, HaveKinds, ArmsHaveKind, HeadFits, PlaceFits, arms_with}
-use Rattle.typing_rules.specs.NumberLaws.{number_same, constructors_same, numbered_constructor, written_constructor, head_number, among_numbers}
-use Rattle.typing_rules.specs.TypingLaws.{both_hold, con_fits, placed_fits}
+use Rattle.camelot_typing.specs.Kinds as typed
+use Rattle.camelot_typing.specs.Kinds.{Scope, bind, bind_fields, arm_scope, or_else, types_of, fields_of, is_inline, built_kind, numbers_of, numbered, constructor_kinds}
+use Rattle.camelot_typing.specs.Typing.{known_kind, globals_of, HasKind, HaveKinds, ArmsHaveKind, HeadFits, PlaceFits, arms_with}
+use Rattle.camelot_typing.specs.NumberLaws.{number_same, constructors_same, numbered_constructor, written_constructor, head_number, among_numbers}
+use Rattle.camelot_typing.specs.TypingLaws.{both_hold, con_fits, placed_fits}
 use Rattle.grail_blocks.specs.declared.blocks.Place.TheVariants as place
 use Rattle.grail_blocks.specs.Blocks as block
 use Rattle.grail_blocks.specs.Running.{Locals, put, put_all, cell_run, values_of, in_front, operands, built}
@@ -101,7 +101,8 @@ declared_inline p con c e =
     ap (λ l. option_map_or (λ d. d.inline) (slice_get l con) false) (constructors_same p p.types)
     ∙ ap (λ o. option_map_or (λ d. d.inline) o false) (mapped (declared_constructors p) con c e)
   where
-    mapped : (cs : List tree.Constructor) (i : ℕ) (c : tree.Constructor) → slice_get cs i ≡ Some c → slice_get (map (constructor_kinds p) cs) i ≡ Some (constructor_kinds p c)
+    mapped : (cs : List tree.Constructor) (i : ℕ) (c : tree.Constructor) → slice_get cs i ≡ Some c
+        → slice_get (map (constructor_kinds p) cs) i ≡ Some (constructor_kinds p c)
     mapped [] i c e = absurd cc
     mapped (d ∷ ds) zero c e = let same : d ≡ c = cc in ap (λ x. Some (constructor_kinds p x)) same
     mapped (d ∷ ds) (suc i) c e = mapped ds i c e
@@ -123,7 +124,8 @@ build_agrees p s l env last next con c (Some d) vs st e fit =
     ∙ ap (λ o. given o (λ v. on_diamond v (at_once (value.Con con (parts vs))))) (k.local_is ∙ sym k.env_is)
 
 -- the constructors of a typed match are those of its type
-pub cons_are : (p : Source) (t : ℕ) (c : Name) (fs : List (Option Name)) (x : ArmCell) (b : Expression) (as' : Arms) → HeadFits (types_of p) t c fs x → cons_of p (AndArm c fs x b as') ≡ numbers_of (types_of p) t
+pub cons_are : (p : Source) (t : ℕ) (c : Name) (fs : List (Option Name)) (x : ArmCell) (b : Expression) (as' : Arms) → HeadFits (types_of p) t c fs x
+    → cons_of p (AndArm c fs x b as') ≡ numbers_of (types_of p) t
 cons_are p t c fs x b as' head =
     let number : constructor_number p c ≡ Some head.con = sym (number_same p c) ∙ head.is in
     ap (λ o. numbers_of (types_of p) (or_else (values.type_of (types_of p) (or_else o 0)) 0)) number ∙ ap (λ o. numbers_of (types_of p) (or_else o 0)) head.owned
@@ -136,7 +138,9 @@ number_found (Some m) con e = let equal : m ≡ con = grind (arith, nat_tests, e
 -- ---- expressions
 
 -- An arm in a value's position, where its body runs so.
-abbrev pub ArmRuns : (S : Setting) → Arms → (s : Scope Kind) (l : Scope ℕ) (env : Environment) (locals : Locals) (n number result join follow_end con : ℕ) → Values → (j w : ℕ) → List Line → (ℕ → Value → Outcome Value) → Type 0
+abbrev pub ArmRuns : (S : Setting) → Arms
+    → (s : Scope Kind) (l : Scope ℕ) (env : Environment) (locals : Locals) (n number result join follow_end con : ℕ) → Values → (j w : ℕ) → List Line
+    → (ℕ → Value → Outcome Value) → Type 0
 ArmRuns S as' s l env locals n number result join m con vs j w follow go =
     given (put_all locals (case_arm (arm_for S.source as' con) n number).fields vs)
     (λ bound. cell_run (case_arm (arm_for S.source as' con) n number).cell bound (λ last. here (types_of S.source) S.code number (arm_value S.source as' con l n number result join ++ follow) j w last))
@@ -391,7 +395,8 @@ mutual
       ∙ then_same j (eval_all p S.enter es j w env) (λ i vs. first_then i (at_once (v ∷ vs)) go) (λ i vs. go i (v ∷ vs)) (λ i vs. at_once_then i (v ∷ vs) go)))
 
   pub arm_runs : (S : Setting) (as' : Arms) (s : Scope Kind) (l : Scope ℕ) (env : Environment) (locals : Locals) (n number result join m next top con t : ℕ) (def : values.Constructor) (vs : Values) (q : Kind) (j w : ℕ) (base : Locals)
-      (follow rest : List Line) (go : ℕ → Value → Outcome Value) → Stands (types_of S.source) s l env locals n → arms_have_ints as' ≡ true → ArmsHaveKind (globals_of S.source S.sigs) s t as' q → 1 ≤ arms_with (types_of S.source) con as'
+      (follow rest : List Line) (go : ℕ → Value → Outcome Value) → Stands (types_of S.source) s l env locals n → arms_have_ints as' ≡ true
+      → ArmsHaveKind (globals_of S.source S.sigs) s t as' q → 1 ≤ arms_with (types_of S.source) con as'
       → constructor (types_of S.source) con ≡ Some def → FitAll (types_of S.source) def.fields vs → next ≤ result → result < n → result < top → ((y : ℕ) → y < next → locals y ≡ base y)
       → GoesOn S q next top result m w base rest go → ArmJumps S as' number join m con w follow rest → ArmRuns S as' s l env locals n number result join m con vs j w follow go
   arm_runs S NoArms s l env locals n number result join m next top con t def vs q j w base follow rest go st ints kinds some is fit least made_before less kept goes jumps = absurd (omega (arith, some))

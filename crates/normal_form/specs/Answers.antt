@@ -1,12 +1,16 @@
 -- Cited by contracts.
--- What is answered of a program: its first function that is too large, locals before blocks. Counts stand still at 2^64 - 1.
-use Rattle.std.specs.Prelude.{◌≡◌, ℕ, ◌-◌, ◌^◌, min, nat_lt, if◌then◌else◌, Bool, true, false, List, ◌∷◌, Option, Some, None, Result, Ok, Err, ⊤}
+-- What is answered of a program: its first function that is too large, locals before blocks. Counts stand still at 2^64
+-- - 1.
+use Rattle.std.specs.Prelude.{◌≡◌, ℕ, ◌-◌, ◌^◌, min, nat_lt, if◌then◌else◌, List, ◌∷◌, Option, Some, None, Result, Ok, Err, ⊤}
 use Rattle.std.specs.Option.{option_or}
+use Rattle.stops.specs.declared.stop.Stop.{Stop}
+use Rattle.stops.specs.declared.stop.Stop.TheVariants.{Memory}
+use Rattle.stops.specs.Stopping.{FaultIs, IsFault}
 use Rattle.camelot_tree.specs.Tree.{Function, Source}
-use Rattle.typing_rules.specs.Typing.{Signature}
-use Rattle.typing_rules.specs.Typed.{Typing}
+use Rattle.camelot_typing.specs.Typing.{Signature}
+use Rattle.camelot_typing.specs.Typed.{Typing}
 use Rattle.normal_form.specs.declared.fault.NormalFault.{NormalFault}
-use Rattle.normal_form.specs.declared.fault.NormalFault.TheVariants.{TooManyLocals, TooManyBlocks, Memory}
+use Rattle.normal_form.specs.declared.fault.NormalFault.TheVariants.{TooManyLocals, TooManyBlocks}
 use Rattle.normal_form.specs.Normal.{tail_made, tail_ends}
 
 abbrev pub counted_as : ℕ → ℕ
@@ -25,22 +29,17 @@ first_fault p fs ss = None
 abbrev pub program_fault : Typing → Option NormalFault
 program_fault t = first_fault t.source t.source.funs t.signatures
 
-abbrev pub is_memory : NormalFault → Bool
-is_memory Memory = true
-is_memory fault = false
-
 -- Ok where there is no fault, and else this one, unless memory runs out
-abbrev pub Finds : {A : Type 0} → Result A NormalFault → Option NormalFault → Type 0
+abbrev pub Finds : {A : Type 0} → Result A (Stop NormalFault) → Option NormalFault → Type 0
 Finds (Ok x) found = found ≡ None
-Finds (Err fault) found = is_memory fault ≡ false → found ≡ Some fault
+Finds (Err stop) found = FaultIs (λ fault. found ≡ Some fault) stop
 
 -- Ok, unless memory ran out
-abbrev pub Takes : {A : Type 0} → Result A NormalFault → Type 0
+abbrev pub Takes : {A : Type 0} → Result A (Stop NormalFault) → Type 0
 Takes (Ok x) = ⊤
-Takes (Err fault) = fault ≡ Memory
+Takes (Err stop) = stop ≡ Memory
 
 -- an error with this fault, unless memory ran out
-abbrev pub Refuses : {A : Type 0} → NormalFault → Result A NormalFault → Type 0
+abbrev pub Refuses : {A : Type 0} → NormalFault → Result A (Stop NormalFault) → Type 0
 Refuses fault (Ok x) = ⊥
-Refuses fault (Err Memory) = ⊤
-Refuses fault (Err other) = other ≡ fault
+Refuses fault (Err stop) = IsFault fault stop

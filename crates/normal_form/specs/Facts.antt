@@ -17,8 +17,8 @@ use Rattle.normal_form.specs.Live.{live_from, BlocksOnce}
 abbrev pub is_heap_in : List DataType → NormalFunction → ℕ → Bool
 is_heap_in types f x = option_map_or (is_heap types) (slice_get (f.params ++ f.locals) x) false
 
--- A function reads no local that isn't bound, and uses no heap local twice: at its beginning its parameters alone are live, and no block uses a
--- heap local that is used again, here or on some way on.
+-- A function reads no local that isn't bound, and uses no heap local twice: at its beginning its parameters alone are
+-- live, and no block uses a heap local that is used again, here or on some way on.
 pub record UsesFairly (types : List DataType) (f : NormalFunction) : Type 0 where
   pub bound : (x : ℕ) → live_from 0 f.blocks 0 x ≡ true → x < length f.params
   pub once : BlocksOnce (is_heap_in types f) 0 f.blocks
@@ -30,8 +30,9 @@ abbrev pub BodyFits : Code → Func → ℕ → List NormalBlock → Type 0
 BodyFits p f number [] = Unit {0}
 BodyFits p f number (b ∷ bs) = AllByRecursion (LetFits p f) b.lets × TermFits p f number b.term × BodyFits p f (suc number) bs
 
--- As code, whatever the parameters of blocks: each kind's type is there, each let and each end of a block has operands that are there and of
--- their kinds, constructors are built and matched in place exactly where they are inline, and jumps go forward to blocks that are there.
+-- As code, whatever the parameters of blocks: each kind's type is there, each let and each end of a block has operands
+-- that are there and of their kinds, constructors are built and matched in place exactly where they are inline, and
+-- jumps go forward to blocks that are there.
 pub record FitsAsCode (takes : BlockParams) (p : NormalProgram) (f : NormalFunction) : Type 0 where
   pub kinds : AllByRecursion (IsKnownKind p.types) (f.params ++ f.locals)
   pub result : IsKnownKind p.types f.result
@@ -39,7 +40,8 @@ pub record FitsAsCode (takes : BlockParams) (p : NormalProgram) (f : NormalFunct
 
 -- ---- tables
 
--- no two types, no two constructors and no two functions have one name, and the kinds of fields are of types that are there
+-- no two types, no two constructors and no two functions have one name, and the kinds of fields are of types that are
+-- there
 pub record TablesFit (p : NormalProgram) : Type 0 where
   pub type_names : AreDistinct (map (λ t. t.name) p.types)
   pub con_names : AreDistinct (map (λ c. c.name) (constructors p.types))
@@ -48,7 +50,8 @@ pub record TablesFit (p : NormalProgram) : Type 0 where
 
 -- ---- counts
 
--- As many further locals and blocks as its body counts, with a block at least, and in each block at most one let more than there are such locals.
+-- As many further locals and blocks as its body counts, with a block at least, and in each block at most one let more
+-- than there are such locals.
 pub record IsCounted (p : Source) (f : Function) (n : NormalFunction) : Type 0 where
   pub name : n.name ≡ f.name.word
   pub params : length n.params ≡ length f.params

@@ -6,8 +6,8 @@ use Rattle.camelot_values.specs.declared.kinds.Kind.{Kind}
 use Rattle.camelot_values.specs.declared.kinds.Kind.TheVariants as kind
 use Rattle.camelot_tree.specs.declared.tree.Name.{Name}
 use Rattle.camelot_tree.specs.Tree.{Expression, Arms, Branch, Source}
-use Rattle.typing_rules.specs.Kinds.{Scope, or_else, types_of, built_kind, head_of, arm_scope}
-use Rattle.typing_rules.specs.Typing.{Signature, known_kind}
+use Rattle.camelot_typing.specs.Kinds.{Scope, or_else, types_of, built_kind, head_of, arm_scope}
+use Rattle.camelot_typing.specs.Typing.{Signature, known_kind}
 use Rattle.normal_form.specs.declared.kinds.PartKinds.{PartKinds}
 use Rattle.normal_form.specs.Normal.{con_of, cons_of, bound_kinds, of_first, all_of, kind_in, arm_kind, kinds, arm_kinds, tail_kinds}
 

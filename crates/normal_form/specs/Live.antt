@@ -1,6 +1,7 @@
 -- Cited by contracts.
--- Liveness in a normal form: a local is live where some way on reads it before binding it anew (Aho, Lam, Sethi and Ullman 2006, section 9.2.5). Blocks
--- jump forward alone, so that this is a recursion over the blocks, and no least solution of equations.
+-- Liveness in a normal form: a local is live where some way on reads it before binding it anew (Aho, Lam, Sethi and
+-- Ullman 2006, section 9.2.5). Blocks jump forward alone, so that this is a recursion over the blocks, and no least
+-- solution of equations.
 use Rattle.std.specs.Prelude.{◌≡◌, ℕ, suc, ◌+◌, ◌≤◌, ◌==◌, ◌&&◌, ◌||◌, not, if◌then◌else◌, Bool, true, false, List, [], ◌∷◌}
 use Rattle.std.specs.List.{list_any}
 use Rattle.camelot_values.specs.Lists.{is_among}

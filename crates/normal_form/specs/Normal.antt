@@ -1,9 +1,10 @@
 -- Cited by contracts.
--- The normal form of a program: lets over locals, in basic blocks that jump forward (after the A-normal form of Flanagan, Sabry, Duba and
--- Felleisen 1993). An expression becomes lines, each a let or the end of a block, and blocks are these lines, cut behind each end. Locals are
--- numbered as they are made, after the parameters; blocks in the order in which they are begun, which is that in which they are written. How many
--- locals and blocks come from an expression is known beforehand, so that a jump names its target at once. The code writes blocks, with those of a
--- branch before the end that leads to it, and refuses a function that has too many.
+-- The normal form of a program: lets over locals, in basic blocks that jump forward (after the A-normal form of
+-- Flanagan, Sabry, Duba and Felleisen 1993). An expression becomes lines, each a let or the end of a block, and blocks
+-- are these lines, cut behind each end. Locals are numbered as they are made, after the parameters; blocks in the order
+-- in which they are begun, which is that in which they are written. How many locals and blocks come from an expression
+-- is known beforehand, so that a jump names its target at once. The code writes blocks, with those of a branch before
+-- the end that leads to it, and refuses a function that has too many.
 use Rattle.std.specs.Prelude.{ℕ, suc, ◌+◌, if◌then◌else◌, List, [], ◌∷◌, ◌++◌, length, Option, Some, None}
 use Rattle.camelot_values.specs.Kinds.{DataType, type_of}
 use Rattle.camelot_values.specs.Names.{find}
@@ -15,9 +16,9 @@ use Rattle.camelot_tree.specs.declared.tree.ArmCell.{ArmCell}
 use Rattle.camelot_tree.specs.declared.tree.ArmCell.TheVariants as cell
 use Rattle.camelot_tree.specs.Tree.{Expression, Num, Truth, Var, Prim, If, Let, Match, Build, Call, Expressions, NoExpressions, AndExpression, Arms, NoArms, AndArm, Branch, Function, Source}
 use Rattle.camelot_tree.specs.Meaning.{constructor_number, function_number, is_that}
-use Rattle.typing_rules.specs.Kinds.{Scope, bind, or_else, types_of, fields_of, is_inline, numbered, numbers_of, arm_scope, atom_of}
-use Rattle.typing_rules.specs.Typing.{Signature, known_kind, params_scope, globals_of}
-use Rattle.typing_rules.specs.Typed.{Typing}
+use Rattle.camelot_typing.specs.Kinds.{Scope, bind, or_else, types_of, fields_of, is_inline, numbered, numbers_of, arm_scope, atom_of}
+use Rattle.camelot_typing.specs.Typing.{Signature, known_kind, params_scope, globals_of}
+use Rattle.camelot_typing.specs.Typed.{Typing}
 use Rattle.grail_blocks.specs.declared.blocks.Place.{Place}
 use Rattle.grail_blocks.specs.declared.blocks.Place.TheVariants as place
 use Rattle.grail_blocks.specs.declared.blocks.CaseCell.{CaseCell}
@@ -103,7 +104,8 @@ diamonds x = 0
 abbrev pub bound_count : List (Option Name) → ArmCell → ℕ
 bound_count fs x = length fs + diamonds x
 
--- the same, where `next` is the first of these locals: the names that are in scope in the arm, and what its end of the case says
+-- the same, where `next` is the first of these locals: the names that are in scope in the arm, and what its end of the
+-- case says
 abbrev pub with_fields : List (Option Name) → ℕ → Scope ℕ → Scope ℕ
 with_fields [] next s = s
 with_fields (None ∷ fs) next s = with_fields fs (suc next) s
@@ -130,7 +132,8 @@ abbrev pub total : (ℕ → ℕ) → List ℕ → ℕ
 total count [] = 0
 total count (con ∷ cons) = count con + total count cons
 
--- A part for each of these constructors in turn, from its first local and its first block on; each makes so many locals and ends so many blocks.
+-- A part for each of these constructors in turn, from its first local and its first block on; each makes so many locals
+-- and ends so many blocks.
 abbrev pub in_turn : {A : Type 0} → (locals blocks : ℕ → ℕ) → (ℕ → ℕ → ℕ → List A) → List ℕ → ℕ → ℕ → List A
 in_turn locals blocks part [] next first = []
 in_turn locals blocks part (con ∷ cons) next first = part con next first ++ in_turn locals blocks part cons (next + locals con) (first + blocks con)
@@ -315,7 +318,8 @@ abbrev pub of_first : (ℕ → Kind) → List ℕ → Kind
 of_first kind_of [] = kind.Int
 of_first kind_of (con ∷ cons) = kind_of con
 
--- The kind of an expression's value. The branches of a typed program are all of one kind, so that the first one gives that of the whole.
+-- The kind of an expression's value. The branches of a typed program are all of one kind, so that the first one gives
+-- that of the whole.
 abbrev mutual
   pub kind_in : Source → List Signature → Scope Kind → Expression → Kind
   kind_in p sigs s (Let n a b) = kind_in p sigs (bind n.word (kind_in p sigs s a) s) b

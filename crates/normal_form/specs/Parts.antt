@@ -4,7 +4,7 @@ use Rattle.std.specs.Prelude.{ℕ, ◌+◌, List, [], ◌∷◌, ◌++◌, map, 
 use Rattle.camelot_values.specs.Operator.{Operator}
 use Rattle.camelot_tree.specs.Tree as tree
 use Rattle.camelot_tree.specs.Tree.{Expression, Prim, If, Expressions, Branch, Source}
-use Rattle.typing_rules.specs.Kinds.{Scope}
+use Rattle.camelot_typing.specs.Kinds.{Scope}
 use Rattle.grail_blocks.specs.Blocks as block
 use Rattle.grail_blocks.specs.Blocks.{Op, CaseArm, Term, let_of, arm_of, term_of}
 use Rattle.normal_form.specs.Normal.{Line, Bind, Close, new, arm_for, bound_count, case_arm, cons_of, in_arm, joining, made, all_made, ends, all_ends, local_of, locals_of, value, values, tail, tail_made, tail_ends}

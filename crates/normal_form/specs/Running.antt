@@ -1,6 +1,6 @@
 -- Cited by contracts.
--- What a program in normal form means: its blocks as in `Running` of `grail_blocks`, where a jump hands on every local that is bound, and its calls
--- as those of the source language. What has no meaning is Stuck. The code runs nothing.
+-- What a program in normal form means: its blocks as in `Running` of `grail_blocks`, where a jump hands on every local
+-- that is bound, and its calls as those of the source language. What has no meaning is Stuck. The code runs nothing.
 use Rattle.std.specs.Prelude.{ℕ, ◌==◌, if◌then◌else◌, List, map, length, slice_get, Option, Some, None}
 use Rattle.camelot_values.specs.Value.{Value}
 use Rattle.camelot_values.specs.Kinds.{DataType}

@@ -1,20 +1,14 @@
 -- Private: words for functions of this crate.
--- How names are kept, and what the code knows of a program.
-use Rattle.std.specs.Prelude.{ℕ, not, if◌then◌else◌, List, [], ◌∷◌, ◌++◌, Option, Some}
-use Rattle.camelot_values.specs.Names.{stands}
+-- What the code knows of a program.
+use Rattle.std.specs.Prelude.{ℕ, List, [], ◌∷◌, Option, Some}
 use Rattle.camelot_values.specs.Kinds.{DataType, type_of}
 use Rattle.camelot_tree.specs.declared.tree.Arm.{Arm}
 use Rattle.camelot_tree.specs.Tree.{Source, Branch, branch_of}
 use Rattle.camelot_tree.specs.Programs.{program_of}
-use Rattle.typing_rules.specs.Kinds.{or_else, numbers_of}
-use Rattle.typing_rules.specs.Typing.{Signature}
-use Rattle.typing_rules.specs.TypedPrograms.{typing_of}
-use Rattle.typing_rules.specs.declared.typed.Typed.{Typed}
-
--- the first names, and each of the others that doesn't stand yet
-abbrev pub with_names : List (List ℕ) → List (List ℕ) → List (List ℕ)
-with_names names [] = names
-with_names names (w ∷ ws) = with_names (if not (stands names w) then names ++ w ∷ [] else names) ws
+use Rattle.camelot_typing.specs.Kinds.{or_else, numbers_of}
+use Rattle.camelot_typing.specs.Typing.{Signature}
+use Rattle.camelot_typing.specs.TypedPrograms.{typing_of}
+use Rattle.camelot_typing.specs.declared.typed.Typed.{Typed}
 
 -- a program of the code, and the kinds of its functions
 abbrev pub source_in : Typed → Source

@@ -1,5 +1,5 @@
-//! How many locals and blocks an expression needs, in numbers that can't overflow, so that a function that is too large is refused before
-//! anything is written.
+//! How many locals and blocks an expression needs, in numbers that can't overflow, so that a function that is too large
+//! is refused before anything is written.
 ghost use Rattle.std.specs.Prelude.{◌≡◌, map, IfOk};
 ghost use Rattle.std.specs.Option.{option_map};
 ghost use Rattle.camelot_tree.specs.Tree.{expression_of, branch_of, expressions};

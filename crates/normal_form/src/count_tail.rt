@@ -40,7 +40,8 @@ pub(crate) fn count_tail(known: &Known<'_>, expr: &Expr) -> Result<Counts, Alloc
 // The counts of a match.
 #[cycle(count_tail)]
 fn count_tail_match(known: &Known<'_>, on: &Expr, arms: &[Arm]) -> Result<Counts, AllocError>
-    ensures { IfOk result (λ counts. counts ≡ tail_counts (source_in known.now.typed.now) (Match (expression_of on.now) (tree.arms (map branch_of arms.now)) 0)) }
+    ensures { IfOk result (λ counts. counts ≡ tail_counts (source_in known.now.typed.now)
+        (Match (expression_of on.now) (tree.arms (map branch_of arms.now)) 0)) }
 {
     let first = count(known, on)?;
     let second = count_tail_arms(known, arms)?;

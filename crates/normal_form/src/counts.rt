@@ -1,7 +1,8 @@
 ghost use Rattle.std.specs.Prelude.{◌≡◌, ◌+◌, ◌^◌, ◌-◌, min};
 ghost use Rattle.normal_form.specs.Counts.{counted, both};
 
-/// How many locals an expression makes, and how many blocks are ended in it. The counts stand still at the end of their type.
+/// How many locals an expression makes, and how many blocks are ended in it. The counts stand still at the end of their
+/// type.
 #[derive(Clone, Copy)]
 pub(crate) struct Counts {
     pub(crate) locals: u64,

@@ -2,24 +2,26 @@
 ghost use Rattle.std.specs.Prelude.{◌≤◌, length};
 ghost use Rattle.std.specs.List.{AllByRecursion};
 ghost use Rattle.camelot_tree.specs.Programs.{program_of};
-ghost use Rattle.typing_rules.specs.Kinds.{types_of};
-ghost use Rattle.typing_rules.specs.Typed.{IsTyping, Typing};
+ghost use Rattle.camelot_typing.specs.Kinds.{types_of};
+ghost use Rattle.camelot_typing.specs.Typed.{IsTyping, Typing};
 ghost use Rattle.linear_use.specs.Answers.{KeepsRule};
 ghost use Rattle.normal_form.specs.Normal.{normal_form};
 ghost use Rattle.normal_form.specs.Coded.{BlockParams};
 ghost use Rattle.normal_form.specs.Facts.{AreCounted, FitsAsCode, TablesFit, UsesFairly};
 
-use typing_rules::Typed;
-use typing_rules::laws::law_of_kinds;
+use camelot_typing::Typed;
+use camelot_typing::laws::law_of_kinds;
 
-/// The normal form of a typed program that keeps the rule of use reads no local before it is bound, and uses none of a heap kind twice.
+/// The normal form of a typed program that keeps the rule of use reads no local before it is bound, and uses none of a
+/// heap kind twice.
 pub fn law_of_use()
     ensures { (t : Typing) → IsTyping t → KeepsRule t → AllByRecursion (UsesFairly (types_of t.source)) (normal_form t).functions }
 {
     law_of_kinds();
 }
 
-/// It fits as code, whatever the parameters of its blocks: all that the rules of well-formed code say but for the uses of locals.
+/// It fits as code, whatever the parameters of its blocks: all that the rules of well-formed code say but for the uses
+/// of locals.
 pub fn law_of_fits()
     ensures { (takes : BlockParams) (t : Typing) → IsTyping t → KeepsRule t → AllByRecursion (FitsAsCode takes (normal_form t)) (normal_form t).functions }
 {

@@ -1,10 +1,10 @@
 //! Functions in normal form.
 ghost use Rattle.std.specs.Prelude.{◌≡◌, ◌≤◌, length, IfOk};
 ghost use Rattle.camelot_tree.specs.Tree.{expression_of, function_of};
-ghost use Rattle.typing_rules.specs.Kinds.{numbered};
-ghost use Rattle.typing_rules.specs.Typing.{params_scope};
-ghost use Rattle.typing_rules.specs.Typed.{kinds_of, signature_of};
-ghost use Rattle.typing_rules.specs.TypedPrograms.{typing_of};
+ghost use Rattle.camelot_typing.specs.Kinds.{numbered};
+ghost use Rattle.camelot_typing.specs.Typing.{params_scope};
+ghost use Rattle.camelot_typing.specs.Typed.{kinds_of, signature_of};
+ghost use Rattle.camelot_typing.specs.TypedPrograms.{typing_of};
 ghost use Rattle.normal_form.specs.Answers.{Finds, fault_of};
 ghost use Rattle.normal_form.specs.Normal.{normal_function, tail_ends, tail_made};
 ghost use Rattle.normal_form.specs.Programs.{normal_function_of};
@@ -20,26 +20,27 @@ use crate::tail::tail;
 use crate::tail_kinds::tail_kinds;
 use camelot_names::Scope;
 use camelot_tree::{FunDecl, Param};
+use camelot_typing::FunKinds;
 use camelot_values::Kind;
 use std::alloc::{AllocError, Global};
-use typing_rules::FunKinds;
+use stops::Stop;
 
 // Refuses a function that is too large.
-fn check_size(known: &Known<'_>, decl: &FunDecl) -> Result<(), NormalFault>
+fn check_size(known: &Known<'_>, decl: &FunDecl) -> Result<(), Stop<NormalFault>>
     ensures { Finds result (fault_of (source_in known.now.typed.now) (function_of decl.now)) }
 {
     let counts = count_tail(known, &decl.body)?;
     if counts.locals > 240 {
-        return Err(NormalFault::TooManyLocals {
+        return Err(Stop::Fault(NormalFault::TooManyLocals {
             name: decl.name.word.copy(known.alloc)?,
             have: counts.locals,
-        });
+        }));
     }
     if counts.blocks > 256 {
-        return Err(NormalFault::TooManyBlocks {
+        return Err(Stop::Fault(NormalFault::TooManyBlocks {
             name: decl.name.word.copy(known.alloc)?,
             have: counts.blocks,
-        });
+        }));
     }
     Ok(())
 }
@@ -84,7 +85,9 @@ fn make_function(
     requires params { length decl.now.params.items ≤ 16 }
     requires locals { tail_made (source_in known.now.typed.now) (expression_of decl.now.body) ≤ 240 }
     requires ended { tail_ends (source_in known.now.typed.now) (expression_of decl.now.body) ≤ 256 }
-    ensures { IfOk result (λ f. normal_function_of f ≡ normal_function (source_in known.now.typed.now) (signatures_in known.now.typed.now) (function_of decl.now) (signature_of (function_of decl.now) (kinds_of kinds.now))) }
+    ensures { IfOk result (λ f. normal_function_of f ≡ normal_function (source_in known.now.typed.now)
+        (signatures_in known.now.typed.now) (function_of decl.now)
+        (signature_of (function_of decl.now) (kinds_of kinds.now))) }
 {
     let mut scope = bind_locals(known.alloc, &decl.params)?;
     let at = At {
@@ -107,16 +110,18 @@ fn make_function(
 ///
 /// # Errors
 ///
-/// That the function is too large, or `Memory`.
+/// That the function is too large; [`Stop::Memory`] where memory runs out.
 pub fn normalise_function(
     known: &Known<'_>,
     decl: &FunDecl,
     kinds: &FunKinds,
-) -> Result<NormalFunction, NormalFault>
+) -> Result<NormalFunction, Stop<NormalFault>>
     requires { length decl.now.params.items ≤ 16 }
 
     // It is the function's normal form, with these kinds.
-    ensures function { let t = typing_of known.now.typed.now in IfOk result (λ f. normal_function_of f ≡ normal_function t.source t.signatures (function_of decl.now) (signature_of (function_of decl.now) (kinds_of kinds.now))) }
+    ensures function { let t = typing_of known.now.typed.now in IfOk result
+        (λ f. normal_function_of f ≡ normal_function t.source t.signatures (function_of decl.now)
+        (signature_of (function_of decl.now) (kinds_of kinds.now))) }
 
     // An error is that the function is too large, unless memory ran out.
     ensures finds { Finds result (fault_of (typing_of known.now.typed.now).source (function_of decl.now)) }

@@ -1,4 +1,5 @@
-//! The kinds of the locals that an expression makes, in the order in which they are made, along the left end of the expression.
+//! The kinds of the locals that an expression makes, in the order in which they are made, along the left end of the
+//! expression.
 ghost use Rattle.std.specs.Prelude.{◌≡◌, ◌++◌, ◌∷◌, [], map, IfOk, OnOk};
 ghost use Rattle.std.specs.Option.{option_map};
 ghost use Rattle.camelot_tree.specs.Tree.{expression_of, branch_of, expressions, Let, Match};
@@ -88,7 +89,8 @@ pub(crate) fn kinds<'a>(
     scope: &mut Scope<'a, Kind>,
     expr: &'a Expr,
 ) -> Result<PartKinds, AllocError>
-    ensures kinds { IfOk result (λ all. kinds_of all ≡ kinds_piece (source_in known.now.typed.now) (signatures_in known.now.typed.now) scope.old (expression_of expr.now)) }
+    ensures kinds { IfOk result (λ all. kinds_of all ≡ kinds_piece (source_in known.now.typed.now)
+        (signatures_in known.now.typed.now) scope.old (expression_of expr.now)) }
     ensures scope { OnOk result (scope.new ≡ scope.old) }
 {
     let spine = left_spine(known.alloc, expr)?;
@@ -108,8 +110,10 @@ fn kinds_around<'a>(
     parent: &'a Expr,
     first: PartKinds,
 ) -> Result<PartKinds, AllocError>
-    requires { kinds_of first ≡ kinds_piece (source_in known.now.typed.now) (signatures_in known.now.typed.now) scope.old (first_part (expression_of parent.now)) }
-    ensures kinds { IfOk result (λ all. kinds_of all ≡ kinds_piece (source_in known.now.typed.now) (signatures_in known.now.typed.now) scope.old (expression_of parent.now)) }
+    requires { kinds_of first ≡ kinds_piece (source_in known.now.typed.now)
+        (signatures_in known.now.typed.now) scope.old (first_part (expression_of parent.now)) }
+    ensures kinds { IfOk result (λ all. kinds_of all ≡ kinds_piece (source_in known.now.typed.now)
+        (signatures_in known.now.typed.now) scope.old (expression_of parent.now)) }
     ensures scope { OnOk result (scope.new ≡ scope.old) }
 {
     match parent {
@@ -134,7 +138,13 @@ fn kinds_behind<'a>(
     first: PartKinds,
     expr: &'a Expr,
 ) -> Result<PartKinds, AllocError>
-    ensures kinds { IfOk result (λ all. kinds_of all ≡ record { kinds = first.kinds.items ++ kinds (source_in known.now.typed.now) (signatures_in known.now.typed.now) scope.old (expression_of expr.now); kind = first.kind }) }
+    ensures kinds { IfOk result (λ all. kinds_of all
+        ≡ record {
+          kinds = first.kinds.items
+              ++ kinds (source_in known.now.typed.now) (signatures_in known.now.typed.now) scope.old
+              (expression_of expr.now);
+          kind = first.kind;
+        }) }
     ensures scope { OnOk result (scope.new ≡ scope.old) }
 {
     match expr {
@@ -156,7 +166,8 @@ fn leaf_kinds<'a>(
     expr: &'a Expr,
 ) -> Result<PartKinds, AllocError>
     requires { IsLeaf (expression_of expr.now) }
-    ensures kinds { IfOk result (λ all. kinds_of all ≡ kinds_piece (source_in known.now.typed.now) (signatures_in known.now.typed.now) scope.old (expression_of expr.now)) }
+    ensures kinds { IfOk result (λ all. kinds_of all ≡ kinds_piece (source_in known.now.typed.now)
+        (signatures_in known.now.typed.now) scope.old (expression_of expr.now)) }
     ensures scope { OnOk result (scope.new ≡ scope.old) }
 {
     match expr {
@@ -189,7 +200,9 @@ fn let_kinds<'a>(
     value: &'a Expr,
     body: &'a Expr,
 ) -> Result<PartKinds, AllocError>
-    ensures kinds { IfOk result (λ all. kinds_of all ≡ kinds_piece (source_in known.now.typed.now) (signatures_in known.now.typed.now) scope.old (Let name.now (expression_of value.now) (expression_of body.now))) }
+    ensures kinds { IfOk result (λ all. kinds_of all ≡ kinds_piece (source_in known.now.typed.now)
+        (signatures_in known.now.typed.now) scope.old
+        (Let name.now (expression_of value.now) (expression_of body.now))) }
     ensures scope { OnOk result (scope.new ≡ scope.old) }
 {
     let first = kinds(known, scope, value)?;
@@ -207,7 +220,8 @@ pub(crate) fn args_kinds<'a>(
     scope: &mut Scope<'a, Kind>,
     args: &'a [Expr],
 ) -> Result<Vec<Kind>, AllocError>
-    ensures kinds { IfOk result (λ all. all.items ≡ all_kinds (source_in known.now.typed.now) (signatures_in known.now.typed.now) scope.old (expressions (map expression_of args.now))) }
+    ensures kinds { IfOk result (λ all. all.items ≡ all_kinds (source_in known.now.typed.now)
+        (signatures_in known.now.typed.now) scope.old (expressions (map expression_of args.now))) }
     ensures scope { OnOk result (scope.new ≡ scope.old) }
 {
     let mut all = Vec::new(known.alloc);
@@ -226,7 +240,9 @@ fn match_kinds<'a>(
     on: &'a Expr,
     arms: &'a [Arm],
 ) -> Result<PartKinds, AllocError>
-    ensures kinds { IfOk result (λ all. kinds_of all ≡ kinds_piece (source_in known.now.typed.now) (signatures_in known.now.typed.now) scope.old (Match (expression_of on.now) (tree.arms (map branch_of arms.now)) 0)) }
+    ensures kinds { IfOk result (λ all. kinds_of all ≡ kinds_piece (source_in known.now.typed.now)
+        (signatures_in known.now.typed.now) scope.old
+        (Match (expression_of on.now) (tree.arms (map branch_of arms.now)) 0)) }
     ensures scope { OnOk result (scope.new ≡ scope.old) }
 {
     let on = kinds(known, scope, on)?;
@@ -241,7 +257,8 @@ fn arm_kinds<'a>(
     scope: &mut Scope<'a, Kind>,
     arm: Option<&'a Arm>,
 ) -> Result<PartKinds, AllocError>
-    ensures kinds { IfOk result (λ all. kinds_of all ≡ branch_kinds (source_in known.now.typed.now) (signatures_in known.now.typed.now) scope.old (option_map (λ a. branch_of a.now) arm.entry)) }
+    ensures kinds { IfOk result (λ all. kinds_of all ≡ branch_kinds (source_in known.now.typed.now)
+        (signatures_in known.now.typed.now) scope.old (option_map (λ a. branch_of a.now) arm.entry)) }
     ensures scope { OnOk result (scope.new ≡ scope.old) }
 {
     let Some(arm) = arm else {
@@ -268,7 +285,8 @@ fn all_arm_kinds<'a>(
     scope: &mut Scope<'a, Kind>,
     arms: &'a [Arm],
 ) -> Result<PartKinds, AllocError>
-    ensures kinds { IfOk result (λ all. kinds_of all ≡ arms_kinds (source_in known.now.typed.now) (signatures_in known.now.typed.now) scope.old (tree.arms (map branch_of arms.now))) }
+    ensures kinds { IfOk result (λ all. kinds_of all ≡ arms_kinds (source_in known.now.typed.now)
+        (signatures_in known.now.typed.now) scope.old (tree.arms (map branch_of arms.now))) }
     ensures scope { OnOk result (scope.new ≡ scope.old) }
 {
     let order = arms_in_order(known, arms)?;

@@ -3,12 +3,13 @@ ghost use Rattle.camelot_values.specs.Kinds.{constructors};
 ghost use Rattle.camelot_tree.specs.Programs.{program_of};
 
 use crate::copying::copy_types;
-use crate::names::{constructor_names, function_names, law_of_few};
+use crate::names::function_names;
 use camelot_names::Names;
+use camelot_typing::Typed;
 use camelot_values::Types;
 use linear_use::Linear;
+use linear_use::names::{constructor_names, law_of_few};
 use std::alloc::{AllocError, Global};
-use typing_rules::Typed;
 
 /// What a walk through a program knows: the program, and the names of its constructors and functions by their numbers.
 #[derive(Drop)]

@@ -2,8 +2,8 @@
 ghost use Rattle.std.specs.Prelude.{◌≡◌, ◌++◌, IfOk, OnOk, length};
 ghost use Rattle.camelot_values.specs.Typing.{operator_kind};
 ghost use Rattle.camelot_tree.specs.Tree.{branch_of, operator_of};
-ghost use Rattle.typing_rules.specs.Kinds.{arm_scope, bind_cell, bind_fields, fields_of, types_of};
-ghost use Rattle.typing_rules.specs.Typing.{known_kind};
+ghost use Rattle.camelot_typing.specs.Kinds.{arm_scope, bind_cell, bind_fields, fields_of, types_of};
+ghost use Rattle.camelot_typing.specs.Typing.{known_kind};
 ghost use Rattle.normal_form.specs.Normal.{bound_kinds, con_of, diamond_kinds};
 ghost use Rattle.normal_form.specs.KindParts.{kind_of_build, kind_of_call};
 ghost use Rattle.normal_form.specs.Tables.{signatures_in, source_in};
@@ -81,7 +81,8 @@ pub(crate) fn bind_arm_kinds<'a>(
     scope: &mut Scope<'a, Kind>,
     arm: &'a Arm,
 ) -> Result<(), AllocError>
-    ensures { OnOk result (let a = branch_of arm.now in scope.new ≡ arm_scope known_kind (types_of (source_in known.now.typed.now)) a.con a.fields a.cell scope.old) }
+    ensures { OnOk result (let a = branch_of arm.now in scope.new ≡ arm_scope known_kind
+        (types_of (source_in known.now.typed.now)) a.con a.fields a.cell scope.old) }
 {
     bind_field_kinds(scope, &arm.fields, field_kinds(known, &arm.con))?;
     match &arm.cell {

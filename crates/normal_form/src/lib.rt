@@ -1,4 +1,5 @@
-//! The normal form of Camelot programs: lets over locals, in basic blocks (`specs/Normal.antt`), which means what the program means.
+//! The normal form of Camelot programs: lets over locals, in basic blocks (`specs/Normal.antt`), which means what the
+//! program means.
 #![tactic(auto)]
 
 mod appending;

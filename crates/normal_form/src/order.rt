@@ -5,7 +5,7 @@ ghost use Rattle.std.specs.Option.{option_map};
 ghost use Rattle.camelot_tree.specs.Tree.{branch_of};
 ghost use Rattle.camelot_tree.specs.Tree as tree;
 ghost use Rattle.camelot_tree.specs.Meaning.{constructor_number, function_number};
-ghost use Rattle.typing_rules.specs.Kinds.{numbered, numbers_of, or_else};
+ghost use Rattle.camelot_typing.specs.Kinds.{numbered, numbers_of, or_else};
 ghost use Rattle.normal_form.specs.Normal.{arm_for, con_of, cons_of, fun_of};
 ghost use Rattle.normal_form.specs.Tables.{cons_by, source_in};
 
@@ -108,7 +108,9 @@ pub(crate) fn arms_in_order<'a>(
     known: &Known<'_>,
     arms: &'a [Arm],
 ) -> Result<Vec<Option<&'a Arm>>, AllocError>
-    ensures { IfOk result (λ order. map (option_map (λ a. branch_of a.now)) order.items ≡ map (arm_for (source_in known.now.typed.now) (tree.arms (map branch_of arms.now))) (cons_of (source_in known.now.typed.now) (tree.arms (map branch_of arms.now)))) }
+    ensures { IfOk result (λ order. map (option_map (λ a. branch_of a.now)) order.items ≡ map
+        (arm_for (source_in known.now.typed.now) (tree.arms (map branch_of arms.now)))
+        (cons_of (source_in known.now.typed.now) (tree.arms (map branch_of arms.now)))) }
 {
     let numbers = arm_numbers(known, arms)?;
     let cons = match_numbers(known.alloc, &known.typed.types, &numbers)?;

@@ -179,7 +179,8 @@ pub(crate) fn conditional_literal(
     requires cond { cond.end.number < 4294967295 }
     requires number { first.end.number < 4294967294 }
     requires next { first.end.next < 4294967295 }
-    ensures { IfOk result (λ part. piece_of part ≡ conditional (piece_of cond) (piece_of first) (bound_piece [] first.end.next (first.end.number + 1) (op_of literal))) }
+    ensures { IfOk result (λ part. piece_of part ≡ conditional (piece_of cond) (piece_of first)
+        (bound_piece [] first.end.next (first.end.number + 1) (op_of literal))) }
 {
     let result = cond.end.next;
     let second_at = At {

@@ -4,7 +4,7 @@ ghost use Rattle.camelot_tree.specs.Tree.{branch_of};
 ghost use Rattle.camelot_tree.specs.Tree as tree;
 ghost use Rattle.grail_blocks.specs.Blocks.{arm_of};
 ghost use Rattle.grail_blocks.specs.Blocks as block;
-ghost use Rattle.typing_rules.specs.Kinds.{numbered};
+ghost use Rattle.camelot_typing.specs.Kinds.{numbered};
 ghost use Rattle.normal_form.specs.Normal.{bound_count, case_arm, cell_in, con_of, fun_of, in_arm, local, place_in, with_cell, with_fields};
 ghost use Rattle.normal_form.specs.Tables.{branch_at, source_in};
 

@@ -1,4 +1,5 @@
-//! The lines of an expression that ends its function: its last call takes the function's place, and branches don't join.
+//! The lines of an expression that ends its function: its last call takes the function's place, and branches don't
+//! join.
 ghost use Rattle.std.specs.Prelude.{◌≡◌, ◌+◌, ◌<◌, ◌≤◌, map, IfOk, OnOk};
 ghost use Rattle.std.specs.Option.{option_map};
 ghost use Rattle.camelot_tree.specs.Tree.{expression_of, branch_of, called_of, Let, Match};
@@ -92,7 +93,9 @@ fn tail_let<'a>(
 ) -> Result<Tail, AllocError>
     requires locals { let p = source_in known.now.typed.now in at.next + (made p (expression_of value_of.now) + tail_made p (expression_of body.now)) ≤ 256 }
     requires ended { let p = source_in known.now.typed.now in at.number + (ends p (expression_of value_of.now) + tail_ends p (expression_of body.now)) ≤ 256 }
-    ensures tail { IfOk result (λ last. tail_of last ≡ tail_piece (source_in known.now.typed.now) scope.old at.next at.number (Let name.now (expression_of value_of.now) (expression_of body.now))) }
+    ensures tail { IfOk result (λ last. tail_of last ≡ tail_piece
+        (source_in known.now.typed.now) scope.old at.next at.number
+        (Let name.now (expression_of value_of.now) (expression_of body.now))) }
     ensures scope { OnOk result (scope.new ≡ scope.old) }
 {
     let first = value(known, scope, at, value_of)?;
@@ -112,9 +115,12 @@ fn tail_branches<'a>(
     yes: &'a Expr,
     no: &'a Expr,
 ) -> Result<Tail, AllocError>
-    requires locals { let p = source_in known.now.typed.now in cond.end.next + (tail_made p (expression_of yes.now) + tail_made p (expression_of no.now)) ≤ 256 }
-    requires ended { let p = source_in known.now.typed.now in cond.end.number + (tail_ends p (expression_of yes.now) + tail_ends p (expression_of no.now)) < 256 }
-    ensures tail { IfOk result (λ last. tail_of last ≡ divided_piece (source_in known.now.typed.now) scope.old (piece_of cond) (expression_of yes.now) (expression_of no.now)) }
+    requires locals { let p = source_in known.now.typed.now in cond.end.next +
+        (tail_made p (expression_of yes.now) + tail_made p (expression_of no.now)) ≤ 256 }
+    requires ended { let p = source_in known.now.typed.now in cond.end.number +
+        (tail_ends p (expression_of yes.now) + tail_ends p (expression_of no.now)) < 256 }
+    ensures tail { IfOk result (λ last. tail_of last ≡ divided_piece (source_in known.now.typed.now) scope.old
+        (piece_of cond) (expression_of yes.now) (expression_of no.now)) }
     ensures scope { OnOk result (scope.new ≡ scope.old) }
 {
     let first_at = At {
@@ -137,7 +143,9 @@ fn tail_match<'a>(
 ) -> Result<Tail, AllocError>
     requires locals { at.next + tail_made (source_in known.now.typed.now) (Match (expression_of on.now) (tree.arms (map branch_of arms.now)) 0) ≤ 256 }
     requires ended { at.number + tail_ends (source_in known.now.typed.now) (Match (expression_of on.now) (tree.arms (map branch_of arms.now)) 0) ≤ 256 }
-    ensures tail { IfOk result (λ last. tail_of last ≡ tail_piece (source_in known.now.typed.now) scope.old at.next at.number (Match (expression_of on.now) (tree.arms (map branch_of arms.now)) 0)) }
+    ensures tail { IfOk result (λ last. tail_of last ≡ tail_piece
+        (source_in known.now.typed.now) scope.old at.next at.number
+        (Match (expression_of on.now) (tree.arms (map branch_of arms.now)) 0)) }
     ensures scope { OnOk result (scope.new ≡ scope.old) }
 {
     let on = value(known, scope, at, on)?;
@@ -159,7 +167,8 @@ fn tail_arm<'a>(
 ) -> Result<TailArms, AllocError>
     requires locals { arms.end.next + branch_tail_made (source_in known.now.typed.now) (option_map (λ a. branch_of a.now) arm) ≤ 256 }
     requires ended { arms.end.number + branch_tail_ends (source_in known.now.typed.now) (option_map (λ a. branch_of a.now) arm) ≤ 256 }
-    ensures arms { IfOk result (λ all. tails_of all ≡ tail_arm_and (source_in known.now.typed.now) scope.old (tails_of arms) (option_map (λ a. branch_of a.now) arm.entry)) }
+    ensures arms { IfOk result (λ all. tails_of all ≡ tail_arm_and (source_in known.now.typed.now) scope.old
+        (tails_of arms) (option_map (λ a. branch_of a.now) arm.entry)) }
     ensures scope { OnOk result (scope.new ≡ scope.old) }
 {
     let Some(arm) = arm else {
@@ -186,9 +195,12 @@ fn tail_arms<'a>(
     at: At,
     arms: &'a [Arm],
 ) -> Result<TailArms, AllocError>
-    requires locals { let p = source_in known.now.typed.now in let as' = tree.arms (map branch_of arms.now) in at.next + total (arm_tail_made p as') (cons_of p as') ≤ 256 }
-    requires ended { let p = source_in known.now.typed.now in let as' = tree.arms (map branch_of arms.now) in at.number + total (arm_tail_ends p as') (cons_of p as') ≤ 256 }
-    ensures arms { IfOk result (λ all. tails_of all ≡ tails_piece (source_in known.now.typed.now) scope.old at.next at.number (tree.arms (map branch_of arms.now))) }
+    requires locals { let p = source_in known.now.typed.now in let as' = tree.arms
+        (map branch_of arms.now) in at.next + total (arm_tail_made p as') (cons_of p as') ≤ 256 }
+    requires ended { let p = source_in known.now.typed.now in let as' = tree.arms
+        (map branch_of arms.now) in at.number + total (arm_tail_ends p as') (cons_of p as') ≤ 256 }
+    ensures arms { IfOk result (λ all. tails_of all ≡ tails_piece
+        (source_in known.now.typed.now) scope.old at.next at.number (tree.arms (map branch_of arms.now))) }
     ensures scope { OnOk result (scope.new ≡ scope.old) }
 {
     let order = arms_in_order(known, arms)?;

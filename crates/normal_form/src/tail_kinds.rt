@@ -23,7 +23,8 @@ pub(crate) fn tail_kinds<'a>(
     scope: &mut Scope<'a, Kind>,
     expr: &'a Expr,
 ) -> Result<Vec<Kind>, AllocError>
-    ensures kinds { IfOk result (λ all. all.items ≡ tail_kinds (source_in known.now.typed.now) (signatures_in known.now.typed.now) scope.old (expression_of expr.now)) }
+    ensures kinds { IfOk result (λ all. all.items ≡ tail_kinds (source_in known.now.typed.now)
+        (signatures_in known.now.typed.now) scope.old (expression_of expr.now)) }
     ensures scope { OnOk result (scope.new ≡ scope.old) }
 {
     match expr {
@@ -52,7 +53,9 @@ fn tail_let_kinds<'a>(
     value: &'a Expr,
     body: &'a Expr,
 ) -> Result<Vec<Kind>, AllocError>
-    ensures kinds { IfOk result (λ all. all.items ≡ tail_kinds (source_in known.now.typed.now) (signatures_in known.now.typed.now) scope.old (Let name.now (expression_of value.now) (expression_of body.now))) }
+    ensures kinds { IfOk result (λ all. all.items ≡ tail_kinds (source_in known.now.typed.now)
+        (signatures_in known.now.typed.now) scope.old
+        (Let name.now (expression_of value.now) (expression_of body.now))) }
     ensures scope { OnOk result (scope.new ≡ scope.old) }
 {
     let mut first = kinds(known, scope, value)?;
@@ -72,7 +75,9 @@ fn tail_match_kinds<'a>(
     on: &'a Expr,
     arms: &'a [Arm],
 ) -> Result<Vec<Kind>, AllocError>
-    ensures kinds { IfOk result (λ all. all.items ≡ tail_kinds (source_in known.now.typed.now) (signatures_in known.now.typed.now) scope.old (Match (expression_of on.now) (tree.arms (map branch_of arms.now)) 0)) }
+    ensures kinds { IfOk result (λ all. all.items ≡ tail_kinds (source_in known.now.typed.now)
+        (signatures_in known.now.typed.now) scope.old
+        (Match (expression_of on.now) (tree.arms (map branch_of arms.now)) 0)) }
     ensures scope { OnOk result (scope.new ≡ scope.old) }
 {
     let mut all = kinds(known, scope, on)?.kinds;
@@ -88,7 +93,8 @@ fn tail_arm_kinds<'a>(
     scope: &mut Scope<'a, Kind>,
     arm: Option<&'a Arm>,
 ) -> Result<Vec<Kind>, AllocError>
-    ensures kinds { IfOk result (λ all. all.items ≡ branch_tail_kinds (source_in known.now.typed.now) (signatures_in known.now.typed.now) scope.old (option_map (λ a. branch_of a.now) arm.entry)) }
+    ensures kinds { IfOk result (λ all. all.items ≡ branch_tail_kinds (source_in known.now.typed.now)
+        (signatures_in known.now.typed.now) scope.old (option_map (λ a. branch_of a.now) arm.entry)) }
     ensures scope { OnOk result (scope.new ≡ scope.old) }
 {
     let Some(arm) = arm else {
@@ -110,7 +116,9 @@ fn all_tail_arm_kinds<'a>(
     scope: &mut Scope<'a, Kind>,
     arms: &'a [Arm],
 ) -> Result<Vec<Kind>, AllocError>
-    ensures kinds { IfOk result (λ all. let p = source_in known.now.typed.now in let as' = tree.arms (map branch_of arms.now) in all.items ≡ all_of (arm_tail_kinds p (signatures_in known.now.typed.now) scope.old as') (cons_of p as')) }
+    ensures kinds { IfOk result (λ all. let p = source_in known.now.typed.now in let as' = tree.arms
+        (map branch_of arms.now) in all.items
+        ≡ all_of (arm_tail_kinds p (signatures_in known.now.typed.now) scope.old as') (cons_of p as')) }
     ensures scope { OnOk result (scope.new ≡ scope.old) }
 {
     let order = arms_in_order(known, arms)?;

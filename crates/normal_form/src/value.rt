@@ -1,5 +1,5 @@
-//! The lines that give an expression's value, by the cases of the normal form, along the left end of the expression. What locals and blocks an
-//! expression needs is known to fit.
+//! The lines that give an expression's value, by the cases of the normal form, along the left end of the expression.
+//! What locals and blocks an expression needs is known to fit.
 ghost use Rattle.std.specs.Prelude.{◌≡◌, ◌+◌, ◌<◌, ◌≤◌, map, IfOk, OnOk};
 ghost use Rattle.std.specs.Option.{option_map};
 ghost use Rattle.camelot_tree.specs.Tree.{expression_of, branch_of, built_of, called_of, expressions, Let, Match};
@@ -100,7 +100,8 @@ fn value_around<'a>(
     }
 }
 
-// What gives the value of an expression, behind these lines. A local that is there needs no lines, and a literal no list of its own.
+// What gives the value of an expression, behind these lines. A local that is there needs no lines, and a literal no
+// list of its own.
 #[cycle(value)]
 fn value_behind<'a>(
     known: &Known<'_>,
@@ -111,7 +112,8 @@ fn value_behind<'a>(
 ) -> Result<Part, AllocError>
     requires locals { at.next + made (source_in known.now.typed.now) (expression_of expr.now) ≤ 256 }
     requires ended { at.number + ends (source_in known.now.typed.now) (expression_of expr.now) ≤ 256 }
-    ensures part { IfOk result (λ part. piece_of part ≡ behind (map line_of lines.items) (value_piece (source_in known.now.typed.now) scope.old at.next at.number (expression_of expr.now))) }
+    ensures part { IfOk result (λ part. piece_of part ≡ behind (map line_of lines.items)
+        (value_piece (source_in known.now.typed.now) scope.old at.next at.number (expression_of expr.now))) }
     ensures scope { OnOk result (scope.new ≡ scope.old) }
 {
     match expr {
@@ -140,7 +142,8 @@ fn value_branches<'a>(
 ) -> Result<Part, AllocError>
     requires locals { let p = source_in known.now.typed.now in cond.end.next + (made p (expression_of yes.now) + made p (expression_of no.now)) < 256 }
     requires ended { let p = source_in known.now.typed.now in cond.end.number + (ends p (expression_of yes.now) + ends p (expression_of no.now)) + 3 ≤ 256 }
-    ensures part { IfOk result (λ part. piece_of part ≡ branches_piece (source_in known.now.typed.now) scope.old (piece_of cond) (expression_of yes.now) (expression_of no.now)) }
+    ensures part { IfOk result (λ part. piece_of part ≡ branches_piece (source_in known.now.typed.now) scope.old
+        (piece_of cond) (expression_of yes.now) (expression_of no.now)) }
     ensures scope { OnOk result (scope.new ≡ scope.old) }
 {
     let first_at = At {
@@ -217,7 +220,9 @@ fn value_let<'a>(
 ) -> Result<Part, AllocError>
     requires locals { let p = source_in known.now.typed.now in at.next + (made p (expression_of value_of.now) + made p (expression_of body.now)) ≤ 256 }
     requires ended { let p = source_in known.now.typed.now in at.number + (ends p (expression_of value_of.now) + ends p (expression_of body.now)) ≤ 256 }
-    ensures part { IfOk result (λ part. piece_of part ≡ value_piece (source_in known.now.typed.now) scope.old at.next at.number (Let name.now (expression_of value_of.now) (expression_of body.now))) }
+    ensures part { IfOk result (λ part. piece_of part ≡ value_piece
+        (source_in known.now.typed.now) scope.old at.next at.number
+        (Let name.now (expression_of value_of.now) (expression_of body.now))) }
     ensures scope { OnOk result (scope.new ≡ scope.old) }
 {
     let first = value(known, scope, at, value_of)?;
@@ -238,7 +243,8 @@ pub(crate) fn value_args<'a>(
 ) -> Result<Args, AllocError>
     requires locals { at.next + all_made (source_in known.now.typed.now) (expressions (map expression_of args.now)) ≤ 256 }
     requires ended { at.number + all_ends (source_in known.now.typed.now) (expressions (map expression_of args.now)) ≤ 256 }
-    ensures args { IfOk result (λ all. pieces_of all ≡ values_piece (source_in known.now.typed.now) scope.old at.next at.number (expressions (map expression_of args.now))) }
+    ensures args { IfOk result (λ all. pieces_of all ≡ values_piece
+        (source_in known.now.typed.now) scope.old at.next at.number (expressions (map expression_of args.now))) }
     ensures scope { OnOk result (scope.new ≡ scope.old) }
 {
     let mut all = Args::new(known.alloc, at);
@@ -260,7 +266,9 @@ fn value_match<'a>(
 ) -> Result<Part, AllocError>
     requires locals { at.next + made (source_in known.now.typed.now) (Match (expression_of on.now) (tree.arms (map branch_of arms.now)) 0) ≤ 256 }
     requires ended { at.number + ends (source_in known.now.typed.now) (Match (expression_of on.now) (tree.arms (map branch_of arms.now)) 0) ≤ 256 }
-    ensures part { IfOk result (λ part. piece_of part ≡ value_piece (source_in known.now.typed.now) scope.old at.next at.number (Match (expression_of on.now) (tree.arms (map branch_of arms.now)) 0)) }
+    ensures part { IfOk result (λ part. piece_of part ≡ value_piece
+        (source_in known.now.typed.now) scope.old at.next at.number
+        (Match (expression_of on.now) (tree.arms (map branch_of arms.now)) 0)) }
     ensures scope { OnOk result (scope.new ≡ scope.old) }
 {
     let on = value(known, scope, at, on)?;
@@ -282,7 +290,8 @@ fn value_arm<'a>(
 ) -> Result<Arms, AllocError>
     requires locals { arms.end.next + branch_made (source_in known.now.typed.now) (option_map (λ a. branch_of a.now) arm) ≤ 256 }
     requires ended { arms.end.number + branch_ends (source_in known.now.typed.now) (option_map (λ a. branch_of a.now) arm) ≤ 256 }
-    ensures arms { IfOk result (λ all. arms_of all ≡ arm_and (source_in known.now.typed.now) scope.old (arms_of arms) (option_map (λ a. branch_of a.now) arm.entry)) }
+    ensures arms { IfOk result (λ all. arms_of all ≡ arm_and (source_in known.now.typed.now) scope.old (arms_of arms)
+        (option_map (λ a. branch_of a.now) arm.entry)) }
     ensures scope { OnOk result (scope.new ≡ scope.old) }
 {
     let Some(arm) = arm else {
@@ -309,9 +318,12 @@ fn value_arms<'a>(
     at: At,
     arms: &'a [Arm],
 ) -> Result<Arms, AllocError>
-    requires locals { let p = source_in known.now.typed.now in let as' = tree.arms (map branch_of arms.now) in at.next + total (arm_made p as') (cons_of p as') ≤ 256 }
-    requires ended { let p = source_in known.now.typed.now in let as' = tree.arms (map branch_of arms.now) in at.number + total (arm_ends p as') (cons_of p as') ≤ 256 }
-    ensures arms { IfOk result (λ all. arms_of all ≡ arms_piece (source_in known.now.typed.now) scope.old at.next at.number (tree.arms (map branch_of arms.now))) }
+    requires locals { let p = source_in known.now.typed.now in let as' = tree.arms
+        (map branch_of arms.now) in at.next + total (arm_made p as') (cons_of p as') ≤ 256 }
+    requires ended { let p = source_in known.now.typed.now in let as' = tree.arms
+        (map branch_of arms.now) in at.number + total (arm_ends p as') (cons_of p as') ≤ 256 }
+    ensures arms { IfOk result (λ all. arms_of all ≡ arms_piece
+        (source_in known.now.typed.now) scope.old at.next at.number (tree.arms (map branch_of arms.now))) }
     ensures scope { OnOk result (scope.new ≡ scope.old) }
 {
     let order = arms_in_order(known, arms)?;

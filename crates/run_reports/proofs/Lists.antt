@@ -11,5 +11,6 @@ program_here out old line rest e = ap (λ l. l ++ rest) e ∙ append_assoc old l
 pub no_more : (out whole : List ℕ) → out ++ [] ≡ whole → out ≡ whole
 no_more out whole e = sym (append-nil out) ∙ e
 
-pub event_here : (names : ℕ → List ℕ) (event : Event) (events : List Event) (out old whole : List ℕ) → old ++ event_lines names (event ∷ events) ≡ whole → out ≡ old ++ event_text names event → out ++ event_lines names events ≡ whole
+pub event_here : (names : ℕ → List ℕ) (event : Event) (events : List Event) (out old whole : List ℕ)
+    → old ++ event_lines names (event ∷ events) ≡ whole → out ≡ old ++ event_text names event → out ++ event_lines names events ≡ whole
 event_here names event events out old whole e f = program_here out old (event_text names event) (event_lines names events) f ∙ e

@@ -1,13 +1,13 @@
 -- What was counted of lines one by one.
-use Rattle.std.proofs.Common.{◌≡◌, ℕ, suc, ◌+◌, ◌*◌, ◌^◌, ◌<◌, ◌≤◌, List, [], ◌∷◌, ◌++◌, length, map, drop, get_or, refl, sym, ap, ◌∙◌, subst, arith, drop-cons, drop_of_length-le, add-one}
+use Rattle.std.proofs.Common.{◌≡◌, ℕ, suc, ◌+◌, ◌*◌, ◌^◌, ◌<◌, ◌≤◌, List, [], ◌∷◌, ◌++◌, length, map, drop, get_or, sym, ap, ◌∙◌, subst, arith, drop-cons, drop_of_length-le, add-one}
 use Rattle.std.proofs.lemmas.List.{length-map}
 use Rattle.licence.specs.Licensed.{Licensed}
-use Rattle.run_reports.specs.declared.outcome.JobLine.{JobLine as DeclaredLine}
-use Rattle.run_reports.specs.declared.outcome.Outcome.{Outcome}
+use Rattle.script_outcomes.specs.declared.outcome.JobLine.{JobLine as DeclaredLine}
+use Rattle.script_outcomes.specs.declared.outcome.Outcome.{Outcome}
 use Rattle.run_reports.specs.declared.summing.Tally.{Tally}
 use Rattle.run_reports.specs.Summary.{added, none, summary_text, tally_of, tally_text, total}
 use Rattle.run_reports.specs.Summing.{IsUnder}
-use Rattle.run_reports.specs.Told.{line_of, told_of}
+use Rattle.script_outcomes.specs.Told.{line_of, told_of}
 
 -- ---- sums
 
@@ -15,7 +15,8 @@ add_assoc : (a b c : ℕ) → (a + b) + c ≡ a + (b + c)
 add_assoc a b c = omega arith
 
 -- a record of seven equal numbers
-same : (t u : Tally) → t.done ≡ u.done → t.fuel ≡ u.fuel → t.deep ≡ u.deep → t.too_large ≡ u.too_large → t.refused ≡ u.refused → t.calls ≡ u.calls → t.peaks ≡ u.peaks → t ≡ u
+same : (t u : Tally) → t.done ≡ u.done → t.fuel ≡ u.fuel → t.deep ≡ u.deep → t.too_large ≡ u.too_large → t.refused ≡ u.refused → t.calls ≡ u.calls
+    → t.peaks ≡ u.peaks → t ≡ u
 same t u a b c d e f g = λ i. record { done = a i; fuel = b i; deep = c i; too_large = d i; refused = e i; calls = f i; peaks = g i }
 
 assoc : (t u v : Tally) → added (added t u) v ≡ added t (added u v)
@@ -44,7 +45,8 @@ counted_none all = record {
   small = record { done = omega arith; fuel = omega arith; deep = omega arith; too_large = omega arith; refused = omega arith; calls = omega arith; peaks = omega arith };
 }
 
-one_more : (all : List DeclaredLine) (t u v : Tally) (line : DeclaredLine) (rest : List DeclaredLine) → Counts all t (line ∷ rest) → ((licences : List Licensed) → u ≡ tally_of (line_of licences line)) → IsUnder (2 ^ 64) u → v ≡ added t u
+one_more : (all : List DeclaredLine) (t u v : Tally) (line : DeclaredLine) (rest : List DeclaredLine) → Counts all t (line ∷ rest)
+    → ((licences : List Licensed) → u ≡ tally_of (line_of licences line)) → IsUnder (2 ^ 64) u → v ≡ added t u
     → Counts all v rest
 one_more all t u v line rest c is small e = record {
   is = λ licences.
@@ -82,16 +84,19 @@ still_small all rest t few c =
 
 -- ---- along a list
 
-pub one_behind : (xs : List DeclaredLine) (i : ℕ) (x : DeclaredLine) (t u v : Tally) → i < length xs → x ≡ get_or xs i x → Counts xs t (drop i xs) → ((licences : List Licensed) → u ≡ tally_of (line_of licences x)) → IsUnder (2 ^ 64) u → v ≡ added t u
+pub one_behind : (xs : List DeclaredLine) (i : ℕ) (x : DeclaredLine) (t u v : Tally) → i < length xs → x ≡ get_or xs i x → Counts xs t (drop i xs)
+    → ((licences : List Licensed) → u ≡ tally_of (line_of licences x)) → IsUnder (2 ^ 64) u → v ≡ added t u
     → Counts xs v (drop (i + 1) xs)
 one_behind xs i x t u v h is c each small e =
     let here : drop i xs ≡ x ∷ drop (i + 1) xs = drop-cons xs i x h ∙ ap (λ y. y ∷ drop (suc i) xs) (sym is) ∙ ap (λ n. x ∷ drop n xs) (sym (add-one i)) in
     one_more xs t u v x (drop (i + 1) xs) (subst (Counts xs t) here c) each small e
 
-pub none_behind : (xs : List DeclaredLine) (i : ℕ) (t : Tally) → length xs ≤ i → Counts xs t (drop i xs) → (licences : List Licensed) → t ≡ total (map (line_of licences) xs)
+pub none_behind : (xs : List DeclaredLine) (i : ℕ) (t : Tally) → length xs ≤ i → Counts xs t (drop i xs) → (licences : List Licensed)
+    → t ≡ total (map (line_of licences) xs)
 none_behind xs i t h c licences = none_left xs (drop i xs) t c (drop_of_length-le xs {i = i} h) licences
 
-pub summary_is : (licences : List Licensed) (o : Outcome) (lines : List DeclaredLine) (t : Tally) (empty text : List ℕ) (jobs : ℕ) → lines ≡ o.jobs.items → t ≡ total (map (line_of licences) lines) → jobs ≡ length o.jobs.items → empty ≡ []
+pub summary_is : (licences : List Licensed) (o : Outcome) (lines : List DeclaredLine) (t : Tally) (empty text : List ℕ) (jobs : ℕ)
+    → lines ≡ o.jobs.items → t ≡ total (map (line_of licences) lines) → jobs ≡ length o.jobs.items → empty ≡ []
     → text ≡ empty ++ tally_text jobs t o.free → text ≡ summary_text (told_of licences o)
 unfolding summary_text
 summary_is licences o lines t empty text jobs same e count nothing f =

@@ -1,5 +1,4 @@
 -- Reports.
 pub mod Report
-pub mod Told
 pub mod Summary
 pub mod Summing

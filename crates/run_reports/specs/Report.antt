@@ -1,34 +1,20 @@
 -- Cited by contracts.
--- The report of a script: a line for each program, a line for each job, a line for each event of the journal, and the free cells at the end.
+-- The report of a script: a line for each program, a line for each job, a line for each event of the journal, and the
+-- free cells at the end.
 use Rattle.std.specs.Prelude.{ℕ, List, [], ◌∷◌, ◌++◌, slice_get, Option, Some, None, codes, decimal}
 use Rattle.camelot_values.specs.Value.{Value}
 use Rattle.camelot_values.specs.Kinds.{DataType, constructor_name}
 use Rattle.camelot_values.specs.Outcome.{Outcome, Done, Fuel, Deep, Stuck}
 use Rattle.value_text.specs.Text.{value_text}
-use Rattle.refusals.specs.Texts.{cause_text}
+use Rattle.cause_texts.specs.Texts.{cause_text}
 use Rattle.lease_desk.specs.declared.event.Event.{Event}
 use Rattle.lease_desk.specs.declared.event.Event.TheVariants as event
 use Rattle.job_script.specs.Scripts.{Entry, AProgram, AJob}
-use Rattle.run_reports.specs.declared.outcome.ProgramLine.{ProgramLine}
-use Rattle.run_reports.specs.declared.outcome.ProgramLine.TheVariants as program
-use Rattle.run_reports.specs.declared.outcome.JobCause.{JobCause}
-use Rattle.run_reports.specs.declared.outcome.JobCause.TheVariants as job_cause
-
--- ---- what is told
-
--- of a job: what its run came to, with the types of its program, its fuel and its bound; or that it needs more cells than the arena has; or why it didn't run
-pub data JobLine : Type 0 where
-  Ended : (types : List DataType) → (outcome : Outcome Value) → (fuel bound : ℕ) → JobLine
-  TooLarge : (needs arena : ℕ) → JobLine
-  Refused : JobCause → JobLine
-
--- of a script: each program and each job in order; the place among the script's entries of each job of the desk; the journal; and the free cells at the end
-pub record Told : Type 0 where
-  pub programs : List ProgramLine
-  pub jobs : List JobLine
-  pub asked : List ℕ
-  pub journal : List Event
-  pub free : ℕ
+use Rattle.script_outcomes.specs.declared.outcome.ProgramLine.{ProgramLine}
+use Rattle.script_outcomes.specs.declared.outcome.ProgramLine.TheVariants as program
+use Rattle.script_outcomes.specs.declared.outcome.JobCause.{JobCause}
+use Rattle.script_outcomes.specs.declared.outcome.JobCause.TheVariants as job_cause
+use Rattle.script_outcomes.specs.Told.{JobLine, Ended, TooLarge, Refused, Told}
 
 -- ---- lines
 

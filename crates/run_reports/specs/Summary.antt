@@ -4,7 +4,7 @@ use Rattle.std.specs.Prelude.{ℕ, ◌+◌, List, [], ◌∷◌, ◌++◌, lengt
 use Rattle.camelot_values.specs.Value.{Value}
 use Rattle.camelot_values.specs.Outcome.{Outcome, Done, Fuel, Deep, Stuck}
 use Rattle.run_reports.specs.declared.summing.Tally.{Tally}
-use Rattle.run_reports.specs.Report.{JobLine, Ended, TooLarge, Refused, Told}
+use Rattle.script_outcomes.specs.Told.{JobLine, Ended, TooLarge, Refused, Told}
 
 -- nothing was counted
 abbrev pub none : Tally

@@ -2,11 +2,11 @@
 #![tactic(auto)]
 
 mod lines;
-mod outcome;
 mod pieces;
 mod reporting;
 mod summing;
 
-pub use outcome::{JobCause, JobLine, Outcome, ProgramLine};
+pub use cause_texts::{Cause, cause_text};
 pub use reporting::report;
+pub use script_outcomes::{JobCause, JobLine, Outcome, ProgramLine};
 pub use summing::{Tally, summary};

@@ -4,15 +4,15 @@ ghost use Rattle.lease_desk.specs.Journal.{job_of};
 ghost use Rattle.camelot_values.specs.Kinds.{DataType, constructor_name};
 ghost use Rattle.value_text.specs.Text.{value_text};
 ghost use Rattle.run_reports.specs.Report.{ended_text, end_text, event_text, job_cause_text, job_text, program_text, told_text};
-ghost use Rattle.run_reports.specs.Told.{licence_types, line_of, outcome_of};
+ghost use Rattle.script_outcomes.specs.Told.{licence_types, line_of, outcome_of};
 
-use super::outcome::{JobCause, JobLine, ProgramLine};
 use super::pieces::{push_number, push_text};
 use camelot_values::{Flat, Types};
+use cause_texts::cause_text;
 use cell_machine::Ending;
 use lease_desk::Event;
 use licence::Licence;
-use refusals::cause_text;
+use script_outcomes::{JobCause, JobLine, ProgramLine};
 use std::alloc::{AllocError, Global};
 use value_text::print;
 
@@ -86,7 +86,9 @@ fn push_done(
     peak: u64,
     bound: u64,
 ) -> Result<(), AllocError>
-    ensures { OnOk result (out.new.items ≡ out.old.items ++ ((codes " done " ++ value.now) ++ (codes " calls " ++ decimal calls) ++ (codes " peak " ++ decimal peak) ++ (codes " bound " ++ decimal bound))) }
+    ensures { OnOk result (out.new.items ≡ out.old.items ++
+        ((codes " done " ++ value.now) ++ (codes " calls " ++ decimal calls) ++ (codes " peak " ++ decimal peak)
+        ++ (codes " bound " ++ decimal bound))) }
 {
     push_text(out, b" done ", value)?;
     push_number(out, b" calls ", calls)?;
@@ -97,7 +99,9 @@ fn push_done(
 // What a run came to that ran out of fuel.
 #[tactic(auto, using(crate::proofs::Joining::three))]
 fn push_fuel(out: &mut Vec<u8>, fuel: u64, peak: u64, bound: u64) -> Result<(), AllocError>
-    ensures { OnOk result (out.new.items ≡ out.old.items ++ ((codes " fuel " ++ decimal fuel) ++ (codes " peak " ++ decimal peak) ++ (codes " bound " ++ decimal bound))) }
+    ensures { OnOk result (out.new.items ≡ out.old.items ++
+        ((codes " fuel " ++ decimal fuel) ++ (codes " peak " ++ decimal peak)
+        ++ (codes " bound " ++ decimal bound))) }
 {
     push_number(out, b" fuel ", fuel)?;
     push_number(out, b" peak ", peak)?;
@@ -219,7 +223,9 @@ fn push_named(
     second_label: &[u8],
     second: u32,
 ) -> Result<(), AllocError>
-    ensures { OnOk result (out.new.items ≡ out.old.items ++ ((label.now ++ name.now) ++ (first_label.now ++ decimal first) ++ (second_label.now ++ decimal second) ++ codes "\n")) }
+    ensures { OnOk result (out.new.items ≡ out.old.items ++
+        ((label.now ++ name.now) ++ (first_label.now ++ decimal first) ++ (second_label.now ++ decimal second)
+        ++ codes "\n")) }
 {
     push_text(out, label, name)?;
     push_number(out, first_label, first as u64)?;

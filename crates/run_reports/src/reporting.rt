@@ -3,13 +3,13 @@ ghost use Rattle.std.specs.Prelude.{◌≡◌, ◌++◌, ◌∷◌, ℕ, List, m
 ghost use Rattle.job_script.specs.Scripts.{Entry as PlainEntry};
 ghost use Rattle.job_script.specs.Words.{entry_of, script_of};
 ghost use Rattle.run_reports.specs.Report.{asked_name, event_lines, job_lines, name_of, program_lines, report_text};
-ghost use Rattle.run_reports.specs.Told.{line_of, told_of};
+ghost use Rattle.script_outcomes.specs.Told.{line_of, told_of};
 
 use super::lines::{job_of, push_end, push_event, push_job, push_program};
-use super::outcome::{JobLine, Outcome, ProgramLine};
 use job_script::{Entry, Script};
 use lease_desk::Event;
 use licence::Licence;
+use script_outcomes::{JobLine, Outcome, ProgramLine};
 use std::alloc::{AllocError, Global};
 
 // The line of an entry that is a program, and the lines that are left for the entries behind it.
@@ -20,7 +20,9 @@ fn push_program_of<'a>(
     entry: &Entry,
     lines: &'a [ProgramLine],
 ) -> Result<&'a [ProgramLine], AllocError>
-    ensures { (entries : List PlainEntry) → IfOk result (λ left. out.new.items ++ program_lines entries left.now ≡ out.old.items ++ program_lines (entry_of entry.now ∷ entries) lines.now) }
+    ensures { (entries : List PlainEntry)
+        → IfOk result (λ left. out.new.items ++ program_lines entries left.now ≡ out.old.items ++ program_lines
+        (entry_of entry.now ∷ entries) lines.now) }
 {
     match entry {
         Entry::Program { name, .. } => match lines {
@@ -60,7 +62,9 @@ fn push_job_of<'a>(
     licences: &[Licence],
     lines: &'a [JobLine],
 ) -> Result<&'a [JobLine], AllocError>
-    ensures { (entries : List PlainEntry) → IfOk result (λ left. out.new.items ++ job_lines entries (map (line_of licences.now) left.now) ≡ out.old.items ++ job_lines (entry_of entry.now ∷ entries) (map (line_of licences.now) lines.now)) }
+    ensures { (entries : List PlainEntry)
+        → IfOk result (λ left. out.new.items ++ job_lines entries (map (line_of licences.now) left.now)
+        ≡ out.old.items ++ job_lines (entry_of entry.now ∷ entries) (map (line_of licences.now) lines.now)) }
 {
     match entry {
         Entry::Program { .. } => Ok(lines),
@@ -131,8 +135,9 @@ fn push_events(
     Ok(())
 }
 
-/// The report of a script, from what came of it: a line for each program and each job in the script's order, a line for each event of the journal, and the free
-/// cells at the end. Types of values are those of the licences by number. `AllocError` where memory runs out.
+/// The report of a script, from what came of it: a line for each program and each job in the script's order, a line for
+/// each event of the journal, and the free cells at the end. Types of values are those of the licences by number.
+/// `AllocError` where memory runs out.
 #[tactic(auto, unfolding(crate::specs::Report::report_text))]
 pub fn report(
     alloc: Global,

@@ -3,11 +3,11 @@ ghost use Rattle.std.specs.Prelude.{◌≡◌, ◌++◌, ◌^◌, List, map, IfO
 ghost use Rattle.licence.specs.Licensed.{Licensed};
 ghost use Rattle.run_reports.specs.Summary.{added, counts_text, sums_text, summary_text, tally_of, tally_of_run, tally_text, total};
 ghost use Rattle.run_reports.specs.Summing.{IsUnder};
-ghost use Rattle.run_reports.specs.Told.{line_of, outcome_of, told_of};
+ghost use Rattle.script_outcomes.specs.Told.{line_of, outcome_of, told_of};
 
-use super::outcome::{JobLine, Outcome};
 use super::pieces::push_wide;
 use cell_machine::Ending;
+use script_outcomes::{JobLine, Outcome};
 use std::alloc::{AllocError, Global};
 
 /// What jobs count for in a summary.
@@ -142,9 +142,10 @@ fn push_tally(out: &mut Vec<u8>, jobs: usize, tally: &Tally, free: u64) -> Resul
     out.extend_from_slice(b"\n")
 }
 
-/// The summary of what came of a script, in one line: how many jobs it has, how many of them came to a value, stopped on fuel, went too deep, needed more
-/// cells than the arena has, and were refused; the sum of the calls of those that came to a value; the sum of the peaks of all that ran; and the free cells
-/// at the end. `AllocError` where memory runs out.
+/// The summary of what came of a script, in one line: how many jobs it has, how many of them came to a value, stopped
+/// on fuel, went too deep, needed more cells than the arena has, and were refused; the sum of the calls of those that
+/// came to a value; the sum of the peaks of all that ran; and the free cells at the end. `AllocError` where memory runs
+/// out.
 pub fn summary(alloc: Global, outcome: &Outcome) -> Result<Vec<u8>, AllocError>
     // Whichever licences the lines are told with.
     ensures { (licences : List Licensed) → IfOk result (λ text. text.items ≡ summary_text (told_of licences outcome.now)) }

@@ -21,10 +21,9 @@ use Rattle.cell_machine.specs.State.{most_calls}
 use Rattle.job_world.specs.Plans.{Plan, Planned, run_at, run_with, job_run, cells_with}
 use Rattle.job_world.specs.Plans as world
 use Rattle.job_world.specs.PlanLaws.{found_behind}
-use Rattle.run_reports.specs.Told.{licence_types}
-use Rattle.run_reports.specs.Report.{Ended, TooLarge}
-use Rattle.run_reports.specs.declared.outcome.JobCause.{JobCause}
-use Rattle.run_reports.specs.declared.outcome.JobCause.TheVariants as job_cause
+use Rattle.script_outcomes.specs.Told.{licence_types, Ended, TooLarge}
+use Rattle.script_outcomes.specs.declared.outcome.JobCause.{JobCause}
+use Rattle.script_outcomes.specs.declared.outcome.JobCause.TheVariants as job_cause
 use Rattle.script_plans.specs.declared.asking.Asked.{Asked}
 use Rattle.script_plans.specs.declared.asking.Asked.TheVariants as asked
 use Rattle.script_plans.specs.declared.rows.Known.{Known}
@@ -62,7 +61,8 @@ function_there p number name first = by_case (slice_get p.funcs number) refl fir
     by_case (Some f) e h = record { func = f; is = e }
 
 -- what is asked of the first function of a name
-pub of_entry : (l : Licensed) (name text : List ℕ) (number : ℕ) (a : Asked) → IsFirstNamed l.code number name → ((f : Func) → slice_get l.code.funcs number ≡ Some f → IsOfArgs l number f text a) → IsAsked l name text a
+pub of_entry : (l : Licensed) (name text : List ℕ) (number : ℕ) (a : Asked) → IsFirstNamed l.code number name
+    → ((f : Func) → slice_get l.code.funcs number ≡ Some f → IsOfArgs l number f text a) → IsAsked l name text a
 of_entry l name text number a first each =
     let f = function_there l.code number name first in
     by_case a (record { number = number; first = first; func = f.func; is = f.is; of_args = each f.func f.is })
@@ -78,13 +78,16 @@ of_entry l name text number a first each =
     by_case (asked.Unfit c) h = by_cause c h
     by_case (asked.Fits entry args most) h = h
 
-fits_entry : (l : Licensed) (number : ℕ) (f : Func) (args : List Value) → slice_get l.code.funcs number ≡ Some f → ArgumentsFit l.code.types f.params args → FitsEntry l number args
+fits_entry : (l : Licensed) (number : ℕ) (f : Func) (args : List Value) → slice_get l.code.funcs number ≡ Some f
+    → ArgumentsFit l.code.types f.params args → FitsEntry l number args
 fits_entry l number f args e h = subst (λ (o : Option Func). IsSomeAnd o (λ f. ArgumentsFit l.code.types f.params args)) (sym e) h
 
-pub read_fits : (l : Licensed) (p : Code) (number : ℕ) (f : Func) (text : List ℕ) (args : List Value) → p ≡ l.code → slice_get l.code.funcs number ≡ Some f → IsRead p.types f.params text args → FitsEntry l number args
+pub read_fits : (l : Licensed) (p : Code) (number : ℕ) (f : Func) (text : List ℕ) (args : List Value) → p ≡ l.code
+    → slice_get l.code.funcs number ≡ Some f → IsRead p.types f.params text args → FitsEntry l number args
 read_fits l p number f text args e at r = fits_entry l number f args at (subst (λ (q : Code). ArgumentsFit q.types f.params args) e r.text_of.fit)
 
-pub can_be_planned : (licences : List Licensed) (licence fuel : ℕ) (l : Licensed) (name text : List ℕ) (a : Asked) → slice_get licences licence ≡ Some l → 1 ≤ fuel → IsAsked l name text a → CanBePlanned licences licence fuel a
+pub can_be_planned : (licences : List Licensed) (licence fuel : ℕ) (l : Licensed) (name text : List ℕ) (a : Asked)
+    → slice_get licences licence ≡ Some l → 1 ≤ fuel → IsAsked l name text a → CanBePlanned licences licence fuel a
 can_be_planned licences licence fuel l name text (asked.Unfit cause) at some h = tt
 can_be_planned licences licence fuel l name text (asked.Fits entry args most) at some h =
     let fits : FitsEntry l entry args.items = subst (λ (n : ℕ). FitsEntry l n args.items) (sym h.of_args.0) (fits_entry l h.number h.func args.items h.is h.of_args.1.text_of.fit) in
@@ -98,7 +101,8 @@ can_be_planned licences licence fuel l name text (asked.Fits entry args most) at
 none_added : (old new : Planned) → new ≡ old → new.plans ≡ old.plans ++ []
 none_added old new e = ap (λ (p : Planned). p.plans) e ∙ sym (append-nil old.plans)
 
-pub comes_refused : (p : Option ProgramText) (entry args : List ℕ) (fuel arena : ℕ) (old new : Planned) (cause : JobCause) → IsFate p entry args (Unfit cause) → new ≡ old
+pub comes_refused : (p : Option ProgramText) (entry args : List ℕ) (fuel arena : ℕ) (old new : Planned) (cause : JobCause)
+    → IsFate p entry args (Unfit cause) → new ≡ old
     → Comes p entry args fuel arena old new (plan.Refused cause)
 comes_refused p entry args fuel arena old new cause h e = record {
   fate = Unfit cause;
@@ -109,7 +113,7 @@ comes_refused p entry args fuel arena old new cause h e = record {
   plans = none_added old new e;
   leases = refl;
   cells = refl;
-  next = ap (λ (p : Planned). length p.plans) (sym e);
+  numbers = refl;
   places = λ place. refl;
   line = refl;
 }
@@ -117,11 +121,13 @@ comes_refused p entry args fuel arena old new cause h e = record {
 pub no_program : (entry args : List ℕ) (fuel arena : ℕ) (ps : Planned) → Comes None entry args fuel arena ps ps (plan.Refused job_cause.NoProgram)
 no_program entry args fuel arena ps = comes_refused None entry args fuel arena ps ps job_cause.NoProgram tt refl
 
-pub program_refused : (p : ProgramText) (entry args : List ℕ) (fuel arena : ℕ) (ps : Planned) → IsRefused p → Comes (Some p) entry args fuel arena ps ps (plan.Refused job_cause.ProgramRefused)
+pub program_refused : (p : ProgramText) (entry args : List ℕ) (fuel arena : ℕ) (ps : Planned) → IsRefused p
+    → Comes (Some p) entry args fuel arena ps ps (plan.Refused job_cause.ProgramRefused)
 program_refused p entry args fuel arena ps h = comes_refused (Some p) entry args fuel arena ps ps job_cause.ProgramRefused h refl
 
 -- why it isn't called
-unfit_fate : (p : ProgramText) (name args : List ℕ) (m : Meaning) (l : Licensed) (cause : JobCause) → IsLicenceOf p l m → Agrees l m → IsAsked l name args (asked.Unfit cause) → IsFate (Some p) name args (Unfit cause)
+unfit_fate : (p : ProgramText) (name args : List ℕ) (m : Meaning) (l : Licensed) (cause : JobCause) → IsLicenceOf p l m → Agrees l m
+    → IsAsked l name args (asked.Unfit cause) → IsFate (Some p) name args (Unfit cause)
 unfit_fate p name args m l job_cause.NoProgram has agree h = absurd h.of_args
 unfit_fate p name args m l job_cause.ProgramRefused has agree h = absurd h.of_args
 unfit_fate p name args m l job_cause.NoEntry has agree h = no_entry p name m l has agree h
@@ -140,7 +146,8 @@ record IsCallFate (p : ProgramText) (name args : List ℕ) (m : Meaning) (l : Li
   same : (fuel : ℕ) → run_of l.code most_calls number fuel values ≡ run_by m number fuel values
   types : l.code.types ≡ value_types m
 
-call_fate : (p : ProgramText) (name args : List ℕ) (m : Meaning) (l : Licensed) (number : ℕ) (values : List Value) (func : Func) → IsLicenceOf p l m → Agrees l m → IsFirstNamed l.code number name
+call_fate : (p : ProgramText) (name args : List ℕ) (m : Meaning) (l : Licensed) (number : ℕ) (values : List Value) (func : Func) → IsLicenceOf p l m
+    → Agrees l m → IsFirstNamed l.code number name
     → slice_get l.code.funcs number ≡ Some func → IsRead l.code.types func.params args values → IsCallFate p name args m l number values
 call_fate p name args m l number values func has agree first is read =
     let there : IsRead (value_types m) func.params args values = subst (λ (ts : List DataType). IsRead ts func.params args values) agree.types read in
@@ -153,8 +160,9 @@ call_fate p name args m l number values func has agree first is read =
     }
 
 -- the line of the plan that was added
-added_line : (licences : List Licensed) (plans : List Plan) (n arena fuel bound : ℕ) (l : Licensed) (entry : ℕ) (args : List Value) → slice_get licences n ≡ Some l
-    → planned_line (record { licences = licences; plans = plans ++ plan_for n fuel l entry args ∷ [] }) arena (length plans) (plan.Runs bound) ≡ Ended l.code.types (run_of l.code most_calls entry fuel args) fuel bound
+added_line : (licences : List Licensed) (plans : List Plan) (n arena fuel bound : ℕ) (l : Licensed) (entry : ℕ) (args : List Value)
+    → slice_get licences n ≡ Some l
+    → planned_line (record { licences = licences; plans = plans ++ plan_for n fuel l entry args ∷ [] }) arena (plan.Runs (length plans) bound) ≡ Ended l.code.types (run_of l.code most_calls entry fuel args) fuel bound
 unfolding job_run
 added_line licences plans n arena fuel bound l entry args at =
     let p : Plan = plan_for n fuel l entry args in
@@ -169,10 +177,6 @@ same_left m l number values n fuel (Some f) = refl
 
 new_plans : (old new : Planned) (p : Plan) → new.licences ≡ old.licences → new.plans ≡ old.plans ++ p ∷ [] → new ≡ record { licences = old.licences; plans = old.plans ++ p ∷ [] }
 new_plans old new p e f = λ i. record { licences = e i; plans = f i }
-
-length_end : {A : Type 0} (xs : List A) (x : A) → suc (length xs) ≡ length (xs ++ x ∷ [])
-length_end [] x = refl
-length_end (y ∷ xs) x = ap suc (length_end xs x)
 
 comes_call : (p : ProgramText) (name args : List ℕ) (fuel arena n : ℕ) (old new : Planned) (m : Meaning) (l : Licensed) (number : ℕ) (values : List Value) (most : ℕ) (q : JobPlan) → slice_get old.licences n ≡ Some l
     → IsCallFate p name args m l number values → IsBoundOf l number values most → IsAdded arena (plan_for n fuel l number values) most old new q → Comes (Some p) name args fuel arena old new q
@@ -189,38 +193,40 @@ comes_call p name args fuel arena n old new m l number values most (plan.TooLarg
       plans = none_added old new h.2;
       leases = sym (ap (λ b. if b then [] else lease_of call ∷ []) large);
       cells = sym (ap (λ b. if b then [] else cells_of call fuel ∷ []) large);
-      next = ap (λ (ps : Planned). length ps.plans) (sym h.2);
+      numbers = refl;
       places = λ place. ap (λ b. places_with (if b then [] else lease_of call ∷ []) place) large;
       line = ap (λ x. TooLarge x arena) h.0 ∙ sym (ap (λ b. if b then TooLarge (lease_of call) arena else Ended (value_types m) (outcome_of call fuel) fuel (bound_of call)) large);
     }
-comes_call p name args fuel arena n old new m l number values most (plan.Runs bound) at c b h =
+comes_call p name args fuel arena n old new m l number values most (plan.Runs job bound) at c b h =
     let call : Call = record { meaning = m; licence = l; entry = number; args = values } in
     let added : Plan = plan_for n fuel l number values in
-    let fits : nat_lt arena (lease_of call) ≡ false = grind (arith, nat_tests, h.1) in
+    let fits : nat_lt arena (lease_of call) ≡ false = grind (arith, nat_tests, h.2) in
     record {
       fate = Calls call;
       is = c.is;
       within = subst (λ (x : ℕ). peak_of (outcome_of call fuel) ≤ x) b.is (subst (λ (o : Outcome Value). peak_of o ≤ most) (c.same fuel) (b.peak fuel));
-      licences = h.2;
+      licences = h.3;
       more = added ∷ [];
-      plans = h.3;
+      plans = h.4;
       leases = sym (ap (λ b. if b then [] else lease_of call ∷ []) fits);
       cells =
           ap (λ (o : Option Licensed). cells_with o added ∷ []) at
           ∙ ap (λ cells. cells ∷ []) (same_left m l number values n fuel (slice_get l.code.funcs number))
           ∙ sym (ap (λ b. if b then [] else cells_of call fuel ∷ []) fits);
-      next = length_end old.plans added ∙ sym (ap length h.3);
+      numbers = ap (λ k. k ∷ []) h.0;
       places = λ place. ap (λ b. places_with (if b then [] else lease_of call ∷ []) place) fits;
       line =
-          ap (λ (ps : Planned). planned_line ps arena (length old.plans) (plan.Runs bound)) (new_plans old new added h.2 h.3)
+          ap (λ k. planned_line new arena (plan.Runs k bound)) h.0
+          ∙ ap (λ (ps : Planned). planned_line ps arena (plan.Runs (length old.plans) bound)) (new_plans old new added h.3 h.4)
           ∙ added_line old.licences old.plans n arena fuel bound l number values at
           ∙ ap (λ (ts : List DataType). Ended ts (run_of l.code most_calls number fuel values) fuel bound) c.types
           ∙ ap (λ (o : Outcome Value). Ended (value_types m) o fuel bound) (c.same fuel)
-          ∙ ap (λ x. Ended (value_types m) (outcome_of call fuel) fuel x) (h.0 ∙ b.is)
+          ∙ ap (λ x. Ended (value_types m) (outcome_of call fuel) fuel x) (h.1 ∙ b.is)
           ∙ sym (ap (λ b. if b then TooLarge (lease_of call) arena else Ended (value_types m) (outcome_of call fuel) fuel (bound_of call)) fits);
     }
 
-comes_planned : (p : ProgramText) (name args : List ℕ) (fuel arena n : ℕ) (old new : Planned) (m : Meaning) (l : Licensed) (a : Asked) (q : JobPlan) → IsLicenceOf p l m → Agrees l m → slice_get old.licences n ≡ Some l
+comes_planned : (p : ProgramText) (name args : List ℕ) (fuel arena n : ℕ) (old new : Planned) (m : Meaning) (l : Licensed) (a : Asked) (q : JobPlan)
+    → IsLicenceOf p l m → Agrees l m → slice_get old.licences n ≡ Some l
     → IsAsked l name args a → IsPlanned arena fuel n l a old new q → Comes (Some p) name args fuel arena old new q
 comes_planned p name args fuel arena n old new m l (asked.Unfit cause) q has agree at h k =
     subst (Comes (Some p) name args fuel arena old new) (sym k.0) (comes_refused (Some p) name args fuel arena old new cause (unfit_fate p name args m l cause has agree h) k.1)
@@ -232,14 +238,16 @@ comes_planned p name args fuel arena n old new m l (asked.Fits entry values most
     comes_call p name args fuel arena n old new m l entry values.items most q at (call_fate p name args m l entry values.items h.func has agree first is h.of_args.1) b k
 
 pub comes_called : (p : ProgramText) (name args : List ℕ) (fuel arena : ℕ) (old new : Planned) (k : Known) (q : JobPlan) → MeansSame → Holds old.licences p k
-    → ((l : Licensed) → slice_get old.licences k.licence ≡ Some l → IsCalled arena fuel k.licence l name args old new q) → Comes (Some p) name args fuel arena old new q
+    → ((l : Licensed) → slice_get old.licences k.licence ≡ Some l → IsCalled arena fuel k.licence l name args old new q)
+    → Comes (Some p) name args fuel arena old new q
 comes_called p name args fuel arena old new k q means h each =
     let c = each h.licence h.at in
     comes_planned p name args fuel arena k.licence old new h.meaning h.licence c.a q h.is (agrees p h.licence h.meaning means h.is) h.at c.is c.planned
 
 -- ---- rows
 
-pub bounded_is : (l : Licensed) (number : ℕ) (args given : List Value) (most : ℕ) → given ≡ args → most ≡ bound l.code l.cert number given → ((limit fuel : ℕ) → peak_of (run_of l.code limit number fuel given) ≤ most)
+pub bounded_is : (l : Licensed) (number : ℕ) (args given : List Value) (most : ℕ) → given ≡ args → most ≡ bound l.code l.cert number given
+    → ((limit fuel : ℕ) → peak_of (run_of l.code limit number fuel given) ≤ most)
     → IsBoundOf l number args most
 bounded_is l number args given most same e h = subst (λ (xs : List Value). IsBoundOf l number xs most) same (record { is = e; peak = λ fuel. h most_calls fuel })
 
@@ -259,31 +267,37 @@ func_at p number h = by_list p.funcs number refl h
 abbrev pub AreReadAt : Code → (number : ℕ) → (text : List ℕ) → List Value → Type 0
 AreReadAt p number text args = (f : Func) → slice_get p.funcs number ≡ Some f → IsRead p.types f.params text args
 
-pub read_few : (p : Code) (number : ℕ) (text : List ℕ) (args : List Value) → number < length p.funcs → AreReadAt p number text args → size_all (parts args) ≤ 65536
+pub read_few : (p : Code) (number : ℕ) (text : List ℕ) (args : List Value) → number < length p.funcs → AreReadAt p number text args
+    → size_all (parts args) ≤ 65536
 read_few p number text args there each = let f = func_at p number there in (each f.func f.is).few
 
-pub read_entry : (l : Licensed) (p : Code) (number : ℕ) (text : List ℕ) (args : List Value) → p ≡ l.code → number < length l.code.funcs → AreReadAt p number text args → FitsEntry l number args
+pub read_entry : (l : Licensed) (p : Code) (number : ℕ) (text : List ℕ) (args : List Value) → p ≡ l.code → number < length l.code.funcs
+    → AreReadAt p number text args → FitsEntry l number args
 read_entry l p number text args e there each =
     let f = func_at l.code number there in
     let at : slice_get p.funcs number ≡ Some f.func = ap (λ (q : Code). slice_get q.funcs number) e ∙ f.is in
     read_fits l p number f.func text args e f.is (each f.func at)
 
-by_bounded : (l : Licensed) (number : ℕ) (f : Func) (text : List ℕ) (args : List Value) (a : Asked) → IsRead l.code.types f.params text args → IsBounded l number args a → IsOfArgs l number f text a
+by_bounded : (l : Licensed) (number : ℕ) (f : Func) (text : List ℕ) (args : List Value) (a : Asked) → IsRead l.code.types f.params text args
+    → IsBounded l number args a → IsOfArgs l number f text a
 by_bounded l number f text args (asked.Unfit cause) r b = absurd b
 by_bounded l number f text args (asked.Fits entry xs most) r b =
     (b.0, subst (λ (vs : List Value). IsRead l.code.types f.params text vs) (sym b.1) r, subst (λ (vs : List Value). IsBoundOf l number vs most) (sym b.1) b.2)
 
-pub args_bounded : (l : Licensed) (p : Code) (number : ℕ) (text : List ℕ) (args : List Value) (a : Asked) → p ≡ l.code → AreReadAt p number text args → IsBounded l number args a
+pub args_bounded : (l : Licensed) (p : Code) (number : ℕ) (text : List ℕ) (args : List Value) (a : Asked) → p ≡ l.code → AreReadAt p number text args
+    → IsBounded l number args a
     → (f : Func) → slice_get l.code.funcs number ≡ Some f → IsOfArgs l number f text a
 args_bounded l p number text args a e each b f is =
     let at : slice_get p.funcs number ≡ Some f = ap (λ (q : Code). slice_get q.funcs number) e ∙ is in
     by_bounded l number f text args a (subst (λ (q : Code). IsRead q.types f.params text args) e (each f at)) b
 
-pub args_bad : (l : Licensed) (p : Code) (number : ℕ) (text : List ℕ) (at : ℕ) → p ≡ l.code → ((f : Func) → slice_get p.funcs number ≡ Some f → IsBadShape p.types f.params text at)
+pub args_bad : (l : Licensed) (p : Code) (number : ℕ) (text : List ℕ) (at : ℕ) → p ≡ l.code
+    → ((f : Func) → slice_get p.funcs number ≡ Some f → IsBadShape p.types f.params text at)
     → (f : Func) → slice_get l.code.funcs number ≡ Some f → IsBadShape l.code.types f.params text at
 args_bad l p number text at e each f is = subst (λ (q : Code). IsBadShape q.types f.params text at) e (each f (ap (λ (q : Code). slice_get q.funcs number) e ∙ is))
 
-pub args_long : (l : Licensed) (p : Code) (number : ℕ) (text : List ℕ) (items : ℕ) → p ≡ l.code → ((f : Func) → slice_get p.funcs number ≡ Some f → IsTooLong p.types f.params text items)
+pub args_long : (l : Licensed) (p : Code) (number : ℕ) (text : List ℕ) (items : ℕ) → p ≡ l.code
+    → ((f : Func) → slice_get p.funcs number ≡ Some f → IsTooLong p.types f.params text items)
     → (f : Func) → slice_get l.code.funcs number ≡ Some f → IsTooLong l.code.types f.params text items
 args_long l p number text items e each f is = subst (λ (q : Code). IsTooLong q.types f.params text items) e (each f (ap (λ (q : Code). slice_get q.funcs number) e ∙ is))
 
@@ -302,6 +316,7 @@ row_fits licences rows name r h e = row_found licences rows name r h (sym e)
 -- ---- what is answered
 
 pub row_comes : (p : ProgramText) (name args : List ℕ) (fuel arena : ℕ) (old new : Planned) (o : Option Known) (k : Known) (r : Result JobPlan AllocError) → MeansSame → IsKnown old.licences p o → o ≡ Some k
-    → ((l : Licensed) → slice_get old.licences k.licence ≡ Some l → IfOk r (IsCalled arena fuel k.licence l name args old new)) → IfOk r (Comes (Some p) name args fuel arena old new)
+    → ((l : Licensed) → slice_get old.licences k.licence ≡ Some l → IfOk r (IsCalled arena fuel k.licence l name args old new))
+    → IfOk r (Comes (Some p) name args fuel arena old new)
 row_comes p name args fuel arena old new o k (Err x) means h e each = tt
 row_comes p name args fuel arena old new o k (Ok q) means h e each = comes_called p name args fuel arena old new k q means (subst (IsKnown old.licences p) e h) each

@@ -1,5 +1,6 @@
--- The code of a licence does what the calls of its program mean. Of compiled code: its functions are those of the source, the same names in order, with the parameters' kinds. The first one
--- of a name is the same in both, and constructors have upper names.
+-- The code of a licence does what the calls of its program mean. Of compiled code: its functions are those of the
+-- source, the same names in order, with the parameters' kinds. The first one of a name is the same in both, and
+-- constructors have upper names.
 use Rattle.std.proofs.Common.{◌≡◌, ℕ, zero, suc, ◌<◌, Bool, true, false, List, [], ◌∷◌, ◌++◌, map, Some, None, refl, sym, ap, ◌∙◌, subst, arith}
 use Rattle.std.specs.Prelude.{slice_get, if◌then◌else◌, Option}
 use Rattle.std.specs.List.{AllByRecursion}
@@ -13,10 +14,10 @@ use Rattle.camelot_values.specs.Value.{Value}
 use Rattle.camelot_values.specs.Typing.{ArgumentsFit}
 use Rattle.camelot_tree.specs.Meaning as source
 use Rattle.camelot_tree.specs.Tree.{Function, Source}
-use Rattle.typing_rules.specs.Kinds.{Globals, types_of}
+use Rattle.camelot_typing.specs.Kinds.{Globals, types_of}
 use Rattle.camelot_values.specs.declared.kinds.Kind.{Kind}
-use Rattle.typing_rules.specs.Typing.{Signature, FunctionsFit, globals_of}
-use Rattle.typing_rules.specs.Typed.{IsTyping, Typing}
+use Rattle.camelot_typing.specs.Typing.{Signature, FunctionsFit, globals_of}
+use Rattle.camelot_typing.specs.Typed.{IsTyping, Typing}
 use Rattle.linear_use.specs.Answers.{KeepsRule}
 use Rattle.grail_code.specs.Code.{Code, Func}
 use Rattle.grail_code.specs.Meaning.{run_of}
@@ -34,7 +35,8 @@ use Rattle.script_plans.specs.Fates.{OfEntry, HasNoEntry}
 
 -- ---- upper names
 
-both : (cs : List Constructor) (ds : List Constructor) → AllByRecursion FitsCon cs → AllByRecursion (λ c. IsUpperName c.name) ds → AllByRecursion (λ c. IsUpperName c.name) (cs ++ ds)
+both : (cs : List Constructor) (ds : List Constructor) → AllByRecursion FitsCon cs → AllByRecursion (λ c. IsUpperName c.name) ds
+    → AllByRecursion (λ c. IsUpperName c.name) (cs ++ ds)
 both [] ds a b = b
 both (c ∷ cs) ds a b = (a.0.name, both cs ds a.1 b)
 
@@ -47,7 +49,8 @@ code_named p f = all_named p.types f.types.each
 
 -- ---- the first of a name
 
-pub first_place : (names : List (List ℕ)) (number : ℕ) (name : List ℕ) → slice_get names number ≡ Some name → ((earlier : ℕ) → earlier < number → slice_get names earlier ≡ Some name → ⊥)
+pub first_place : (names : List (List ℕ)) (number : ℕ) (name : List ℕ) → slice_get names number ≡ Some name
+    → ((earlier : ℕ) → earlier < number → slice_get names earlier ≡ Some name → ⊥)
     → place_among names name ≡ Some number
 first_place [] number name e first = let c : None ≡ Some name = e in absurd cc
 first_place (n ∷ names) zero name e first =
@@ -55,7 +58,8 @@ first_place (n ∷ names) zero name e first =
     ap (λ b. if b then Some 0 else option_map suc (place_among names name)) (ap (λ m. bytes_eq m name) same ∙ name_itself name)
 first_place (n ∷ names) (suc number) name e first = by_test (bytes_eq n name) refl (first_place names number name e (λ earlier less here. first (suc earlier) (omega (arith, less)) here))
   where
-    by_test : (b : Bool) → bytes_eq n name ≡ b → place_among names name ≡ Some number → (if b then Some 0 else option_map suc (place_among names name)) ≡ Some (suc number)
+    by_test : (b : Bool) → bytes_eq n name ≡ b → place_among names name ≡ Some number
+        → (if b then Some 0 else option_map suc (place_among names name)) ≡ Some (suc number)
     by_test true t go = absurd (first 0 (omega arith) (ap Some (same_name n name t)))
     by_test false t go = ap (option_map suc) go
 
@@ -112,7 +116,8 @@ abbrev pub MeansSame : Type 0
 MeansSame = (t : Typing) (limit func fuel : ℕ) (args : List Value) (s : Signature) → IsTyping t → KeepsRule t → slice_get t.signatures func ≡ Some s
     → ArgumentsFit (types_of t.source) s.params args → run_of (compiled t) limit func fuel args ≡ source.run_of t.source limit func fuel args
 
--- The same functions in order, with parameters of the same kinds, over the same types; and each call on fitting arguments comes to the same.
+-- The same functions in order, with parameters of the same kinds, over the same types; and each call on fitting
+-- arguments comes to the same.
 pub record Agrees (l : Licensed) (m : Meaning) : Type 0 where
   pub names : map (λ f. f.name) l.code.funcs ≡ function_names m
   pub params : (number : ℕ) (func : Func) → slice_get l.code.funcs number ≡ Some func → slice_get (function_params m) number ≡ Some func.params
@@ -120,7 +125,8 @@ pub record Agrees (l : Licensed) (m : Meaning) : Type 0 where
   pub same : (number fuel : ℕ) (func : Func) (args : List Value) → slice_get l.code.funcs number ≡ Some func → ArgumentsFit l.code.types func.params args
       → run_of l.code most_calls number fuel args ≡ run_by m number fuel args
 
-source_signed : (text : List ℕ) (t : Typing) (l : Licensed) → HasLicence text t l → (number : ℕ) (func : Func) → slice_get l.code.funcs number ≡ Some func → IsSigned t.signatures number func.params
+source_signed : (text : List ℕ) (t : Typing) (l : Licensed) → HasLicence text t l → (number : ℕ) (func : Func)
+    → slice_get l.code.funcs number ≡ Some func → IsSigned t.signatures number func.params
 source_signed text t l has number func is = signed live_params t.source t.signatures t.source.funs t.signatures number func (subst (λ (p : Code). slice_get p.funcs number ≡ Some func) has.code is)
 
 source_agrees : (text : List ℕ) (t : Typing) (l : Licensed) → MeansSame → HasLicence text t l → Agrees l (OfSource t)
@@ -171,7 +177,8 @@ entry_found p name m l number func Says has agree first is says = record {
   says = says;
 }
 
-pub no_entry : (p : ProgramText) (name : List ℕ) (m : Meaning) (l : Licensed) → IsLicenceOf p l m → Agrees l m → ((number : ℕ) → HasName l.code number name → ⊥) → HasNoEntry p name
+pub no_entry : (p : ProgramText) (name : List ℕ) (m : Meaning) (l : Licensed) → IsLicenceOf p l m → Agrees l m
+    → ((number : ℕ) → HasName l.code number name → ⊥) → HasNoEntry p name
 no_entry p name m l has agree none = record {
   meaning = m;
   licence = l;

@@ -1,13 +1,13 @@
--- What comes of a program and of a job is determined: compiling has one answer, a bundle one licence or one cause, and a
--- text of values one reading.
+-- What comes of a program and of a job is determined: compiling has one answer, a bundle one licence or one cause, and
+-- a text of values one reading.
 use Rattle.std.proofs.Common.{◌≡◌, ℕ, List, [], ◌∷◌, Some, None, refl, sym, ap, ◌∙◌, subst}
 use Rattle.std.specs.Prelude.{slice_get, Option}
 use Rattle.camelot_values.specs.Value.{Value}
 use Rattle.camelot_values.specs.Names.{place_among}
 use Rattle.camelot_values.specs.Kinds.{DataType}
 use Rattle.camelot_values.specs.declared.kinds.Kind.{Kind}
-use Rattle.typing_rules.specs.Kinds.{types_of}
-use Rattle.typing_rules.specs.Typed.{IsTyping, Typing}
+use Rattle.camelot_typing.specs.Kinds.{types_of}
+use Rattle.camelot_typing.specs.Typed.{IsTyping, Typing}
 use Rattle.linear_use.specs.Answers.{KeepsRule}
 use Rattle.grail_code.specs.Code.{Code}
 use Rattle.grail_code.specs.Spelling.{FitsCode}
@@ -15,15 +15,15 @@ use Rattle.grail_code.specs.WellFormed.{IsWellFormed}
 use Rattle.value_text.specs.Grammar.{AreNamed, DistinctNames, IsTextOf, IsRead, IsTooLong, IsBadShape}
 use Rattle.code_gen.specs.Generated.{compiled}
 use Rattle.licence.specs.Licensed.{Licensed}
-use Rattle.refusals.specs.declared.cause.Cause.{Cause}
+use Rattle.cause_texts.specs.declared.cause.Cause.{Cause}
 use Rattle.camelot_compiler.specs.Compiled.{Compiled, IsCompiled}
 use Rattle.camelot_compiler.specs.Compiled as compiler
 use Rattle.camelot_compiler.specs.Licences.{HasLicence}
 use Rattle.bundle_licence.specs.Bundled as bundle
 use Rattle.job_script.specs.Scripts.{Entry, AProgram, AJob}
-use Rattle.run_reports.specs.declared.outcome.ProgramLine.{ProgramLine}
-use Rattle.run_reports.specs.declared.outcome.ProgramLine.TheVariants as program
-use Rattle.run_reports.specs.declared.outcome.JobCause.TheVariants as job_cause
+use Rattle.script_outcomes.specs.declared.outcome.ProgramLine.{ProgramLine}
+use Rattle.script_outcomes.specs.declared.outcome.ProgramLine.TheVariants as program
+use Rattle.script_outcomes.specs.declared.outcome.JobCause.TheVariants as job_cause
 use Rattle.script_plans.specs.Programs.{ProgramText, CamelotText, GrailText, Meaning, OfSource, OfCode, program_of, program_named, function_names, function_params, value_types, IsLicenceOf, IsRefusedFor}
 use Rattle.script_plans.specs.Fates.{Call, Fate, Unfit, Calls, IsProgramLine, IsRefused, HasNoEntry, OfEntry, IsCall, IsFate}
 use Rattle.script_plans.specs.Lines.{AreProgramLines, AreFates}
@@ -31,12 +31,16 @@ use Rattle.script_plans.proofs.Naming.{code_named}
 
 -- the laws of texts of values
 pub record OfTexts : Type 0 where
-  pub reading : (types : List DataType) (kinds : List Kind) (text : List ℕ) (vs ws : List Value) → AreNamed types → DistinctNames types → IsTextOf types kinds text vs → IsTextOf types kinds text ws → vs ≡ ws
-  pub long : (types : List DataType) (kinds : List Kind) (text : List ℕ) (m n : ℕ) → AreNamed types → DistinctNames types → IsTooLong types kinds text m → IsTooLong types kinds text n → m ≡ n
+  pub reading : (types : List DataType) (kinds : List Kind) (text : List ℕ) (vs ws : List Value) → AreNamed types → DistinctNames types
+      → IsTextOf types kinds text vs → IsTextOf types kinds text ws → vs ≡ ws
+  pub long : (types : List DataType) (kinds : List Kind) (text : List ℕ) (m n : ℕ) → AreNamed types → DistinctNames types
+      → IsTooLong types kinds text m → IsTooLong types kinds text n → m ≡ n
   pub bad : (types : List DataType) (kinds : List Kind) (text : List ℕ) (m n : ℕ) → IsBadShape types kinds text m → IsBadShape types kinds text n → m ≡ n
-  pub never_both : (types : List DataType) (kinds : List Kind) (text : List ℕ) (vs : List Value) (n : ℕ) → AreNamed types → DistinctNames types → IsRead types kinds text vs → IsTooLong types kinds text n → ⊥
+  pub never_both : (types : List DataType) (kinds : List Kind) (text : List ℕ) (vs : List Value) (n : ℕ) → AreNamed types → DistinctNames types
+      → IsRead types kinds text vs → IsTooLong types kinds text n → ⊥
 
--- the laws of this program: it has one licence, with one meaning, or it is refused for one cause; its constructors have upper names, all different
+-- the laws of this program: it has one licence, with one meaning, or it is refused for one cause; its constructors have
+-- upper names, all different
 pub record OfProgram (p : ProgramText) : Type 0 where
   pub licence : (l k : Licensed) (m n : Meaning) → IsLicenceOf p l m → IsLicenceOf p k n → (l ≡ k) × (m ≡ n)
   pub apart : (l : Licensed) (m : Meaning) (cause : Cause) → IsLicenceOf p l m → IsRefusedFor p cause → ⊥
@@ -104,7 +108,8 @@ one_line p P (program.Accepted m) (program.Refused d) a b = absurd (P.apart a.li
 one_line p P (program.Refused c) (program.Accepted n) a b = absurd (P.apart b.licence b.meaning c b.is a)
 one_line p P (program.Refused c) (program.Refused d) a b = ap program.Refused (P.one c d a b)
 
-pub all_lines : Laws → (entries : List Entry) (first second : List ProgramLine) → AreProgramLines entries first → AreProgramLines entries second → first ≡ second
+pub all_lines : Laws → (entries : List Entry) (first second : List ProgramLine) → AreProgramLines entries first → AreProgramLines entries second
+    → first ≡ second
 all_lines L [] [] [] a b = refl
 all_lines L [] (x ∷ xs) second a b = absurd a
 all_lines L [] [] (y ∷ ys) a b = absurd b
@@ -117,7 +122,8 @@ all_lines L (AJob j ∷ entries) first second a b = all_lines L entries first se
 -- ---- one entry
 
 -- what is said of one entry is said together
-both_said : (p : ProgramText) → OfProgram p → (name : List ℕ) (P Q : Meaning → Licensed → (entry : ℕ) → List Kind → Type 0) → OfEntry p name P → OfEntry p name Q → OfEntry p name (λ m l n ks. P m l n ks × Q m l n ks)
+both_said : (p : ProgramText) → OfProgram p → (name : List ℕ) (P Q : Meaning → Licensed → (entry : ℕ) → List Kind → Type 0) → OfEntry p name P
+    → OfEntry p name Q → OfEntry p name (λ m l n ks. P m l n ks × Q m l n ks)
 both_said p L name P Q a b = record {
   meaning = a.meaning;
   licence = a.licence;
@@ -166,7 +172,8 @@ data Way (p : ProgramText) (name args : List ℕ) (fate : Fate) : Type 0 where
   Here : OfEntry p name (IsSaid args fate) → Way p name args fate
 
 -- the same is said of one entry in other words
-said : (p : ProgramText) (name : List ℕ) (P Q : Meaning → Licensed → (entry : ℕ) → List Kind → Type 0) → ((m : Meaning) (l : Licensed) (n : ℕ) (ks : List Kind) → P m l n ks → Q m l n ks) → OfEntry p name P → OfEntry p name Q
+said : (p : ProgramText) (name : List ℕ) (P Q : Meaning → Licensed → (entry : ℕ) → List Kind → Type 0)
+    → ((m : Meaning) (l : Licensed) (n : ℕ) (ks : List Kind) → P m l n ks → Q m l n ks) → OfEntry p name P → OfEntry p name Q
 said p name P Q f a =
     record { meaning = a.meaning; licence = a.licence; has = a.has; entry = a.entry; named = a.named; params = a.params; is = a.is; says = f a.meaning a.licence a.entry a.params a.says }
 
@@ -180,7 +187,8 @@ way_of p name args (Unfit (job_cause.Long items)) h =
     Here (said p name (λ m l n ks. IsTooLong (value_types m) ks args items) (IsSaid args (Unfit (job_cause.Long items))) (λ m l n ks b. Long items refl b) h)
 way_of p name args (Calls c) h = Here (said p name (IsCall args c) (IsSaid args (Calls c)) (λ m l n ks b. Read c refl b) h)
 
-one_said : OfTexts → (args : List ℕ) (f g : Fate) (m : Meaning) (l : Licensed) (n : ℕ) (ks : List Kind) → AreNamed (value_types m) → DistinctNames (value_types m) → IsSaid args f m l n ks → IsSaid args g m l n ks → f ≡ g
+one_said : OfTexts → (args : List ℕ) (f g : Fate) (m : Meaning) (l : Licensed) (n : ℕ) (ks : List Kind) → AreNamed (value_types m)
+    → DistinctNames (value_types m) → IsSaid args f m l n ks → IsSaid args g m l n ks → f ≡ g
 one_said T args f g m l n ks named distinct (Bad i e a) (Bad j d b) = e ∙ ap (λ x. Unfit (job_cause.Argument x)) (T.bad (value_types m) ks args i j a b) ∙ sym d
 one_said T args f g m l n ks named distinct (Bad i e a) (Long j d b) = absurd (a.none b.values b.text_of)
 one_said T args f g m l n ks named distinct (Bad i e a) (Read c d b) = absurd (a.none b.args b.read.text_of)
@@ -225,7 +233,8 @@ pub one_fate : Laws → (p : Option ProgramText) (name args : List ℕ) (f g : F
 one_fate L None name args f g a b = no_fate name args f a ∙ sym (no_fate name args g b)
 one_fate L (Some p) name args f g a b = one_way L.texts p (of_program L p) name args f g (way_of p name args f a) (way_of p name args g b)
 
-pub all_fates : Laws → (script entries : List Entry) (first second : List Fate) → AreFates script entries first → AreFates script entries second → first ≡ second
+pub all_fates : Laws → (script entries : List Entry) (first second : List Fate) → AreFates script entries first → AreFates script entries second
+    → first ≡ second
 all_fates L script [] [] [] a b = refl
 all_fates L script [] (x ∷ xs) second a b = absurd a
 all_fates L script [] [] (y ∷ ys) a b = absurd b

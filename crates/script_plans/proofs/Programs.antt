@@ -8,13 +8,13 @@ use Rattle.job_script.specs.Scripts.{Program, Entry, AProgram, AJob}
 use Rattle.job_world.specs.PlanLaws.{front_stays, found_behind}
 use Rattle.value_text.specs.Inhabited.{Knows}
 use Rattle.camelot_compiler.specs.Licences.{IsLicence}
-use Rattle.refusals.specs.declared.cause.Cause.{Cause}
-use Rattle.run_reports.specs.declared.outcome.ProgramLine.{ProgramLine}
-use Rattle.run_reports.specs.declared.outcome.ProgramLine.TheVariants as program
+use Rattle.cause_texts.specs.declared.cause.Cause.{Cause}
+use Rattle.script_outcomes.specs.declared.outcome.ProgramLine.{ProgramLine}
+use Rattle.script_outcomes.specs.declared.outcome.ProgramLine.TheVariants as program
 use Rattle.script_plans.specs.declared.rows.Known.{Known}
 use Rattle.script_plans.specs.Programs.{ProgramText, CamelotText, program_of, program_named, OfSource, IsRefusedFor}
 use Rattle.script_plans.specs.Lines.{AreProgramLines}
-use Rattle.script_plans.specs.Rows.{Row, row_among, row_program, IsKnown, IsRow, AreRows, IsLicenceFor, IsProgramAdded, IsTaken, AreLicensed}
+use Rattle.script_plans.specs.Rows.{Row, Licensing, row_among, row_program, IsKnown, IsRow, AreRows, IsLicenceFor, IsProgramAdded, IsTaken, AreLicensed}
 
 -- the row's program, or else this one
 abbrev program_or : Option Row → Option ProgramText → Option ProgramText
@@ -22,13 +22,13 @@ program_or None o = o
 program_or (Some r) o = Some r.program
 
 -- The front entries have these lines, whatever lines the rest have, and the rows are theirs.
-pub record UpTo (script rest : List Entry) (rows : List Row) (licences : List Licensed) (lines : List ProgramLine) : Type 0 where
-  pub told : (more : List ProgramLine) → AreProgramLines rest more → AreProgramLines script (lines ++ more)
-  pub kept : AreRows licences rows
-  pub programs : (name : List ℕ) → program_named script name ≡ program_or (row_among rows name) (program_named rest name)
-  pub few : length licences + length rest ≤ length script
+pub record UpTo (script rest : List Entry) (l : Licensing) : Type 0 where
+  pub told : (more : List ProgramLine) → AreProgramLines rest more → AreProgramLines script (l.lines ++ more)
+  pub kept : AreRows l.licences l.rows
+  pub programs : (name : List ℕ) → program_named script name ≡ program_or (row_among l.rows name) (program_named rest name)
+  pub few : length l.licences + length rest ≤ length script
 
-pub none_licensed : (script : List Entry) → UpTo script script [] [] []
+pub none_licensed : (script : List Entry) → UpTo script script (record { rows = []; licences = []; lines = [] })
 none_licensed script = record { told = λ more h. h; kept = tt; programs = λ name. refl; few = omega arith }
 
 known_stays : (licences more : List Licensed) (p : ProgramText) (k : Option Known) → IsKnown licences p k → IsKnown (licences ++ more) p k
@@ -41,11 +41,13 @@ known_stays licences more p (Some k) h = record {
   knows = h.knows;
 }
 
-rows_end : (licences more : List Licensed) (rows : List Row) (r : Row) → AreRows licences rows → IsRow (licences ++ more) r → AreRows (licences ++ more) (rows ++ r ∷ [])
+rows_end : (licences more : List Licensed) (rows : List Row) (r : Row) → AreRows licences rows → IsRow (licences ++ more) r
+    → AreRows (licences ++ more) (rows ++ r ∷ [])
 rows_end licences more [] r h k = (k, tt)
 rows_end licences more (q ∷ rows) r h k = (known_stays licences more q.program q.known h.0, rows_end licences more rows r h.1 k)
 
-programs_end : (rows : List Row) (r : Row) (name : List ℕ) (o : Option ProgramText) → program_or (row_among rows name) (if bytes_eq r.name name then Some r.program else o) ≡ program_or (row_among (rows ++ r ∷ []) name) o
+programs_end : (rows : List Row) (r : Row) (name : List ℕ) (o : Option ProgramText)
+    → program_or (row_among rows name) (if bytes_eq r.name name then Some r.program else o) ≡ program_or (row_among (rows ++ r ∷ []) name) o
 programs_end [] r name o = by_test (bytes_eq r.name name)
   where
     by_test : (b : Bool) → (if b then Some r.program else o) ≡ program_or (if b then Some r else None) o
@@ -58,37 +60,33 @@ programs_end (q ∷ rows) r name o = by_test (bytes_eq q.name name) (programs_en
     by_test true go = refl
     by_test false go = go
 
-program_licensed : (script rest : List Entry) (p : Program) (rows rows2 : List Row) (licences licences2 : List Licensed) (lines lines2 : List ProgramLine) → UpTo script (AProgram p ∷ rest) rows licences lines
-    → IsProgramAdded p.name (program_of p) rows rows2 licences licences2 lines lines2 → UpTo script rest rows2 licences2 lines2
-program_licensed script rest p rows rows2 licences licences2 lines lines2 u a =
+program_licensed : (script rest : List Entry) (p : Program) (old new : Licensing) → UpTo script (AProgram p ∷ rest) old
+    → IsProgramAdded p.name (program_of p) old new → UpTo script rest new
+program_licensed script rest p old new u a =
     let r : Row = record { name = p.name; program = program_of p; known = a.known } in
     record {
-      told = λ more h. subst (λ l. AreProgramLines script (l ++ more)) (sym a.new_line) (subst (AreProgramLines script) (sym (append_assoc lines (a.line ∷ []) more)) (u.told (a.line ∷ more) (a.is, h)));
-      kept = subst (AreRows licences2) (sym a.new_row) (subst (λ ls. AreRows ls (rows ++ r ∷ [])) (sym a.new_licences) (rows_end licences a.more rows r u.kept (subst (λ ls. IsKnown ls (program_of p) a.known) a.new_licences a.knows)));
-      programs = λ name. u.programs name ∙ programs_end rows r name (program_named rest name) ∙ ap (λ rs. program_or (row_among rs name) (program_named rest name)) (sym a.new_row);
+      told = λ more h. subst (λ l. AreProgramLines script (l ++ more)) (sym a.lines) (subst (AreProgramLines script) (sym (append_assoc old.lines (a.line ∷ []) more)) (u.told (a.line ∷ more) (a.is, h)));
+      kept =
+          subst (AreRows new.licences) (sym a.rows)
+          (subst (λ ls. AreRows ls (old.rows ++ r ∷ [])) (sym a.licences) (rows_end old.licences a.more old.rows r u.kept (subst (λ ls. IsKnown ls (program_of p) a.known) a.licences a.knows)));
+      programs = λ name. u.programs name ∙ programs_end old.rows r name (program_named rest name) ∙ ap (λ rs. program_or (row_among rs name) (program_named rest name)) (sym a.rows);
       few = omega (arith, u.few, a.count);
     }
 
-job_passed : (script rest : List Entry) (rows rows2 : List Row) (licences licences2 : List Licensed) (lines lines2 : List ProgramLine) → UpTo script rest rows licences lines → (rows2 ≡ rows) → (licences2 ≡ licences) → (lines2 ≡ lines)
-    → UpTo script rest rows2 licences2 lines2
-job_passed script rest rows rows2 licences licences2 lines lines2 u e f g =
-    subst (λ rs. UpTo script rest rs licences2 lines2) (sym e) (subst (λ ls. UpTo script rest rows ls lines2) (sym f) (subst (λ l. UpTo script rest rows licences l) (sym g) u))
-
-pub licensed_more : (script rest : List Entry) (entry : Entry) (rows rows2 : List Row) (licences licences2 : List Licensed) (lines lines2 : List ProgramLine) → UpTo script (entry ∷ rest) rows licences lines
-    → IsTaken entry rows rows2 licences licences2 lines lines2 → UpTo script rest rows2 licences2 lines2
-licensed_more script rest (AProgram p) rows rows2 licences licences2 lines lines2 u t = program_licensed script rest p rows rows2 licences licences2 lines lines2 u t
-licensed_more script rest (AJob j) rows rows2 licences licences2 lines lines2 u t =
-    job_passed script rest rows rows2 licences licences2 lines lines2 (record { told = u.told; kept = u.kept; programs = u.programs; few = omega (arith, u.few) }) t.0 t.1 t.2
+pub licensed_more : (script rest : List Entry) (entry : Entry) (old new : Licensing) → UpTo script (entry ∷ rest) old → IsTaken entry old new
+    → UpTo script rest new
+licensed_more script rest (AProgram p) old new u t = program_licensed script rest p old new u t
+licensed_more script rest (AJob j) old new u t = subst (UpTo script rest) (sym t) (record { told = u.told; kept = u.kept; programs = u.programs; few = omega (arith, u.few) })
 
 program_none : (o : Option Row) → program_or o None ≡ row_program o
 program_none None = refl
 program_none (Some r) = refl
 
-pub all_licensed : (script : List Entry) (rows : List Row) (licences : List Licensed) (lines : List ProgramLine) → UpTo script [] rows licences lines → AreLicensed script rows licences lines
-all_licensed script rows licences lines u = record {
-  told = subst (AreProgramLines script) (append-nil lines) (u.told [] tt);
+pub all_licensed : (script : List Entry) (l : Licensing) → UpTo script [] l → AreLicensed script l
+all_licensed script l u = record {
+  told = subst (AreProgramLines script) (append-nil l.lines) (u.told [] tt);
   kept = u.kept;
-  programs = λ name. u.programs name ∙ program_none (row_among rows name);
+  programs = λ name. u.programs name ∙ program_none (row_among l.rows name);
 }
 
 -- ---- one program
@@ -96,22 +94,22 @@ all_licensed script rows licences lines u = record {
 pub source_licensed : (text : List ℕ) (l : Licensed) → IsLicence text l → IsLicenceFor (CamelotText text) l
 source_licensed text l h = record { meaning = OfSource h.typing; is = record { is = h; means = refl } }
 
-pub accepted : (name : List ℕ) (p : ProgramText) (rows rows2 : List Row) (licences licences2 : List Licensed) (lines lines2 : List ProgramLine) (l : Licensed) (k : Known) (unit : ℕ) → IsLicenceFor p l
-    → k.licence ≡ length licences → Knows l.code.types k.inhabited → unit ≡ l.cert.unit → licences2 ≡ licences ++ l ∷ [] → rows2 ≡ rows ++ record { name = name; program = p; known = Some k } ∷ []
-    → lines2 ≡ lines ++ program.Accepted unit ∷ [] → IsProgramAdded name p rows rows2 licences licences2 lines lines2
-accepted name p rows rows2 licences licences2 lines lines2 l k unit has at knows units ls rs lns = record {
+pub accepted : (name : List ℕ) (p : ProgramText) (old new : Licensing) (l : Licensed) (k : Known) (unit : ℕ) → IsLicenceFor p l
+    → k.licence ≡ length old.licences → Knows l.code.types k.inhabited → unit ≡ l.cert.unit
+    → new.licences ≡ old.licences ++ l ∷ [] → new.rows ≡ old.rows ++ record { name = name; program = p; known = Some k } ∷ [] → new.lines ≡ old.lines ++ program.Accepted unit ∷ [] → IsProgramAdded name p old new
+accepted name p old new l k unit has at knows units ls rs lns = record {
   line = program.Accepted unit;
   is = record { licence = l; meaning = has.meaning; is = has.is; units = units };
-  new_line = lns;
+  lines = lns;
   known = Some k;
-  new_row = rs;
+  rows = rs;
   more = l ∷ [];
-  new_licences = ls;
-  count = let n : length licences2 ≡ length licences + 1 = ap length ls ∙ length_end licences l in omega (arith, n);
+  licences = ls;
+  count = let n : length new.licences ≡ length old.licences + 1 = ap length ls ∙ length_end old.licences l in omega (arith, n);
   knows = record {
     licence = l;
     meaning = has.meaning;
-    at = ap (λ xs. slice_get xs k.licence) ls ∙ ap (slice_get (licences ++ l ∷ [])) at ∙ found_behind licences l [];
+    at = ap (λ xs. slice_get xs k.licence) ls ∙ ap (slice_get (old.licences ++ l ∷ [])) at ∙ found_behind old.licences l [];
     is = has.is;
     knows = knows;
   };
@@ -121,16 +119,16 @@ accepted name p rows rows2 licences licences2 lines lines2 l k unit has at knows
     length_end [] x = refl
     length_end (y ∷ xs) x = let go = length_end xs x in omega (arith, go)
 
-pub refused : (name : List ℕ) (p : ProgramText) (rows rows2 : List Row) (licences : List Licensed) (lines lines2 : List ProgramLine) (cause : Cause) → IsRefusedFor p cause
-    → rows2 ≡ rows ++ record { name = name; program = p; known = None } ∷ [] → lines2 ≡ lines ++ program.Refused cause ∷ [] → IsProgramAdded name p rows rows2 licences licences lines lines2
-refused name p rows rows2 licences lines lines2 cause is rs lns = record {
+pub refused : (name : List ℕ) (p : ProgramText) (old new : Licensing) (cause : Cause) → IsRefusedFor p cause → new.rows ≡ old.rows ++ record { name = name; program = p; known = None } ∷ [] → new.licences ≡ old.licences
+    → new.lines ≡ old.lines ++ program.Refused cause ∷ [] → IsProgramAdded name p old new
+refused name p old new cause is rs ls lns = record {
   line = program.Refused cause;
   is = is;
-  new_line = lns;
+  lines = lns;
   known = None;
-  new_row = rs;
+  rows = rs;
   more = [];
-  new_licences = sym (append-nil licences);
-  count = omega arith;
+  licences = ls ∙ sym (append-nil old.licences);
+  count = let n : length new.licences ≡ length old.licences = ap length ls in omega (arith, n);
   knows = record { cause = cause; is = is };
 }

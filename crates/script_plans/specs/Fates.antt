@@ -1,6 +1,7 @@
 -- Cited by contracts.
--- What comes of each program and of each job of a script, by the meaning of programs. What comes of a job depends on its own entry, fuel and arguments, on the text and the language of its
--- program, and on the arena, and on nothing else: no other job and no other program stands in these definitions.
+-- What comes of each program and of each job of a script, by the meaning of programs. What comes of a job depends on
+-- its own entry, fuel and arguments, on the text and the language of its program, and on the arena, and on nothing
+-- else: no other job and no other program stands in these definitions.
 use Rattle.std.specs.Prelude.{◌≡◌, ℕ, ◌≤◌, nat_lt, if◌then◌else◌, List, [], ◌∷◌, slice_get, Option, Some, None}
 use Rattle.camelot_values.specs.Value.{Value}
 use Rattle.camelot_values.specs.Names.{place_among}
@@ -13,12 +14,12 @@ use Rattle.licence.specs.Bound.{bound, lease}
 use Rattle.licence.specs.Licensed.{Licensed}
 use Rattle.cell_machine.specs.State.{most_calls}
 use Rattle.cell_machine.specs.Loading.{last_cells}
-use Rattle.refusals.specs.declared.cause.Cause.{Cause}
-use Rattle.run_reports.specs.declared.outcome.ProgramLine.{ProgramLine}
-use Rattle.run_reports.specs.declared.outcome.ProgramLine.TheVariants as program
-use Rattle.run_reports.specs.declared.outcome.JobCause.{JobCause}
-use Rattle.run_reports.specs.declared.outcome.JobCause.TheVariants as job_cause
-use Rattle.run_reports.specs.Report.{JobLine, Ended, TooLarge, Refused}
+use Rattle.cause_texts.specs.declared.cause.Cause.{Cause}
+use Rattle.script_outcomes.specs.declared.outcome.ProgramLine.{ProgramLine}
+use Rattle.script_outcomes.specs.declared.outcome.ProgramLine.TheVariants as program
+use Rattle.script_outcomes.specs.declared.outcome.JobCause.{JobCause}
+use Rattle.script_outcomes.specs.declared.outcome.JobCause.TheVariants as job_cause
+use Rattle.script_outcomes.specs.Told.{JobLine, Ended, TooLarge, Refused}
 use Rattle.script_plans.specs.Programs.{ProgramText, Meaning, function_names, function_params, value_types, run_by, IsLicenceOf, IsRefusedFor}
 
 -- ---- programs
@@ -71,7 +72,8 @@ pub data Fate : Type 0 where
   Unfit : JobCause → Fate
   Calls : Call → Fate
 
--- the program has a licence, and its first function of this name has this number and parameters of these kinds, of which this is said
+-- the program has a licence, and its first function of this name has this number and parameters of these kinds, of
+-- which this is said
 pub record OfEntry (p : ProgramText) (name : List ℕ) (Says : Meaning → Licensed → (entry : ℕ) → (params : List Kind) → Type 0) : Type 0 where
   pub meaning : Meaning
   pub licence : Licensed
@@ -100,8 +102,9 @@ pub record IsCall (text : List ℕ) (c : Call) (m : Meaning) (l : Licensed) (ent
   pub read : IsRead (value_types m) params text args
   pub is : c ≡ record { meaning = m; licence = l; entry = entry; args = args }
 
--- What comes of a job, by its program, where there is one of its name, the name of its entry and the text of its arguments; the first of these that is so. There is no such program; it is
--- refused; it has no such function; the arguments are no text of values of its kinds; they have more than 65,536 nodes. Else the job calls that function.
+-- What comes of a job, by its program, where there is one of its name, the name of its entry and the text of its
+-- arguments; the first of these that is so. There is no such program; it is refused; it has no such function; the
+-- arguments are no text of values of its kinds; they have more than 65,536 nodes. Else the job calls that function.
 abbrev pub IsFate : Option ProgramText → (entry args : List ℕ) → Fate → Type 0
 IsFate None entry args (Unfit job_cause.NoProgram) = Unit {0}
 IsFate (Some p) entry args (Unfit job_cause.ProgramRefused) = IsRefused p
@@ -113,7 +116,8 @@ IsFate o entry args fate = ⊥
 
 -- ---- lines
 
--- The line of a job by its fate: why it is refused; or that it needs more cells than the arena has; or what the meaning of its program says that its call comes to.
+-- The line of a job by its fate: why it is refused; or that it needs more cells than the arena has; or what the meaning
+-- of its program says that its call comes to.
 abbrev pub line_of : (arena fuel : ℕ) → Fate → JobLine
 line_of arena fuel (Unfit cause) = Refused cause
 line_of arena fuel (Calls c) = if nat_lt arena (lease_of c) then TooLarge (lease_of c) arena else Ended (value_types c.meaning) (outcome_of c fuel) fuel (bound_of c)

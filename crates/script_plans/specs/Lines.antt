@@ -1,13 +1,13 @@
 -- Cited by contracts.
 -- All programs and all jobs of a script.
 use Rattle.std.specs.Prelude.{◌≡◌, ◌⊎◌, ℕ, suc, List, [], ◌∷◌, ◌++◌, length, map, slice_get, Option, Some, None}
+use Rattle.std.specs.List.{range_with_len}
 use Rattle.camelot_values.specs.Kinds.{DataType}
 use Rattle.cell_span.specs.declared.cell.Cell.{Cell}
 use Rattle.licence.specs.Licensed.{Licensed}
 use Rattle.job_script.specs.Scripts.{Job, Entry, AProgram, AJob, Script}
-use Rattle.run_reports.specs.declared.outcome.ProgramLine.{ProgramLine}
-use Rattle.run_reports.specs.Report.{JobLine, Ended, TooLarge, Refused}
-use Rattle.run_reports.specs.Told.{licence_types}
+use Rattle.script_outcomes.specs.declared.outcome.ProgramLine.{ProgramLine}
+use Rattle.script_outcomes.specs.Told.{JobLine, Ended, TooLarge, Refused, licence_types}
 use Rattle.job_world.specs.Plans.{Plan, Planned, job_run, cells_with}
 use Rattle.job_world.specs.Plans as world
 use Rattle.script_plans.specs.declared.types.JobPlan.{JobPlan}
@@ -48,7 +48,8 @@ pub record TellsOf (s : Script) (job : Job) (line : JobLine) : Type 0 where
   pub are : AreFates s.items s.items fates
   pub is : IsLineOf s.items (lines_of s.arena s.items fates) job line
 
--- The scripts have arenas of the same size, and the same program under the name of this job's program: in the same language with the same text, or none.
+-- The scripts have arenas of the same size, and the same program under the name of this job's program: in the same
+-- language with the same text, or none.
 pub record Agree (one other : Script) (job : Job) : Type 0 where
   pub arena : one.arena ≡ other.arena
   pub program : program_named one.items job.program ≡ program_named other.items job.program
@@ -87,38 +88,40 @@ abbrev pub fuel_at : Option Plan → ℕ
 fuel_at None = 0
 fuel_at (Some p) = p.fuel
 
--- the line of what is planned, where a run that is planned is the job of this number: what the meaning of its code says that it comes to, with its own types and fuel
-abbrev pub planned_line : Planned → (arena job : ℕ) → JobPlan → JobLine
-planned_line ps arena job (plan.Runs bound) = Ended (types_at ps.licences (slice_get ps.plans job)) (job_run ps job) (fuel_at (slice_get ps.plans job)) bound
-planned_line ps arena job (plan.TooLarge needs) = TooLarge needs arena
-planned_line ps arena job (plan.Refused cause) = Refused cause
+-- The line of what is planned. Of a run it is what the meaning of the code of its job says that it comes to, with the
+-- job's own types and fuel.
+abbrev pub planned_line : Planned → (arena : ℕ) → JobPlan → JobLine
+planned_line ps arena (plan.Runs job bound) = Ended (types_at ps.licences (slice_get ps.plans job)) (job_run ps job) (fuel_at (slice_get ps.plans job)) bound
+planned_line ps arena (plan.TooLarge needs) = TooLarge needs arena
+planned_line ps arena (plan.Refused cause) = Refused cause
 
--- the number of the next job, behind this plan and behind these
-abbrev pub next_job : JobPlan → ℕ → ℕ
-next_job (plan.Runs bound) job = suc job
-next_job (plan.TooLarge needs) job = job
-next_job (plan.Refused cause) job = job
+-- one for each
+abbrev pub planned_lines : Planned → (arena : ℕ) → List JobPlan → List JobLine
+planned_lines ps arena plans = map (planned_line ps arena) plans
 
-abbrev pub next_behind : List JobPlan → ℕ → ℕ
-next_behind [] job = job
-next_behind (p ∷ plans) job = next_behind plans (next_job p job)
+-- the number of the job, where one runs
+abbrev pub run_number : JobPlan → List ℕ
+run_number (plan.Runs job bound) = job ∷ []
+run_number (plan.TooLarge needs) = []
+run_number (plan.Refused cause) = []
 
--- the lines of plans, one for each; the runs are the jobs from this number on, in order
-abbrev pub planned_lines : Planned → (arena job : ℕ) → List JobPlan → List JobLine
-planned_lines ps arena job [] = []
-planned_lines ps arena job (p ∷ plans) = planned_line ps arena job p ∷ planned_lines ps arena (next_job p job) plans
+-- the numbers of the jobs that run, in the order of the plans
+abbrev pub run_numbers : List JobPlan → List ℕ
+run_numbers [] = []
+run_numbers (p ∷ plans) = run_number p ++ run_numbers plans
 
 -- the cells that the machine leaves of these plans, one for each
 abbrev pub planned_cells : List Licensed → List Plan → List (List Cell)
 planned_cells licences plans = map (λ (p : Plan). cells_with (slice_get licences p.licence) p) plans
 
--- What is planned of the jobs of these entries is what comes of them: each has a fate, and the leases, the cells that are left in them, the places and the lines of what is planned are those
--- of the fates. There are as many runs as jobs of the desk.
+-- What is planned of the jobs of these entries is what comes of them. Each has a fate, and the leases, the cells that
+-- are left in them, the places and the lines of what is planned are those of the fates. The numbers of those that run
+-- are 0, 1, 2 and so on in order, one for each job of the desk.
 pub record ArePlanned (arena : ℕ) (script : List Entry) (ps : Planned) (plans : List JobPlan) (asked : List ℕ) : Type 0 where
   pub fates : List Fate
   pub are : AreFates script script fates
   pub leases : world.leases_of ps.plans ≡ sizes_of arena fates
   pub cells : planned_cells ps.licences ps.plans ≡ all_left arena script fates
   pub places : asked ≡ places_of arena 0 script fates
-  pub lines : planned_lines ps arena 0 plans ≡ lines_of arena script fates
-  pub count : next_behind plans 0 ≡ length ps.plans
+  pub lines : planned_lines ps arena plans ≡ lines_of arena script fates
+  pub numbers : run_numbers plans ≡ range_with_len 0 (length ps.plans)

@@ -7,13 +7,13 @@ use Rattle.camelot_values.specs.Kinds.{DataType}
 use Rattle.camelot_values.specs.Outcome.{Outcome}
 use Rattle.camelot_values.specs.declared.kinds.Kind.{Kind}
 use Rattle.camelot_tree.specs.Meaning as source
-use Rattle.typing_rules.specs.Kinds.{types_of}
-use Rattle.typing_rules.specs.Typed.{Typing}
+use Rattle.camelot_typing.specs.Kinds.{types_of}
+use Rattle.camelot_typing.specs.Typed.{Typing}
 use Rattle.grail_code.specs.Code.{Code}
 use Rattle.grail_code.specs.Meaning as code
 use Rattle.licence.specs.Licensed.{Licensed}
 use Rattle.cell_machine.specs.State.{most_calls}
-use Rattle.refusals.specs.declared.cause.Cause.{Cause}
+use Rattle.cause_texts.specs.declared.cause.Cause.{Cause}
 use Rattle.camelot_compiler.specs.Compiled.{IsCompiled, Refused}
 use Rattle.camelot_compiler.specs.Licences.{IsLicence}
 use Rattle.bundle_licence.specs.Bundled as bundle
@@ -70,7 +70,8 @@ run_by (OfCode p) entry fuel args = code.run_of p most_calls entry fuel args
 
 -- ---- licences
 
--- Of a source: its program is compiled, and the verifier accepts code and certificate from their bytes alone. Its calls mean what the program means, typed as it was for this.
+-- Of a source: its program is compiled, and the verifier accepts code and certificate from their bytes alone. Its calls
+-- mean what the program means, typed as it was for this.
 pub record IsSourceLicence (text : List ℕ) (l : Licensed) (m : Meaning) : Type 0 where
   pub is : IsLicence text l
   pub means : m ≡ OfSource is.typing
@@ -81,7 +82,8 @@ pub record IsBundleLicence (text : List ℕ) (l : Licensed) (m : Meaning) : Type
   pub has : bundle.HasLicence text l
   pub means : m ≡ OfCode l.code
 
--- The program has this licence, and its calls mean this. This is the one place that says what the licence of a program is.
+-- The program has this licence, and its calls mean this. This is the one place that says what the licence of a program
+-- is.
 abbrev pub IsLicenceOf : ProgramText → Licensed → Meaning → Type 0
 IsLicenceOf (CamelotText text) l m = IsSourceLicence text l m
 IsLicenceOf (GrailText text) l m = IsBundleLicence text l m

@@ -6,8 +6,8 @@ use Rattle.std.specs.Str.{bytes_eq}
 use Rattle.licence.specs.Licensed.{Licensed}
 use Rattle.value_text.specs.Inhabited.{Knows}
 use Rattle.job_script.specs.Scripts.{Entry, AProgram, AJob}
-use Rattle.refusals.specs.declared.cause.Cause.{Cause}
-use Rattle.run_reports.specs.declared.outcome.ProgramLine.{ProgramLine}
+use Rattle.cause_texts.specs.declared.cause.Cause.{Cause}
+use Rattle.script_outcomes.specs.declared.outcome.ProgramLine.{ProgramLine}
 use Rattle.script_plans.specs.declared.licensing.Programs.{Programs}
 use Rattle.script_plans.specs.declared.rows.Known.{Known}
 use Rattle.script_plans.specs.declared.rows.Row.{Row as DeclaredRow}
@@ -63,37 +63,36 @@ abbrev pub IsAnswer : ProgramText → Result Licensed Cause → Type 0
 IsAnswer p (Ok l) = IsLicenceFor p l
 IsAnswer p (Err cause) = IsRefusedFor p cause
 
+-- ---- from the programs so far to one more
+
+-- the programs so far: a row and a line for each, and the licences of those that aren't refused
+pub record Licensing : Type 0 where
+  pub rows : List Row
+  pub licences : List Licensed
+  pub lines : List ProgramLine
+
+abbrev pub licensing_of : Programs → Licensing
+licensing_of p = record { rows = map row_of p.rows.items; licences = p.licences.items; lines = p.lines.items }
+
 -- One program more has its line, its row, and a licence where it isn't refused.
-pub record IsProgramAdded (name : List ℕ) (p : ProgramText) (rows rows2 : List Row) (licences licences2 : List Licensed) (lines lines2 : List ProgramLine) : Type 0 where
+pub record IsProgramAdded (name : List ℕ) (p : ProgramText) (old new : Licensing) : Type 0 where
   pub line : ProgramLine
   pub is : IsProgramLine p line
-  pub new_line : lines2 ≡ lines ++ line ∷ []
+  pub lines : new.lines ≡ old.lines ++ line ∷ []
   pub known : Option Known
-  pub new_row : rows2 ≡ rows ++ record { name = name; program = p; known = known } ∷ []
+  pub rows : new.rows ≡ old.rows ++ record { name = name; program = p; known = known } ∷ []
   pub more : List Licensed
-  pub new_licences : licences2 ≡ licences ++ more
-  pub count : length licences2 ≤ suc (length licences)
-  pub knows : IsKnown licences2 p known
+  pub licences : new.licences ≡ old.licences ++ more
+  pub count : length new.licences ≤ suc (length old.licences)
+  pub knows : IsKnown new.licences p known
 
 -- the same of an entry: nothing is done for a job
-abbrev pub IsTaken : Entry → (rows rows2 : List Row) (licences licences2 : List Licensed) (lines lines2 : List ProgramLine) → Type 0
-IsTaken (AProgram p) rows rows2 licences licences2 lines lines2 = IsProgramAdded p.name (program_of p) rows rows2 licences licences2 lines lines2
-IsTaken (AJob j) rows rows2 licences licences2 lines lines2 = (rows2 ≡ rows) × (licences2 ≡ licences) × (lines2 ≡ lines)
-
--- ---- of the code's own rows, licences and lines
-
--- one program more is kept
-abbrev pub IsKept : (name : List ℕ) → ProgramText → (old new : Programs) → Type 0
-IsKept name p old new =
-    IsProgramAdded name p (map row_of old.rows.items) (map row_of new.rows.items) old.licences.items new.licences.items old.lines.items new.lines.items
-
--- the same of an entry
-abbrev pub IsEntryKept : Entry → (old new : Programs) → Type 0
-IsEntryKept e old new =
-    IsTaken e (map row_of old.rows.items) (map row_of new.rows.items) old.licences.items new.licences.items old.lines.items new.lines.items
+abbrev pub IsTaken : Entry → (old new : Licensing) → Type 0
+IsTaken (AProgram p) old new = IsProgramAdded p.name (program_of p) old new
+IsTaken (AJob j) old new = new ≡ old
 
 -- All programs have their lines and rows: each row is known, and the first row of a name is that of the first program.
-pub record AreLicensed (script : List Entry) (rows : List Row) (licences : List Licensed) (lines : List ProgramLine) : Type 0 where
-  pub told : AreProgramLines script lines
-  pub kept : AreRows licences rows
-  pub programs : (name : List ℕ) → program_named script name ≡ row_program (row_among rows name)
+pub record AreLicensed (script : List Entry) (l : Licensing) : Type 0 where
+  pub told : AreProgramLines script l.lines
+  pub kept : AreRows l.licences l.rows
+  pub programs : (name : List ℕ) → program_named script name ≡ row_program (row_among l.rows name)

@@ -1,6 +1,7 @@
 -- Private: words for functions of this crate.
 -- One job: what is asked of a licence, what is planned, and what that adds to what was planned before.
 use Rattle.std.specs.Prelude.{◌≡◌, ℕ, ◌<◌, ◌≤◌, List, [], ◌∷◌, ◌++◌, length, slice_get, Option, Some}
+use Rattle.std.specs.List.{range_with_len}
 use Rattle.camelot_values.specs.Value.{Value}
 use Rattle.camelot_values.specs.Outcome.{peak_of}
 use Rattle.grail_code.specs.Code.{Func}
@@ -15,15 +16,16 @@ use Rattle.job_script.specs.Scripts.{Entry, AProgram, AJob}
 use Rattle.job_world.specs.Plans.{Plan, Planned}
 use Rattle.job_world.specs.Plans as world
 use Rattle.job_world.specs.Asking.{CanPlan}
-use Rattle.run_reports.specs.declared.outcome.JobCause.TheVariants as job_cause
+use Rattle.script_outcomes.specs.declared.outcome.JobCause.TheVariants as job_cause
 use Rattle.script_plans.specs.declared.asking.Asked.{Asked}
 use Rattle.script_plans.specs.declared.asking.Asked.TheVariants as asked
 use Rattle.script_plans.specs.declared.rows.Known.{Known}
+use Rattle.script_plans.specs.declared.planning.Taken.{Taken}
 use Rattle.script_plans.specs.declared.types.JobPlan.{JobPlan}
 use Rattle.script_plans.specs.declared.types.JobPlan.TheVariants as plan
 use Rattle.script_plans.specs.Programs.{ProgramText}
 use Rattle.script_plans.specs.Fates.{Fate, IsFate, IsWithinBound, line_of, leases_of, cells_left}
-use Rattle.script_plans.specs.Lines.{planned_line, planned_cells, next_job, places_with}
+use Rattle.script_plans.specs.Lines.{planned_line, planned_cells, run_number, places_with}
 use Rattle.script_plans.specs.Rows.{Row, row_program, row_among}
 
 -- ---- what is asked of a licence
@@ -66,7 +68,7 @@ CanBePlanned licences licence fuel (asked.Fits entry args most) = CanPlan licenc
 
 -- the plan is added where its lease is within the arena
 abbrev pub IsAdded : (arena : ℕ) → Plan → (most : ℕ) → (old new : Planned) → JobPlan → Type 0
-IsAdded arena p most old new (plan.Runs bound) = (bound ≡ most) × (p.lease ≤ arena) × (new.licences ≡ old.licences) × (new.plans ≡ old.plans ++ p ∷ [])
+IsAdded arena p most old new (plan.Runs job bound) = (job ≡ length old.plans) × (bound ≡ most) × (p.lease ≤ arena) × (new.licences ≡ old.licences) × (new.plans ≡ old.plans ++ p ∷ [])
 IsAdded arena p most old new (plan.TooLarge needs) = (needs ≡ p.lease) × (arena < p.lease) × (new ≡ old)
 IsAdded arena p most old new (plan.Refused cause) = ⊥
 
@@ -95,11 +97,12 @@ pub record IsCalled (arena fuel licence : ℕ) (l : Licensed) (name text : List 
 
 -- the place of what runs
 abbrev pub places_by : JobPlan → ℕ → List ℕ
-places_by (plan.Runs bound) place = place ∷ []
+places_by (plan.Runs job bound) place = place ∷ []
 places_by (plan.TooLarge needs) place = []
 places_by (plan.Refused cause) place = []
 
--- The job has a fate, and what is planned is so: these plans are added, their leases are those of the fate, and so are the cells that are left in them, and the line.
+-- The job has a fate, and what is planned is so: these plans are added, and the numbers of what runs are theirs.
+-- Their leases are those of the fate, and so are the cells that are left in them, and the line.
 pub record Comes (program : Option ProgramText) (entry args : List ℕ) (fuel arena : ℕ) (old new : Planned) (p : JobPlan) : Type 0 where
   pub fate : Fate
   pub is : IsFate program entry args fate
@@ -109,18 +112,29 @@ pub record Comes (program : Option ProgramText) (entry args : List ℕ) (fuel ar
   pub plans : new.plans ≡ old.plans ++ more
   pub leases : world.leases_of more ≡ leases_of arena fate
   pub cells : planned_cells old.licences more ≡ cells_left arena fuel fate
-  pub next : next_job p (length old.plans) ≡ length new.plans
+  pub numbers : run_number p ≡ range_with_len (length old.plans) (length more)
   pub places : (place : ℕ) → places_with (leases_of arena fate) place ≡ places_by p place
-  pub line : planned_line new arena (length old.plans) p ≡ line_of arena fuel fate
+  pub line : planned_line new arena p ≡ line_of arena fuel fate
+
+-- ---- from the jobs so far to one more
+
+-- the jobs so far: the runs that are planned with their licences, a plan for each, and the place of each that runs
+pub record Planning : Type 0 where
+  pub jobs : Planned
+  pub plans : List JobPlan
+  pub asked : List ℕ
+
+abbrev pub planning_of : Taken → Planning
+planning_of t = record { jobs = t.jobs; plans = t.plans.items; asked = t.asked.items }
 
 -- One job more is planned: its plan is the last one, and its place too where it runs.
-pub record IsJobTaken (program : Option ProgramText) (entry args : List ℕ) (fuel arena place : ℕ) (old new : Planned) (plans plans2 : List JobPlan) (asked asked2 : List ℕ) : Type 0 where
+pub record IsJobTaken (program : Option ProgramText) (entry args : List ℕ) (fuel arena place : ℕ) (old new : Planning) : Type 0 where
   pub p : JobPlan
-  pub comes : Comes program entry args fuel arena old new p
-  pub new_plan : plans2 ≡ plans ++ p ∷ []
-  pub new_place : asked2 ≡ asked ++ places_by p place
+  pub comes : Comes program entry args fuel arena old.jobs new.jobs p
+  pub plans : new.plans ≡ old.plans ++ p ∷ []
+  pub asked : new.asked ≡ old.asked ++ places_by p place
 
 -- the same of an entry: nothing is done for a program
-abbrev pub IsEntryTaken : List Row → (arena place : ℕ) → Entry → (old new : Planned) → (plans plans2 : List JobPlan) → (asked asked2 : List ℕ) → Type 0
-IsEntryTaken rows arena place (AProgram p) old new plans plans2 asked asked2 = (new ≡ old) × (plans2 ≡ plans) × (asked2 ≡ asked)
-IsEntryTaken rows arena place (AJob j) old new plans plans2 asked asked2 = IsJobTaken (row_program (row_among rows j.program)) j.entry j.args j.fuel arena place old new plans plans2 asked asked2
+abbrev pub IsEntryTaken : List Row → (arena place : ℕ) → Entry → (old new : Planning) → Type 0
+IsEntryTaken rows arena place (AProgram p) old new = new ≡ old
+IsEntryTaken rows arena place (AJob j) old new = IsJobTaken (row_program (row_among rows j.program)) j.entry j.args j.fuel arena place old new

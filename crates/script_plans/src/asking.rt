@@ -5,6 +5,7 @@ ghost use Rattle.camelot_values.specs.Counts.{size_all};
 ghost use Rattle.grail_code.specs.Code.{code_of};
 ghost use Rattle.grail_code.specs.Code as plain;
 ghost use Rattle.value_text.specs.Grammar.{AreNamed, DistinctNames, IsRead};
+ghost use Rattle.stops.specs.Stopping.{FaultIs};
 ghost use Rattle.value_text.specs.Answers.{IsFault};
 ghost use Rattle.value_text.specs.Inhabited.{Knows};
 ghost use Rattle.licence.specs.Licensed.{FitsEntry};
@@ -13,8 +14,9 @@ ghost use Rattle.script_plans.specs.Turns.{IsAsked, IsBounded, IsOfArgs};
 use camelot_values::{Flat, Kind};
 use grail_code::Code;
 use licence::Licence;
-use run_reports::JobCause;
+use script_outcomes::JobCause;
 use std::alloc::{AllocError, Global};
+use stops::Stop;
 use value_text::{Inhabited, ValueFault, read_known};
 
 /// What is asked of a licence.
@@ -47,13 +49,14 @@ fn parse(
     inhabited: &Inhabited,
     number: u32,
     text: &[u8],
-) -> Result<Vec<Flat>, ValueFault>
+) -> Result<Vec<Flat>, Stop<ValueFault>>
     requires there { number < length (code_of code.now).funcs }
     requires short { length text.now < 4294967296 }
     requires knows { Knows code.now.types inhabited.now }
     requires named { AreNamed code.now.types }
     requires distinct { DistinctNames code.now.types }
-    ensures { (f : plain.Func) → slice_get (code_of code.now).funcs number ≡ Some f → MatchResult result (λ args. IsRead code.now.types f.params text.now args.items) (λ fault. IsFault code.now.types f.params text.now fault) }
+    ensures { (f : plain.Func) → slice_get (code_of code.now).funcs number ≡ Some f
+        → MatchResult result (λ args. IsRead code.now.types f.params text.now args.items) (λ stop. FaultIs (IsFault code.now.types f.params text.now) stop) }
 {
     let params = params_of(code, number);
     read_known(alloc, text, &code.types, inhabited, params)
@@ -92,13 +95,13 @@ fn ask_function(
     licence.kept();
     match parse(alloc, licence.code(), inhabited, number, text) {
         Ok(args) => Ok(bounded(licence, number, args)),
-        Err(ValueFault::BadShape { at }) => Ok(Asked::Unfit {
+        Err(Stop::Fault(ValueFault::BadShape { at })) => Ok(Asked::Unfit {
             cause: JobCause::Argument { at },
         }),
-        Err(ValueFault::TooLong { items }) => Ok(Asked::Unfit {
+        Err(Stop::Fault(ValueFault::TooLong { items })) => Ok(Asked::Unfit {
             cause: JobCause::Long { items },
         }),
-        Err(ValueFault::Memory) => Err(AllocError),
+        Err(Stop::Memory) => Err(AllocError),
     }
 }
 

@@ -12,8 +12,18 @@ use crate::types::JobPlan;
 use camelot_values::Flat;
 use code_gen::laws::law_of_compiler;
 use job_world::{AddFault, Jobs};
-use run_reports::JobCause;
+use script_outcomes::JobCause;
 use std::alloc::{AllocError, Global};
+
+/// What a job asks for: a run of this entry of the program of this name, on the arguments of this text, with so much
+/// fuel.
+#[derive(Clone, Copy)]
+pub(crate) struct Request<'a> {
+    pub(crate) program: &'a [u8],
+    pub(crate) entry: &'a [u8],
+    pub(crate) args: &'a [u8],
+    pub(crate) fuel: u64,
+}
 
 // Plans a call, where its lease is within the arena.
 fn plan_call(
@@ -28,10 +38,11 @@ fn plan_call(
     requires can { CanPlan jobs.old.licences licence entry args.items fuel }
     requires arena { arena ≤ 2147483648 }
     requires few { length jobs.old.plans < 4294967295 }
-    ensures { (l : Licensed) → slice_get jobs.old.licences licence ≡ Some l → IfOk result (IsAdded arena (plan_for licence fuel l entry args.items) bound jobs.old jobs.new) }
+    ensures { (l : Licensed) → slice_get jobs.old.licences licence ≡ Some l
+        → IfOk result (IsAdded arena (plan_for licence fuel l entry args.items) bound jobs.old jobs.new) }
 {
     match jobs.add(licence, entry, args, fuel, arena) {
-        Ok(_) => Ok(JobPlan::Runs { bound }),
+        Ok(job) => Ok(JobPlan::Runs { job, bound }),
         Err(AddFault::Larger { needs }) => Ok(JobPlan::TooLarge { needs }),
         Err(AddFault::Memory) => Err(AllocError),
     }
@@ -74,7 +85,8 @@ fn plan_known(
     requires fuel { 1 ≤ fuel }
     requires arena { arena ≤ 2147483648 }
     requires few { length jobs.old.plans < 4294967295 }
-    ensures { (l : Licensed) → slice_get jobs.old.licences known.now.licence ≡ Some l → IfOk result (IsCalled arena fuel known.now.licence l name.now text.now jobs.old jobs.new) }
+    ensures { (l : Licensed) → slice_get jobs.old.licences known.now.licence ≡ Some l
+        → IfOk result (IsCalled arena fuel known.now.licence l name.now text.now jobs.old jobs.new) }
 {
     let licence = &jobs.licences()[known.licence as usize];
     let asked = ask(alloc, licence, &known.inhabited, name, text)?;
@@ -108,27 +120,33 @@ fn plan_row(
     }
 }
 
-/// Plans a job: a call of this entry of the program of this name, on this text of arguments, with so much fuel.
+/// Plans a job.
 #[tactic(auto, using(crate::proofs::Coming::no_program, crate::proofs::Coming::row_fits))]
 pub(crate) fn plan_job(
     alloc: Global,
     jobs: &mut Jobs,
     rows: &[Row<'_>],
-    program: &[u8],
-    name: &[u8],
-    text: &[u8],
-    fuel: u64,
+    request: &Request<'_>,
     arena: u32,
 ) -> Result<JobPlan, AllocError>
     requires rows { AreRows jobs.old.licences (map row_of rows.now) }
-    requires short { length text.now < 4294967296 }
-    requires fuel { 1 ≤ fuel }
+    requires short { length request.now.args.now < 4294967296 }
+    requires fuel { 1 ≤ request.now.fuel }
     requires arena { arena ≤ 2147483648 }
     requires few { length jobs.old.plans < 4294967295 }
-    ensures { IfOk result (Comes (row_program (row_among (map row_of rows.now) program.now)) name.now text.now fuel arena jobs.old jobs.new) }
+    ensures { IfOk result (Comes (row_program (row_among (map row_of rows.now) request.now.program.now))
+        request.now.entry.now request.now.args.now request.now.fuel arena jobs.old jobs.new) }
 {
-    match find(rows, program) {
-        Some(row) => plan_row(alloc, jobs, row, name, text, fuel, arena),
+    match find(rows, request.program) {
+        Some(row) => plan_row(
+            alloc,
+            jobs,
+            row,
+            request.entry,
+            request.args,
+            request.fuel,
+            arena,
+        ),
         None => Ok(JobPlan::Refused {
             cause: JobCause::NoProgram,
         }),

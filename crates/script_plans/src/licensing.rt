@@ -4,17 +4,18 @@ ghost use Rattle.std.specs.List.{AllByRecursion};
 ghost use Rattle.job_script.specs.Text.{EntryIsShort};
 ghost use Rattle.job_script.specs.Words.{entry_of};
 ghost use Rattle.script_plans.specs.Programs.{CamelotText, GrailText, IsRefusedFor, text_in};
-ghost use Rattle.script_plans.specs.Rows.{AreLicensed, IsLicenceFor, IsAnswer, IsEntryKept, IsKept, row_of};
+ghost use Rattle.script_plans.specs.Rows.{AreLicensed, IsLicenceFor, IsAnswer, IsProgramAdded, IsTaken, licensing_of};
 
 use crate::rows::{Known, Row};
-use bundle_licence::{LicenceFault, license_bundle};
-use camelot_compiler::{CompileFault, license};
+use bundle_licence::license_bundle;
+use camelot_compiler::license;
 use camelot_values::Word;
+use cause_texts::Cause;
 use job_script::Entry;
 use licence::Licence;
-use refusals::Cause;
-use run_reports::ProgramLine;
+use script_outcomes::ProgramLine;
 use std::alloc::{AllocError, Global};
+use stops::Stop;
 use value_text::Inhabited;
 
 /// The programs of a script so far: their rows, the licences of those that aren't refused, and their lines.
@@ -36,7 +37,7 @@ fn accept<'a>(
 ) -> Result<(), AllocError>
     requires is { IsLicenceFor (text_in camelot text.now) licence }
     requires few { length programs.old.licences.items < 4294967295 }
-    ensures { OnOk result (IsKept name.now (text_in camelot text.now) programs.old programs.new) }
+    ensures { OnOk result (IsProgramAdded name.now (text_in camelot text.now) (licensing_of programs.old) (licensing_of programs.new)) }
 {
     let known = Known {
         licence: programs.licences.len() as u32,
@@ -64,7 +65,7 @@ fn refuse<'a>(
     cause: Cause,
 ) -> Result<(), AllocError>
     requires { IsRefusedFor (text_in camelot text.now) cause }
-    ensures { OnOk result (IsKept name.now (text_in camelot text.now) programs.old programs.new) }
+    ensures { OnOk result (IsProgramAdded name.now (text_in camelot text.now) (licensing_of programs.old) (licensing_of programs.new)) }
 {
     programs.rows.push(Row {
         name,
@@ -84,8 +85,8 @@ fn license_source(alloc: Global, text: &[u8]) -> Result<Result<Licence, Cause>, 
 {
     match license(alloc, text) {
         Ok(licence) => Ok(Ok(licence)),
-        Err(CompileFault::Refused(cause)) => Ok(Err(cause)),
-        Err(CompileFault::Memory) => Err(AllocError),
+        Err(Stop::Fault(cause)) => Ok(Err(cause)),
+        Err(Stop::Memory) => Err(AllocError),
     }
 }
 
@@ -96,8 +97,8 @@ fn license_grail(alloc: Global, text: &[u8]) -> Result<Result<Licence, Cause>, A
 {
     match license_bundle(alloc, text) {
         Ok(licence) => Ok(Ok(licence)),
-        Err(LicenceFault::Refused(cause)) => Ok(Err(cause)),
-        Err(LicenceFault::Memory) => Err(AllocError),
+        Err(Stop::Fault(cause)) => Ok(Err(cause)),
+        Err(Stop::Memory) => Err(AllocError),
     }
 }
 
@@ -127,7 +128,7 @@ fn add_program<'a>(
 ) -> Result<(), AllocError>
     requires short { length text.now < 4294967296 }
     requires few { length programs.old.licences.items < 4294967295 }
-    ensures { OnOk result (IsKept name.now (text_in camelot text.now) programs.old programs.new) }
+    ensures { OnOk result (IsProgramAdded name.now (text_in camelot text.now) (licensing_of programs.old) (licensing_of programs.new)) }
 {
     match license_program(alloc, camelot, text)? {
         Ok(licence) => accept(programs, name, camelot, text, licence),
@@ -143,7 +144,7 @@ fn add_entry<'a>(
 ) -> Result<(), AllocError>
     requires short { EntryIsShort 4294967295 (entry_of entry.now) }
     requires few { length programs.old.licences.items < 4294967295 }
-    ensures { OnOk result (IsEntryKept (entry_of entry.now) programs.old programs.new) }
+    ensures { OnOk result (IsTaken (entry_of entry.now) (licensing_of programs.old) (licensing_of programs.new)) }
 {
     match entry {
         Entry::Program {
@@ -163,7 +164,7 @@ pub(crate) fn license_all<'a>(
 ) -> Result<Programs<'a>, AllocError>
     requires short { AllByRecursion (EntryIsShort 4294967295) (map entry_of entries.now) }
     requires few { length entries.now ≤ 4160 }
-    ensures { IfOk result (λ p. AreLicensed (map entry_of entries.now) (map row_of p.rows.items) p.licences.items p.lines.items) }
+    ensures { IfOk result (λ p. AreLicensed (map entry_of entries.now) (licensing_of p)) }
 {
     let mut programs = Programs {
         rows: Vec::new(alloc),

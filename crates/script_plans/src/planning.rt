@@ -9,13 +9,12 @@ ghost use Rattle.job_world.specs.Plans.{leases_of};
 ghost use Rattle.script_plans.specs.Programs.{program_named};
 ghost use Rattle.script_plans.specs.Lines.{AreProgramLines, ArePlanned};
 ghost use Rattle.script_plans.specs.Rows.{AreRows, row_of, row_among, row_program};
-ghost use Rattle.script_plans.specs.Turns.{IsEntryTaken, IsJobTaken, places_by};
+ghost use Rattle.script_plans.specs.Turns.{IsEntryTaken, IsJobTaken, places_by, planning_of};
 
-use crate::calling::plan_job;
+use crate::calling::{Request, plan_job};
 use crate::licensing::license_all;
 use crate::rows::Row;
 use crate::types::{JobPlan, Plans};
-use camelot_values::Word;
 use job_script::laws::law_of_lengths;
 use job_script::{Entry, Script};
 use job_world::Jobs;
@@ -50,28 +49,17 @@ fn take_job(
     rows: &[Row<'_>],
     arena: u32,
     place: u32,
-    program: &Word,
-    entry: &Word,
-    fuel: u64,
-    args: &[u8],
+    request: &Request<'_>,
 ) -> Result<(), AllocError>
     requires rows { AreRows taken.old.jobs.licences (map row_of rows.now) }
-    requires short { length args.now < 4294967296 }
-    requires fuel { 1 ≤ fuel }
+    requires short { length request.now.args.now < 4294967296 }
+    requires fuel { 1 ≤ request.now.fuel }
     requires arena { arena ≤ 2147483648 }
     requires few { length taken.old.jobs.plans < 4294967295 }
-    ensures { OnOk result (IsJobTaken (row_program (row_among (map row_of rows.now) program.now)) entry.now args.now fuel arena place taken.old.jobs taken.new.jobs taken.old.plans.items taken.new.plans.items taken.old.asked.items taken.new.asked.items) }
+    ensures { OnOk result (IsJobTaken (row_program (row_among (map row_of rows.now) request.now.program.now))
+        request.now.entry.now request.now.args.now request.now.fuel arena place (planning_of taken.old) (planning_of taken.new)) }
 {
-    let plan = plan_job(
-        alloc,
-        &mut taken.jobs,
-        rows,
-        program.bytes(),
-        entry.bytes(),
-        args,
-        fuel,
-        arena,
-    )?;
+    let plan = plan_job(alloc, &mut taken.jobs, rows, request, arena)?;
     keep(taken, plan, place)
 }
 
@@ -89,7 +77,7 @@ fn take_entry(
     requires within { EntryIsWithin (entry_of entry.now) }
     requires arena { arena ≤ 2147483648 }
     requires few { length taken.old.jobs.plans < 4294967295 }
-    ensures { OnOk result (IsEntryTaken (map row_of rows.now) arena place (entry_of entry.now) taken.old.jobs taken.new.jobs taken.old.plans.items taken.new.plans.items taken.old.asked.items taken.new.asked.items) }
+    ensures { OnOk result (IsEntryTaken (map row_of rows.now) arena place (entry_of entry.now) (planning_of taken.old) (planning_of taken.new)) }
 {
     match entry {
         Entry::Program { .. } => Ok(()),
@@ -99,9 +87,15 @@ fn take_entry(
             fuel,
             args,
             ..
-        } => take_job(
-            alloc, taken, rows, arena, place, program, entry, *fuel, args,
-        ),
+        } => {
+            let request = Request {
+                program: program.bytes(),
+                entry: entry.bytes(),
+                args,
+                fuel: *fuel,
+            };
+            take_job(alloc, taken, rows, arena, place, &request)
+        }
     }
 }
 
@@ -152,6 +146,7 @@ pub fn plan_script(alloc: Global, script: &Script) -> Result<Plans, AllocError>
     ensures planned { IfOk result (λ p. ArePlanned (script_of script.now).arena (script_of script.now).items p.jobs p.plans.items p.asked.items) }
     // Each lease has at least one cell, and no more than the arena, and there are few.
     ensures sizes { IfOk result (λ p. AreSizes (script_of script.now).arena (leases_of p.jobs.plans)) }
+    // There are at most 4,096 plans.
     ensures few { IfOk result (λ p. length p.jobs.plans ≤ 4096) }
 {
     law_of_lengths();

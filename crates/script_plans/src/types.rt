@@ -1,11 +1,11 @@
 use job_world::Jobs;
-use run_reports::{JobCause, ProgramLine};
+use script_outcomes::{JobCause, ProgramLine};
 
 /// What is planned of a job of a script.
 #[derive(Clone, Copy, Debug, PartialEq, Eq)]
 pub enum JobPlan {
-    /// It runs, as the next job of the desk. So many cells are its bound.
-    Runs { bound: u64 },
+    /// It runs, as the job of this number among those that the desk serves. So many cells are its bound.
+    Runs { job: u32, bound: u64 },
     /// It needs so many cells, more than the arena has.
     TooLarge { needs: u64 },
     /// It doesn't run, for this cause.

@@ -1,5 +1,5 @@
 -- The lines of jobs by their endings are those by their plans.
-use Rattle.std.proofs.Common.{◌≡◌, ℕ, zero, suc, ◌<◌, ◌≤◌, List, [], ◌∷◌, ◌++◌, length, drop, slice_get, slice_set, Option, Some, None, get_or, refl, sym, ap, ◌∙◌, subst, arith}
+use Rattle.std.proofs.Common.{◌≡◌, ℕ, zero, suc, ◌+◌, ◌<◌, ◌≤◌, List, [], ◌∷◌, ◌++◌, length, drop, slice_get, slice_set, Option, Some, None, get_or, refl, sym, ◌∙◌, subst, arith}
 use Rattle.std.proofs.Math.Seq.{drop-cons}
 use Rattle.std.proofs.lemmas.Option.{get_or_from_slice_get, slice_get_within}
 use Rattle.std.specs.Prelude.{codes, decimal}
@@ -11,20 +11,21 @@ use Rattle.value_text.specs.Text.{value_text}
 use Rattle.cell_machine.specs.Endings.{EndsWith}
 use Rattle.cell_machine.specs.declared.machine.Ending.{Ending}
 use Rattle.cell_machine.specs.declared.machine.Ending.TheVariants as ending
-use Rattle.run_reports.specs.Report.{Ended, ended_text, told_text}
+use Rattle.script_outcomes.specs.Told.{Ended, outcome_of, licence_types}
+use Rattle.run_reports.specs.Report.{ended_text, told_text}
 use Rattle.run_reports.specs.Summary.{tally_of_run}
-use Rattle.run_reports.specs.Told.{outcome_of, licence_types}
-use Rattle.job_world.specs.Plans.{Plan, Planned, job_run}
+use Rattle.job_world.specs.Plans.{Plan, Planned, run_at, job_run}
 use Rattle.job_workers.specs.Ended.{AllEnded, HasEnding}
 use Rattle.job_workers.specs.Served.{EndsAsMeant}
 use Rattle.script_plans.specs.declared.types.JobPlan.{JobPlan}
 use Rattle.script_plans.specs.declared.types.JobPlan.TheVariants as plan
-use Rattle.script_plans.specs.Lines.{next_behind, next_job, planned_line, planned_lines, types_at, fuel_at}
-use Rattle.std.specs.List.{AllByRecursion}
+use Rattle.script_plans.specs.Lines.{planned_line, planned_lines, run_numbers, types_at, fuel_at}
+use Rattle.std.specs.List.{AllByRecursion, range_with_len}
 use Rattle.script_service.specs.Service.{IsMeant, TellsMeaning}
-use Rattle.script_service.specs.Filed.{EndedFrom, telling}
+use Rattle.script_service.specs.Filed.{HasOwn, HaveOwn, without, telling}
 
-same_ended : (types : List DataType) (o : Outcome Value) (e : Ending) (fuel bound : ℕ) → EndsWith o e → ended_text types (outcome_of e) fuel bound ≡ ended_text types o fuel bound
+same_ended : (types : List DataType) (o : Outcome Value) (e : Ending) (fuel bound : ℕ) → EndsWith o e
+    → ended_text types (outcome_of e) fuel bound ≡ ended_text types o fuel bound
 unfolding ended_text
 same_ended types (plain.Done v calls peak low) (ending.Done w c p) fuel bound h =
     λ i. (codes " done " ++ value_text (constructor_name types) (h.0 i)) ++ (codes " calls " ++ decimal (h.1 i)) ++ (codes " peak " ++ decimal (h.2 i)) ++ (codes " bound " ++ decimal bound)
@@ -62,18 +63,19 @@ ending_is xs i a r d e f = f ∙ get_or_from_slice_get xs i (Some a) d e
 pub none_there : (xs : List (Option Ending)) (i : ℕ) (a : Ending) (r d : Option Ending) → slice_get xs i ≡ Some (Some a) → r ≡ get_or xs i d → r ≡ None → ⊥
 none_there xs i a r d e f n = let g : r ≡ Some a = ending_is xs i a r d e f in let h : None ≡ Some a = sym n ∙ g in absurd cc
 
-pub same_ending : (xs : List (Option Ending)) (i : ℕ) (a b : Ending) (r d : Option Ending) → slice_get xs i ≡ Some (Some a) → r ≡ get_or xs i d → r ≡ Some b → b ≡ a
+pub same_ending : (xs : List (Option Ending)) (i : ℕ) (a b : Ending) (r d : Option Ending) → slice_get xs i ≡ Some (Some a) → r ≡ get_or xs i d
+    → r ≡ Some b → b ≡ a
 same_ending xs i a b r d e f n = let g : Some b ≡ Some a = sym n ∙ ending_is xs i a r d e f in cc
 
 -- the line of an ending is that of the plan
 same_text : (ps : Planned) (p : Plan) (arena job bound : ℕ) (e : Ending) → slice_get ps.plans job ≡ Some p → EndsAsMeant ps job e
-    → ended_text (licence_types (slice_get ps.licences p.licence)) (outcome_of e) p.fuel bound ≡ told_text (planned_line ps arena job (plan.Runs bound))
+    → ended_text (licence_types (slice_get ps.licences p.licence)) (outcome_of e) p.fuel bound ≡ told_text (planned_line ps arena (plan.Runs job bound))
 same_text ps p arena job bound e is meant =
     subst (λ o. ended_text (licence_types (slice_get ps.licences p.licence)) (outcome_of e) p.fuel bound ≡ ended_text (types_at ps.licences o) (job_run ps job) (fuel_at o) bound) (sym is)
     (same_ended (licence_types (slice_get ps.licences p.licence)) (job_run ps job) e p.fuel bound meant)
 
 pub same_line : (ps : Planned) (p : Plan) (arena job bound : ℕ) (e : Ending) → slice_get ps.plans job ≡ Some p → EndsAsMeant ps job e
-    → telling (Ended (licence_types (slice_get ps.licences p.licence)) (outcome_of e) p.fuel bound) ≡ telling (planned_line ps arena job (plan.Runs bound))
+    → telling (Ended (licence_types (slice_get ps.licences p.licence)) (outcome_of e) p.fuel bound) ≡ telling (planned_line ps arena (plan.Runs job bound))
 same_line ps p arena job bound e is meant = λ i. record { text = same_text ps p arena job bound e is meant i; tally = same_tally (job_run ps job) e meant i }
 
 -- ---- what is left
@@ -84,41 +86,68 @@ slice_get-other (y ∷ ys) i zero x lt = absurd (omega (arith, lt))
 slice_get-other (y ∷ ys) zero (suc j) x lt = refl
 slice_get-other (y ∷ ys) (suc i) (suc j) x lt = slice_get-other ys i j x (omega (arith, lt))
 
-pub ended_later : (ps : Planned) (job : ℕ) (endings left : List (Option Ending)) → EndedFrom ps job endings → left ≡ slice_set endings job None → EndedFrom ps (suc job) left
-unfolding EndedFrom
-ended_later ps job endings left all e = λ j le lt. subst (HasEnding ps j) (sym (ap (λ l. slice_get l j) e ∙ slice_get-other endings job j None (omega (arith, le)))) (all j (omega (arith, le)) lt)
+pub own_here : (ps : Planned) (job bound : ℕ) (p : JobPlan) (endings : List (Option Ending)) → p ≡ plan.Runs job bound → HasOwn ps p endings
+    → HasEnding ps job (slice_get endings job)
+own_here ps job bound p endings e h = subst (λ q. HasOwn ps q endings) e h
 
-pub ended_within : (ps : Planned) (job : ℕ) (endings : List (Option Ending)) → EndedFrom ps job endings → suc job ≤ length ps.plans → job < length endings
-unfolding EndedFrom
-ended_within ps job endings all few = let h : HasEnding ps job (slice_get endings job) = all job (omega arith) (omega (arith, few)) in slice_get_within endings job (Some h.ending) h.is
+pub own_within : (ps : Planned) (job : ℕ) (endings : List (Option Ending)) → HasEnding ps job (slice_get endings job) → job < length endings
+own_within ps job endings h = slice_get_within endings job (Some h.ending) h.is
 
-pub ended_here : (ps : Planned) (job : ℕ) (endings : List (Option Ending)) → EndedFrom ps job endings → suc job ≤ length ps.plans → HasEnding ps job (slice_get endings job)
-unfolding EndedFrom
-ended_here ps job endings all few = all job (omega arith) (omega (arith, few))
+never_stuck : (e : Ending) → EndsWith plain.Stuck e → ⊥
+never_stuck (ending.Done v calls peak) h = h
+never_stuck (ending.Fuel peak) h = h
+never_stuck (ending.Deep peak) h = h
 
-pub all_ended : (ps : Planned) (endings : List (Option Ending)) → AllEnded ps endings → EndedFrom ps 0 endings
-unfolding EndedFrom
-all_ended ps endings all = λ j le lt. all j lt
+planned_there : (ps : Planned) (job : ℕ) (e : Ending) (o : Option Plan) → slice_get ps.plans job ≡ o
+    → EndsWith (run_at ps.licences (slice_get ps.plans job)) e → job < length ps.plans
+planned_there ps job e None none meant = absurd (never_stuck e (subst (λ o. EndsWith (run_at ps.licences o) e) none meant))
+planned_there ps job e (Some p) is meant = slice_get_within ps.plans job p is
 
--- ---- numbers of jobs
+-- what has an ending is planned
+pub job_there : (ps : Planned) (job : ℕ) (e : Ending) → EndsAsMeant ps job e → job < length ps.plans
+unfolding job_run
+job_there ps job e meant = planned_there ps job e (slice_get ps.plans job) refl meant
 
-job_rises : (p : JobPlan) (job : ℕ) → job ≤ next_job p job
-job_rises (plan.Runs bound) job = omega arith
-job_rises (plan.TooLarge needs) job = omega arith
-job_rises (plan.Refused cause) job = omega arith
+-- the plan at a place has its own
+pub own_next : (ps : Planned) (plans : List JobPlan) (i : ℕ) (d : JobPlan) (endings : List (Option Ending)) → i < length plans
+    → HaveOwn ps (drop i plans) endings → HasOwn ps (get_or plans i d) endings
+own_next ps plans i d endings lt h = let here : HaveOwn ps (get_or plans i d ∷ drop (suc i) plans) endings = subst (λ l. HaveOwn ps l endings) (drop-cons plans i d lt) h in here.0
 
-behind_rises : (plans : List JobPlan) (job : ℕ) → job ≤ next_behind plans job
-behind_rises [] job = omega arith
-behind_rises (p ∷ plans) job = let a : job ≤ next_job p job = job_rises p job in let b : next_job p job ≤ next_behind plans (next_job p job) = behind_rises plans (next_job p job) in omega (arith, a, b)
+-- and those behind it have theirs
+pub own_later : (ps : Planned) (plans : List JobPlan) (i : ℕ) (d : JobPlan) (endings left : List (Option Ending)) → i < length plans
+    → HaveOwn ps (drop i plans) endings → left ≡ without (get_or plans i d) endings
+    → HaveOwn ps (drop (suc i) plans) left
+own_later ps plans i d endings left lt h e =
+    let here : HaveOwn ps (get_or plans i d ∷ drop (suc i) plans) endings = subst (λ l. HaveOwn ps l endings) (drop-cons plans i d lt) h in
+    subst (HaveOwn ps (drop (suc i) plans)) (sym e) here.1
 
-pub next_below : (p : JobPlan) (plans : List JobPlan) (job count : ℕ) → next_behind (p ∷ plans) job ≡ count → next_job p job ≤ count
-next_below p plans job count e = let b : next_job p job ≤ next_behind plans (next_job p job) = behind_rises plans (next_job p job) in omega (arith, b, e)
+head_is : (x y : ℕ) (xs ys : List ℕ) → x ∷ xs ≡ y ∷ ys → x ≡ y
+head_is x y xs ys e = cc
 
-pub next_below_at : (plans : List JobPlan) (i job count : ℕ) (d : JobPlan) → i < length plans → next_behind (drop i plans) job ≡ count → next_job (get_or plans i d) job ≤ count
-next_below_at plans i job count d h e = next_below (get_or plans i d) (drop (suc i) plans) job count (ap (λ l. next_behind l job) (sym (drop-cons plans i d h)) ∙ e)
+tail_is : (x y : ℕ) (xs ys : List ℕ) → x ∷ xs ≡ y ∷ ys → xs ≡ ys
+tail_is x y xs ys e = cc
 
-pub job_below : (plans : List JobPlan) (job count : ℕ) → next_behind plans job ≡ count → count ≤ 4096 → job < 4294967295
-job_below plans job count e few = let b : job ≤ next_behind plans job = behind_rises plans job in omega (arith, b, e, few)
+-- the jobs with these numbers have their endings
+abbrev EndedFrom : Planned → (first count : ℕ) → List (Option Ending) → Type 0
+EndedFrom ps first count endings = (j : ℕ) → first ≤ j → j < first + count → HasEnding ps j (slice_get endings j)
+
+own_from : (ps : Planned) (plans : List JobPlan) (first count : ℕ) (endings : List (Option Ending)) → run_numbers plans ≡ range_with_len first count
+    → EndedFrom ps first count endings → HaveOwn ps plans endings
+own_from ps [] first count endings e h = tt
+own_from ps (plan.TooLarge needs ∷ plans) first count endings e h = (tt, own_from ps plans first count endings e h)
+own_from ps (plan.Refused cause ∷ plans) first count endings e h = (tt, own_from ps plans first count endings e h)
+own_from ps (plan.Runs job bound ∷ plans) first zero endings e h = absurd cc
+own_from ps (plan.Runs job bound ∷ plans) first (suc count) endings e h =
+    let same : job ≡ first = head_is job first (run_numbers plans) (range_with_len (first + 1) count) e in
+    let rest : run_numbers plans ≡ range_with_len (first + 1) count = tail_is job first (run_numbers plans) (range_with_len (first + 1) count) e in
+    let own : HasEnding ps first (slice_get endings first) = h first (omega arith) (omega arith) in
+    let later : EndedFrom ps (first + 1) count (slice_set endings job None) =
+    λ j le lt. subst (HasEnding ps j) (sym (slice_get-other endings job j None (omega (arith, same, le)))) (h j (omega (arith, le)) (omega (arith, lt))) in
+    (subst (λ k. HasEnding ps k (slice_get endings k)) (sym same) own, own_from ps plans (first + 1) count (slice_set endings job None) rest later)
+
+pub all_own : (ps : Planned) (plans : List JobPlan) (endings : List (Option Ending)) → run_numbers plans ≡ range_with_len 0 (length ps.plans)
+    → AllEnded ps endings → HaveOwn ps plans endings
+all_own ps plans endings e all = own_from ps plans 0 (length ps.plans) endings e (λ j le lt. all j (omega (arith, lt)))
 
 -- ---- each run has a meaning
 
@@ -130,12 +159,12 @@ ended_meant plain.Stuck (ending.Done w c p) h = absurd h
 ended_meant plain.Stuck (ending.Fuel p) h = absurd h
 ended_meant plain.Stuck (ending.Deep p) h = absurd h
 
-pub all_meant : (ps : Planned) (arena : ℕ) (endings : List (Option Ending)) → AllEnded ps endings → (plans : List JobPlan) (job : ℕ) → next_behind plans job ≡ length ps.plans
-    → AllByRecursion TellsMeaning (planned_lines ps arena job plans)
-all_meant ps arena endings all [] job e = tt
-all_meant ps arena endings all (plan.Runs bound ∷ plans) job e =
-    let below : suc job ≤ length ps.plans = next_below (plan.Runs bound) plans job (length ps.plans) e in
-    let has : HasEnding ps job (slice_get endings job) = all job (omega (arith, below)) in
-    (ended_meant (job_run ps job) has.ending has.meant, all_meant ps arena endings all plans (suc job) e)
-all_meant ps arena endings all (plan.TooLarge needs ∷ plans) job e = (tt, all_meant ps arena endings all plans job e)
-all_meant ps arena endings all (plan.Refused cause ∷ plans) job e = (tt, all_meant ps arena endings all plans job e)
+pub all_meant : (ps : Planned) (arena : ℕ) (endings : List (Option Ending)) → AllEnded ps endings → (plans : List JobPlan)
+    → AllByRecursion (λ n. n < length ps.plans) (run_numbers plans)
+    → AllByRecursion TellsMeaning (planned_lines ps arena plans)
+all_meant ps arena endings all [] below = tt
+all_meant ps arena endings all (plan.Runs job bound ∷ plans) below =
+    let has : HasEnding ps job (slice_get endings job) = all job below.0 in
+    (ended_meant (job_run ps job) has.ending has.meant, all_meant ps arena endings all plans below.1)
+all_meant ps arena endings all (plan.TooLarge needs ∷ plans) below = (tt, all_meant ps arena endings all plans below)
+all_meant ps arena endings all (plan.Refused cause ∷ plans) below = (tt, all_meant ps arena endings all plans below)

@@ -9,9 +9,11 @@ use Rattle.job_script.specs.Scripts.{Entry, Script, IsFormed, IsScript}
 use Rattle.job_script.specs.Text.{IsScriptText, EntryIsShort, script_text}
 use Rattle.job_script.specs.Made.{made_script}
 use Rattle.job_script.specs.Words.{script_of}
-use Rattle.job_script.specs.Answers.{IsFault}
+use Rattle.job_script.specs.Answers.{HasCause}
 use Rattle.job_script.specs.declared.reading.ScriptFault.{ScriptFault}
-use Rattle.job_script.specs.declared.reading.ScriptFault.TheVariants as script_fault
+use Rattle.stops.specs.Stopping.{FaultIs}
+use Rattle.stops.specs.declared.stop.Stop.{Stop}
+use Rattle.stops.specs.declared.stop.Stop.TheVariants as stop
 use Rattle.job_world.specs.Plans.{Plan, Planned, leases_of, cells_with, cells_at, job_cells}
 use Rattle.job_workers.specs.Ended.{AllEnded}
 use Rattle.job_workers.specs.Served.{all_cells, cells_for}
@@ -19,6 +21,7 @@ use Rattle.lease_desk.specs.declared.event.Event.{Event}
 use Rattle.lease_desk.specs.Filing.{FiledCells, HoldsFiled}
 use Rattle.lease_desk.specs.Journal.{IsLegal}
 use Rattle.script_plans.specs.Lines.{AreProgramLines, ArePlanned, planned_cells, sizes_of, all_left}
+use Rattle.script_plans.specs.ScriptLaws.{numbers_below}
 use Rattle.script_service.specs.Service.{TellsMeaning, IsReportIn, IsSummary, report_of, summary_of}
 use Rattle.script_service.specs.Handed.{service_of, IsHanded, IsHandedFor, IsRefused}
 use Rattle.script_service.specs.Steps.{IsOf, serve_fault}
@@ -40,7 +43,8 @@ left_at ps job (Some p) e = ap Some (ap (cells_at ps.licences) e)
 same_cells : (ps : Planned) (lefts : List (List Cell)) → planned_cells ps.licences ps.plans ≡ lefts → (job : ℕ) → all_cells ps job ≡ slice_get lefts job
 same_cells ps lefts e job = left_at ps job (slice_get ps.plans job) refl ∙ sym (slice_get-map (left_of ps) ps.plans job) ∙ ap (λ (ls : List (List Cell)). slice_get ls job) e
 
-cells_held : (ps : Planned) (lefts : List (List Cell)) (journal : List Event) (arena : Range) → planned_cells ps.licences ps.plans ≡ lefts → HoldsFiled (all_cells ps) journal arena → HoldsFiled (λ job. slice_get lefts job) journal arena
+cells_held : (ps : Planned) (lefts : List (List Cell)) (journal : List Event) (arena : Range) → planned_cells ps.licences ps.plans ≡ lefts
+    → HoldsFiled (all_cells ps) journal arena → HoldsFiled (λ job. slice_get lefts job) journal arena
 cells_held ps lefts journal arena e h =
     let same : all_cells ps ≡ (λ job. slice_get lefts job) = λ i job. same_cells ps lefts e job i in
     subst (λ (f : FiledCells). HoldsFiled f journal arena) same h
@@ -66,7 +70,7 @@ handed s programs planned few ended legal whole size cells =
         comes = record {
           are_programs = programs;
           are_fates = planned.are;
-          meant = subst (AllByRecursion TellsMeaning) planned.lines (all_meant ps script.arena s.endings.items ended s.plans.plans.items 0 planned.count);
+          meant = subst (AllByRecursion TellsMeaning) planned.lines (all_meant ps script.arena s.endings.items ended s.plans.plans.items (numbers_below s.plans.plans.items (length ps.plans) planned.numbers));
           legal = same_legal script.arena (sizes_of script.arena planned.fates) (leases_of ps.plans) s.journal.items planned.leases legal;
           whole = whole;
           size = size;
@@ -100,25 +104,25 @@ handed_for input script s one text h = record {
   handed = h.handed;
 }
 
-pub refused : (input : List ℕ) (x : ScriptFault) (y : ServeFault) → y ≡ serve_fault x → IsFault input x → IsRefused input y
-refused input x y e h = subst (IsRefused input) (sym e) (by_fault x h)
+pub refused : (input : List ℕ) (x : Stop ScriptFault) (y : ServeFault) → y ≡ serve_fault x → FaultIs (HasCause input) x → IsRefused input y
+refused input x y e h = subst (IsRefused input) (sym e) (by_stop x h)
   where
-    by_fault : (x : ScriptFault) → IsFault input x → IsRefused input (serve_fault x)
-    by_fault (script_fault.Line n) h = h
-    by_fault (script_fault.Count n) h = h
-    by_fault (script_fault.Repeat n) h = h
-    by_fault script_fault.Memory h = tt
+    by_stop : (x : Stop ScriptFault) → FaultIs (HasCause input) x → IsRefused input (serve_fault x)
+    by_stop (stop.Fault f) h = h
+    by_stop stop.Memory h = tt
 
 -- ---- the report
 
-pub is_report : (input output : List ℕ) (s : ServedScript) (arena : Range) (h : IsHandedFor input s) → ((handed : IsHanded s) → output ≡ report_of (service_of s handed.planned.fates)) → arena ≡ s.arena
+pub is_report : (input output : List ℕ) (s : ServedScript) (arena : Range) (h : IsHandedFor input s)
+    → ((handed : IsHanded s) → output ≡ report_of (service_of s handed.planned.fates)) → arena ≡ s.arena
     → IsReportIn input output arena
 is_report input output s arena h each left =
     record { service = service_of s h.handed.planned.fates; served = record { text = h.text; only = h.only; comes = h.handed.comes }; is = each h.handed; left = left }
 
 -- ---- the summary
 
-pub is_summary : (jobs workers : ℕ) (script : Script) (output : List ℕ) (s : ServedScript) → script ≡ made_script jobs workers → (h : IsOf script s) → ((handed : IsHanded s) → output ≡ summary_of (service_of s handed.planned.fates))
+pub is_summary : (jobs workers : ℕ) (script : Script) (output : List ℕ) (s : ServedScript) → script ≡ made_script jobs workers → (h : IsOf script s)
+    → ((handed : IsHanded s) → output ≡ summary_of (service_of s handed.planned.fates))
     → IsSummary jobs workers output
 is_summary jobs workers script output s made h each =
     record { service = service_of s h.handed.planned.fates; script = h.same ∙ made; comes = h.handed.comes; is = each h.handed }

@@ -1,7 +1,7 @@
 -- A script and a journal have one report.
 use Rattle.std.proofs.Common.{◌≡◌, ℕ, List, sym, ap, ◌∙◌, subst}
 use Rattle.job_script.specs.Scripts.{Entry, Script}
-use Rattle.run_reports.specs.declared.outcome.ProgramLine.{ProgramLine}
+use Rattle.script_outcomes.specs.declared.outcome.ProgramLine.{ProgramLine}
 use Rattle.run_reports.specs.Report.{report_text}
 use Rattle.script_plans.specs.Fates.{Fate}
 use Rattle.script_plans.specs.Lines.{AreProgramLines, AreFates}

@@ -9,8 +9,9 @@ use Rattle.script_plans.specs.Lines.{ArePlanned, planned_lines}
 use Rattle.script_service.specs.Service.{told_of}
 use Rattle.script_service.specs.Filed.{telling}
 use Rattle.lease_desk.specs.declared.event.Event.{Event}
-use Rattle.run_reports.specs.declared.outcome.ProgramLine.{ProgramLine}
-use Rattle.run_reports.specs.Report.{JobLine, Told, program_lines, job_lines, told_text, event_lines, asked_name, end_text, report_text}
+use Rattle.script_outcomes.specs.declared.outcome.ProgramLine.{ProgramLine}
+use Rattle.script_outcomes.specs.Told.{JobLine, Told}
+use Rattle.run_reports.specs.Report.{program_lines, job_lines, told_text, event_lines, asked_name, end_text, report_text}
 use Rattle.run_reports.specs.Summary.{added, total, tally_text, summary_text}
 
 head_is : {A : Type 0} (x y : A) (xs ys : List A) → x ∷ xs ≡ y ∷ ys → x ≡ y
@@ -51,7 +52,8 @@ same_lines (AJob j ∷ entries) (l ∷ ls) (m ∷ ms) e =
     let rest : job_lines entries ls ≡ job_lines entries ms = same_lines entries ls ms (tail_is (told_text l) (told_text m) (map told_text ls) (map told_text ms) e) in
     λ i. ((codes "job " ++ j.name) ++ here i ++ codes "\n") ++ rest i
 
-pub same_report : (entries : List Entry) (t u : Told) → t.programs ≡ u.programs → map told_text t.jobs ≡ map told_text u.jobs → t.asked ≡ u.asked → t.journal ≡ u.journal → t.free ≡ u.free → report_text entries t ≡ report_text entries u
+pub same_report : (entries : List Entry) (t u : Told) → t.programs ≡ u.programs → map told_text t.jobs ≡ map told_text u.jobs → t.asked ≡ u.asked
+    → t.journal ≡ u.journal → t.free ≡ u.free → report_text entries t ≡ report_text entries u
 unfolding report_text
 same_report entries t u programs jobs asked journal free =
     let lines : job_lines entries t.jobs ≡ job_lines entries u.jobs = same_lines entries t.jobs u.jobs jobs in
@@ -59,19 +61,20 @@ same_report entries t u programs jobs asked journal free =
 
 -- the report that is written of plans and of what was filed for them is that of the fates that they are planned by
 pub report_is : (script : Script) (ps : Planned) (programs : List ProgramLine) (plans : List JobPlan) (asked : List ℕ) (lines : List JobLine) (journal : List Event) (told : Told) (output : List ℕ)
-    → map telling lines ≡ map telling (planned_lines ps script.arena 0 plans)
+    → map telling lines ≡ map telling (planned_lines ps script.arena plans)
     → told.programs ≡ programs → told.jobs ≡ lines → told.asked ≡ asked → told.journal ≡ journal → told.free ≡ script.arena → output ≡ report_text script.items told
     → (planned : ArePlanned script.arena script.items ps plans asked) → output ≡ report_text script.items (told_of script programs planned.fates journal)
 report_is script ps programs plans asked lines journal told output same ep ej ea el ef is planned =
-    is ∙ same_report script.items told (told_of script programs planned.fates journal) ep (ap (map told_text) ej ∙ same_texts lines (planned_lines ps script.arena 0 plans) same ∙ ap (map told_text) planned.lines) (ea ∙ planned.places) el ef
+    is ∙ same_report script.items told (told_of script programs planned.fates journal) ep (ap (map told_text) ej ∙ same_texts lines (planned_lines ps script.arena plans) same ∙ ap (map told_text) planned.lines) (ea ∙ planned.places) el ef
 
 -- the same of summaries
 pub summary_is : (script : Script) (ps : Planned) (plans : List JobPlan) (asked : List ℕ) (arena : ℕ) (lines : List JobLine) (told : Told) (output : List ℕ) → arena ≡ script.arena
-    → map telling lines ≡ map telling (planned_lines ps arena 0 plans) → told.jobs ≡ lines → told.free ≡ arena → output ≡ summary_text told
-    → (planned : ArePlanned script.arena script.items ps plans asked) (programs : List ProgramLine) (journal : List Event) → output ≡ summary_text (told_of script programs planned.fates journal)
+    → map telling lines ≡ map telling (planned_lines ps arena plans) → told.jobs ≡ lines → told.free ≡ arena → output ≡ summary_text told
+    → (planned : ArePlanned script.arena script.items ps plans asked) (programs : List ProgramLine) (journal : List Event)
+    → output ≡ summary_text (told_of script programs planned.fates journal)
 unfolding summary_text
 summary_is script ps plans asked arena lines told output size same ej ef is planned programs journal =
-    let meant = planned_lines ps script.arena 0 plans in
-    let alike : map telling lines ≡ map telling meant = same ∙ ap (λ n. map telling (planned_lines ps n 0 plans)) size in
+    let meant = planned_lines ps script.arena plans in
+    let alike : map telling lines ≡ map telling meant = same ∙ ap (λ n. map telling (planned_lines ps n plans)) size in
     is ∙ (λ i. tally_text (length (ej i)) (total (ej i)) ((ef ∙ size) i)) ∙ (λ i. tally_text (same_count lines meant alike i) (same_total lines meant alike i) script.arena)
     ∙ ap (λ ls. tally_text (length ls) (total ls) script.arena) planned.lines

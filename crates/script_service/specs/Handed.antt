@@ -16,7 +16,8 @@ use Rattle.script_service.specs.declared.service.ServedScript.{ServedScript}
 abbrev pub service_of : ServedScript → List Fate → Service
 service_of s fates = record { script = script_of s.script; programs = s.plans.programs.items; fates = fates; journal = s.journal.items; arena = s.arena }
 
--- The runs are planned by the fates of the script's jobs, and what is handed out is what comes of the script by these; each run has its ending.
+-- The runs are planned by the fates of the script's jobs, and what is handed out is what comes of the script by these;
+-- each run has its ending.
 pub record IsHanded (s : ServedScript) : Type 0 where
   pub planned : ArePlanned (script_of s.script).arena (script_of s.script).items s.plans.jobs s.plans.plans.items s.plans.asked.items
   pub few : length s.plans.jobs.plans ≤ 4096

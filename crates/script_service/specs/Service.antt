@@ -1,28 +1,30 @@
 -- Cited by contracts.
 -- What comes of an input, and what `serve` writes for it.
-use Rattle.std.specs.Prelude.{◌≡◌, ℕ, ◌++◌, List, [], slice_get, codes, decimal}
+use Rattle.std.specs.Prelude.{◌≡◌, ℕ, ◌++◌, List, slice_get, codes, decimal}
 use Rattle.std.specs.List.{AllByRecursion}
 use Rattle.camelot_values.specs.Value.{Value}
 use Rattle.camelot_values.specs.Outcome.{Outcome, Done, Fuel, Deep, Stuck}
 use Rattle.job_script.specs.Scripts.{Script}
 use Rattle.job_script.specs.Text.{IsScriptText}
 use Rattle.job_script.specs.Made.{made_script}
-use Rattle.job_script.specs.Answers.{IsFault}
+use Rattle.job_script.specs.Answers.{HasCause}
 use Rattle.job_script.specs.declared.reading.ScriptFault.{ScriptFault}
 use Rattle.job_script.specs.declared.reading.ScriptFault.TheVariants as script_fault
 use Rattle.lease_desk.specs.declared.event.Event.{Event}
 use Rattle.lease_desk.specs.Journal.{IsLegal}
 use Rattle.lease_desk.specs.Filing.{FiledCells, HoldsFiled}
 use Rattle.cell_span.specs.Range.{Range, IsWhole}
-use Rattle.run_reports.specs.declared.outcome.ProgramLine.{ProgramLine}
-use Rattle.run_reports.specs.Report.{JobLine, Ended, Told, report_text}
+use Rattle.script_outcomes.specs.declared.outcome.ProgramLine.{ProgramLine}
+use Rattle.script_outcomes.specs.Told.{JobLine, Ended, Told}
+use Rattle.run_reports.specs.Report.{report_text}
 use Rattle.run_reports.specs.Summary.{summary_text}
 use Rattle.script_plans.specs.Fates.{Fate}
 use Rattle.script_plans.specs.Lines.{AreProgramLines, AreFates, lines_of, sizes_of, places_of, all_left}
 
 -- ---- what comes of a script
 
--- what serving a script comes to: the script, a line for each of its programs, a fate for each of its jobs, the journal of the desk, and the arena at the end
+-- what serving a script comes to: the script, a line for each of its programs, a fate for each of its jobs, the journal
+-- of the desk, and the arena at the end
 pub record Service : Type 0 where
   pub script : Script
   pub programs : List ProgramLine
@@ -46,9 +48,10 @@ TellsMeaning line = Unit {0}
 abbrev pub cells_by : Service → FiledCells
 cells_by s = λ job. slice_get (all_left s.script.arena s.script.items s.fates) job
 
--- Each program has its own line: its unit, where it is compiled from its source or accepted from its bundle's bytes alone, or its cause. Each job has its own fate. The journal is legal for
--- the leases of the jobs that went to the desk. The arena is whole at the end: each cell is the one that the machine left there for the last job whose lease went over it, and a blank one where
--- none did.
+-- Each program has its own line: its unit, where it is compiled from its source or accepted from its bundle's bytes
+-- alone, or its cause. Each job has its own fate. The journal is legal for the leases of the jobs that went to the
+-- desk. The arena is whole at the end: each cell is the one that the machine left there for the last job whose lease
+-- went over it, and a blank one where none did.
 pub record IsService (s : Service) : Type 0 where
   pub are_programs : AreProgramLines s.script.items s.programs
   pub are_fates : AreFates s.script.items s.script.items s.fates
@@ -66,7 +69,8 @@ pub record IsServiceOf (input : List ℕ) (s : Service) : Type 0 where
 
 -- ---- the report
 
--- what is told of a script: its programs' lines, its jobs' lines by their fates, the journal, and the whole arena free at the end
+-- what is told of a script: its programs' lines, its jobs' lines by their fates, the journal, and the whole arena free
+-- at the end
 abbrev pub told_of : Script → List ProgramLine → List Fate → List Event → Told
 told_of s programs fates journal = record {
   programs = programs;
@@ -107,17 +111,15 @@ pub record IsSummary (jobs workers : ℕ) (output : List ℕ) : Type 0 where
 
 -- ---- inputs that aren't served
 
--- what is told of the first wrong line of an input that is no script; nothing of want of memory
+-- what is told of the first wrong line of an input that is no script
 unfoldable pub fault_text : ScriptFault → List ℕ
 fault_text (script_fault.Line line) = codes "refused script line " ++ decimal line ++ codes " line\n"
 fault_text (script_fault.Count line) = codes "refused script line " ++ decimal line ++ codes " count\n"
 fault_text (script_fault.Repeat line) = codes "refused script line " ++ decimal line ++ codes " repeat\n"
-fault_text script_fault.Memory = []
 
--- want of memory is no fault of an input
+-- the input is no script, for this fault
 abbrev pub IsScriptFault : List ℕ → ScriptFault → Type 0
-IsScriptFault input script_fault.Memory = ⊥
-IsScriptFault input fault = IsFault input fault
+IsScriptFault input fault = HasCause input fault
 
 -- the input is no script, and the output tells its first wrong line and what is wrong with it
 pub record IsRefusal (input output : List ℕ) : Type 0 where

@@ -4,7 +4,8 @@ use Rattle.std.specs.Prelude.{◌≡◌}
 use Rattle.job_script.specs.Scripts.{Script}
 use Rattle.job_script.specs.Words.{script_of}
 use Rattle.job_script.specs.declared.reading.ScriptFault.{ScriptFault}
-use Rattle.job_script.specs.declared.reading.ScriptFault.TheVariants as script_fault
+use Rattle.stops.specs.declared.stop.Stop.{Stop}
+use Rattle.stops.specs.declared.stop.Stop.TheVariants as stop
 use Rattle.script_service.specs.Handed.{IsHanded}
 use Rattle.script_service.specs.declared.service.ServeFault.{ServeFault}
 use Rattle.script_service.specs.declared.service.ServeFault.TheVariants as fault
@@ -15,6 +16,6 @@ pub record IsOf (script : Script) (s : ServedScript) : Type 0 where
   pub same : script_of s.script ≡ script
   pub handed : IsHanded s
 
-abbrev pub serve_fault : ScriptFault → ServeFault
-serve_fault script_fault.Memory = fault.Memory
-serve_fault x = fault.NoScript x
+abbrev pub serve_fault : Stop ScriptFault → ServeFault
+serve_fault (stop.Fault x) = fault.NoScript x
+serve_fault stop.Memory = fault.Memory

@@ -15,7 +15,7 @@ fn line_with(alloc: Global, line: u64, kind: &[u8]) -> Result<Vec<u8>, AllocErro
     Ok(text)
 }
 
-/// The line that tells why an input is no script; empty for want of memory, which is no fault of an input. `AllocError` where memory runs out.
+/// The line that tells why an input is no script. `AllocError` where memory runs out.
 #[tactic(auto, unfolding(crate::specs::Service::fault_text))]
 pub fn fault_line(alloc: Global, fault: &ScriptFault) -> Result<Vec<u8>, AllocError>
     ensures { IfOk result (λ text. text.items ≡ fault_text fault.now) }
@@ -24,6 +24,5 @@ pub fn fault_line(alloc: Global, fault: &ScriptFault) -> Result<Vec<u8>, AllocEr
         ScriptFault::Line { line } => line_with(alloc, *line, b" line\n"),
         ScriptFault::Count { line } => line_with(alloc, *line, b" count\n"),
         ScriptFault::Repeat { line } => line_with(alloc, *line, b" repeat\n"),
-        ScriptFault::Memory => Ok(Vec::new(alloc)),
     }
 }

@@ -1,13 +1,14 @@
 //! The report of a script that was served.
-ghost use Rattle.std.specs.Prelude.{◌≡◌, ◌≤◌, List, length, IfOk};
+ghost use Rattle.std.specs.Prelude.{◌≡◌, List, length, IfOk};
+ghost use Rattle.std.specs.List.{range_with_len};
 ghost use Rattle.job_script.specs.Scripts.{Script as PlainScript};
 ghost use Rattle.job_script.specs.Words.{script_of};
 ghost use Rattle.job_workers.specs.Ended.{AllEnded};
 ghost use Rattle.lease_desk.specs.declared.event.Event.{Event as PlainEvent};
-ghost use Rattle.run_reports.specs.declared.outcome.ProgramLine.{ProgramLine as PlainLine};
+ghost use Rattle.script_outcomes.specs.declared.outcome.ProgramLine.{ProgramLine as PlainLine};
 ghost use Rattle.run_reports.specs.Report.{report_text};
 ghost use Rattle.run_reports.specs.Summary.{summary_text};
-ghost use Rattle.script_plans.specs.Lines.{ArePlanned, next_behind};
+ghost use Rattle.script_plans.specs.Lines.{ArePlanned, run_numbers};
 ghost use Rattle.script_service.specs.Service.{report_of, summary_of, told_of};
 ghost use Rattle.script_service.specs.Handed.{IsHanded, service_of};
 
@@ -30,6 +31,7 @@ pub struct ReportedScript {
 }
 
 // The report of a script, from its plans, the endings of its runs and the journal.
+#[tactic(auto, using(crate::proofs::Filing::all_own))]
 fn report_plans(
     alloc: Global,
     script: &Script,
@@ -37,11 +39,11 @@ fn report_plans(
     journal: Vec<Event>,
     endings: Vec<Option<Ending>>,
 ) -> Result<Vec<u8>, AllocError>
-    requires count { next_behind plans.plans.items 0 ≡ length plans.jobs.plans }
-    requires few { length plans.jobs.plans ≤ 4096 }
+    requires numbers { run_numbers plans.plans.items ≡ range_with_len 0 (length plans.jobs.plans) }
     requires ended { AllEnded plans.jobs endings.items }
     ensures { (planned : ArePlanned (script_of script.now).arena (script_of script.now).items plans.jobs plans.plans.items plans.asked.items)
-        → IfOk result (λ text. text.items ≡ report_text (script_of script.now).items (told_of (script_of script.now) plans.programs.items planned.fates journal.items)) }
+        → IfOk result (λ text. text.items ≡ report_text (script_of script.now).items
+        (told_of (script_of script.now) plans.programs.items planned.fates journal.items)) }
 {
     let mut endings = endings;
     let lines = job_lines(alloc, &plans.jobs, script.arena, &plans.plans, &mut endings)?;
@@ -56,11 +58,13 @@ fn report_plans(
     Ok(text)
 }
 
-/// The report of a script that was served. The arena is handed on. `AllocError` where memory runs out: the arena is ended then.
+/// The report of a script that was served. The arena is handed on. `AllocError` where memory runs out: the arena is
+/// ended then.
 pub fn report_served(alloc: Global, served: ServedScript) -> Result<ReportedScript, AllocError>
     requires { IsHanded served }
     // It is the report of what comes of the script, by the fates of its jobs.
     ensures text { (handed : IsHanded served) → IfOk result (λ r. r.text.items ≡ report_of (service_of served handed.planned.fates)) }
+    // The arena is the one that was left by serving.
     ensures arena { IfOk result (λ r. r.arena ≡ served.arena) }
 {
     let ServedScript {
@@ -80,16 +84,17 @@ pub fn report_served(alloc: Global, served: ServedScript) -> Result<ReportedScri
 }
 
 // The summary of a script, from its plans and the endings of its runs.
+#[tactic(auto, using(crate::proofs::Filing::all_own))]
 fn summarize_plans(
     alloc: Global,
     arena: u32,
     plans: Plans,
     endings: Vec<Option<Ending>>,
 ) -> Result<Vec<u8>, AllocError>
-    requires count { next_behind plans.plans.items 0 ≡ length plans.jobs.plans }
-    requires few { length plans.jobs.plans ≤ 4096 }
+    requires numbers { run_numbers plans.plans.items ≡ range_with_len 0 (length plans.jobs.plans) }
     requires ended { AllEnded plans.jobs endings.items }
-    ensures { (script : PlainScript) (planned : ArePlanned script.arena script.items plans.jobs plans.plans.items plans.asked.items) (programs : List PlainLine) (journal : List PlainEvent)
+    ensures { (script : PlainScript) (planned : ArePlanned script.arena script.items plans.jobs plans.plans.items
+        plans.asked.items) (programs : List PlainLine) (journal : List PlainEvent)
         → arena ≡ script.arena → IfOk result (λ text. text.items ≡ summary_text (told_of script programs planned.fates journal)) }
 {
     let mut endings = endings;
@@ -105,7 +110,8 @@ fn summarize_plans(
     Ok(text)
 }
 
-/// The summary of a script that was served, in one line. The arena is ended. `AllocError` where memory runs out: the arena is ended then too.
+/// The summary of a script that was served, in one line. The arena is ended. `AllocError` where memory runs out: the
+/// arena is ended then too.
 pub fn summarize_served(alloc: Global, served: ServedScript) -> Result<Vec<u8>, AllocError>
     requires { IsHanded served }
     // It is the summary of what comes of the script, by the fates of its jobs.

@@ -20,6 +20,7 @@ use script_plans::{Plans, plan_script};
 use std::alloc::{AllocError, Global};
 use std::sync::Wait;
 use std::thread::Threads;
+use stops::Stop;
 use thiserror::Error;
 
 /// What serving a script hands out. It can't be dropped, as its arena can't.
@@ -48,12 +49,12 @@ pub enum ServeFault {
 }
 
 // Want of memory is one wherever it is met.
-fn serve_fault(fault: ScriptFault) -> ServeFault
-    ensures { result ≡ serve_fault fault }
+fn serve_fault(stop: Stop<ScriptFault>) -> ServeFault
+    ensures { result ≡ serve_fault stop }
 {
-    match fault {
-        ScriptFault::Memory => ServeFault::Memory,
-        fault => ServeFault::NoScript(fault),
+    match stop {
+        Stop::Fault(fault) => ServeFault::NoScript(fault),
+        Stop::Memory => ServeFault::Memory,
     }
 }
 
@@ -84,15 +85,15 @@ fn serve_read<R: Threads + Wait + Sync, G: Gate + Sync>(
     })
 }
 
-/// Serves a script. Each of its programs is compiled from its source, or accepted from its bundle's bytes alone. Its jobs
-/// run in one arena, by as many workers as it says, each of which passes the gate. Hands out the script, what was planned
-/// of it, the journal of the leases, the endings of the runs, and the arena as they left it. The input has fewer than 2^32
-/// bytes; it is let go once the script is read. It may wait for the lock and the desk.
+/// Serves a script. Each of its programs is compiled from its source, or accepted from its bundle's bytes alone. Its
+/// jobs run in one arena, by as many workers as it says, each of which passes the gate. Hands out the script, what was
+/// planned of it, the journal of the leases, the endings of the runs, and the arena as they left it. The input has
+/// fewer than 2^32 bytes; it is let go once the script is read. It may wait for the lock and the desk.
 ///
 /// # Errors
 ///
-/// [`ServeFault::NoScript`] exactly where the input is no script, with its first wrong line. [`ServeFault::Memory`] where
-/// memory runs out: the arena is ended then.
+/// [`ServeFault::NoScript`] exactly where the input is no script, with its first wrong line. [`ServeFault::Memory`]
+/// where memory runs out: the arena is ended then.
 pub fn run_script<R: Threads + Wait + Sync, G: Gate + Sync>(
     rt: &R,
     alloc: Global,
@@ -114,14 +115,15 @@ pub fn run_script<R: Threads + Wait + Sync, G: Gate + Sync>(
                 Err(_) => Err(ServeFault::Memory),
             }
         }
-        Err(fault) => Err(serve_fault(fault)),
+        Err(stop) => Err(serve_fault(stop)),
     }
 }
 
-/// The report of a script: each of its programs, compiled from its source or accepted from its bundle's bytes alone, with
-/// its unit or why it is refused; each of its jobs with what it comes to by the meaning of its own program, its peak and
-/// its bound; and the journal of the leases that they had in one arena. With it comes that arena, as the jobs left it. The
-/// input has fewer than 2^32 bytes; it is let go once the script is read. It may wait for the lock and the desk.
+/// The report of a script: each of its programs, compiled from its source or accepted from its bundle's bytes alone,
+/// with its unit or why it is refused; each of its jobs with what it comes to by the meaning of its own program, its
+/// peak and its bound; and the journal of the leases that they had in one arena. With it comes that arena, as the jobs
+/// left it. The input has fewer than 2^32 bytes; it is let go once the script is read. It may wait for the lock and the
+/// desk.
 ///
 /// # Errors
 ///
@@ -134,8 +136,8 @@ pub fn serve_script<R: Threads + Wait + Sync, G: Gate + Sync>(
     gate: &G,
 ) -> Result<ReportedScript, ServeFault>
     requires { length input.items < 4294967296 }
-    // What is answered is the report of what comes of the input, and the arena that this leaves; an input is refused for
-    // its cause.
+    // What is answered is the report of what comes of the input, and the arena that this leaves; an input is refused
+    // for its cause.
     ensures { MatchResult result (λ r. IsReportIn input.items r.text.items r.arena) (IsRefused input.items) }
 {
     match run_script(rt, alloc, input, gate) {
@@ -147,9 +149,9 @@ pub fn serve_script<R: Threads + Wait + Sync, G: Gate + Sync>(
     }
 }
 
-/// Serves the drill's script with so many jobs, from 1 to 4,096, by so many workers, from 1 to 16, each of which passes the
-/// gate, and tells its summary in one line. It may wait for the lock and the desk. `AllocError` where memory runs out. The
-/// arena is ended.
+/// Serves the drill's script with so many jobs, from 1 to 4,096, by so many workers, from 1 to 16, each of which passes
+/// the gate, and tells its summary in one line. It may wait for the lock and the desk. `AllocError` where memory runs
+/// out. The arena is ended.
 pub fn drill<R: Threads + Wait + Sync, G: Gate + Sync>(
     rt: &R,
     alloc: Global,

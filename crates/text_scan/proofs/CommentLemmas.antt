@@ -6,7 +6,8 @@ use Rattle.std.proofs.lemmas.List.{drop_more, drop-drop, length-drop}
 use Rattle.text_scan.specs.Comments.{is_opening, is_closing, opens_comment, closes, is_comment}
 use Rattle.text_scan.specs.Reading.{IsNextComment, BeginsNoComment}
 
--- The first `at` bytes are read, and `depth` comments are open: what closes them closes the comment, and nothing before does.
+-- The first `at` bytes are read, and `depth` comments are open: what closes them closes the comment, and nothing before
+-- does.
 pub record CommentRead (bytes : List ℕ) (at depth : ℕ) : Type 0 where
   pub within : at ≤ length bytes
   pub deep : depth ≤ at
@@ -77,14 +78,16 @@ opening_on d a b xs m opens =
     subst (λ n. closes (suc d) (take n (a ∷ b ∷ xs)) ≡ closes (suc (suc d)) (take m xs)) (sym two)
     (ap (λ t. cond t (closes (suc (suc d)) (take m xs)) (cond (is_closing a b) (closes d (take m xs)) (closes (suc d) (b ∷ take m xs)))) opens)
 
-closing_on : (d a b : ℕ) (xs : List ℕ) (m : ℕ) → is_opening a b ≡ false → is_closing a b ≡ true → closes (suc d) (take (2 + m) (a ∷ b ∷ xs)) ≡ closes d (take m xs)
+closing_on : (d a b : ℕ) (xs : List ℕ) (m : ℕ) → is_opening a b ≡ false → is_closing a b ≡ true
+    → closes (suc d) (take (2 + m) (a ∷ b ∷ xs)) ≡ closes d (take m xs)
 unfolding closes
 closing_on d a b xs m no_open is_close =
     let two : 2 + m ≡ suc (suc m) = omega arith in
     subst (λ n. closes (suc d) (take n (a ∷ b ∷ xs)) ≡ closes d (take m xs)) (sym two)
     (λ i. cond (no_open i) (closes (suc (suc d)) (take m xs)) (cond (is_close i) (closes d (take m xs)) (closes (suc d) (b ∷ take m xs))))
 
-passing_on : (d a b : ℕ) (xs : List ℕ) (m : ℕ) → is_opening a b ≡ false → is_closing a b ≡ false → closes (suc d) (take (suc m) (a ∷ b ∷ xs)) ≡ closes (suc d) (take m (b ∷ xs))
+passing_on : (d a b : ℕ) (xs : List ℕ) (m : ℕ) → is_opening a b ≡ false → is_closing a b ≡ false
+    → closes (suc d) (take (suc m) (a ∷ b ∷ xs)) ≡ closes (suc d) (take m (b ∷ xs))
 unfolding closes
 passing_on d a b xs zero no_open is_close = refl
 passing_on d a b xs (suc m) no_open is_close =

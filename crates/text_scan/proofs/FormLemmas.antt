@@ -17,7 +17,8 @@ use Rattle.text_scan.specs.Steps.{name_run, digit_run}
 use Rattle.text_scan.specs.Reading.{IsNextToken, BeginsNoToken}
 
 -- what each entry of a table passes, whatever is in the table passes
-among : (test : List ℕ → Bool) (table : List (List ℕ)) (bytes : List ℕ) → list_all test table ≡ true → list_any (λ entry. bytes_eq entry bytes) table ≡ true → test bytes ≡ true
+among : (test : List ℕ → Bool) (table : List (List ℕ)) (bytes : List ℕ) → list_all test table ≡ true
+    → list_any (λ entry. bytes_eq entry bytes) table ≡ true → test bytes ≡ true
 among test [] bytes all any = absurd (false≢true any)
 among test (x ∷ table) bytes all any =
     let parts = and_parts (test x) (list_all test table) all in
@@ -77,7 +78,8 @@ no_word : (bytes : List ℕ) → is_name is_ascii_lowercase bytes ≡ false → 
 no_word bytes unlike = false_from_ne_true _ (λ word. absurd (false≢true (sym unlike ∙ word_is_name bytes word)))
 
 -- the kind, from the six tests
-kind_from : (bytes : List ℕ) (w l u t n s : Bool) → is_word bytes ≡ w → is_name is_ascii_lowercase bytes ≡ l → is_name is_ascii_uppercase bytes ≡ u → is_type_variable bytes ≡ t → is_number_token bytes ≡ n → is_symbol bytes ≡ s
+kind_from : (bytes : List ℕ) (w l u t n s : Bool) → is_word bytes ≡ w → is_name is_ascii_lowercase bytes ≡ l → is_name is_ascii_uppercase bytes ≡ u
+    → is_type_variable bytes ≡ t → is_number_token bytes ≡ n → is_symbol bytes ≡ s
     → token_kind bytes ≡ cond w (Some Keyword) (cond l (Some Lower) (cond u (Some Upper) (cond t (Some TypeVar) (cond n (Some Number) (cond s (Some Symbol) None)))))
 unfolding token_kind
 kind_from bytes w l u t n s ew el eu et en es = cc
@@ -85,7 +87,8 @@ kind_from bytes w l u t n s ew el eu et en es = cc
 pub empty_kind : token_kind [] ≡ None
 empty_kind = kind_from [] false false false false false false (no_word [] refl) refl refl refl refl (no_symbol [] refl)
 
-lower_first : (b : ℕ) (bytes : List ℕ) → is_ascii_lowercase b ≡ true → token_kind (b ∷ bytes) ≡ cond (is_word (b ∷ bytes)) (Some Keyword) (cond (list_all is_name_part bytes) (Some Lower) None)
+lower_first : (b : ℕ) (bytes : List ℕ) → is_ascii_lowercase b ≡ true
+    → token_kind (b ∷ bytes) ≡ cond (is_word (b ∷ bytes)) (Some Keyword) (cond (list_all is_name_part bytes) (Some Lower) None)
 lower_first b bytes first =
     let upper : is_ascii_uppercase b ≡ false = grind (arith, nat_tests) in
     let quote : (b == 39) ≡ false = grind (arith, nat_tests) in
@@ -112,7 +115,8 @@ digit_first b bytes first =
 quote_first : (bytes : List ℕ) → token_kind (39 ∷ bytes) ≡ cond (is_name is_ascii_lowercase bytes) (Some TypeVar) None
 quote_first bytes = kind_from (39 ∷ bytes) false false false (is_name is_ascii_lowercase bytes) false false (no_word _ refl) refl refl refl refl (no_symbol _ (taken_is_unlike 39 bytes refl))
 
-other_first : (b : ℕ) (bytes : List ℕ) → is_ascii_lowercase b ≡ false → is_ascii_uppercase b ≡ false → is_ascii_digit b ≡ false → (b == 39) ≡ false → token_kind (b ∷ bytes) ≡ cond (is_symbol (b ∷ bytes)) (Some Symbol) None
+other_first : (b : ℕ) (bytes : List ℕ) → is_ascii_lowercase b ≡ false → is_ascii_uppercase b ≡ false → is_ascii_digit b ≡ false → (b == 39) ≡ false
+    → token_kind (b ∷ bytes) ≡ cond (is_symbol (b ∷ bytes)) (Some Symbol) None
 other_first b bytes lower upper digit quote =
     kind_from (b ∷ bytes) false false false false false (is_symbol (b ∷ bytes)) (no_word _ (and_left _ _ lower)) (and_left _ _ lower) (and_left _ _ upper) (and_left _ _ quote) (and_left _ _ digit) refl
 
@@ -130,7 +134,8 @@ one_more : (n : ℕ) → 1 + n ≡ suc n
 one_more n = omega arith
 
 -- the front that passes a test passes it
-run_passes_by : (p : ℕ → Bool) (b : ℕ) (bytes : List ℕ) (t : Bool) → p b ≡ t → list_all p (take (prefix_len p bytes) bytes) ≡ true → list_all p (take (cond t (1 + prefix_len p bytes) 0) (b ∷ bytes)) ≡ true
+run_passes_by : (p : ℕ → Bool) (b : ℕ) (bytes : List ℕ) (t : Bool) → p b ≡ t → list_all p (take (prefix_len p bytes) bytes) ≡ true
+    → list_all p (take (cond t (1 + prefix_len p bytes) 0) (b ∷ bytes)) ≡ true
 run_passes_by p b bytes true passes rest = subst (λ n. list_all p (take n (b ∷ bytes)) ≡ true) (sym (one_more (prefix_len p bytes))) (and_from (p b) _ passes rest)
 run_passes_by p b bytes false fails rest = refl
 
@@ -139,7 +144,9 @@ run_passes p [] = refl
 run_passes p (b ∷ bytes) = run_passes_by p b bytes (p b) refl (run_passes p bytes)
 
 -- no longer front passes it
-run_ends_by : (p : ℕ → Bool) (b : ℕ) (bytes : List ℕ) (more : ℕ) (t : Bool) → p b ≡ t → (prefix_len p bytes < more → list_all p (take more bytes) ≡ false) → cond t (1 + prefix_len p bytes) 0 < suc more → list_all p (b ∷ take more bytes) ≡ false
+run_ends_by : (p : ℕ → Bool) (b : ℕ) (bytes : List ℕ) (more : ℕ) (t : Bool) → p b ≡ t
+    → (prefix_len p bytes < more → list_all p (take more bytes) ≡ false) → cond t (1 + prefix_len p bytes) 0 < suc more
+    → list_all p (b ∷ take more bytes) ≡ false
 run_ends_by p b bytes more true passes ends longer = and_right (p b) _ (ends (omega arith))
 run_ends_by p b bytes more false fails ends longer = and_left (p b) _ fails
 
@@ -148,8 +155,8 @@ run_ends p [] more longer within = absurd (omega arith)
 run_ends p (b ∷ bytes) zero longer within = absurd (omega arith)
 run_ends p (b ∷ bytes) (suc more) longer within = run_ends_by p b bytes more (p b) refl (λ above. run_ends p bytes more above (omega arith)) longer
 
--- A token that begins with `front` and runs on: what passes the test after the front is a token, and nothing else that begins
--- so is.
+-- A token that begins with `front` and runs on: what passes the test after the front is a token, and nothing else that
+-- begins so is.
 runs : (p : ℕ → Bool) (front bytes : List ℕ) (kind : TokenKind) → ((xs : List ℕ) → list_all p xs ≡ false → token_kind (front ++ xs) ≡ None)
     → token_kind (front ++ take (prefix_len p bytes) bytes) ≡ Some kind → opens_comment (front ++ bytes) ≡ false → IsNextToken (front ++ bytes) kind (length front + prefix_len p bytes)
 runs p front bytes kind others whole no_comment = record {
@@ -196,7 +203,8 @@ keyword_token (b ∷ bytes) size no_comment nonempty first is word_test word_is 
     (lower_first b _ first ∙ (λ i. cond (keyword i) (Some Keyword) (cond (list_all is_name_part (take n bytes)) (Some Lower) None)))
     no_comment)
 
-pub upper_token : (bytes : List ℕ) (size : ℕ) → opens_comment bytes ≡ false → 0 < length bytes → (first_test : Bool) → first_test ≡ is_ascii_uppercase (get_or bytes 0 0) → first_test ≡ true
+pub upper_token : (bytes : List ℕ) (size : ℕ) → opens_comment bytes ≡ false → 0 < length bytes → (first_test : Bool)
+    → first_test ≡ is_ascii_uppercase (get_or bytes 0 0) → first_test ≡ true
     → size ≡ 1 + name_run (drop 1 bytes) → IsNextToken bytes Upper size
 unfolding name_run
 upper_token [] size no_comment nonempty first_test first_is first_so is = absurd (omega arith)
@@ -207,7 +215,8 @@ upper_token (b ∷ bytes) size no_comment nonempty first_test first_is first_so 
     (upper_first b _ (sym first_is ∙ first_so) ∙ ap (λ t. cond t (Some Upper) None) passes)
     no_comment)
 
-pub number_token : (bytes : List ℕ) (size : ℕ) → opens_comment bytes ≡ false → 0 < length bytes → (first_test : Bool) → first_test ≡ is_ascii_digit (get_or bytes 0 0) → first_test ≡ true
+pub number_token : (bytes : List ℕ) (size : ℕ) → opens_comment bytes ≡ false → 0 < length bytes → (first_test : Bool)
+    → first_test ≡ is_ascii_digit (get_or bytes 0 0) → first_test ≡ true
     → size ≡ 1 + digit_run (drop 1 bytes) → IsNextToken bytes Number size
 unfolding digit_run
 number_token [] size no_comment nonempty first_test first_is first_so is = absurd (omega arith)
@@ -218,7 +227,8 @@ number_token (b ∷ bytes) size no_comment nonempty first_test first_is first_so
     (digit_first b _ (sym first_is ∙ first_so) ∙ ap (λ t. cond t (Some Number) None) passes)
     no_comment)
 
-pub type_variable_token : (bytes : List ℕ) (size : ℕ) → opens_comment bytes ≡ false → 1 < length bytes → get_or bytes 0 0 ≡ 39 → (first_test : Bool) → first_test ≡ is_ascii_lowercase (get_or bytes 1 0) → first_test ≡ true
+pub type_variable_token : (bytes : List ℕ) (size : ℕ) → opens_comment bytes ≡ false → 1 < length bytes → get_or bytes 0 0 ≡ 39 → (first_test : Bool)
+    → first_test ≡ is_ascii_lowercase (get_or bytes 1 0) → first_test ≡ true
     → size ≡ 2 + name_run (drop 2 bytes) → IsNextToken bytes TypeVar size
 unfolding name_run
 type_variable_token [] size no_comment long quote first_test first_is first_so is = absurd (omega arith)
@@ -235,7 +245,8 @@ quote_end : (size : ℕ) → cond (is_name is_ascii_lowercase (take size [])) (S
 quote_end zero = refl
 quote_end (suc size) = refl
 
-quote_fronts : (bytes : List ℕ) (size : ℕ) → 0 < length bytes → get_or bytes 0 0 ≡ 39 → (1 < length bytes → is_ascii_lowercase (get_or bytes 1 0) ≡ false) → token_kind (take size bytes) ≡ None
+quote_fronts : (bytes : List ℕ) (size : ℕ) → 0 < length bytes → get_or bytes 0 0 ≡ 39
+    → (1 < length bytes → is_ascii_lowercase (get_or bytes 1 0) ≡ false) → token_kind (take size bytes) ≡ None
 quote_fronts [] size nonempty quote next = absurd (omega arith)
 quote_fronts (a ∷ bytes) zero nonempty quote next = empty_kind
 quote_fronts (a ∷ []) (suc size) nonempty quote next = ap (λ q. token_kind (q ∷ take size [])) quote ∙ quote_first (take size []) ∙ quote_end size
@@ -245,7 +256,8 @@ quote_fronts (a ∷ b ∷ bytes) (suc (suc size)) nonempty quote next =
     ap (λ q. token_kind (q ∷ b ∷ take size bytes)) quote ∙ quote_first (b ∷ take size bytes) ∙ ap (λ t. cond t (Some TypeVar) None) (and_left (is_ascii_lowercase b) _ fails)
 
 -- a quote that no lower-case letter follows begins no token
-pub quote_alone : (bytes : List ℕ) → 0 < length bytes → get_or bytes 0 0 ≡ 39 → (1 < length bytes → is_ascii_lowercase (get_or bytes 1 0) ≡ false) → BeginsNoToken bytes
+pub quote_alone : (bytes : List ℕ) → 0 < length bytes → get_or bytes 0 0 ≡ 39 → (1 < length bytes → is_ascii_lowercase (get_or bytes 1 0) ≡ false)
+    → BeginsNoToken bytes
 quote_alone bytes nonempty quote next = record { none = λ size. quote_fronts bytes size nonempty quote next }
 
 -- the first byte is none of another token
@@ -265,7 +277,8 @@ longer_symbol a b bytes (suc (suc zero)) other longer within = absurd (omega ari
 longer_symbol a b [] (suc (suc (suc more))) other longer within = absurd (omega arith)
 longer_symbol a b (c ∷ bytes) (suc (suc (suc more))) other longer within = other_kind a (b ∷ c ∷ take more bytes) false other (no_symbol _ refl)
 
-double_at : (bytes : List ℕ) → opens_comment bytes ≡ false → 1 < length bytes → IsOther (get_or bytes 0 0) → is_symbol (take 2 bytes) ≡ true → IsNextToken bytes Symbol 2
+double_at : (bytes : List ℕ) → opens_comment bytes ≡ false → 1 < length bytes → IsOther (get_or bytes 0 0) → is_symbol (take 2 bytes) ≡ true
+    → IsNextToken bytes Symbol 2
 double_at [] no_comment long other symbol = absurd (omega arith)
 double_at (a ∷ []) no_comment long other symbol = absurd (omega arith)
 double_at (a ∷ b ∷ bytes) no_comment long other symbol = record {
@@ -275,7 +288,8 @@ double_at (a ∷ b ∷ bytes) no_comment long other symbol = record {
   longest = λ more longer within. longer_symbol a b bytes more other longer within;
 }
 
-beyond_single : (a : ℕ) (bytes : List ℕ) (more : ℕ) → IsOther a → (1 < length (a ∷ bytes) → is_symbol (take 2 (a ∷ bytes)) ≡ false) → 1 < more → more ≤ suc (length bytes) → token_kind (take more (a ∷ bytes)) ≡ None
+beyond_single : (a : ℕ) (bytes : List ℕ) (more : ℕ) → IsOther a → (1 < length (a ∷ bytes) → is_symbol (take 2 (a ∷ bytes)) ≡ false) → 1 < more
+    → more ≤ suc (length bytes) → token_kind (take more (a ∷ bytes)) ≡ None
 beyond_single a bytes zero other alone longer within = absurd (omega arith)
 beyond_single a bytes (suc zero) other alone longer within = absurd (omega arith)
 beyond_single a [] (suc (suc more)) other alone longer within = absurd (omega arith)
@@ -292,7 +306,8 @@ single_at (a ∷ bytes) no_comment nonempty other symbol alone = record {
   longest = λ more longer within. beyond_single a bytes more other alone longer within;
 }
 
-other_fronts : (bytes : List ℕ) (size : ℕ) → 0 < length bytes → IsOther (get_or bytes 0 0) → is_symbol (take 1 bytes) ≡ false → (1 < length bytes → is_symbol (take 2 bytes) ≡ false) → token_kind (take size bytes) ≡ None
+other_fronts : (bytes : List ℕ) (size : ℕ) → 0 < length bytes → IsOther (get_or bytes 0 0) → is_symbol (take 1 bytes) ≡ false
+    → (1 < length bytes → is_symbol (take 2 bytes) ≡ false) → token_kind (take size bytes) ≡ None
 other_fronts [] size nonempty other single alone = absurd (omega arith)
 other_fronts (a ∷ bytes) zero nonempty other single alone = empty_kind
 other_fronts (a ∷ []) (suc zero) nonempty other single alone = other_kind a [] false other single
@@ -302,7 +317,8 @@ other_fronts (a ∷ b ∷ bytes) (suc (suc zero)) nonempty other single alone = 
 other_fronts (a ∷ b ∷ []) (suc (suc (suc size))) nonempty other single alone = other_kind a (b ∷ []) false other (alone (omega arith))
 other_fronts (a ∷ b ∷ c ∷ bytes) (suc (suc (suc size))) nonempty other single alone = other_kind a (b ∷ c ∷ take size bytes) false other (no_symbol _ refl)
 
-no_symbol_at : (bytes : List ℕ) → 0 < length bytes → IsOther (get_or bytes 0 0) → is_symbol (take 1 bytes) ≡ false → (1 < length bytes → is_symbol (take 2 bytes) ≡ false) → BeginsNoToken bytes
+no_symbol_at : (bytes : List ℕ) → 0 < length bytes → IsOther (get_or bytes 0 0) → is_symbol (take 1 bytes) ≡ false
+    → (1 < length bytes → is_symbol (take 2 bytes) ≡ false) → BeginsNoToken bytes
 no_symbol_at bytes nonempty other single alone = record { none = λ size. other_fronts bytes size nonempty other single alone }
 
 other_from : (a : ℕ) → is_ascii_lowercase a ≡ false → is_ascii_uppercase a ≡ false → is_ascii_digit a ≡ false → (a ≡ 39 → ⊥) → IsOther a
@@ -337,7 +353,8 @@ row_of w l u t n s Symbol = s ≡ true
 some_kind : (a b : TokenKind) → Some a ≡ Some b → a ≡ b
 some_kind a b same = cc
 
-row_from : (w l u t n s : Bool) (k : TokenKind) → cond w (Some Keyword) (cond l (Some Lower) (cond u (Some Upper) (cond t (Some TypeVar) (cond n (Some Number) (cond s (Some Symbol) None))))) ≡ Some k → row_of w l u t n s k
+row_from : (w l u t n s : Bool) (k : TokenKind)
+    → cond w (Some Keyword) (cond l (Some Lower) (cond u (Some Upper) (cond t (Some TypeVar) (cond n (Some Number) (cond s (Some Symbol) None))))) ≡ Some k → row_of w l u t n s k
 row_from true l u t n s k kind = subst (row_of true l u t n s) (some_kind Keyword k kind) refl
 row_from false true u t n s k kind = subst (row_of false true u t n s) (some_kind Lower k kind) (refl, refl)
 row_from false false true t n s k kind = subst (row_of false false true t n s) (some_kind Upper k kind) refl
@@ -346,7 +363,8 @@ row_from false false false false true s k kind = subst (row_of false false false
 row_from false false false false false true k kind = subst (row_of false false false false false true) (some_kind Symbol k kind) refl
 row_from false false false false false false k kind = absurd cc
 
-form_by : (bytes : List ℕ) (k : TokenKind) → row_of (is_word bytes) (is_name is_ascii_lowercase bytes) (is_name is_ascii_uppercase bytes) (is_type_variable bytes) (is_number_token bytes) (is_symbol bytes) k → HasForm k bytes
+form_by : (bytes : List ℕ) (k : TokenKind)
+    → row_of (is_word bytes) (is_name is_ascii_lowercase bytes) (is_name is_ascii_uppercase bytes) (is_type_variable bytes) (is_number_token bytes) (is_symbol bytes) k → HasForm k bytes
 form_by bytes Lower row = row
 form_by bytes Upper row = row
 form_by bytes TypeVar row = row

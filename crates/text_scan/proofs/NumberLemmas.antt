@@ -30,7 +30,8 @@ shifted : (value e p v : ℕ) → value * (10 * p) + (e * p + v) ≡ (10 * value
 shifted value e p v = omega arith
 
 -- the rest of the number, from one more digit on
-one_more_digit : (value d : ℕ) (rest : List ℕ) → value * 10 ^ length (d ∷ rest) + number_value (d ∷ rest) ≡ (10 * value + (d - 48)) * 10 ^ length rest + number_value rest
+one_more_digit : (value d : ℕ) (rest : List ℕ)
+    → value * 10 ^ length (d ∷ rest) + number_value (d ∷ rest) ≡ (10 * value + (d - 48)) * 10 ^ length rest + number_value rest
 one_more_digit value d rest =
     ap (λ p. value * p + ((d - 48) * 10 ^ length rest + number_value rest)) (pow-succ' 10 (length rest)) ∙ shifted value (d - 48) (10 ^ length rest) (number_value rest)
 

@@ -10,10 +10,13 @@ use Rattle.text_scan.specs.declared.tokens.Token.{Token}
 use Rattle.text_scan.specs.declared.tokens.Piece.{Piece}
 use Rattle.text_scan.specs.declared.tokens.Piece.TheVariants.{White, Comment, Lexeme}
 use Rattle.text_scan.specs.declared.fault.ScanFault.{ScanFault}
-use Rattle.text_scan.specs.declared.fault.ScanFault.TheVariants.{BadCharacter, OpenComment, LongNumber, LongName, Memory}
+use Rattle.text_scan.specs.declared.fault.ScanFault.TheVariants.{BadCharacter, OpenComment, LongNumber, LongName}
+use Rattle.stops.specs.declared.stop.Stop.{Stop}
+use Rattle.stops.specs.declared.stop.Stop.TheVariants.{Fault, Memory}
+use Rattle.stops.specs.Stopping.{FaultIs}
 use Rattle.text_scan.specs.Forms.{token_kind, is_long_number, is_long_name}
 use Rattle.text_scan.specs.Comments.{is_opening, opens_comment, is_comment}
-use Rattle.text_scan.specs.Reading.{begins_white, IsNextToken, StandsAt, size_of, Reads, tokens_of, AreTokensOf, IsBadCharacter, IsOpenComment, IsLongToken, Stops, place_of, IsFaultOf, HasCause}
+use Rattle.text_scan.specs.Reading.{begins_white, IsNextToken, StandsAt, size_of, Reads, tokens_of, AreTokensOf, IsBadCharacter, IsOpenComment, IsLongToken, Stops, place_of, IsFaultOf}
 use Rattle.text_scan.proofs.FormLemmas.{empty_kind, white_first}
 use Rattle.text_scan.proofs.CommentLemmas.{one_comment}
 
@@ -94,7 +97,6 @@ no_piece bytes (LongNumber at) (Lexeme l m) stops stands = long_and_short is_lon
 no_piece bytes (LongName at) White stops stands = white_is_no_token bytes stops.size stops.kind stands stops.next.token
 no_piece bytes (LongName at) (Comment m) stops stands = opens_no_token bytes stops.size stops.kind (comment_opens bytes m stands.comment) stops.next
 no_piece bytes (LongName at) (Lexeme l m) stops stands = long_and_short is_long_name bytes stops.size m stops.kind l stops.next stands.next stops.long stands.no_long_name
-no_piece bytes Memory p stops stands = stops
 
 -- no token is both a long number and a long name
 one_long : (kind : TokenKind) (bytes : List ℕ) → is_long_number kind bytes ≡ true → is_long_name kind bytes ≡ true → ⊥
@@ -139,8 +141,6 @@ same_fault bytes (LongName a) (BadCharacter b) first second place = absurd (bad_
 same_fault bytes (LongName a) (OpenComment b) first second place = absurd (open_and_long is_long_name bytes second first)
 same_fault bytes (LongName a) (LongNumber b) first second place = absurd (two_longs bytes second first)
 same_fault bytes (LongName a) (LongName b) first second place = ap LongName place
-same_fault bytes Memory g first second place = absurd first
-same_fault bytes f Memory first second place = absurd second
 
 -- at the end of a text no piece stands, and no fault stops the reading
 no_piece_at_end : (p : Piece) → StandsAt [] p → ⊥
@@ -158,7 +158,6 @@ no_fault_at_end (BadCharacter at) stops = absurd (omega (arith, stops.no_end))
 no_fault_at_end (OpenComment at) stops = false≢true stops.opens
 no_fault_at_end (LongNumber at) stops = no_long_at_end is_long_number stops.kind stops.size stops.next.token
 no_fault_at_end (LongName at) stops = no_long_at_end is_long_name stops.kind stops.size stops.next.token
-no_fault_at_end Memory stops = stops
 
 -- ---- whole readings
 
@@ -199,20 +198,16 @@ tokens_or_fault text ts f read refused =
 
 -- ---- what an answer says of the text
 
-pub takes : {V : Type 0} (items : V → List Token) (text : List ℕ) (r : Result V ScanFault) → IfOk r (λ v. AreTokensOf text (items v)) → IfErr r (HasCause text)
-    → (tokens : List Token) → AreTokensOf text tokens → MatchResult r (λ v. items v ≡ tokens) (λ f. f ≡ Memory)
+pub takes : {V : Type 0} (items : V → List Token) (text : List ℕ) (r : Result V (Stop ScanFault)) → IfOk r (λ v. AreTokensOf text (items v))
+    → IfErr r (FaultIs (IsFaultOf text))
+    → (tokens : List Token) → AreTokensOf text tokens → MatchResult r (λ v. items v ≡ tokens) (λ s. s ≡ Memory)
 takes items text (Ok v) right cause tokens read = one_token_list text (items v) tokens right read
-takes items text (Err (BadCharacter at)) right cause tokens read = absurd (tokens_or_fault text tokens (BadCharacter at) read cause)
-takes items text (Err (OpenComment at)) right cause tokens read = absurd (tokens_or_fault text tokens (OpenComment at) read cause)
-takes items text (Err (LongNumber at)) right cause tokens read = absurd (tokens_or_fault text tokens (LongNumber at) read cause)
-takes items text (Err (LongName at)) right cause tokens read = absurd (tokens_or_fault text tokens (LongName at) read cause)
+takes items text (Err (Fault f)) right cause tokens read = absurd (tokens_or_fault text tokens f read cause)
 takes items text (Err Memory) right cause tokens read = refl
 
-pub refuses : {V : Type 0} (items : V → List Token) (text : List ℕ) (r : Result V ScanFault) → IfOk r (λ v. AreTokensOf text (items v)) → IfErr r (HasCause text)
-    → (fault : ScanFault) → IsFaultOf text fault → MatchResult r (λ _. ⊥) (λ f. (f ≡ fault) ⊎ (f ≡ Memory))
+pub refuses : {V : Type 0} (items : V → List Token) (text : List ℕ) (r : Result V (Stop ScanFault)) → IfOk r (λ v. AreTokensOf text (items v))
+    → IfErr r (FaultIs (IsFaultOf text))
+    → (fault : ScanFault) → IsFaultOf text fault → MatchResult r (λ _. ⊥) (λ s. (s ≡ Fault fault) ⊎ (s ≡ Memory))
 refuses items text (Ok v) right cause fault refused = tokens_or_fault text (items v) fault right refused
-refuses items text (Err (BadCharacter at)) right cause fault refused = inl (one_fault text (BadCharacter at) fault cause refused)
-refuses items text (Err (OpenComment at)) right cause fault refused = inl (one_fault text (OpenComment at) fault cause refused)
-refuses items text (Err (LongNumber at)) right cause fault refused = inl (one_fault text (LongNumber at) fault cause refused)
-refuses items text (Err (LongName at)) right cause fault refused = inl (one_fault text (LongName at) fault cause refused)
+refuses items text (Err (Fault f)) right cause fault refused = inl (ap Fault (one_fault text f fault cause refused))
 refuses items text (Err Memory) right cause fault refused = inr refl

@@ -9,28 +9,33 @@ use Rattle.text_scan.specs.declared.tokens.TokenKind.{TokenKind}
 use Rattle.text_scan.specs.declared.tokens.Token.{Token}
 use Rattle.text_scan.specs.declared.tokens.Piece.{Piece}
 use Rattle.text_scan.specs.declared.fault.ScanFault.{ScanFault}
-use Rattle.text_scan.specs.declared.fault.ScanFault.TheVariants.{BadCharacter, OpenComment, LongNumber, LongName, Memory}
+use Rattle.text_scan.specs.declared.fault.ScanFault.TheVariants.{BadCharacter, OpenComment, LongNumber, LongName}
 use Rattle.text_scan.specs.Forms.{is_long_number, is_long_name}
 use Rattle.text_scan.specs.Comments.{opens_comment}
-use Rattle.text_scan.specs.Reading.{begins_white, IsNextComment, BeginsNoComment, IsNextToken, BeginsNoToken, IsNextLexeme, StandsAt, size_of, Reads, line_feeds, line_at, tokens_in, tokens_of, AreTokensOf, Stops, IsFaultOf, HasCause}
+use Rattle.text_scan.specs.Reading.{begins_white, IsNextComment, BeginsNoComment, IsNextToken, BeginsNoToken, IsNextLexeme, StandsAt, size_of, Reads, line_feeds, line_at, tokens_in, tokens_of, AreTokensOf, Stops, IsFaultOf}
 use Rattle.text_scan.specs.Steps.{StopsAt}
 use Rattle.text_scan.proofs.FormLemmas.{empty_kind}
 use Rattle.text_scan.proofs.ReadingLemmas.{none_is_some}
 
 pub lexeme_stands : (bytes : List ℕ) (kind : TokenKind) (size : ℕ) → IsNextToken bytes kind size
-    → (number : Bool) → number ≡ is_long_number kind (take size bytes) → number ≡ false → (name : Bool) → name ≡ is_long_name kind (take size bytes) → name ≡ false → IsNextLexeme bytes kind size
+    → (number : Bool) → number ≡ is_long_number kind (take size bytes) → number ≡ false → (name : Bool) → name ≡ is_long_name kind (take size bytes)
+    → name ≡ false → IsNextLexeme bytes kind size
 lexeme_stands bytes kind size next number number_is no_number name name_is no_name = record { next = next; no_long_number = sym number_is ∙ no_number; no_long_name = sym name_is ∙ no_name }
 
-pub long_number_stops : (bytes : List ℕ) (kind : TokenKind) (size at : ℕ) → IsNextToken bytes kind size → (number : Bool) → number ≡ is_long_number kind (take size bytes) → number ≡ true → StopsAt bytes at (LongNumber at)
+pub long_number_stops : (bytes : List ℕ) (kind : TokenKind) (size at : ℕ) → IsNextToken bytes kind size → (number : Bool)
+    → number ≡ is_long_number kind (take size bytes) → number ≡ true → StopsAt bytes at (LongNumber at)
 long_number_stops bytes kind size at next number is long = record { place = refl; stops = record { kind = kind; size = size; next = next; long = sym is ∙ long } }
 
-pub long_name_stops : (bytes : List ℕ) (kind : TokenKind) (size at : ℕ) → IsNextToken bytes kind size → (name : Bool) → name ≡ is_long_name kind (take size bytes) → name ≡ true → StopsAt bytes at (LongName at)
+pub long_name_stops : (bytes : List ℕ) (kind : TokenKind) (size at : ℕ) → IsNextToken bytes kind size → (name : Bool)
+    → name ≡ is_long_name kind (take size bytes) → name ≡ true → StopsAt bytes at (LongName at)
 long_name_stops bytes kind size at next name is long = record { place = refl; stops = record { kind = kind; size = size; next = next; long = sym is ∙ long } }
 
-pub bad_character_stops : (bytes : List ℕ) (at : ℕ) → 0 < length bytes → begins_white bytes ≡ false → opens_comment bytes ≡ false → BeginsNoToken bytes → StopsAt bytes at (BadCharacter at)
+pub bad_character_stops : (bytes : List ℕ) (at : ℕ) → 0 < length bytes → begins_white bytes ≡ false → opens_comment bytes ≡ false
+    → BeginsNoToken bytes → StopsAt bytes at (BadCharacter at)
 bad_character_stops bytes at nonempty no_white no_comment no_token = record { place = refl; stops = record { no_end = nonempty; no_white = no_white; no_comment = no_comment; no_token = no_token } }
 
-pub open_comment_stops : (bytes : List ℕ) (at : ℕ) → (opens : Bool) → opens ≡ opens_comment bytes → opens ≡ true → BeginsNoComment bytes → StopsAt bytes at (OpenComment at)
+pub open_comment_stops : (bytes : List ℕ) (at : ℕ) → (opens : Bool) → opens ≡ opens_comment bytes → opens ≡ true → BeginsNoComment bytes
+    → StopsAt bytes at (OpenComment at)
 open_comment_stops bytes at opens is so unclosed = record { place = refl; stops = record { opens = sym is ∙ so; unclosed = unclosed } }
 
 pub token_nonempty : (bytes : List ℕ) (kind : TokenKind) (size : ℕ) → IsNextToken bytes kind size → 0 < size
@@ -65,11 +70,13 @@ unfolding ReadSoFar
 read_begins text = record { pieces = []; reads = refl; are = refl; line_is = ap (λ n. 1 + n) (sym no_feeds); line_small = omega arith; within = omega arith }
 
 -- one piece more at the end of a reading
-reads_on : (text : List ℕ) (pieces : List Piece) (piece : Piece) (start at : ℕ) → Reads text pieces start at → StandsAt (drop at text) piece → Reads text (pieces ++ piece ∷ []) start (at + size_of piece)
+reads_on : (text : List ℕ) (pieces : List Piece) (piece : Piece) (start at : ℕ) → Reads text pieces start at → StandsAt (drop at text) piece
+    → Reads text (pieces ++ piece ∷ []) start (at + size_of piece)
 reads_on text [] piece start at reads stands = (subst (λ i. StandsAt (drop i text) piece) (sym reads) stands, ap (λ i. i + size_of piece) reads)
 reads_on text (p ∷ pieces) piece start at reads stands = (reads.0, reads_on text pieces piece (start + size_of p) at reads.1 stands)
 
-tokens_on : (text : List ℕ) (pieces : List Piece) (piece : Piece) (start at : ℕ) → Reads text pieces start at → tokens_of text (pieces ++ piece ∷ []) start ≡ tokens_of text pieces start ++ tokens_in piece at (line_at text at)
+tokens_on : (text : List ℕ) (pieces : List Piece) (piece : Piece) (start at : ℕ) → Reads text pieces start at
+    → tokens_of text (pieces ++ piece ∷ []) start ≡ tokens_of text pieces start ++ tokens_in piece at (line_at text at)
 tokens_on text [] piece start at reads = append-nil _ ∙ ap (λ i. tokens_in piece i (line_at text i)) reads
 tokens_on text (p ∷ pieces) piece start at reads =
     ap (λ ts. tokens_in p start (line_at text start) ++ ts) (tokens_on text pieces piece (start + size_of p) at reads.1)
@@ -88,7 +95,8 @@ line_on text at size =
     let parts = ap line_feeds (take-add at size text) ∙ feeds_append (take at text) (take size (drop at text)) in
     omega (arith, parts)
 
-read_on_by : (text : List ℕ) (tokens more : List Token) (at line feeds : ℕ) (piece : Piece) → TextRead text tokens at line → StandsAt (drop at text) piece → size_of piece ≤ length text - at
+read_on_by : (text : List ℕ) (tokens more : List Token) (at line feeds : ℕ) (piece : Piece) → TextRead text tokens at line
+    → StandsAt (drop at text) piece → size_of piece ≤ length text - at
     → more ≡ tokens ++ tokens_in piece at line → feeds ≡ line_feeds (take (size_of piece) (drop at text)) → TextRead text more (at + size_of piece) (line + feeds)
 read_on_by text tokens more at line feeds piece far stands fits are count =
     let few = feeds_within (take (size_of piece) (drop at text)) in
@@ -119,21 +127,15 @@ read_ends text tokens at line far past =
     let all : at ≡ length text = omega (arith, far.within) in
     record { pieces = far.pieces; reads = subst (Reads text far.pieces 0) all far.reads; are = far.are }
 
-has_cause : (text : List ℕ) (fault : ScanFault) → IsFaultOf text fault → HasCause text fault
-has_cause text (BadCharacter at) found = found
-has_cause text (OpenComment at) found = found
-has_cause text (LongNumber at) found = found
-has_cause text (LongName at) found = found
-has_cause text Memory found = tt
-
-pub read_stops : (text : List ℕ) (tokens : List Token) (at line : ℕ) (fault : ScanFault) → ReadSoFar text tokens at line → StopsAt (take (length text - at) (drop at text)) at fault → HasCause text fault
+pub read_stops : (text : List ℕ) (tokens : List Token) (at line : ℕ) (fault : ScanFault) → ReadSoFar text tokens at line
+    → StopsAt (take (length text - at) (drop at text)) at fault → IsFaultOf text fault
 unfolding ReadSoFar
 read_stops text tokens at line fault far found =
-    has_cause text fault (record {
+    record {
       pieces = far.pieces;
       reads = subst (Reads text far.pieces 0) (sym found.place) far.reads;
       stops = subst (λ i. Stops (drop i text) fault) (sym found.place) (subst (λ xs. Stops xs fault) (take_rest text at) found.stops);
-    })
+    }
 
 -- for the loop over a text, and for one place of it
 pub ruleset text_turns = (read_begins, read_on, read_ends, read_stops)

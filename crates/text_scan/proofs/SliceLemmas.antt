@@ -39,7 +39,8 @@ lexeme_slice text kind size at within stands =
       no_long_name = ap (λ n. is_long_name kind (take n (drop at text))) part ∙ stands.no_long_name;
     }
 
-slices_by : (text : List ℕ) (pieces : List Piece) (at end : ℕ) → at ≤ length text → Reads text pieces at end → AllByRecursion (IsSliceOf text) (tokens_of text pieces at)
+slices_by : (text : List ℕ) (pieces : List Piece) (at end : ℕ) → at ≤ length text → Reads text pieces at end
+    → AllByRecursion (IsSliceOf text) (tokens_of text pieces at)
 slices_by text [] at end within reads = tt
 slices_by text (White ∷ pieces) at end within reads = slices_by text pieces (at + 1) end (next_within text White at within reads.0) reads.1
 slices_by text (Comment size ∷ pieces) at end within reads = slices_by text pieces (at + size) end (next_within text (Comment size) at within reads.0) reads.1
@@ -92,14 +93,17 @@ few : (text : List ℕ) (tokens : List Token) → AreTokensOf text tokens → le
 few text tokens read = let counted = count_by_end text read.pieces 0 (length text) read.reads in omega (arith, counted, ap length read.are)
 
 -- the same of an answer
-pub answered_count : {V E : Type 0} (items : V → List Token) (text : List ℕ) (r : Result V E) → IfOk r (λ v. AreTokensOf text (items v)) → IfOk r (λ v. length (items v) ≤ length text)
+pub answered_count : {V E : Type 0} (items : V → List Token) (text : List ℕ) (r : Result V E) → IfOk r (λ v. AreTokensOf text (items v))
+    → IfOk r (λ v. length (items v) ≤ length text)
 answered_count items text (Ok v) right = few text (items v) right
 answered_count items text (Err e) right = tt
 
-pub answered_slices : {V E : Type 0} (items : V → List Token) (text : List ℕ) (r : Result V E) → IfOk r (λ v. AreTokensOf text (items v)) → IfOk r (λ v. All (IsSliceOf text) (items v))
+pub answered_slices : {V E : Type 0} (items : V → List Token) (text : List ℕ) (r : Result V E) → IfOk r (λ v. AreTokensOf text (items v))
+    → IfOk r (λ v. All (IsSliceOf text) (items v))
 answered_slices items text (Ok v) right = slices text (items v) right
 answered_slices items text (Err e) right = tt
 
-pub answered_order : {V E : Type 0} (items : V → List Token) (text : List ℕ) (r : Result V E) → IfOk r (λ v. AreTokensOf text (items v)) → IfOk r (λ v. AreInOrder (items v))
+pub answered_order : {V E : Type 0} (items : V → List Token) (text : List ℕ) (r : Result V E) → IfOk r (λ v. AreTokensOf text (items v))
+    → IfOk r (λ v. AreInOrder (items v))
 answered_order items text (Ok v) right = in_order text (items v) right
 answered_order items text (Err e) right = tt

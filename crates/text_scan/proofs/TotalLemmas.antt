@@ -23,17 +23,20 @@ none_beyond P bytes here size =
     (cases_lt size (length bytes))
 
 data Tokens (bytes : List ℕ) (most : ℕ) : Type 0 where
-  Found : (kind : TokenKind) (size : ℕ) → size ≤ length bytes → token_kind (take size bytes) ≡ Some kind → ((more : ℕ) → size < more → more ≤ length bytes → token_kind (take more bytes) ≡ None) → Tokens bytes most
+  Found : (kind : TokenKind) (size : ℕ) → size ≤ length bytes → token_kind (take size bytes) ≡ Some kind
+      → ((more : ℕ) → size < more → more ≤ length bytes → token_kind (take more bytes) ≡ None) → Tokens bytes most
   Missing : ((size : ℕ) → size ≤ length bytes → token_kind (take size bytes) ≡ None) → Tokens bytes most
 
-at_most_or_more : (P : List ℕ → Type 0) (bytes : List ℕ) (n : ℕ) → P (take n bytes) → ((more : ℕ) → n < more → more ≤ length bytes → P (take more bytes)) → (more : ℕ) → n ≤ more → more ≤ length bytes → P (take more bytes)
+at_most_or_more : (P : List ℕ → Type 0) (bytes : List ℕ) (n : ℕ) → P (take n bytes)
+    → ((more : ℕ) → n < more → more ≤ length bytes → P (take more bytes)) → (more : ℕ) → n ≤ more → more ≤ length bytes → P (take more bytes)
 at_most_or_more P bytes n here above more least within =
     ⊎_elim (λ less. above more less within) (λ most. let same : n ≡ more = omega arith in subst (λ i. P (take i bytes)) same here) (cases_lt n more)
 
 abbrev IsNoToken : List ℕ → Type 0
 IsNoToken xs = token_kind xs ≡ None
 
-search_token : (bytes : List ℕ) (n : ℕ) → n ≤ length bytes → ((more : ℕ) → n < more → more ≤ length bytes → IsNoToken (take more bytes)) → (o : Option TokenKind) → token_kind (take n bytes) ≡ o
+search_token : (bytes : List ℕ) (n : ℕ) → n ≤ length bytes → ((more : ℕ) → n < more → more ≤ length bytes → IsNoToken (take more bytes))
+    → (o : Option TokenKind) → token_kind (take n bytes) ≡ o
     → (((more : ℕ) → n ≤ more → more ≤ length bytes → IsNoToken (take more bytes)) → Tokens bytes n) → Tokens bytes n
 search_token bytes n within above (Some kind) found below = Found kind n within found above
 search_token bytes n within above None found below = below (at_most_or_more IsNoToken bytes n found above)
@@ -55,7 +58,8 @@ data Comments (bytes : List ℕ) : Type 0 where
 abbrev IsNoComment : List ℕ → Type 0
 IsNoComment xs = is_comment xs ≡ false
 
-search_comment : (bytes : List ℕ) (n : ℕ) → n ≤ length bytes → ((more : ℕ) → n < more → more ≤ length bytes → IsNoComment (take more bytes)) → (t : Bool) → is_comment (take n bytes) ≡ t
+search_comment : (bytes : List ℕ) (n : ℕ) → n ≤ length bytes → ((more : ℕ) → n < more → more ≤ length bytes → IsNoComment (take more bytes))
+    → (t : Bool) → is_comment (take n bytes) ≡ t
     → (((more : ℕ) → n ≤ more → more ≤ length bytes → IsNoComment (take more bytes)) → Comments bytes) → Comments bytes
 search_comment bytes n within above true found below = Closed n (record { within = within; comment = found })
 search_comment bytes n within above false found below = below (at_most_or_more IsNoComment bytes n found above)
@@ -70,7 +74,8 @@ data Front (bytes : List ℕ) (at : ℕ) : Type 0 where
   Piece_here : (p : Piece) → StandsAt bytes p → 0 < size_of p → size_of p ≤ length bytes → Front bytes at
   Fault_here : (f : ScanFault) → StopsAt bytes at f → Front bytes at
 
-lexeme_front : (bytes : List ℕ) (at size : ℕ) (kind : TokenKind) → IsNextToken bytes kind size → (number name : Bool) → is_long_number kind (take size bytes) ≡ number → is_long_name kind (take size bytes) ≡ name → Front bytes at
+lexeme_front : (bytes : List ℕ) (at size : ℕ) (kind : TokenKind) → IsNextToken bytes kind size → (number name : Bool)
+    → is_long_number kind (take size bytes) ≡ number → is_long_name kind (take size bytes) ≡ name → Front bytes at
 lexeme_front bytes at size kind next true name is_number_token is_name = Fault_here (LongNumber at) (record { place = refl; stops = record { kind = kind; size = size; next = next; long = is_number_token } })
 lexeme_front bytes at size kind next false true is_number_token is_name = Fault_here (LongName at) (record { place = refl; stops = record { kind = kind; size = size; next = next; long = is_name } })
 lexeme_front bytes at size kind next false false is_number_token is_name =
@@ -100,7 +105,8 @@ with_piece : (text : List ℕ) (at : ℕ) (p : Piece) → StandsAt (drop at text
 with_piece text at p stands (Through pieces reads) = Through (p ∷ pieces) (stands, reads)
 with_piece text at p stands (Stopped pieces f reads stops) = Stopped (p ∷ pieces) f (stands, reads) stops
 
-from_front : (text : List ℕ) (at : ℕ) → at ≤ length text → Front (drop at text) at → ((n : ℕ) → 0 < n → at + n ≤ length text → Whole text (at + n)) → Whole text at
+from_front : (text : List ℕ) (at : ℕ) → at ≤ length text → Front (drop at text) at → ((n : ℕ) → 0 < n → at + n ≤ length text → Whole text (at + n))
+    → Whole text at
 from_front text at within (Piece_here p stands nonempty fits) rest = with_piece text at p stands (rest (size_of p) nonempty (omega (arith, fits, length-drop at text)))
 from_front text at within (Fault_here f found) rest = Stopped [] f (sym found.place) (subst (λ i. Stops (drop i text) f) (sym found.place) found.stops)
 

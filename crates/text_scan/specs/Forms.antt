@@ -52,7 +52,8 @@ abbrev pub is_number_token : List ℕ → Bool
 is_number_token [] = false
 is_number_token (b ∷ bytes) = is_ascii_digit b && list_all is_ascii_digit bytes
 
--- The kind of the token that these bytes are as a whole; None where they aren't one token. A word is a keyword and no name.
+-- The kind of the token that these bytes are as a whole; None where they aren't one token. A word is a keyword and no
+-- name.
 unfoldable pub token_kind : List ℕ → Option TokenKind
 token_kind bytes =
     if is_word bytes then Some Keyword
@@ -80,8 +81,8 @@ is_long_name Upper bytes = nat_lt 64 (length bytes)
 is_long_name TypeVar bytes = nat_lt (1 + 64) (length bytes)
 is_long_name kind bytes = false
 
--- The row of each kind in the table of tokens. Bytes have a kind exactly where they have its form, in whatever order the
--- forms are tried (the law `kinds_are_rows`).
+-- The row of each kind in the table of tokens. Bytes have a kind exactly where they have its form, in whatever order
+-- the forms are tried (the law `kinds_are_rows`).
 abbrev pub HasForm : TokenKind → List ℕ → Type 0
 HasForm Lower bytes = IsTrue (is_name is_ascii_lowercase bytes) × IsFalse (is_word bytes)
 HasForm Upper bytes = IsTrue (is_name is_ascii_uppercase bytes)

@@ -1,14 +1,15 @@
 -- Cited by contracts.
 -- How a text is read: as white space, comments and tokens, one after the other, and each token the longest that begins
--- at its place (the rule of the longest match; Aho, Lam, Sethi and Ullman 2006, section 3.5.3). The code goes through the
--- text once and looks at the first bytes of each place; the definitions say what a reading is, and not how it is found.
+-- at its place (the rule of the longest match; Aho, Lam, Sethi and Ullman 2006, section 3.5.3). The code goes through
+-- the text once and looks at the first bytes of each place; the definitions say what a reading is, and not how it is
+-- found.
 use Rattle.std.specs.Prelude.{◌≡◌, ℕ, ◌+◌, ◌<◌, ◌≤◌, Bool, true, false, ◌==◌, List, [], ◌∷◌, ◌++◌, length, take, drop, count_by, slice_range, Some, None}
 use Rattle.text_scan.specs.declared.tokens.TokenKind.{TokenKind}
 use Rattle.text_scan.specs.declared.tokens.Token.{Token}
 use Rattle.text_scan.specs.declared.tokens.Piece.{Piece}
 use Rattle.text_scan.specs.declared.tokens.Piece.TheVariants.{White, Comment, Lexeme}
 use Rattle.text_scan.specs.declared.fault.ScanFault.{ScanFault}
-use Rattle.text_scan.specs.declared.fault.ScanFault.TheVariants.{BadCharacter, OpenComment, LongNumber, LongName, Memory}
+use Rattle.text_scan.specs.declared.fault.ScanFault.TheVariants.{BadCharacter, OpenComment, LongNumber, LongName}
 use Rattle.text_scan.specs.Forms.{token_kind, is_white, is_long_number, is_long_name, HasForm}
 use Rattle.text_scan.specs.Comments.{opens_comment, is_comment}
 
@@ -111,7 +112,6 @@ Stops bytes (BadCharacter at) = IsBadCharacter bytes
 Stops bytes (OpenComment at) = IsOpenComment bytes
 Stops bytes (LongNumber at) = IsLongToken is_long_number bytes
 Stops bytes (LongName at) = IsLongToken is_long_name bytes
-Stops bytes Memory = ⊥
 
 -- the place that a fault names
 abbrev pub place_of : ScanFault → ℕ
@@ -119,18 +119,12 @@ place_of (BadCharacter at) = at
 place_of (OpenComment at) = at
 place_of (LongNumber at) = at
 place_of (LongName at) = at
-place_of Memory = 0
 
 -- up to the fault's place the text is white space, comments and tokens, and there the reading stops for this fault
 pub record IsFaultOf (text : List ℕ) (fault : ScanFault) : Type 0 where
   pub pieces : List Piece
   pub reads : Reads text pieces 0 (place_of fault)
   pub stops : Stops (drop (place_of fault) text) fault
-
--- the cause of an answer that isn't Ok: want of memory has none in the text
-abbrev pub HasCause : List ℕ → ScanFault → Type 0
-HasCause text Memory = Unit {0}
-HasCause text fault = IsFaultOf text fault
 
 -- the token is a slice of the text that has the form of its kind, with the line of its first byte, and isn't too long
 pub record IsSliceOf (text : List ℕ) (token : Token) : Type 0 where

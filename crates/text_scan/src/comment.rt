@@ -9,7 +9,7 @@ pub fn is_opening(first: u8, second: u8) -> bool
     first == b'(' && second == b'*'
 }
 
-/// Whether these are the two bytes that close a comment.
+// Whether these are the two bytes that close a comment.
 fn is_closing(first: u8, second: u8) -> bool
     ensures { result ≡ is_closing first second }
 {

@@ -1,7 +1,3 @@
-ghost use Rattle.std.specs.Prelude.{◌≡◌};
-ghost use Rattle.text_scan.specs.declared.fault.ScanFault.TheVariants.{Memory};
-
-use std::alloc::AllocFailed;
 use thiserror::Error;
 
 /// Why a text has no tokens. `at` is the place of the fault, in bytes from 0.
@@ -19,15 +15,4 @@ pub enum ScanFault {
     /// The name or type variable that begins here has more than 64 bytes, its quote not counted.
     #[error("long-name at {at}")]
     LongName { at: u64 },
-    /// Memory ran out.
-    #[error("out of memory")]
-    Memory,
-}
-
-impl<T: Drop> From<AllocFailed<T>> for ScanFault {
-    ghost from_gives = { λ _ fault. fault ≡ Memory };
-
-    fn from(_failed: AllocFailed<T>) -> ScanFault {
-        ScanFault::Memory
-    }
 }

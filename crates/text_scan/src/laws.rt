@@ -11,12 +11,16 @@ ghost use Rattle.text_scan.specs.Reading.{AreTokensOf, IsFaultOf};
 
 /// Each text has its tokens or a fault, only one of the two, and only one list of tokens or one fault.
 pub fn one_reading()
+    // Each text has tokens, or a fault.
     ensures some { (text : List ℕ)
         → ((tokens : List Token) × AreTokensOf text tokens) ⊎ ((fault : ScanFault) × IsFaultOf text fault) }
+    // No text has both.
     ensures not_both { (text : List ℕ) (tokens : List Token) (fault : ScanFault)
         → AreTokensOf text tokens → IsFaultOf text fault → ⊥ }
+    // A text has one list of tokens at most.
     ensures tokens { (text : List ℕ) (first second : List Token)
         → AreTokensOf text first → AreTokensOf text second → first ≡ second }
+    // A text has one fault at most.
     ensures fault { (text : List ℕ) (first second : ScanFault)
         → IsFaultOf text first → IsFaultOf text second → first ≡ second }
 {}

@@ -20,7 +20,7 @@ const SYMBOLS: [&[u8]; 21] = [
     b"/", b"&&", b"||", b"|", b"!", b"->",
 ];
 
-/// Whether a name is one of the grammar's words, which have two to five bytes.
+// Whether a name is one of the grammar's words, which have two to five bytes.
 #[tactic(auto, using(crate::proofs::Tables::in_words, crate::proofs::FormLemmas::no_short_word, crate::proofs::FormLemmas::no_long_word))]
 fn is_word(name: &[u8]) -> bool
     ensures { result ≡ is_word name.now }
@@ -34,7 +34,7 @@ fn is_word(name: &[u8]) -> bool
     WORDS.contains(&name)
 }
 
-/// Whether the bytes are in the table of the grammar's signs.
+// Whether the bytes are in the table of the grammar's signs.
 #[tactic(auto, using(crate::proofs::Tables::in_symbols))]
 fn is_listed(bytes: &[u8]) -> bool
     ensures { result ≡ is_symbol bytes.now }
@@ -42,7 +42,7 @@ fn is_listed(bytes: &[u8]) -> bool
     SYMBOLS.contains(&bytes)
 }
 
-/// Whether the byte is one of the grammar's signs.
+// Whether the byte is one of the grammar's signs.
 #[tactic(auto, unfolding(crate::specs::Forms::is_symbol, crate::specs::Forms::symbols))]
 fn is_sign(byte: u8) -> bool
     ensures { result ≡ is_symbol (byte ∷ []) }
@@ -67,7 +67,7 @@ fn is_sign(byte: u8) -> bool
     }
 }
 
-/// Whether the two bytes are one of the grammar's signs.
+// Whether the two bytes are one of the grammar's signs.
 #[tactic(auto, unfolding(crate::specs::Forms::is_symbol, crate::specs::Forms::symbols), using(crate::proofs::FormLemmas::no_pair))]
 fn is_pair(first: u8, second: u8) -> bool
     ensures { result ≡ is_symbol (first ∷ second ∷ []) }
@@ -80,7 +80,7 @@ fn is_pair(first: u8, second: u8) -> bool
     }
 }
 
-/// Whether the bytes are one of the grammar's signs. Most are found without a look into the table.
+// Whether the bytes are one of the grammar's signs. Most are found without a look into the table.
 fn is_symbol(bytes: &[u8]) -> bool
     ensures { result ≡ is_symbol bytes.now }
 {
@@ -91,14 +91,14 @@ fn is_symbol(bytes: &[u8]) -> bool
     }
 }
 
-/// Whether the byte may stand in a name.
+// Whether the byte may stand in a name.
 fn is_name_part(byte: u8) -> bool
     ensures { result ≡ is_name_part byte }
 {
     byte.is_ascii_alphanumeric() || byte == b'_'
 }
 
-/// The place after the letters, digits and `_` that stand from `start` on.
+// The place after the letters, digits and `_` that stand from `start` on.
 #[tactic(auto, unfolding(crate::specs::Steps::name_run))]
 fn name_end(bytes: &[u8], start: usize) -> usize
     requires { start ≤ length bytes.now }
@@ -112,7 +112,7 @@ fn name_end(bytes: &[u8], start: usize) -> usize
     end
 }
 
-/// The place after the digits that stand from `start` on.
+// The place after the digits that stand from `start` on.
 #[tactic(auto, unfolding(crate::specs::Steps::digit_run))]
 fn number_end(bytes: &[u8], start: usize) -> usize
     requires { start ≤ length bytes.now }
@@ -126,7 +126,7 @@ fn number_end(bytes: &[u8], start: usize) -> usize
     end
 }
 
-/// The token at the front, which begins with a lower-case letter.
+// The token at the front, which begins with a lower-case letter.
 #[tactic(auto, using(crate::proofs::FormLemmas::lower_answers))]
 fn lower_token(bytes: &[u8]) -> (TokenKind, usize)
     requires nonempty { 0 < length bytes.now }
@@ -142,7 +142,7 @@ fn lower_token(bytes: &[u8]) -> (TokenKind, usize)
     }
 }
 
-/// The type variable at the front, which begins with a quote.
+// The type variable at the front, which begins with a quote.
 #[tactic(auto, using(crate::proofs::FormLemmas::variable_answers))]
 fn type_variable(bytes: &[u8]) -> Option<(TokenKind, usize)>
     requires nonempty { 0 < length bytes.now }
@@ -159,7 +159,7 @@ fn type_variable(bytes: &[u8]) -> Option<(TokenKind, usize)>
     Some((TokenKind::TypeVar, name_end(bytes, 2)))
 }
 
-/// The symbol at the front, which begins with no letter, digit or quote.
+// The symbol at the front, which begins with no letter, digit or quote.
 #[tactic(auto, using(crate::proofs::FormLemmas::symbol_answers))]
 fn symbol(bytes: &[u8]) -> Option<(TokenKind, usize)>
     requires nonempty { 0 < length bytes.now }

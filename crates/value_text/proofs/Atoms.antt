@@ -78,7 +78,8 @@ flag_named types w b e = record {
     same : (c : Bool) → w ≡ flag_word c → c ≡ b
     same c k = words b c (sym e ∙ k)
 
-pub flag_unnamed : (types : List DataType) (w : List ℕ) (good : ℕ) → AreNamed types → HasValue types kind.Flag → (w ≡ codes "true" → ⊥) → (w ≡ codes "false" → ⊥)
+pub flag_unnamed : (types : List DataType) (w : List ℕ) (good : ℕ) → AreNamed types → HasValue types kind.Flag → (w ≡ codes "true" → ⊥)
+    → (w ≡ codes "false" → ⊥)
     → good ≡ max (common (codes "true") w) (common (codes "false") w) → Unnamed types kind.Flag w good
 flag_unnamed types w good names have not_true not_false e =
     unnamed_by types kind.Flag w good (word_front_of types kind.Flag names have) (inr (reach (cases_lt (common (codes "false") w) (common (codes "true") w)))) most none
@@ -94,7 +95,8 @@ flag_unnamed types w good names have not_true not_false e =
     below true word k = let c : common word w ≡ common (codes "true") w = ap (λ v. common v w) k in omega (arith, e, c)
     below false word k = let c : common word w ≡ common (codes "false") w = ap (λ v. common v w) k in omega (arith, e, c)
 
-    most : (x : Item) (fields : List Kind) (word : List ℕ) → IsNode types kind.Flag x fields → HaveValues types fields → IsNodeText (constructor_name types) x word → common word w ≤ good
+    most : (x : Item) (fields : List Kind) (word : List ℕ) → IsNode types kind.Flag x fields → HaveValues types fields
+        → IsNodeText (constructor_name types) x word → common word w ≤ good
     most x fields word n h k = let (b, is, empty) = flag_node types x fields n in below b word (subst (λ y. IsNodeText (constructor_name types) y word) is k)
 
     by_flag : (b : Bool) → w ≡ flag_word b → ⊥
@@ -107,7 +109,8 @@ flag_unnamed types w good names have not_true not_false e =
 pub dia_named : (types : List DataType) (w : List ℕ) → w ≡ codes "<>" → Named types kind.Dia w item.Dia []
 dia_named types w e = record { node = (refl, refl); have = nothing_has types; text = e; only = λ y others n k. dia_node types y others n }
 
-pub dia_unnamed : (types : List DataType) (w : List ℕ) (good : ℕ) → AreNamed types → HasValue types kind.Dia → (w ≡ codes "<>" → ⊥) → good ≡ common (codes "<>") w → Unnamed types kind.Dia w good
+pub dia_unnamed : (types : List DataType) (w : List ℕ) (good : ℕ) → AreNamed types → HasValue types kind.Dia → (w ≡ codes "<>" → ⊥)
+    → good ≡ common (codes "<>") w → Unnamed types kind.Dia w good
 dia_unnamed types w good names have not_dia e =
     unnamed_by types kind.Dia w good (word_front_of types kind.Dia names have)
     (inr (record { x = item.Dia; fields = []; word = codes "<>"; node = (refl, refl); have = nothing_has types; text = refl; form = refl; common_is = sym e }))
@@ -147,13 +150,15 @@ sign_of : (front rest : List ℕ) (z : ℤ) → IsInt32 z → IsIntText (front +
 sign_of [] rest z h t = Nothing refl
 sign_of (x ∷ front) rest z h t = by_sign t.is
   where
-    by_sign : ((x ∷ (front ++ rest) ≡ decimal t.size) × (z ≡ pos t.size)) ⊎ ((x ∷ (front ++ rest) ≡ 45 ∷ decimal t.size) × (z ≡ neg_ℤ (pos t.size))) → Sign (x ∷ front) rest z
+    by_sign : ((x ∷ (front ++ rest) ≡ decimal t.size) × (z ≡ pos t.size)) ⊎ ((x ∷ (front ++ rest) ≡ 45 ∷ decimal t.size) × (z ≡ neg_ℤ (pos t.size)))
+        → Sign (x ∷ front) rest z
     by_sign (inl p) = Plus t.size (sym p.0) (pos_small t.size (subst IsInt32 p.1 h)) p.1
     by_sign (inr p) =
         let s = same_tail x 45 (front ++ rest) (decimal t.size) p.0 in
         Minus t.size front (ap (λ y. y ∷ front) s.0) (sym s.1) (neg_small t.size (subst IsInt32 p.1 h)) p.1
 
-int_only : (types : List DataType) (w : List ℕ) (z : ℤ) → ((y : ℤ) → IsInt32 y → IsIntText w y → y ≡ z) → (x : Item) (others : List Kind) → IsNode types kind.Int x others → IsNodeText (constructor_name types) x w → (x ≡ item.Int z) × (others ≡ [])
+int_only : (types : List DataType) (w : List ℕ) (z : ℤ) → ((y : ℤ) → IsInt32 y → IsIntText w y → y ≡ z) → (x : Item) (others : List Kind)
+    → IsNode types kind.Int x others → IsNodeText (constructor_name types) x w → (x ≡ item.Int z) × (others ≡ [])
 int_only types w z f x others n k =
     let i = int_node types x others n in (i.is ∙ ap item.Int (f i.z i.small (subst (λ y. IsNodeText (constructor_name types) y w) i.is k)), i.none)
 
@@ -170,7 +175,8 @@ plus_named types w value e h = record {
         let k = pos_small n (subst IsInt32 p.1 small) in p.1 ∙ ap pos (decimal_one n value (omega (arith, k)) (omega (arith, h)) (sym p.0 ∙ e))
     by_sign y small n (inr p) = absurd (no_minus value (decimal n) (omega (arith, h)) (sym e ∙ p.0))
 
-pub minus_named : (types : List DataType) (w : List ℕ) (value : ℕ) → w ≡ 45 ∷ decimal value → value ≤ 2147483648 → Named types kind.Int w (item.Int (neg_ℤ (pos value))) []
+pub minus_named : (types : List DataType) (w : List ℕ) (value : ℕ) → w ≡ 45 ∷ decimal value → value ≤ 2147483648
+    → Named types kind.Int w (item.Int (neg_ℤ (pos value))) []
 minus_named types w value e h = record {
   node = (refl, small_neg value h, refl);
   have = nothing_has types;
@@ -189,7 +195,8 @@ minus_named types w value e h = record {
 abbrev pub NoMinus : List ℕ → Type 0
 NoMinus w = (t : List ℕ) → w ≡ 45 ∷ t → ⊥
 
-pub plus_unnamed : (types : List DataType) (w : List ℕ) (value good : ℕ) → AreNamed types → HasValue types kind.Int → NoMinus w → DigitsRead 2147483647 w value good → (good ≡ length w → good ≡ 0) → Unnamed types kind.Int w good
+pub plus_unnamed : (types : List DataType) (w : List ℕ) (value good : ℕ) → AreNamed types → HasValue types kind.Int → NoMinus w
+    → DigitsRead 2147483647 w value good → (good ≡ length w → good ≡ 0) → Unnamed types kind.Int w good
 plus_unnamed types w value good names have plain d part = record {
   front = take good w;
   more = drop good w;
@@ -236,7 +243,8 @@ plus_unnamed types w value good names have plain d part = record {
     whole : (x : Item) (fields : List Kind) → IsNodeText (constructor_name types) x w → IntNode types x fields → ⊥
     whole x fields k i = let t : IsIntText w i.z = subst (λ y. IsNodeText (constructor_name types) y w) i.is k in by_text i.z i.small t.size t.is
 
-pub minus_unnamed : (types : List DataType) (w ds : List ℕ) (value good : ℕ) → w ≡ 45 ∷ ds → DigitsRead 2147483648 ds value good → (good ≡ length ds → good ≡ 0) → Unnamed types kind.Int w (good + 1)
+pub minus_unnamed : (types : List DataType) (w ds : List ℕ) (value good : ℕ) → w ≡ 45 ∷ ds → DigitsRead 2147483648 ds value good
+    → (good ≡ length ds → good ≡ 0) → Unnamed types kind.Int w (good + 1)
 minus_unnamed types w ds value good w_is d part = record {
   front = 45 ∷ take good ds;
   more = drop good ds;

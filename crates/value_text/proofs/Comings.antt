@@ -30,7 +30,8 @@ is_some o P x e h = subst (λ u. IsSomeAnd u P) (sym e) h
 
 -- ---- parts
 
-comes_further : (types : List DataType) (ds : List Due) (qs : List Kind) (vs : Values) (ps : List Piece) (xs : List Item) → FitAll types qs vs → Comes types ds ps xs
+comes_further : (types : List DataType) (ds : List Due) (qs : List Kind) (vs : Values) (ps : List Piece) (xs : List Item) → FitAll types qs vs
+    → Comes types ds ps xs
     → Comes types (further_due qs ++ ds) (further_pieces vs ps) (nodes_all vs xs)
 comes_further types ds [] value.End ps xs f h = (ps, refl, h)
 comes_further types ds (q ∷ qs) (value.And v vs) ps xs f h =
@@ -43,7 +44,8 @@ abbrev pub part_pieces : Values → List Piece → List Piece
 part_pieces value.End ps = ps
 part_pieces (value.And v vs) ps = g.Mark 40 ∷ pieces v (further_pieces vs ps)
 
-pub comes_parts : (types : List DataType) (ds : List Due) (qs : List Kind) (vs : Values) (ps : List Piece) (xs : List Item) → FitAll types qs vs → Comes types ds ps xs
+pub comes_parts : (types : List DataType) (ds : List Due) (qs : List Kind) (vs : Values) (ps : List Piece) (xs : List Item) → FitAll types qs vs
+    → Comes types ds ps xs
     → Comes types (parts_due qs ++ ds) (part_pieces vs ps) (nodes_all vs xs)
 comes_parts types ds [] value.End ps xs f h = h
 comes_parts types ds (q ∷ qs) (value.And v vs) ps xs f h =
@@ -61,7 +63,8 @@ record Parts (types : List DataType) (ds : List Due) (qs : List Kind) (way : Val
   xs_is : xs ≡ nodes_all vs ys
   comes : Comes types ds more ys
 
-further_comes : (types : List DataType) (ds : List Due) (qs : List Kind) (ps : List Piece) (xs : List Item) → Comes types (further_due qs ++ ds) ps xs → Parts types ds qs further_pieces ps xs
+further_comes : (types : List DataType) (ds : List Due) (qs : List Kind) (ps : List Piece) (xs : List Item)
+    → Comes types (further_due qs ++ ds) ps xs → Parts types ds qs further_pieces ps xs
 further_comes types ds [] ps xs h = let (more, e, c) = h in record { vs = value.End; more = more; ys = xs; fit = tt; ps_is = e; xs_is = refl; comes = c }
 further_comes types ds (q ∷ qs) ps xs h =
     let (a, e, b) = h in
@@ -77,7 +80,8 @@ further_comes types ds (q ∷ qs) ps xs h =
       comes = r.comes;
     }
 
-parts_come : (types : List DataType) (ds : List Due) (qs : List Kind) (ps : List Piece) (xs : List Item) → Comes types (parts_due qs ++ ds) ps xs → Parts types ds qs part_pieces ps xs
+parts_come : (types : List DataType) (ds : List Due) (qs : List Kind) (ps : List Piece) (xs : List Item) → Comes types (parts_due qs ++ ds) ps xs
+    → Parts types ds qs part_pieces ps xs
 parts_come types ds [] ps xs h = record { vs = value.End; more = ps; ys = xs; fit = tt; ps_is = refl; xs_is = refl; comes = h }
 parts_come types ds (q ∷ qs) ps xs h =
     let (a, e, b) = h in
@@ -114,7 +118,8 @@ fold_node types ds q (item.Con c k) fields ps xs n h =
       r.comes,
     )
   where
-    pieces_are : (c k : ℕ) (vs : Values) (ps more : List Piece) → k ≡ part_count vs → ps ≡ part_pieces vs more → g.Node (item.Con c k) ∷ ps ≡ pieces (value.Con c vs) more
+    pieces_are : (c k : ℕ) (vs : Values) (ps more : List Piece) → k ≡ part_count vs → ps ≡ part_pieces vs more
+        → g.Node (item.Con c k) ∷ ps ≡ pieces (value.Con c vs) more
     pieces_are c k value.End ps more e p = ap (λ m. g.Node (item.Con c m) ∷ ps) e ∙ ap (λ l. g.Node (item.Con c 0) ∷ l) p
     pieces_are c k (value.And v vs) ps more e p = ap (λ m. g.Node (item.Con c m) ∷ ps) e ∙ ap (λ l. g.Node (item.Con c (suc (part_count vs))) ∷ l) p
 
@@ -128,10 +133,12 @@ pub record ByNode (types : List DataType) (ds : List Due) (q : Kind) (ps : List 
   pub xs_is : xs ≡ x ∷ ys
   pub comes : Comes types (parts_due fields ++ ds) more ys
 
-pub unfold_node : (types : List DataType) (ds : List Due) (q : Kind) (ps : List Piece) (xs : List Item) → Comes types (due.Value q ∷ ds) ps xs → ByNode types ds q ps xs
+pub unfold_node : (types : List DataType) (ds : List Due) (q : Kind) (ps : List Piece) (xs : List Item) → Comes types (due.Value q ∷ ds) ps xs
+    → ByNode types ds q ps xs
 unfold_node types ds q ps xs h = let (v, more, ys, f, p, x, c) = h in by_value v more ys f p x c
   where
-    by_value : (v : Value) (more : List Piece) (ys : List Item) → Fits types q v → ps ≡ pieces v more → xs ≡ nodes v ys → Comes types ds more ys → ByNode types ds q ps xs
+    by_value : (v : Value) (more : List Piece) (ys : List Item) → Fits types q v → ps ≡ pieces v more → xs ≡ nodes v ys → Comes types ds more ys
+        → ByNode types ds q ps xs
     by_value (value.Int z) more ys f p x c = record { x = item.Int z; fields = []; node = (f.0, f.1, refl); more = more; ys = ys; ps_is = p; xs_is = x; comes = c }
     by_value (value.Flag b) more ys f p x c = record { x = item.Flag b; fields = []; node = (f, refl); more = more; ys = ys; ps_is = p; xs_is = x; comes = c }
     by_value value.Dia more ys f p x c = record { x = item.Dia; fields = []; node = (f, refl); more = more; ys = ys; ps_is = p; xs_is = x; comes = c }
@@ -152,8 +159,10 @@ unfold_node types ds q ps xs h = let (v, more, ys, f, p, x, c) = h in by_value v
         pieces_by c value.End more = refl
         pieces_by c (value.And v vs) more = refl
 
-pub possible_parts : (types : List DataType) (ds : List Due) (fields : List Kind) (ps : List Piece) (xs : List Item) → HaveValues types fields → Comes types ds ps xs → Possible types (parts_due fields ++ ds)
+pub possible_parts : (types : List DataType) (ds : List Due) (fields : List Kind) (ps : List Piece) (xs : List Item) → HaveValues types fields
+    → Comes types ds ps xs → Possible types (parts_due fields ++ ds)
 possible_parts types ds fields ps xs h c = record { ps = part_pieces h.values ps; xs = nodes_all h.values xs; comes = comes_parts types ds fields h.values ps xs h.fit c }
 
-pub parts_have : (types : List DataType) (ds : List Due) (qs : List Kind) (ps : List Piece) (xs : List Item) → Comes types (parts_due qs ++ ds) ps xs → HaveValues types qs
+pub parts_have : (types : List DataType) (ds : List Due) (qs : List Kind) (ps : List Piece) (xs : List Item) → Comes types (parts_due qs ++ ds) ps xs
+    → HaveValues types qs
 parts_have types ds qs ps xs c = let p = parts_come types ds qs ps xs c in record { values = p.vs; fit = p.fit }

@@ -63,7 +63,8 @@ cut (suc k) n p s h b e q = by_size (λ t big d. cut k (n / 10) p t (omega (arit
         by_rest [] d = omega (arith, d.whole refl, big)
         by_rest (x ∷ t) d = d.large (λ e. absurd cc)
 
-    by_last : ((t : List ℕ) → 10 ≤ n → decimal (n / 10) ≡ p ++ t → Cut p t (n / 10)) → 10 ≤ n → (s ≡ []) ⊎ ((t : List ℕ) × (s ≡ t ++ (48 + n % 10) ∷ []) × (decimal (n / 10) ≡ p ++ t)) → Cut p s n
+    by_last : ((t : List ℕ) → 10 ≤ n → decimal (n / 10) ≡ p ++ t → Cut p t (n / 10)) → 10 ≤ n
+        → (s ≡ []) ⊎ ((t : List ℕ) × (s ≡ t ++ (48 + n % 10) ∷ []) × (decimal (n / 10) ≡ p ++ t)) → Cut p s n
     by_last f big (inl none) = all none
     by_last f big (inr (t, s_is, d)) = further t s_is big (f t big d)
 
@@ -101,7 +102,8 @@ pub record Digits (most : ℕ) (word : List ℕ) (value i : ℕ) : Type 0 where
 pub no_digits : (most : ℕ) (word : List ℕ) → Digits most word 0 0
 no_digits most word = record { within = omega arith; small = omega arith; none = λ e. refl; text = inl refl }
 
-digit_text : (most : ℕ) (word : List ℕ) (value i c next : ℕ) → Digits most word value i → 48 ≤ c → c ≤ 57 → (i ≡ 0) ⊎ (1 ≤ value) → next ≡ value * 10 + (c - 48) → next < 2 ^ 40
+digit_text : (most : ℕ) (word : List ℕ) (value i c next : ℕ) → Digits most word value i → 48 ≤ c → c ≤ 57 → (i ≡ 0) ⊎ (1 ≤ value)
+    → next ≡ value * 10 + (c - 48) → next < 2 ^ 40
     → take i word ++ c ∷ [] ≡ decimal next
 digit_text most word value i c next d low high lead next_is wide = by_text lead d.text
   where
@@ -123,7 +125,8 @@ digit_text most word value i c next d low high lead next_is wide = by_text lead 
     by_text (inr v) (inl e) = empty e
     by_text (inr v) (inr t) = longer v t
 
-pub one_digit_more : (most : ℕ) (word : List ℕ) (value i c next : ℕ) → Digits most word value i → i < length word → c ≡ get_or word i 0 → 48 ≤ c → c ≤ 57 → (i ≡ 0) ⊎ (1 ≤ value) → next ≡ value * 10 + (c - 48) → next ≤ most → most < 2 ^ 32
+pub one_digit_more : (most : ℕ) (word : List ℕ) (value i c next : ℕ) → Digits most word value i → i < length word → c ≡ get_or word i 0 → 48 ≤ c
+    → c ≤ 57 → (i ≡ 0) ⊎ (1 ≤ value) → next ≡ value * 10 + (c - 48) → next ≤ most → most < 2 ^ 32
     → Digits most word next (i + 1)
 one_digit_more most word value i c next d h is low high lead next_is fit wide = record {
   within = omega (arith, h);
@@ -160,7 +163,8 @@ stops_there most word value i d f = record {
   longest = λ n front last rest k e g. by_length n front last rest k e g (cases_lt i (length front));
 }
   where
-    by_length : (n : ℕ) (front last rest : List ℕ) → n ≤ most → word ≡ front ++ last → decimal n ≡ front ++ rest → (i < length front) ⊎ (length front ≤ i) → length front ≤ i
+    by_length : (n : ℕ) (front last rest : List ℕ) → n ≤ most → word ≡ front ++ last → decimal n ≡ front ++ rest
+        → (i < length front) ⊎ (length front ≤ i) → length front ≤ i
     by_length n front last rest k e g (inr h) = h
     by_length n front last rest k e g (inl h) =
         let (more, is) = longer_front word front last i e h in
@@ -176,7 +180,8 @@ no_digit most word i c wide is h = record {
 some_text : (word : List ℕ) (i : ℕ) → 1 ≤ i → i < length word → take i word ≡ [] → ⊥
 some_text word i some h e = absurd (omega (arith, some, h, ap length e, length-take-le i word (omega (arith, h))))
 
-pub leading_zero : (most : ℕ) (word : List ℕ) (value i : ℕ) → most < 2 ^ 32 → Digits most word value i → i < length word → 1 ≤ i → value ≡ 0 → Further most word i
+pub leading_zero : (most : ℕ) (word : List ℕ) (value i : ℕ) → most < 2 ^ 32 → Digits most word value i → i < length word → 1 ≤ i → value ≡ 0
+    → Further most word i
 leading_zero most word value i wide d h some zero_is = record {
   dead = λ n more k e.
       let c = cut (suc n) n (take i word) (get_or word i 0 ∷ more) (omega arith) (omega (arith, k, wide)) e (some_text word i some h) in
@@ -188,7 +193,8 @@ leading_zero most word value i wide d h some zero_is = record {
     by_text (inl e) = absurd (omega (arith, e, some))
     by_text (inr t) = t
 
-pub too_large : (most : ℕ) (word : List ℕ) (value i c next : ℕ) → most < 2 ^ 32 → Digits most word value i → i < length word → c ≡ get_or word i 0 → 48 ≤ c → c ≤ 57 → (i ≡ 0) ⊎ (1 ≤ value) → next ≡ value * 10 + (c - 48) → most < next → Further most word i
+pub too_large : (most : ℕ) (word : List ℕ) (value i c next : ℕ) → most < 2 ^ 32 → Digits most word value i → i < length word → c ≡ get_or word i 0
+    → 48 ≤ c → c ≤ 57 → (i ≡ 0) ⊎ (1 ≤ value) → next ≡ value * 10 + (c - 48) → most < next → Further most word i
 too_large most word value i c next wide d h is low high lead next_is large = record {
   dead = λ n more k e.
       let small : value ≤ most = d.small in
@@ -216,17 +222,21 @@ behind_zero most value at byte h z = record { why = inr (inl (omega (arith, h), 
 pub above_most : (most value at byte : ℕ) → is_digit byte ≡ true → most < value * 10 + (byte - 48) → NoDigit most value at byte
 above_most most value at byte h k = record { why = inr (inr (h, k)) }
 
-pub next_first : (most value at byte next : ℕ) → is_digit byte ≡ true → at ≡ 0 → next ≡ value * 10 + (byte - 48) → next ≤ most → NextDigit most value at byte next
+pub next_first : (most value at byte next : ℕ) → is_digit byte ≡ true → at ≡ 0 → next ≡ value * 10 + (byte - 48) → next ≤ most
+    → NextDigit most value at byte next
 next_first most value at byte next h z is fit = record { digit = h; lead = inl z; is = is; fit = fit }
 
-pub next_later : (most value at byte next : ℕ) → is_digit byte ≡ true → (value ≡ 0 → ⊥) → next ≡ value * 10 + (byte - 48) → next ≤ most → NextDigit most value at byte next
+pub next_later : (most value at byte next : ℕ) → is_digit byte ≡ true → (value ≡ 0 → ⊥) → next ≡ value * 10 + (byte - 48) → next ≤ most
+    → NextDigit most value at byte next
 next_later most value at byte next h z is fit = record { digit = h; lead = inr (omega (arith, z)); is = is; fit = fit }
 
-pub digits_on : (most : ℕ) (word : List ℕ) (value at next : ℕ) → most < 4294967296 → Digits most word value at → at < length word → NextDigit most value at (get_or word at 0) next → Digits most word next (at + 1)
+pub digits_on : (most : ℕ) (word : List ℕ) (value at next : ℕ) → most < 4294967296 → Digits most word value at → at < length word
+    → NextDigit most value at (get_or word at 0) next → Digits most word next (at + 1)
 digits_on most word value at next wide d h n =
     let r = digit_range (get_or word at 0) n.digit in one_digit_more most word value at (get_or word at 0) next d h refl r.0 r.1 n.lead n.is n.fit (omega (arith, wide))
 
-pub digits_off : (most : ℕ) (word : List ℕ) (value at : ℕ) → most < 4294967296 → Digits most word value at → at < length word → NoDigit most value at (get_or word at 0) → DigitsRead most word value at
+pub digits_off : (most : ℕ) (word : List ℕ) (value at : ℕ) → most < 4294967296 → Digits most word value at → at < length word
+    → NoDigit most value at (get_or word at 0) → DigitsRead most word value at
 digits_off most word value at wide d h n = stops_there most word value at d (why n.why)
   where
     lead : (at ≡ 0) ⊎ (1 ≤ value) → (is_digit (get_or word at 0) ≡ true) → most < value * 10 + (get_or word at 0 - 48) → Further most word at
@@ -237,11 +247,13 @@ digits_off most word value at wide d h n = stops_there most word value at d (why
     zero_or zero (suc a) = inr (omega arith, refl)
     zero_or (suc v) (suc a) = inl (inr (omega arith))
 
-    by_lead : is_digit (get_or word at 0) ≡ true → most < value * 10 + (get_or word at 0 - 48) → ((at ≡ 0) ⊎ (1 ≤ value)) ⊎ ((1 ≤ at) × (value ≡ 0)) → Further most word at
+    by_lead : is_digit (get_or word at 0) ≡ true → most < value * 10 + (get_or word at 0 - 48) → ((at ≡ 0) ⊎ (1 ≤ value)) ⊎ ((1 ≤ at) × (value ≡ 0))
+        → Further most word at
     by_lead t k (inl l) = lead l t k
     by_lead t k (inr p) = leading_zero most word value at (omega (arith, wide)) d h p.0 p.1
 
-    why : (is_digit (get_or word at 0) ≡ false) ⊎ (((1 ≤ at) × (value ≡ 0)) ⊎ ((is_digit (get_or word at 0) ≡ true) × (most < value * 10 + (get_or word at 0 - 48)))) → Further most word at
+    why : (is_digit (get_or word at 0) ≡ false)
+        ⊎ (((1 ≤ at) × (value ≡ 0)) ⊎ ((is_digit (get_or word at 0) ≡ true) × (most < value * 10 + (get_or word at 0 - 48)))) → Further most word at
     why (inl f) = no_digit most word at (get_or word at 0) (omega (arith, wide)) refl f
     why (inr (inl p)) = leading_zero most word value at (omega (arith, wide)) d h p.0 p.1
     why (inr (inr p)) = by_lead p.0 p.1 (zero_or value at)
@@ -255,10 +267,12 @@ all_taken word value good most d all some = by_text d.text
     by_text (inl e) = absurd (some e)
     by_text (inr e) = sym (take_all good word all) ∙ e
 
-pub plus_read : (word : List ℕ) (value good : ℕ) (z : ℤ) → DigitsRead 2147483647 word value good → length word ≤ good → (good ≡ 0 → ⊥) → z ≡ pos value → IntRead word z
+pub plus_read : (word : List ℕ) (value good : ℕ) (z : ℤ) → DigitsRead 2147483647 word value good → length word ≤ good → (good ≡ 0 → ⊥)
+    → z ≡ pos value → IntRead word z
 plus_read word value good z d all some is = record { size = value; is = inl (d.small, all_taken word value good 2147483647 d all some, is) }
 
-pub minus_read : (digits : List ℕ) (value good : ℕ) (z : ℤ) → DigitsRead 2147483648 digits value good → length digits ≤ good → (good ≡ 0 → ⊥) → z ≡ neg_ℤ (pos value) → IntRead (45 ∷ digits) z
+pub minus_read : (digits : List ℕ) (value good : ℕ) (z : ℤ) → DigitsRead 2147483648 digits value good → length digits ≤ good → (good ≡ 0 → ⊥)
+    → z ≡ neg_ℤ (pos value) → IntRead (45 ∷ digits) z
 minus_read digits value good z d all some is = record { size = value; is = inr (d.small, ap (λ l. 45 ∷ l) (all_taken digits value good 2147483648 d all some), is) }
 
 pub plus_part : (word : List ℕ) (value good : ℕ) → DigitsRead 2147483647 word value good → good < length word → IsPlain word → IntRefused word good

@@ -24,7 +24,8 @@ within_cons [] j con e = absurd cc
 within_cons (c ∷ cs) zero con e = omega arith
 within_cons (c ∷ cs) (suc j) con e = omega (arith, within_cons cs j con e)
 
-pub con_at : (types : List DataType) (t j : ℕ) (d : DataType) (con : Constructor) → slice_get types t ≡ Some d → slice_get d.cons j ≡ Some con → constructor types (first_con types t + j) ≡ Some con
+pub con_at : (types : List DataType) (t j : ℕ) (d : DataType) (con : Constructor) → slice_get types t ≡ Some d → slice_get d.cons j ≡ Some con
+    → constructor types (first_con types t + j) ≡ Some con
 con_at [] t j d con e h = absurd cc
 con_at (x ∷ types) zero j d con e h =
     let s : x ≡ d = cc in
@@ -33,7 +34,8 @@ con_at (x ∷ types) (suc t) j d con e h =
     slice_get_behind x.cons (constructors types) (length x.cons + first_con types t + j) (omega arith)
     ∙ ap (slice_get (constructors types)) (let n : length x.cons + first_con types t + j - length x.cons ≡ first_con types t + j = omega arith in n) ∙ con_at types t j d con e h
 
-type_at_from : (number : ℕ) (types : List DataType) (t j : ℕ) (d : DataType) (con : Constructor) → slice_get types t ≡ Some d → slice_get d.cons j ≡ Some con → type_from number types (first_con types t + j) ≡ Some (number + t)
+type_at_from : (number : ℕ) (types : List DataType) (t j : ℕ) (d : DataType) (con : Constructor) → slice_get types t ≡ Some d
+    → slice_get d.cons j ≡ Some con → type_from number types (first_con types t + j) ≡ Some (number + t)
 type_at_from number [] t j d con e h = absurd cc
 type_at_from number (x ∷ types) zero j d con e h =
     let s : x ≡ d = cc in
@@ -47,7 +49,8 @@ type_at_from number (x ∷ types) (suc t) j d con e h =
     ∙ ap (type_from (suc number) types) (let n : length x.cons + first_con types t + j - length x.cons ≡ first_con types t + j = omega arith in n)
     ∙ type_at_from (suc number) types t j d con e h ∙ ap Some (omega arith)
 
-pub type_at : (types : List DataType) (t j : ℕ) (d : DataType) (con : Constructor) → slice_get types t ≡ Some d → slice_get d.cons j ≡ Some con → type_of types (first_con types t + j) ≡ Some t
+pub type_at : (types : List DataType) (t j : ℕ) (d : DataType) (con : Constructor) → slice_get types t ≡ Some d → slice_get d.cons j ≡ Some con
+    → type_of types (first_con types t + j) ≡ Some t
 type_at types t j d con e h = type_at_from 0 types t j d con e h ∙ ap Some (omega arith)
 
 -- ---- marks are sound
@@ -58,27 +61,32 @@ value_of_kind types marks s Flag h = record { value = value.Flag true; fits = re
 value_of_kind types marks s Dia h = record { value = value.Dia; fits = refl }
 value_of_kind types marks s (Of t) h = s t h
 
-pub values_of_kinds : (types : List DataType) (marks : List Bool) → ((q : Kind) → has_value marks q ≡ true → HasValue types q) → (qs : List Kind) → list_all (has_value marks) qs ≡ true → HaveValues types qs
+pub values_of_kinds : (types : List DataType) (marks : List Bool) → ((q : Kind) → has_value marks q ≡ true → HasValue types q) → (qs : List Kind)
+    → list_all (has_value marks) qs ≡ true → HaveValues types qs
 values_of_kinds types marks s [] h = record { values = value.End; fit = tt }
 values_of_kinds types marks s (q ∷ qs) h =
     let p = and_parts (has_value marks q) _ h in
     let v = s q p.0 in
     let r = values_of_kinds types marks s qs p.1 in record { values = value.And v.value r.values; fit = (v.fits, r.fit) }
 
-pub kinds_of_values : (types : List DataType) (marks : List Bool) → ((q : Kind) → HasValue types q → has_value marks q ≡ true) → (qs : List Kind) → HaveValues types qs → list_all (has_value marks) qs ≡ true
+pub kinds_of_values : (types : List DataType) (marks : List Bool) → ((q : Kind) → HasValue types q → has_value marks q ≡ true) → (qs : List Kind)
+    → HaveValues types qs → list_all (has_value marks) qs ≡ true
 kinds_of_values types marks f [] h = refl
 kinds_of_values types marks f (q ∷ qs) h = by_values (λ r. kinds_of_values types marks f qs r) h.values h.fit
   where
-    by_values : (HaveValues types qs → list_all (has_value marks) qs ≡ true) → (vs : Values) → FitAll types (q ∷ qs) vs → list_all (has_value marks) (q ∷ qs) ≡ true
+    by_values : (HaveValues types qs → list_all (has_value marks) qs ≡ true) → (vs : Values) → FitAll types (q ∷ qs) vs
+        → list_all (has_value marks) (q ∷ qs) ≡ true
     by_values g value.End k = absurd k
     by_values g (value.And v vs) k = and_both (has_value marks q) _ (f q (record { value = v; fits = k.0 })) (g (record { values = vs; fit = k.1 }))
 
 -- one of these constructors is ready
-some_ready : (p : Constructor → Bool) (cs : List Constructor) → list_any p cs ≡ true → (j : ℕ) × (con : Constructor) × (slice_get cs j ≡ Some con) × (p con ≡ true)
+some_ready : (p : Constructor → Bool) (cs : List Constructor) → list_any p cs ≡ true
+    → (j : ℕ) × (con : Constructor) × (slice_get cs j ≡ Some con) × (p con ≡ true)
 some_ready p [] h = absurd cc
 some_ready p (c ∷ cs) h = by_first (λ k. some_ready p cs k) (p c) refl h
   where
-    by_first : (list_any p cs ≡ true → (j : ℕ) × (con : Constructor) × (slice_get cs j ≡ Some con) × (p con ≡ true)) → (b : Bool) → p c ≡ b → (b || list_any p cs) ≡ true → (j : ℕ) × (con : Constructor) × (slice_get (c ∷ cs) j ≡ Some con) × (p con ≡ true)
+    by_first : (list_any p cs ≡ true → (j : ℕ) × (con : Constructor) × (slice_get cs j ≡ Some con) × (p con ≡ true)) → (b : Bool) → p c ≡ b
+        → (b || list_any p cs) ≡ true → (j : ℕ) × (con : Constructor) × (slice_get (c ∷ cs) j ≡ Some con) × (p con ≡ true)
     by_first f true e k = (0, c, refl, e)
     by_first f false e k = let (j, con, is, r) = f k in (suc j, con, is, r)
 
@@ -95,7 +103,8 @@ ready_some p (c ∷ cs) (suc j) con e h = second (p c) (ready_some p cs j con e 
     second true k = refl
     second false k = k
 
-value_of_type : (types : List DataType) (marks : List Bool) (t : ℕ) (d : DataType) → Sound types marks → slice_get types t ≡ Some d → list_any (is_ready marks) d.cons ≡ true → HasValue types (Of t)
+value_of_type : (types : List DataType) (marks : List Bool) (t : ℕ) (d : DataType) → Sound types marks → slice_get types t ≡ Some d
+    → list_any (is_ready marks) d.cons ≡ true → HasValue types (Of t)
 value_of_type types marks t d s e h =
     let (j, con, is, ready) = some_ready (is_ready marks) d.cons h in
     let vs = values_of_kinds types marks (value_of_kind types marks s) con.fields ready in
@@ -117,7 +126,8 @@ marked_set (b ∷ marks) (suc t) (suc u) h = lift (marked_set marks t u h)
     lift (inl e) = inl (ap suc e)
     lift (inr k) = inr k
 
-pub one_more_mark : (types : List DataType) (marks : List Bool) (t : ℕ) (d : DataType) → Sound types marks → slice_get types t ≡ Some d → list_any (is_ready marks) d.cons ≡ true → Sound types (slice_set marks t true)
+pub one_more_mark : (types : List DataType) (marks : List Bool) (t : ℕ) (d : DataType) → Sound types marks → slice_get types t ≡ Some d
+    → list_any (is_ready marks) d.cons ≡ true → Sound types (slice_set marks t true)
 one_more_mark types marks t d s e h u m = either (marked_set marks t u m)
   where
     either : (u ≡ t) ⊎ (is_marked marks u ≡ true) → HasValue types (Of u)
@@ -132,7 +142,8 @@ left_of (false ∷ marks) = suc (left_of marks)
 
 -- ---- marks are complete
 
-complete_step : (types : List DataType) (marks : List Bool) (c t : ℕ) (con : Constructor) → NoneReady types marks → constructor types c ≡ Some con → type_of types c ≡ Some t → is_ready marks con ≡ true → is_marked marks t ≡ true
+complete_step : (types : List DataType) (marks : List Bool) (c t : ℕ) (con : Constructor) → NoneReady types marks → constructor types c ≡ Some con
+    → type_of types c ≡ Some t → is_ready marks con ≡ true → is_marked marks t ≡ true
 complete_step types marks c t con n e k r =
     let l = located 0 types c t con e k in
     let here : slice_get types t ≡ Some l.def = ap (slice_get types) (l.number ∙ omega arith) ∙ l.is in
@@ -142,7 +153,8 @@ complete_step types marks c t con n e k r =
     by_mark true e f = e
     by_mark false e f = absurd (f e)
 
-of_type : (types : List DataType) (marks : List Bool) (q : Kind) (c : ℕ) (o : Option ℕ) → type_of types c ≡ o → option_map Of (type_of types c) ≡ Some q → ((t : ℕ) → type_of types c ≡ Some t → is_marked marks t ≡ true) → has_value marks q ≡ true
+of_type : (types : List DataType) (marks : List Bool) (q : Kind) (c : ℕ) (o : Option ℕ) → type_of types c ≡ o
+    → option_map Of (type_of types c) ≡ Some q → ((t : ℕ) → type_of types c ≡ Some t → is_marked marks t ≡ true) → has_value marks q ≡ true
 of_type types marks q c None e k f = let bad : None ≡ Some q = sym (ap (option_map Of) e) ∙ k in absurd cc
 of_type types marks q c (Some t) e k f = let s : Some (Of t) ≡ Some q = sym (ap (option_map Of) e) ∙ k in let same : Of t ≡ q = cc in subst (λ x. has_value marks x ≡ true) same (f t e)
 
@@ -156,7 +168,8 @@ mutual
       let r = complete_all types marks n vs con.fields fit in
       of_type types marks q c (type_of types c) refl f.0 (λ t e. complete_step types marks c t con n is e r)
 
-  complete_all : (types : List DataType) (marks : List Bool) → NoneReady types marks → (vs : Values) (qs : List Kind) → FitAll types qs vs → list_all (has_value marks) qs ≡ true
+  complete_all : (types : List DataType) (marks : List Bool) → NoneReady types marks → (vs : Values) (qs : List Kind) → FitAll types qs vs
+      → list_all (has_value marks) qs ≡ true
   complete_all types marks n value.End [] f = refl
   complete_all types marks n value.End (q ∷ qs) f = absurd f
   complete_all types marks n (value.And v vs) [] f = absurd f

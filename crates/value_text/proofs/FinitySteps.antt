@@ -12,21 +12,26 @@ use Rattle.value_text.specs.Finite.{is_marked, has_value, is_ready, Sound, NoneR
 use Rattle.value_text.proofs.Words.{and_parts, and_both, true_false}
 use Rattle.value_text.proofs.Finiteness.{one_more_mark, left_of}
 
-pub all_here : (marks : List Bool) (qs : List Kind) (i : ℕ) (d : Kind) (b : Bool) → i < length qs → has_value marks (get_or qs i d) ≡ true → list_all (has_value marks) (drop i qs) ≡ b → list_all (has_value marks) (drop (i + 1) qs) ≡ b
+pub all_here : (marks : List Bool) (qs : List Kind) (i : ℕ) (d : Kind) (b : Bool) → i < length qs → has_value marks (get_or qs i d) ≡ true
+    → list_all (has_value marks) (drop i qs) ≡ b → list_all (has_value marks) (drop (i + 1) qs) ≡ b
 all_here marks qs i d b h t e =
     ap (λ n. list_all (has_value marks) (drop n qs)) (add-one i) ∙ ap (λ c. c && list_all (has_value marks) (drop (suc i) qs)) (sym t) ∙ ap (list_all (has_value marks)) (sym (drop-cons qs i d h)) ∙ e
 
-pub all_not : (marks : List Bool) (qs : List Kind) (i : ℕ) (d : Kind) (b : Bool) → i < length qs → has_value marks (get_or qs i d) ≡ false → list_all (has_value marks) (drop i qs) ≡ b → false ≡ b
+pub all_not : (marks : List Bool) (qs : List Kind) (i : ℕ) (d : Kind) (b : Bool) → i < length qs → has_value marks (get_or qs i d) ≡ false
+    → list_all (has_value marks) (drop i qs) ≡ b → false ≡ b
 all_not marks qs i d b h t e = ap (λ c. c && list_all (has_value marks) (drop (suc i) qs)) (sym t) ∙ ap (list_all (has_value marks)) (sym (drop-cons qs i d h)) ∙ e
 
-cons_at : (cs : List Con) (i : ℕ) (c : Con) → i < length cs → c ≡ get_or cs i c → map constructor_of (drop i cs) ≡ constructor_of c ∷ map constructor_of (drop (i + 1) cs)
+cons_at : (cs : List Con) (i : ℕ) (c : Con) → i < length cs → c ≡ get_or cs i c
+    → map constructor_of (drop i cs) ≡ constructor_of c ∷ map constructor_of (drop (i + 1) cs)
 cons_at cs i c h is =
     ap (map constructor_of) (drop-cons cs i c h) ∙ ap (λ x. constructor_of x ∷ map constructor_of (drop (suc i) cs)) (sym is) ∙ ap (λ n. constructor_of c ∷ map constructor_of (drop n cs)) (sym (add-one i))
 
-pub any_here : (marks : List Bool) (cs : List Con) (i : ℕ) (c : Con) (b : Bool) → i < length cs → c ≡ get_or cs i c → is_ready marks (constructor_of c) ≡ true → list_any (is_ready marks) (map constructor_of (drop i cs)) ≡ b → true ≡ b
+pub any_here : (marks : List Bool) (cs : List Con) (i : ℕ) (c : Con) (b : Bool) → i < length cs → c ≡ get_or cs i c
+    → is_ready marks (constructor_of c) ≡ true → list_any (is_ready marks) (map constructor_of (drop i cs)) ≡ b → true ≡ b
 any_here marks cs i c b h is t e = ap (λ x. x || list_any (is_ready marks) (map constructor_of (drop (i + 1) cs))) (sym t) ∙ ap (list_any (is_ready marks)) (sym (cons_at cs i c h is)) ∙ e
 
-pub any_later : (marks : List Bool) (cs : List Con) (i : ℕ) (c : Con) (b : Bool) → i < length cs → c ≡ get_or cs i c → is_ready marks (constructor_of c) ≡ false → list_any (is_ready marks) (map constructor_of (drop i cs)) ≡ b
+pub any_later : (marks : List Bool) (cs : List Con) (i : ℕ) (c : Con) (b : Bool) → i < length cs → c ≡ get_or cs i c
+    → is_ready marks (constructor_of c) ≡ false → list_any (is_ready marks) (map constructor_of (drop i cs)) ≡ b
     → list_any (is_ready marks) (map constructor_of (drop (i + 1) cs)) ≡ b
 any_later marks cs i c b h is t e = ap (λ x. x || list_any (is_ready marks) (map constructor_of (drop (i + 1) cs))) (sym t) ∙ ap (list_any (is_ready marks)) (sym (cons_at cs i c h is)) ∙ e
 
@@ -39,7 +44,8 @@ not_true : (b : Bool) → not b ≡ true → b ≡ false
 not_true true h = absurd cc
 not_true false h = refl
 
-pub ready_at : (ds : List TypeDef) (marks : List Bool) (i : ℕ) (d : TypeDef) → i < length ds → d ≡ get_or ds i d → is_next marks i (data_type_of d) ≡ true → ReadyAt (map data_type_of ds) marks i
+pub ready_at : (ds : List TypeDef) (marks : List Bool) (i : ℕ) (d : TypeDef) → i < length ds → d ≡ get_or ds i d
+    → is_next marks i (data_type_of d) ≡ true → ReadyAt (map data_type_of ds) marks i
 ready_at ds marks i d h is t =
     let p = and_parts (not (is_marked marks i)) _ t in record { def = data_type_of d; is = def_at ds i d h is; unmarked = not_true (is_marked marks i) p.0; ready = p.1 }
 
@@ -47,7 +53,8 @@ ready_at ds marks i d h is t =
 abbrev pub NoneBefore : List DataType → List Bool → ℕ → Type 0
 NoneBefore types marks i = (t : ℕ) (def : DataType) → t < i → slice_get types t ≡ Some def → is_marked marks t ≡ false → list_any (is_ready marks) def.cons ≡ true → ⊥
 
-pub one_passed : (ds : List TypeDef) (marks : List Bool) (i : ℕ) (d : TypeDef) → i < length ds → d ≡ get_or ds i d → is_next marks i (data_type_of d) ≡ false → NoneBefore (map data_type_of ds) marks i → NoneBefore (map data_type_of ds) marks (i + 1)
+pub one_passed : (ds : List TypeDef) (marks : List Bool) (i : ℕ) (d : TypeDef) → i < length ds → d ≡ get_or ds i d
+    → is_next marks i (data_type_of d) ≡ false → NoneBefore (map data_type_of ds) marks i → NoneBefore (map data_type_of ds) marks (i + 1)
 one_passed ds marks i d h is f n t def less e m r = by_place (cases_lt t i)
   where
     here : t ≡ i → ⊥
@@ -65,7 +72,8 @@ within_list [] t def e = absurd cc
 within_list (x ∷ types) zero def e = omega arith
 within_list (x ∷ types) (suc t) def e = omega (arith, within_list types t def e)
 
-pub none_ready : (ds : List TypeDef) (marks : List Bool) (i : ℕ) → length ds ≤ i → NoneBefore (map data_type_of ds) marks i → NoneReady (map data_type_of ds) marks
+pub none_ready : (ds : List TypeDef) (marks : List Bool) (i : ℕ) → length ds ≤ i → NoneBefore (map data_type_of ds) marks i
+    → NoneReady (map data_type_of ds) marks
 none_ready ds marks i h n = λ t def e m r. n t def (omega (arith, within_list (map data_type_of ds) t def e, length-map ds data_type_of, h)) e m r
 
 pub within_types : (ds : List TypeDef) (marks : List Bool) (t : ℕ) → ReadyAt (map data_type_of ds) marks t → t < length ds
@@ -81,7 +89,8 @@ left_set (false ∷ marks) zero h m = omega arith
 left_set (true ∷ marks) (suc t) h m = left_set marks t (omega (arith, h)) m
 left_set (false ∷ marks) (suc t) h m = omega (arith, left_set marks t (omega (arith, h)) m)
 
-pub less_left : (types : List DataType) (marks : List Bool) (t : ℕ) → t < length marks → ReadyAt types marks t → left_of (slice_set marks t true) < left_of marks
+pub less_left : (types : List DataType) (marks : List Bool) (t : ℕ) → t < length marks → ReadyAt types marks t
+    → left_of (slice_set marks t true) < left_of marks
 less_left types marks t h r = left_set marks t h r.unmarked
 
 pub length_marks : (marks : List Bool) (t : ℕ) (b : Bool) → length (slice_set marks t b) ≡ length marks

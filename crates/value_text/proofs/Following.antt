@@ -23,11 +23,13 @@ use Rattle.value_text.proofs.Texts.{reading_starts, reading_ends}
 
 -- ---- spaces
 
-pub read_spaces : (types : List DataType) (first : List Due) (text : List ℕ) (xs : List Item) (ds : List Due) (rest : List ℕ) → NoSpace ds → Reading types first text xs ds rest → Reading types first text xs ds (skip rest)
+pub read_spaces : (types : List DataType) (first : List Due) (text : List ℕ) (xs : List Item) (ds : List Due) (rest : List ℕ) → NoSpace ds
+    → Reading types first text xs ds rest → Reading types first text xs ds (skip rest)
 read_spaces types first text xs ds [] n r = r
 read_spaces types first text xs ds (b ∷ rest) n r = by_test (b == 32) refl (λ s. read_spaces types first text xs ds rest n s)
   where
-    by_test : (t : Bool) → (b == 32) ≡ t → (Reading types first text xs ds rest → Reading types first text xs ds (skip rest)) → Reading types first text xs ds (if t then skip rest else b ∷ rest)
+    by_test : (t : Bool) → (b == 32) ≡ t → (Reading types first text xs ds rest → Reading types first text xs ds (skip rest))
+        → Reading types first text xs ds (if t then skip rest else b ∷ rest)
     by_test true e f = let s : b ≡ 32 = grind (arith, nat_tests, e) in f (read_space types first text xs ds rest n (subst (λ c. Reading types first text xs ds (c ∷ rest)) s r))
     by_test false e f = r
 
@@ -41,7 +43,8 @@ skipped (b ∷ text) = by_test (b == 32) refl (skipped text)
 
 -- ---- marks
 
-mark_reached : (types : List DataType) (first : List Due) (text : List ℕ) (xs : List Item) (m : ℕ) (ds : List Due) (rest : List ℕ) → Reading types first text xs (due.Mark m ∷ ds) rest
+mark_reached : (types : List DataType) (first : List Due) (text : List ℕ) (xs : List Item) (m : ℕ) (ds : List Due) (rest : List ℕ)
+    → Reading types first text xs (due.Mark m ∷ ds) rest
     → Reading types first text xs (due.Mark m ∷ ds) (before_mark m rest)
 mark_reached types first text xs m ds rest r = by_test (m == 32) refl
   where
@@ -49,7 +52,8 @@ mark_reached types first text xs m ds rest r = by_test (m == 32) refl
     by_test true e = r
     by_test false e = read_spaces types first text xs (due.Mark m ∷ ds) rest (λ s. let k : (m == 32) ≡ true = grind (arith, nat_tests, s) in let c : true ≡ false = sym k ∙ e in absurd cc) r
 
-pub mark_step : (types : List DataType) (first : List Due) (text : List ℕ) (xs : List Item) (m : ℕ) (ds : List Due) (rest after : List ℕ) → Reading types first text xs (due.Mark m ∷ ds) rest → before_mark m rest ≡ m ∷ after
+pub mark_step : (types : List DataType) (first : List Due) (text : List ℕ) (xs : List Item) (m : ℕ) (ds : List Due) (rest after : List ℕ)
+    → Reading types first text xs (due.Mark m ∷ ds) rest → before_mark m rest ≡ m ∷ after
     → Reading types first text xs ds after
 mark_step types first text xs m ds rest after r e = read_mark types first text xs m ds after (subst (Reading types first text xs (due.Mark m ∷ ds)) e (mark_reached types first text xs m ds rest r))
 
@@ -64,11 +68,13 @@ not_space_there m rest n = by_test (m == 32) refl n
     by_test true e h = same rest (grind (arith, nat_tests, e)) h
     by_test false e h = skipped rest
 
-pub mark_stop : (types : List DataType) (first : List Due) (text : List ℕ) (xs : List Item) (m : ℕ) (ds : List Due) (rest : List ℕ) (left : ℕ) → AreNamed types → Reading types first text xs (due.Mark m ∷ ds) rest
+pub mark_stop : (types : List DataType) (first : List Due) (text : List ℕ) (xs : List Item) (m : ℕ) (ds : List Due) (rest : List ℕ) (left : ℕ)
+    → AreNamed types → Reading types first text xs (due.Mark m ∷ ds) rest
     → left ≡ length (before_mark m rest) → NotFirst m (before_mark m rest) → Stops types first text (length text - left)
 mark_stop types first text xs m ds rest left names r e n = by_text (before_mark m rest) refl (mark_reached types first text xs m ds rest r) n (not_space_there m rest n)
   where
-    by_text : (t : List ℕ) → before_mark m rest ≡ t → Reading types first text xs (due.Mark m ∷ ds) t → NotFirst m t → NotSpace t → Stops types first text (length text - left)
+    by_text : (t : List ℕ) → before_mark m rest ≡ t → Reading types first text xs (due.Mark m ∷ ds) t → NotFirst m t → NotSpace t
+        → Stops types first text (length text - left)
     by_text [] s k h w = subst (Stops types first text) (let z : length text ≡ length text - left = omega (arith, e, ap length s) in z) (stops_at_end types first text xs (due.Mark m) ds names k)
     by_text (b ∷ t) s k h w =
         subst (λ n. Stops types first text (length text - n)) (let z : length (b ∷ t) ≡ left = omega (arith, e, ap length s) in z) (stops_at_byte types first text xs (due.Mark m ∷ ds) b t names k (w, h))
@@ -78,7 +84,8 @@ mark_stop types first text xs m ds rest left names r e n = by_text (before_mark 
 decimal_word : (n : ℕ) → n < 4294967296 → IsTrue (is_word (decimal n))
 decimal_word n h = decimal_fine n (omega (arith, h))
 
-pub named_form : (types : List DataType) (q : Kind) (w : List ℕ) (x : Item) (fields : List Kind) → AreNamed types → Named types q w x fields → IsTrue (is_word w)
+pub named_form : (types : List DataType) (q : Kind) (w : List ℕ) (x : Item) (fields : List Kind) → AreNamed types → Named types q w x fields
+    → IsTrue (is_word w)
 named_form types q w (item.Int z) fields names n = by_sign z n.node.1 n.text.size n.text.is
   where
     by_sign : (z : ℤ) → IsInt32 z → (k : ℕ) → ((w ≡ decimal k) × (z ≡ pos k)) ⊎ ((w ≡ 45 ∷ decimal k) × (z ≡ neg_ℤ (pos k))) → IsTrue (is_word w)
@@ -96,7 +103,8 @@ node_step types first text xs new q ds es rest after x fields names r n push due
     let k = read_word types first text xs ds q n.word after x fields s (named_form types q n.word x fields names n.named) n.split.ends n.named in
     subst (λ l. Reading types first text l es after) (sym push) (subst (λ l. Reading types first text (xs ++ x ∷ []) l after) (sym dues) k)
 
-pub node_stop : (types : List DataType) (first : List Due) (text : List ℕ) (xs : List Item) (q : Kind) (ds : List Due) (rest : List ℕ) (left : ℕ) → AreNamed types → Reading types first text xs (due.Value q ∷ ds) rest
+pub node_stop : (types : List DataType) (first : List Due) (text : List ℕ) (xs : List Item) (q : Kind) (ds : List Due) (rest : List ℕ) (left : ℕ)
+    → AreNamed types → Reading types first text xs (due.Value q ∷ ds) rest
     → NodeRefused types q rest left → Stops types first text (length text - left)
 node_stop types first text xs q ds rest left names r n =
     let k = read_spaces types first text xs (due.Value q ∷ ds) rest tt r in
@@ -104,19 +112,22 @@ node_stop types first text xs q ds rest left names r n =
     let at : length text - length (n.word ++ n.rest) + n.good ≡ length text - left = omega (arith, n.left_is, ap length n.split.parts, ap length k.is, length-append k.front (skip rest)) in
     subst (Stops types first text) at (stops_at_word types first text xs ds q n.word n.rest n.good names s n.split.all n.split.ends (subst NotSpace n.split.parts (skipped rest)) n.unnamed)
 
-pub value_due : (types : List DataType) (first : List Due) (text : List ℕ) (xs : List Item) (q : Kind) (ds : List Due) (rest : List ℕ) → Reading types first text xs (due.Value q ∷ ds) rest → HasValue types q
+pub value_due : (types : List DataType) (first : List Due) (text : List ℕ) (xs : List Item) (q : Kind) (ds : List Due) (rest : List ℕ)
+    → Reading types first text xs (due.Value q ∷ ds) rest → HasValue types q
 value_due types first text xs q ds rest r = let (v, more, ys, f, p, x, c) = r.possible.comes in record { value = v; fits = f }
 
 -- ---- the end
 
-pub end_step : (types : List DataType) (first : List Due) (text : List ℕ) (xs : List Item) (rest : List ℕ) → Reading types first text xs [] rest → length (skip rest) ≡ 0 → Whole types first text xs
+pub end_step : (types : List DataType) (first : List Due) (text : List ℕ) (xs : List Item) (rest : List ℕ) → Reading types first text xs [] rest
+    → length (skip rest) ≡ 0 → Whole types first text xs
 end_step types first text xs rest r e = reading_ends types first text xs (subst (Reading types first text xs []) (nothing (skip rest) e) (read_spaces types first text xs [] rest tt r))
   where
     nothing : (t : List ℕ) → length t ≡ 0 → t ≡ []
     nothing [] h = refl
     nothing (b ∷ t) h = absurd (omega (arith, h))
 
-pub end_stop : (types : List DataType) (first : List Due) (text : List ℕ) (xs : List Item) (rest : List ℕ) → AreNamed types → Reading types first text xs [] rest → (length (skip rest) ≡ 0 → ⊥) → Stops types first text (length text - length (skip rest))
+pub end_stop : (types : List DataType) (first : List Due) (text : List ℕ) (xs : List Item) (rest : List ℕ) → AreNamed types
+    → Reading types first text xs [] rest → (length (skip rest) ≡ 0 → ⊥) → Stops types first text (length text - length (skip rest))
 end_stop types first text xs rest names r n = by_text (skip rest) n (read_spaces types first text xs [] rest tt r) (skipped rest)
   where
     by_text : (t : List ℕ) → (length t ≡ 0 → ⊥) → Reading types first text xs [] t → NotSpace t → Stops types first text (length text - length t)
@@ -127,10 +138,12 @@ end_stop types first text xs rest names r n = by_text (skip rest) n (read_spaces
 pub last_first : (qs rs : List Due) (q : Due) → qs ≡ rs ++ q ∷ [] → reverse qs ≡ q ∷ reverse rs
 last_first qs rs q e = ap reverse e ∙ reverse-append rs (q ∷ [])
 
-pub reading_first : (types : List DataType) (kinds : List Kind) (text : List ℕ) (dues : List Due) → Possible types (first_due kinds) → dues ≡ first_due kinds → Reading types (first_due kinds) text [] dues text
+pub reading_first : (types : List DataType) (kinds : List Kind) (text : List ℕ) (dues : List Due) → Possible types (first_due kinds)
+    → dues ≡ first_due kinds → Reading types (first_due kinds) text [] dues text
 reading_first types kinds text dues p e = subst (λ d. Reading types (first_due kinds) text [] d text) (sym e) (reading_starts types (first_due kinds) text p)
 
-pub popped : (types : List DataType) (first : List Due) (text : List ℕ) (xs : List Item) (qs rs : List Due) (q : Due) (rest : List ℕ) → Reading types first text xs (reverse qs) rest → qs ≡ rs ++ q ∷ [] → Reading types first text xs (q ∷ reverse rs) rest
+pub popped : (types : List DataType) (first : List Due) (text : List ℕ) (xs : List Item) (qs rs : List Due) (q : Due) (rest : List ℕ)
+    → Reading types first text xs (reverse qs) rest → qs ≡ rs ++ q ∷ [] → Reading types first text xs (q ∷ reverse rs) rest
 popped types first text xs qs rs q rest r e = subst (λ d. Reading types first text xs d rest) (last_first qs rs q e) r
 
 skip_shorter : (t : List ℕ) → length (skip t) ≤ length t
@@ -155,18 +168,22 @@ some_bytes : (w : List ℕ) → IsTrue (is_word w) → 1 ≤ length w
 some_bytes [] h = absurd cc
 some_bytes (b ∷ w) h = omega arith
 
-pub node_shorter : (types : List DataType) (q : Kind) (rest after : List ℕ) (x : Item) (fields : List Kind) → AreNamed types → NodeRead types q rest x fields after → length after < length rest
+pub node_shorter : (types : List DataType) (q : Kind) (rest after : List ℕ) (x : Item) (fields : List Kind) → AreNamed types
+    → NodeRead types q rest x fields after → length after < length rest
 node_shorter types q rest after x fields names n =
     omega (arith, skip_shorter rest, ap length n.split.parts, length-append n.word after, some_bytes n.word (named_form types q n.word x fields names n.named))
 
-pub nothing_due : (types : List DataType) (first : List Due) (text : List ℕ) (xs : List Item) (dues : List Due) (rest : List ℕ) → length dues ≡ 0 → Reading types first text xs (reverse dues) rest → Reading types first text xs [] rest
+pub nothing_due : (types : List DataType) (first : List Due) (text : List ℕ) (xs : List Item) (dues : List Due) (rest : List ℕ) → length dues ≡ 0
+    → Reading types first text xs (reverse dues) rest → Reading types first text xs [] rest
 nothing_due types first text xs [] rest h r = r
 nothing_due types first text xs (d ∷ dues) rest h r = absurd (omega (arith, h))
 
-pub end_here : (types : List DataType) (first : List Due) (text : List ℕ) (xs : List Item) (rest t : List ℕ) → Reading types first text xs [] rest → t ≡ skip rest → (length t == 0) ≡ true → Whole types first text xs
+pub end_here : (types : List DataType) (first : List Due) (text : List ℕ) (xs : List Item) (rest t : List ℕ) → Reading types first text xs [] rest
+    → t ≡ skip rest → (length t == 0) ≡ true → Whole types first text xs
 end_here types first text xs rest t r s e = end_step types first text xs rest r (let k : length t ≡ 0 = grind (arith, nat_tests, e) in ap length (sym s) ∙ k)
 
-pub end_there : (types : List DataType) (first : List Due) (text : List ℕ) (xs : List Item) (rest t : List ℕ) (at : ℕ) → AreNamed types → Reading types first text xs [] rest → t ≡ skip rest → (length t == 0) ≡ false → at ≡ length text - length t
+pub end_there : (types : List DataType) (first : List Due) (text : List ℕ) (xs : List Item) (rest t : List ℕ) (at : ℕ) → AreNamed types
+    → Reading types first text xs [] rest → t ≡ skip rest → (length t == 0) ≡ false → at ≡ length text - length t
     → Stops types first text at
 end_there types first text xs rest t at names r s e k =
     subst (Stops types first text) (ap (λ l. length text - length l) (sym s) ∙ sym k)

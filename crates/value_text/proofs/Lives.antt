@@ -77,15 +77,18 @@ pub int_text : (z : ℤ) → IsIntText (signed_decimal z) z
 int_text (pos n) = record { size = n; is = inl (refl, refl) }
 int_text (negsuc n) = record { size = suc n; is = inr (refl, refl) }
 
-pub con_fine : (types : List DataType) (c : ℕ) (con : Constructor) → AreNamed types → constructor types c ≡ Some con → IsTrue (is_word (constructor_name types c))
+pub con_fine : (types : List DataType) (c : ℕ) (con : Constructor) → AreNamed types → constructor types c ≡ Some con
+    → IsTrue (is_word (constructor_name types c))
 con_fine types c con names e = subst (λ w. IsTrue (is_word w)) (sym (named_con types c con e)) (name_fine con.name (at_place (λ c. IsUpperName c.name) (constructors types) c con names e))
 
-pub first_part : (types : List DataType) (qs : List Kind) (v : Value) (vs : Values) → FitAll types qs (value.And v vs) → (q : Kind) × (rest : List Kind) × Fits types q v × FitAll types rest vs
+pub first_part : (types : List DataType) (qs : List Kind) (v : Value) (vs : Values) → FitAll types qs (value.And v vs)
+    → (q : Kind) × (rest : List Kind) × Fits types q v × FitAll types rest vs
 first_part types [] v vs f = absurd f
 first_part types (q ∷ qs) v vs f = (q, qs, f.0, f.1)
 
 mutual
-  fine_value : (types : List DataType) → AreNamed types → (v : Value) (q : Kind) (ps : List Piece) → Fits types q v → AllFine (constructor_name types) ps → AllFine (constructor_name types) (pieces v ps)
+  fine_value : (types : List DataType) → AreNamed types → (v : Value) (q : Kind) (ps : List Piece) → Fits types q v
+      → AllFine (constructor_name types) ps → AllFine (constructor_name types) (pieces v ps)
   fine_value types names (value.Int z) q ps f h = (int_fine z f.1, int_text z, h)
   fine_value types names (value.Flag true) q ps f h = (refl, refl, h)
   fine_value types names (value.Flag false) q ps f h = (refl, refl, h)
@@ -97,12 +100,14 @@ mutual
       let (p, rest, first, others) = first_part types con.fields v vs fit in
       (con_fine types c con names is, refl, fine_value types names v p (further_pieces vs ps) first (fine_further types names vs rest ps others h))
 
-  fine_further : (types : List DataType) → AreNamed types → (vs : Values) (qs : List Kind) (ps : List Piece) → FitAll types qs vs → AllFine (constructor_name types) ps → AllFine (constructor_name types) (further_pieces vs ps)
+  fine_further : (types : List DataType) → AreNamed types → (vs : Values) (qs : List Kind) (ps : List Piece) → FitAll types qs vs
+      → AllFine (constructor_name types) ps → AllFine (constructor_name types) (further_pieces vs ps)
   fine_further types names value.End qs ps f h = h
   fine_further types names (value.And v vs) qs ps f h =
       let (p, rest, first, others) = first_part types qs v vs f in fine_value types names v p (further_pieces vs ps) first (fine_further types names vs rest ps others h)
 
-pub fine_comes : (types : List DataType) → AreNamed types → (ds : List Due) (ps : List Piece) (xs : List Item) → Comes types ds ps xs → AllFine (constructor_name types) ps
+pub fine_comes : (types : List DataType) → AreNamed types → (ds : List Due) (ps : List Piece) (xs : List Item) → Comes types ds ps xs
+    → AllFine (constructor_name types) ps
 fine_comes types names [] ps xs c = subst (AllFine (constructor_name types)) (sym c.0) tt
 fine_comes types names (due.Mark b ∷ ds) ps xs (more, e, c) = subst (AllFine (constructor_name types)) (sym e) (fine_comes types names ds more xs c)
 fine_comes types names (due.Value q ∷ ds) ps xs (v, more, ys, f, p, x, c) = subst (AllFine (constructor_name types)) (sym p) (fine_value types names v q more f (fine_comes types names ds more ys c))

@@ -27,18 +27,21 @@ look_unready marks w c h = (ap (λ b. b && bytes_eq c.name w) h, sym (ap (λ b. 
 pub look_same : (marks : List Bool) (w : List ℕ) (c : Constructor) → is_ready marks c ≡ true → bytes_eq c.name w ≡ true → Looked marks w c look.Found
 look_same marks w c h e = and_both (is_ready marks c) (bytes_eq c.name w) h e
 
-pub look_other : (marks : List Bool) (w : List ℕ) (c : Constructor) (n : ℕ) → is_ready marks c ≡ true → bytes_eq c.name w ≡ false → n ≡ common c.name w → Looked marks w c (look.Common n)
+pub look_other : (marks : List Bool) (w : List ℕ) (c : Constructor) (n : ℕ) → is_ready marks c ≡ true → bytes_eq c.name w ≡ false
+    → n ≡ common c.name w → Looked marks w c (look.Common n)
 look_other marks w c n h e k = (ap (λ b. b && bytes_eq c.name w) h ∙ e, k ∙ sym (ap (λ b. if b then common c.name w else 0) h))
 
 -- further on by so many
 abbrev pub moved : ℕ → Option ℕ → Option ℕ
 moved i o = option_map (λ n. i + n) o
 
-cons_at : (cs : List Con) (i : ℕ) (c : Con) → i < length cs → c ≡ get_or cs i c → map constructor_of (drop i cs) ≡ constructor_of c ∷ map constructor_of (drop (i + 1) cs)
+cons_at : (cs : List Con) (i : ℕ) (c : Con) → i < length cs → c ≡ get_or cs i c
+    → map constructor_of (drop i cs) ≡ constructor_of c ∷ map constructor_of (drop (i + 1) cs)
 cons_at cs i c h is =
     ap (map constructor_of) (drop-cons cs i c h) ∙ ap (λ x. constructor_of x ∷ map constructor_of (drop (suc i) cs)) (sym is) ∙ ap (λ n. constructor_of c ∷ map constructor_of (drop n cs)) (sym (add-one i))
 
-pub chosen_here : (marks : List Bool) (w : List ℕ) (cs : List Con) (i : ℕ) (c : Con) (o : Option ℕ) → i < length cs → c ≡ get_or cs i c → Looked marks w (constructor_of c) look.Found
+pub chosen_here : (marks : List Bool) (w : List ℕ) (cs : List Con) (i : ℕ) (c : Con) (o : Option ℕ) → i < length cs → c ≡ get_or cs i c
+    → Looked marks w (constructor_of c) look.Found
     → moved i (choose marks w (map constructor_of (drop i cs))) ≡ o → o ≡ Some i
 chosen_here marks w cs i c o h is l e =
     sym e ∙ ap (λ l. moved i (choose marks w l)) (cons_at cs i c h is)
@@ -48,14 +51,16 @@ moved_suc : (i : ℕ) (o : Option ℕ) → moved i (option_map suc o) ≡ moved 
 moved_suc i None = refl
 moved_suc i (Some n) = ap Some (omega arith)
 
-pub chosen_later : (marks : List Bool) (w : List ℕ) (cs : List Con) (i n : ℕ) (c : Con) (o : Option ℕ) → i < length cs → c ≡ get_or cs i c → Looked marks w (constructor_of c) (look.Common n)
+pub chosen_later : (marks : List Bool) (w : List ℕ) (cs : List Con) (i n : ℕ) (c : Con) (o : Option ℕ) → i < length cs → c ≡ get_or cs i c
+    → Looked marks w (constructor_of c) (look.Common n)
     → moved i (choose marks w (map constructor_of (drop i cs))) ≡ o → moved (i + 1) (choose marks w (map constructor_of (drop (i + 1) cs))) ≡ o
 chosen_later marks w cs i n c o h is l e =
     sym (moved_suc i (choose marks w (map constructor_of (drop (i + 1) cs))))
     ∙ ap (λ b. moved i (if b then Some 0 else option_map suc (choose marks w (map constructor_of (drop (i + 1) cs))))) (sym l.0)
     ∙ ap (λ l. moved i (choose marks w l)) (sym (cons_at cs i c h is)) ∙ e
 
-pub best_later : (marks : List Bool) (w : List ℕ) (cs : List Con) (i n good all : ℕ) (c : Con) → i < length cs → c ≡ get_or cs i c → Looked marks w (constructor_of c) (look.Common n)
+pub best_later : (marks : List Bool) (w : List ℕ) (cs : List Con) (i n good all : ℕ) (c : Con) → i < length cs → c ≡ get_or cs i c
+    → Looked marks w (constructor_of c) (look.Common n)
     → max good (best marks w (map constructor_of (drop i cs))) ≡ all → max (max good n) (best marks w (map constructor_of (drop (i + 1) cs))) ≡ all
 best_later marks w cs i n good all c h is l e =
     let rest = best marks w (map constructor_of (drop (i + 1) cs)) in
@@ -67,15 +72,18 @@ best_later marks w cs i n good all c h is l e =
     by_ready true k = ap (λ x. max x (best marks w (map constructor_of (drop (i + 1) cs)))) (sym k)
     by_ready false k = omega (arith, k)
 
-pub chosen_none : (marks : List Bool) (w : List ℕ) (cs : List Con) (i : ℕ) (o : Option ℕ) → length cs ≤ i → moved i (choose marks w (map constructor_of (drop i cs))) ≡ o → o ≡ None
+pub chosen_none : (marks : List Bool) (w : List ℕ) (cs : List Con) (i : ℕ) (o : Option ℕ) → length cs ≤ i
+    → moved i (choose marks w (map constructor_of (drop i cs))) ≡ o → o ≡ None
 chosen_none marks w cs i o h e = sym e ∙ ap (λ l. moved i (choose marks w (map constructor_of l))) (drop_of_length-le cs {i = i} h)
 
-pub best_end : (marks : List Bool) (w : List ℕ) (cs : List Con) (i good all : ℕ) → length cs ≤ i → max good (best marks w (map constructor_of (drop i cs))) ≡ all → good ≡ all
+pub best_end : (marks : List Bool) (w : List ℕ) (cs : List Con) (i good all : ℕ) → length cs ≤ i
+    → max good (best marks w (map constructor_of (drop i cs))) ≡ all → good ≡ all
 best_end marks w cs i good all h e = let k : best marks w (map constructor_of (drop i cs)) ≡ 0 = ap (λ l. best marks w (map constructor_of l)) (drop_of_length-le cs {i = i} h) in omega (arith, e, k)
 
 -- ---- the number of a type's first constructor
 
-first_next : (ts : List TypeDef) (i : ℕ) (d : TypeDef) → i < length ts → first_con (map data_type_of ts) (suc i) ≡ first_con (map data_type_of ts) i + vec_len (get_or ts i d).cons
+first_next : (ts : List TypeDef) (i : ℕ) (d : TypeDef) → i < length ts
+    → first_con (map data_type_of ts) (suc i) ≡ first_con (map data_type_of ts) i + vec_len (get_or ts i d).cons
 first_next [] i d h = absurd (omega (arith, h))
 first_next (t ∷ ts) zero d h = let n : length (data_type_of t).cons ≡ vec_len t.cons = length-map t.cons.items constructor_of ∙ sym t.cons.ok.0 in by_rest (map data_type_of ts) n
   where
@@ -84,10 +92,12 @@ first_next (t ∷ ts) zero d h = let n : length (data_type_of t).cons ≡ vec_le
     by_rest (u ∷ us) n = omega (arith, n)
 first_next (t ∷ ts) (suc i) d h = omega (arith, first_next ts i d (omega (arith, h)))
 
-pub first_later : (ts : List TypeDef) (i first : ℕ) (d : TypeDef) → i < length ts → first ≡ first_con (map data_type_of ts) i → first + vec_len (get_or ts i d).cons ≡ first_con (map data_type_of ts) (i + 1)
+pub first_later : (ts : List TypeDef) (i first : ℕ) (d : TypeDef) → i < length ts → first ≡ first_con (map data_type_of ts) i
+    → first + vec_len (get_or ts i d).cons ≡ first_con (map data_type_of ts) (i + 1)
 first_later ts i first d h e = omega (arith, e, first_next ts i d h, ap (first_con (map data_type_of ts)) (add-one i))
 
-each_at : (ts : List TypeDef) (i : ℕ) (d : TypeDef) → i < length ts → AllByRecursion IsDataType (map data_type_of ts) → IsDataType (data_type_of (get_or ts i d))
+each_at : (ts : List TypeDef) (i : ℕ) (d : TypeDef) → i < length ts → AllByRecursion IsDataType (map data_type_of ts)
+    → IsDataType (data_type_of (get_or ts i d))
 each_at [] i d h a = absurd (omega (arith, h))
 each_at (t ∷ ts) zero d h a = a.0
 each_at (t ∷ ts) (suc i) d h a = each_at ts i d (omega (arith, h)) a.1

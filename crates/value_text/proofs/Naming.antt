@@ -53,7 +53,8 @@ name_at [] c con e = absurd cc
 name_at (x ∷ cs) zero con e = let s : x ≡ con = cc in ap (λ y. Some y.name) s
 name_at (x ∷ cs) (suc c) con e = name_at cs c con e
 
-pub same_con : (types : List DataType) (c d : ℕ) (con other : Constructor) → DistinctNames types → constructor types c ≡ Some con → constructor types d ≡ Some other → con.name ≡ other.name → c ≡ d
+pub same_con : (types : List DataType) (c d : ℕ) (con other : Constructor) → DistinctNames types → constructor types c ≡ Some con
+    → constructor types d ≡ Some other → con.name ≡ other.name → c ≡ d
 same_con types c d con other n e f s =
     distinct_place (map (λ c. c.name) (constructors types)) c d con.name n (name_at (constructors types) c con e) (name_at (constructors types) d other f ∙ ap Some (sym s))
 
@@ -134,16 +135,21 @@ unnamed_by types q w good some reach most none = by_reach reach
 
 -- ---- names of constructors
 
-choose_some : (marks : List Bool) (w : List ℕ) (cs : List Constructor) (j : ℕ) (con : Constructor) → choose marks w cs ≡ Some j → slice_get cs j ≡ Some con → (is_ready marks con ≡ true) × (con.name ≡ w)
+choose_some : (marks : List Bool) (w : List ℕ) (cs : List Constructor) (j : ℕ) (con : Constructor) → choose marks w cs ≡ Some j
+    → slice_get cs j ≡ Some con → (is_ready marks con ≡ true) × (con.name ≡ w)
 choose_some marks w [] j con e h = absurd cc
 choose_some marks w (c ∷ cs) j con e h = by_test (is_ready marks c && bytes_eq c.name w) refl e h (λ i k. choose_some marks w cs i con k)
   where
-    by_rest : (o : Option ℕ) (j : ℕ) → option_map suc o ≡ Some j → slice_get (c ∷ cs) j ≡ Some con → ((i : ℕ) → o ≡ Some i → slice_get cs i ≡ Some con → (is_ready marks con ≡ true) × (con.name ≡ w)) → (is_ready marks con ≡ true) × (con.name ≡ w)
+    by_rest : (o : Option ℕ) (j : ℕ) → option_map suc o ≡ Some j → slice_get (c ∷ cs) j ≡ Some con
+        → ((i : ℕ) → o ≡ Some i → slice_get cs i ≡ Some con → (is_ready marks con ≡ true) × (con.name ≡ w))
+        → (is_ready marks con ≡ true) × (con.name ≡ w)
     by_rest None j e h f = absurd cc
     by_rest (Some i) j e h f = let k : suc i ≡ j = cc in f i refl (subst (λ n. slice_get (c ∷ cs) n ≡ Some con) (sym k) h)
 
-    by_test : (b : Bool) → (is_ready marks c && bytes_eq c.name w) ≡ b → (if b then Some 0 else option_map suc (choose marks w cs)) ≡ Some j → slice_get (c ∷ cs) j ≡ Some con
-        → ((i : ℕ) → choose marks w cs ≡ Some i → slice_get cs i ≡ Some con → (is_ready marks con ≡ true) × (con.name ≡ w)) → (is_ready marks con ≡ true) × (con.name ≡ w)
+    by_test : (b : Bool) → (is_ready marks c && bytes_eq c.name w) ≡ b → (if b then Some 0 else option_map suc (choose marks w cs)) ≡ Some j
+        → slice_get (c ∷ cs) j ≡ Some con
+        → ((i : ℕ) → choose marks w cs ≡ Some i → slice_get cs i ≡ Some con → (is_ready marks con ≡ true) × (con.name ≡ w))
+        → (is_ready marks con ≡ true) × (con.name ≡ w)
     by_test true t e h f =
         let z : 0 ≡ j = cc in
         let k : Some c ≡ Some con = subst (λ n. slice_get (c ∷ cs) n ≡ Some con) (sym z) h in
@@ -152,7 +158,8 @@ choose_some marks w (c ∷ cs) j con e h = by_test (is_ready marks c && bytes_eq
         (subst (λ x. is_ready marks x ≡ true) s p.0, subst (λ x. x.name ≡ w) s (same_name c.name w p.1))
     by_test false t e h f = by_rest (choose marks w cs) j e h f
 
-choose_none : (marks : List Bool) (w : List ℕ) (cs : List Constructor) (j : ℕ) (con : Constructor) → choose marks w cs ≡ None → slice_get cs j ≡ Some con → is_ready marks con ≡ true → con.name ≡ w → ⊥
+choose_none : (marks : List Bool) (w : List ℕ) (cs : List Constructor) (j : ℕ) (con : Constructor) → choose marks w cs ≡ None
+    → slice_get cs j ≡ Some con → is_ready marks con ≡ true → con.name ≡ w → ⊥
 choose_none marks w [] j con e h r n = absurd cc
 choose_none marks w (c ∷ cs) j con e h r n = by_test (is_ready marks c && bytes_eq c.name w) refl e j h (λ i k g. choose_none marks w cs i con k g r n)
   where
@@ -160,22 +167,26 @@ choose_none marks w (c ∷ cs) j con e h r n = by_test (is_ready marks c && byte
     rest None e = refl
     rest (Some i) e = absurd cc
 
-    by_place : (is_ready marks c && bytes_eq c.name w) ≡ false → choose marks w cs ≡ None → (j : ℕ) → slice_get (c ∷ cs) j ≡ Some con → ((i : ℕ) → choose marks w cs ≡ None → slice_get cs i ≡ Some con → ⊥) → ⊥
+    by_place : (is_ready marks c && bytes_eq c.name w) ≡ false → choose marks w cs ≡ None → (j : ℕ) → slice_get (c ∷ cs) j ≡ Some con
+        → ((i : ℕ) → choose marks w cs ≡ None → slice_get cs i ≡ Some con → ⊥) → ⊥
     by_place t k zero h f =
         let s : c ≡ con = cc in
         true_false (is_ready marks c && bytes_eq c.name w) (and_both (is_ready marks c) (bytes_eq c.name w) (subst (λ x. is_ready marks x ≡ true) (sym s) r) (subst (λ x. bytes_eq x w ≡ true) (sym (ap (λ x. x.name) s ∙ n)) (name_itself w))) t
     by_place t k (suc i) h f = f i k h
 
-    by_test : (b : Bool) → (is_ready marks c && bytes_eq c.name w) ≡ b → (if b then Some 0 else option_map suc (choose marks w cs)) ≡ None → (j : ℕ) → slice_get (c ∷ cs) j ≡ Some con
+    by_test : (b : Bool) → (is_ready marks c && bytes_eq c.name w) ≡ b → (if b then Some 0 else option_map suc (choose marks w cs)) ≡ None → (j : ℕ)
+        → slice_get (c ∷ cs) j ≡ Some con
         → ((i : ℕ) → choose marks w cs ≡ None → slice_get cs i ≡ Some con → ⊥) → ⊥
     by_test true t e j h f = absurd cc
     by_test false t e j h f = by_place t (rest (choose marks w cs) e) j h f
 
-best_most : (marks : List Bool) (w : List ℕ) (cs : List Constructor) (j : ℕ) (con : Constructor) → slice_get cs j ≡ Some con → is_ready marks con ≡ true → common con.name w ≤ best marks w cs
+best_most : (marks : List Bool) (w : List ℕ) (cs : List Constructor) (j : ℕ) (con : Constructor) → slice_get cs j ≡ Some con
+    → is_ready marks con ≡ true → common con.name w ≤ best marks w cs
 best_most marks w [] j con h r = absurd cc
 best_most marks w (c ∷ cs) zero con h r = let s : c ≡ con = cc in by_test (is_ready marks c) (subst (λ x. is_ready marks x ≡ true) (sym s) r) (ap (λ x. common x.name w) s)
   where
-    by_test : (b : Bool) → b ≡ true → common c.name w ≡ common con.name w → common con.name w ≤ (if b then max (common c.name w) (best marks w cs) else best marks w cs)
+    by_test : (b : Bool) → b ≡ true → common c.name w ≡ common con.name w
+        → common con.name w ≤ (if b then max (common c.name w) (best marks w cs) else best marks w cs)
     by_test true e k = omega (arith, k)
     by_test false e k = absurd cc
 best_most marks w (c ∷ cs) (suc j) con h r = by_test (is_ready marks c) (best_most marks w cs j con h r)
@@ -196,11 +207,13 @@ best_is marks w (c ∷ cs) = by_test (is_ready marks c) refl (best_is marks w cs
     later (inl e) n k = inl (sym k ∙ e)
     later (inr (j, con, is, r, e)) n k = inr (suc j, con, is, r, e ∙ k)
 
-    by_max : is_ready marks c ≡ true → Best marks w cs (best marks w cs) → (best marks w cs < common c.name w) ⊎ (common c.name w ≤ best marks w cs) → Best marks w (c ∷ cs) (max (common c.name w) (best marks w cs))
+    by_max : is_ready marks c ≡ true → Best marks w cs (best marks w cs) → (best marks w cs < common c.name w) ⊎ (common c.name w ≤ best marks w cs)
+        → Best marks w (c ∷ cs) (max (common c.name w) (best marks w cs))
     by_max r b (inl h) = inr (0, c, refl, r, omega (arith, h))
     by_max r b (inr h) = later b (max (common c.name w) (best marks w cs)) (omega (arith, h))
 
-    by_test : (b : Bool) → is_ready marks c ≡ b → Best marks w cs (best marks w cs) → Best marks w (c ∷ cs) (if b then max (common c.name w) (best marks w cs) else best marks w cs)
+    by_test : (b : Bool) → is_ready marks c ≡ b → Best marks w cs (best marks w cs)
+        → Best marks w (c ∷ cs) (if b then max (common c.name w) (best marks w cs) else best marks w cs)
     by_test true e b = by_max e b (cases_lt (best marks w cs) (common c.name w))
     by_test false e b = later b (best marks w cs) refl
 
@@ -224,20 +237,24 @@ con_node types t item.Dia fields n = absurd (let e : kind.Of t ≡ kind.Dia = n.
 con_node types t (item.Con c k) fields n =
     let (con, is, of, f, count) = n in record { c = c; con = con; is = is; of = of_type (type_of types c) t of; fields_is = f; x_is = ap (item.Con c) count }
 
-pub con_text : (types : List DataType) (t : ℕ) (x : Item) (fields : List Kind) (w : List ℕ) (n : ConNode types t x fields) → IsNodeText (constructor_name types) x w → w ≡ n.con.name
+pub con_text : (types : List DataType) (t : ℕ) (x : Item) (fields : List Kind) (w : List ℕ) (n : ConNode types t x fields)
+    → IsNodeText (constructor_name types) x w → w ≡ n.con.name
 con_text types t x fields w n h =
     let k : w ≡ constructor_name types n.c = subst (λ y. IsNodeText (constructor_name types) y w) n.x_is h in k ∙ named_con types n.c n.con n.is
 
-con_place : (types : List DataType) (t : ℕ) (d : DataType) (x : Item) (fields : List Kind) (n : ConNode types t x fields) → slice_get types t ≡ Some d → (j : ℕ) × (slice_get d.cons j ≡ Some n.con)
+con_place : (types : List DataType) (t : ℕ) (d : DataType) (x : Item) (fields : List Kind) (n : ConNode types t x fields)
+    → slice_get types t ≡ Some d → (j : ℕ) × (slice_get d.cons j ≡ Some n.con)
 con_place types t d x fields n e =
     let l = located 0 types n.c t n.con n.is n.of in
     let s : Some l.def ≡ Some d = sym l.is ∙ ap (slice_get types) (sym (l.number ∙ omega arith)) ∙ e in
     let k : l.def ≡ d = cc in (l.place, subst (λ y. slice_get y.cons l.place ≡ Some n.con) k l.con_is)
 
-con_ready : (types : List DataType) (marks : List Bool) (con : Constructor) (fields : List Kind) → Exact types marks → fields ≡ con.fields → HaveValues types fields → is_ready marks con ≡ true
+con_ready : (types : List DataType) (marks : List Bool) (con : Constructor) (fields : List Kind) → Exact types marks → fields ≡ con.fields
+    → HaveValues types fields → is_ready marks con ≡ true
 con_ready types marks con fields exact e h = kinds_of_values types marks exact.complete con.fields (subst (HaveValues types) e h)
 
-pub con_named : (types : List DataType) (marks : List Bool) (t : ℕ) (d : DataType) (w : List ℕ) (j : ℕ) (con : Constructor) → DistinctNames types → Exact types marks → slice_get types t ≡ Some d
+pub con_named : (types : List DataType) (marks : List Bool) (t : ℕ) (d : DataType) (w : List ℕ) (j : ℕ) (con : Constructor) → DistinctNames types
+    → Exact types marks → slice_get types t ≡ Some d
     → choose marks w d.cons ≡ Some j → slice_get d.cons j ≡ Some con → Named types (kind.Of t) w (item.Con (first_con types t + j) (length con.fields)) con.fields
 con_named types marks t d w j con distinct exact e h at =
     let r = choose_some marks w d.cons j con h at in
@@ -250,7 +267,9 @@ con_named types marks t d w j con distinct exact e h at =
       only = λ y others n k. other con c is r.1 y others (con_node types t y others n) k;
     }
   where
-    other : (con : Constructor) (c : ℕ) → constructor types c ≡ Some con → con.name ≡ w → (y : Item) (others : List Kind) (n : ConNode types t y others) → IsNodeText (constructor_name types) y w → (y ≡ item.Con c (length con.fields)) × (others ≡ con.fields)
+    other : (con : Constructor) (c : ℕ) → constructor types c ≡ Some con → con.name ≡ w
+        → (y : Item) (others : List Kind) (n : ConNode types t y others) → IsNodeText (constructor_name types) y w
+        → (y ≡ item.Con c (length con.fields)) × (others ≡ con.fields)
     other con c is name y others n k =
         let same : c ≡ n.c = same_con types c n.c con n.con distinct is n.is (name ∙ con_text types t y others w n k) in
         let u : Some con ≡ Some n.con = sym is ∙ ap (constructor types) same ∙ n.is in
@@ -258,7 +277,8 @@ con_named types marks t d w j con distinct exact e h at =
         let f : others ≡ con.fields = n.fields_is ∙ ap (λ x. x.fields) (sym v) in
         (n.x_is ∙ ap (λ m. item.Con m (length others)) (sym same) ∙ ap (λ l. item.Con c (length l)) f, f)
 
-pub con_unnamed : (types : List DataType) (marks : List Bool) (t : ℕ) (d : DataType) (w : List ℕ) (good : ℕ) → AreNamed types → Exact types marks → HasValue types (kind.Of t) → slice_get types t ≡ Some d
+pub con_unnamed : (types : List DataType) (marks : List Bool) (t : ℕ) (d : DataType) (w : List ℕ) (good : ℕ) → AreNamed types → Exact types marks
+    → HasValue types (kind.Of t) → slice_get types t ≡ Some d
     → choose marks w d.cons ≡ None → good ≡ best marks w d.cons → Unnamed types (kind.Of t) w good
 con_unnamed types marks t d w good names exact have e h good_is =
     unnamed_by types (kind.Of t) w good (word_front_of types (kind.Of t) names have) (reach (best_is marks w d.cons)) most none
@@ -279,7 +299,8 @@ con_unnamed types marks t d w good names exact have e h good_is =
           common_is = k ∙ sym good_is;
         })
 
-    most : (x : Item) (fields : List Kind) (word : List ℕ) → IsNode types (kind.Of t) x fields → HaveValues types fields → IsNodeText (constructor_name types) x word → common word w ≤ good
+    most : (x : Item) (fields : List Kind) (word : List ℕ) → IsNode types (kind.Of t) x fields → HaveValues types fields
+        → IsNodeText (constructor_name types) x word → common word w ≤ good
     most x fields word node values text =
         let n = con_node types t x fields node in
         let (j, at) = con_place types t d x fields n e in

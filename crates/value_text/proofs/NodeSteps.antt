@@ -62,14 +62,16 @@ each_at P (y ∷ xs) (suc i) x e a = each_at P xs i x e a.1
 pub few_places : (ds : List TypeDef) (i place : ℕ) → AreTypes (map data_type_of ds) → HasPlace (map data_type_of ds) i place → place < 64
 few_places ds i place a h = let k = each_at IsDataType (map data_type_of ds) i h.def h.is a.each in omega (arith, k.few_cons, h.within)
 
-pub few_fields : (ds : List TypeDef) (i place : ℕ) (d : TypeDef) (c : Con) → AreTypes (map data_type_of ds) → HasPlace (map data_type_of ds) i place → c ≡ get_or (get_or ds i d).cons.items place c → vec_len c.fields ≤ 4
+pub few_fields : (ds : List TypeDef) (i place : ℕ) (d : TypeDef) (c : Con) → AreTypes (map data_type_of ds) → HasPlace (map data_type_of ds) i place
+    → c ≡ get_or (get_or ds i d).cons.items place c → vec_len c.fields ≤ 4
 few_fields ds i place d c a h is =
     let k = each_at IsDataType (map data_type_of ds) i (data_type_of (get_or ds i d)) (def_at ds i d (number_within ds i place h)) a.each in
     let w : place < length (get_or ds i d).cons.items = omega (arith, place_within ds i place d h, (get_or ds i d).cons.ok.0) in
     let e = each_at IsConstructor (data_type_of (get_or ds i d)).cons place (constructor_of c) (con_at (get_or ds i d).cons.items place c w ∙ ap (λ x. Some (constructor_of x)) (sym is)) k.each in
     omega (arith, e.few_fields, c.fields.ok.0)
 
-pub node_here : (ds : List TypeDef) (i place first n m : ℕ) (d : TypeDef) (c : Con) (x : Item) (fields : List Kind) → HasPlace (map data_type_of ds) i place → c ≡ get_or (get_or ds i d).cons.items place c
+pub node_here : (ds : List TypeDef) (i place first n m : ℕ) (d : TypeDef) (c : Con) (x : Item) (fields : List Kind)
+    → HasPlace (map data_type_of ds) i place → c ≡ get_or (get_or ds i d).cons.items place c
     → first ≡ first_con (map data_type_of ds) i → n ≡ first + place → m ≡ vec_len c.fields → x ≡ item.Con n m → fields ≡ c.fields.items → IsConNode (map data_type_of ds) i place x fields
 node_here ds i place first n m d c x fields h is f n_is m_is x_is fields_is =
     let w : place < length (get_or ds i d).cons.items = omega (arith, place_within ds i place d h, (get_or ds i d).cons.ok.0) in
@@ -83,7 +85,8 @@ node_here ds i place first n m d c x fields h is f n_is m_is x_is fields_is =
       fields_is = fields_is;
     }
 
-same_def : (ds : List TypeDef) (types : List DataType) (i : ℕ) (d : TypeDef) → i < length ds → map data_type_of ds ≡ types → slice_get types i ≡ Some (data_type_of (get_or ds i d))
+same_def : (ds : List TypeDef) (types : List DataType) (i : ℕ) (d : TypeDef) → i < length ds → map data_type_of ds ≡ types
+    → slice_get types i ≡ Some (data_type_of (get_or ds i d))
 same_def ds types i d h e = ap (λ l. slice_get l i) (sym e) ∙ def_at ds i d h
 
 pub named_node : (types : List DataType) (ds : List TypeDef) (marks : List Bool) (t place : ℕ) (d : TypeDef) (w : List ℕ) (x : Item) (fields : List Kind) → DistinctNames types → Exact types marks → map data_type_of ds ≡ types → t < length ds
@@ -95,7 +98,8 @@ named_node types ds marks t place d w x fields distinct exact e h c n =
     let k = con_named types marks t m.def w place m.con distinct exact m.is (ap (λ (y : DataType). choose marks w y.cons) (sym s) ∙ c) m.at in
     subst (λ f. Named types (kind.Of t) w x f) (sym m.fields_is) (subst (λ y. Named types (kind.Of t) w y m.con.fields) (sym m.x_is) k)
 
-pub unnamed_node : (types : List DataType) (ds : List TypeDef) (marks : List Bool) (t good : ℕ) (d : TypeDef) (w : List ℕ) → AreNamed types → Exact types marks → HasValue types (kind.Of t) → map data_type_of ds ≡ types → t < length ds
+pub unnamed_node : (types : List DataType) (ds : List TypeDef) (marks : List Bool) (t good : ℕ) (d : TypeDef) (w : List ℕ) → AreNamed types
+    → Exact types marks → HasValue types (kind.Of t) → map data_type_of ds ≡ types → t < length ds
     → choose marks w (data_type_of (get_or ds t d)).cons ≡ None → good ≡ best marks w (data_type_of (get_or ds t d)).cons → Unnamed types (kind.Of t) w good
 unnamed_node types ds marks t good d w names exact have e h c b = con_unnamed types marks t (data_type_of (get_or ds t d)) w good names exact have (same_def ds types t d h e) c b
 
@@ -109,7 +113,8 @@ value_there types t (value.Con c vs) f =
     let l = located 0 types c t con is (of_type (type_of types c) t f.0) in
     omega (arith, within_list types l.index l.def l.is, l.number)
 
-pub absent_node : (types : List DataType) (ds : List TypeDef) (t : ℕ) (w : List ℕ) → HasValue types (kind.Of t) → map data_type_of ds ≡ types → length ds ≤ t → Unnamed types (kind.Of t) w 0
+pub absent_node : (types : List DataType) (ds : List TypeDef) (t : ℕ) (w : List ℕ) → HasValue types (kind.Of t) → map data_type_of ds ≡ types
+    → length ds ≤ t → Unnamed types (kind.Of t) w 0
 absent_node types ds t w have e h = absurd (omega (arith, value_there types t have.value have.fits, h, ap length e, length-map ds data_type_of))
 
 -- ---- ints
@@ -117,14 +122,16 @@ absent_node types ds t w have e h = absurd (omega (arith, value_there types t ha
 pub int_named : (types : List DataType) (w : List ℕ) (z : ℤ) → IntRead w z → Named types kind.Int w (item.Int z) []
 int_named types w z r = by_sign r.is
   where
-    by_sign : ((r.size ≤ 2147483647) × (w ≡ decimal r.size) × (z ≡ pos r.size)) ⊎ ((r.size ≤ 2147483648) × (w ≡ 45 ∷ decimal r.size) × (z ≡ neg_ℤ (pos r.size))) → Named types kind.Int w (item.Int z) []
+    by_sign : ((r.size ≤ 2147483647) × (w ≡ decimal r.size) × (z ≡ pos r.size))
+        ⊎ ((r.size ≤ 2147483648) × (w ≡ 45 ∷ decimal r.size) × (z ≡ neg_ℤ (pos r.size))) → Named types kind.Int w (item.Int z) []
     by_sign (inl p) = subst (λ y. Named types kind.Int w (item.Int y) []) (sym p.2) (plus_named types w r.size p.1 p.0)
     by_sign (inr p) = subst (λ y. Named types kind.Int w (item.Int y) []) (sym p.2) (minus_named types w r.size p.1 p.0)
 
 pub int_unnamed : (types : List DataType) (w : List ℕ) (good : ℕ) → AreNamed types → HasValue types kind.Int → IntRefused w good → Unnamed types kind.Int w good
 int_unnamed types w good names have r = by_sign r.is
   where
-    by_sign : ((w ≡ r.digits) × (good ≡ r.count) × DigitsRead 2147483647 r.digits r.value r.count × IsPlain w) ⊎ ((w ≡ 45 ∷ r.digits) × (good ≡ r.count + 1) × DigitsRead 2147483648 r.digits r.value r.count) → Unnamed types kind.Int w good
+    by_sign : ((w ≡ r.digits) × (good ≡ r.count) × DigitsRead 2147483647 r.digits r.value r.count × IsPlain w)
+        ⊎ ((w ≡ 45 ∷ r.digits) × (good ≡ r.count + 1) × DigitsRead 2147483648 r.digits r.value r.count) → Unnamed types kind.Int w good
     by_sign (inl p) =
         subst (Unnamed types kind.Int w) (sym p.1) (plus_unnamed types w r.value r.count names have p.3.head (subst (λ l. DigitsRead 2147483647 l r.value r.count) (sym p.0) p.2) (λ e. r.part (e ∙ ap length p.0)))
     by_sign (inr p) = subst (Unnamed types kind.Int w) (sym p.1) (minus_unnamed types w r.digits r.value r.count p.0 p.2 r.part)
@@ -140,21 +147,26 @@ flag_not types w good names have n = flag_unnamed types w good names have n.not_
 pub dia_is : (types : List DataType) (w : List ℕ) → w ≡ codes "<>" → Named types kind.Dia w item.Dia []
 dia_is types w e = dia_named types w e
 
-pub dia_not : (types : List DataType) (w : List ℕ) (good : ℕ) → AreNamed types → HasValue types kind.Dia → (w ≡ codes "<>" → ⊥) → good ≡ common (codes "<>") w → Unnamed types kind.Dia w good
+pub dia_not : (types : List DataType) (w : List ℕ) (good : ℕ) → AreNamed types → HasValue types kind.Dia → (w ≡ codes "<>" → ⊥)
+    → good ≡ common (codes "<>") w → Unnamed types kind.Dia w good
 dia_not types w good names have n e = dia_unnamed types w good names have n e
 
 -- ---- what was read
 
-pub node_read : (types : List DataType) (q : Kind) (text word rest : List ℕ) (x : Item) (fields : List Kind) → IsSplit (skip text) word rest → Named types q word x fields → NodeRead types q text x fields rest
+pub node_read : (types : List DataType) (q : Kind) (text word rest : List ℕ) (x : Item) (fields : List Kind) → IsSplit (skip text) word rest
+    → Named types q word x fields → NodeRead types q text x fields rest
 node_read types q text word rest x fields s n = record { word = word; split = s; named = n }
 
-pub good_within : (types : List DataType) (q : Kind) (text word rest : List ℕ) (good : ℕ) → IsSplit text word rest → Unnamed types q word good → good ≤ length text
+pub good_within : (types : List DataType) (q : Kind) (text word rest : List ℕ) (good : ℕ) → IsSplit text word rest → Unnamed types q word good
+    → good ≤ length text
 good_within types q text word rest good s u = omega (arith, u.good_is, ap length u.is, length-append u.front u.more, ap length s.parts, length-append word rest)
 
-pub node_refused : (types : List DataType) (q : Kind) (text word rest : List ℕ) (good : ℕ) → IsSplit (skip text) word rest → Unnamed types q word good → NodeRefused types q text (length (skip text) - good)
+pub node_refused : (types : List DataType) (q : Kind) (text word rest : List ℕ) (good : ℕ) → IsSplit (skip text) word rest
+    → Unnamed types q word good → NodeRefused types q text (length (skip text) - good)
 node_refused types q text word rest good s u = record { word = word; rest = rest; good = good; split = s; unnamed = u; left_is = omega (arith, good_within types q (skip text) word rest good s u) }
 
-pub mark_here : (text rest : List ℕ) (mark first : ℕ) → 1 ≤ length text → first ≡ get_or text 0 0 → first ≡ mark → rest ≡ take (length text - 1) (drop 1 text) → text ≡ mark ∷ rest
+pub mark_here : (text rest : List ℕ) (mark first : ℕ) → 1 ≤ length text → first ≡ get_or text 0 0 → first ≡ mark
+    → rest ≡ take (length text - 1) (drop 1 text) → text ≡ mark ∷ rest
 mark_here [] rest mark first h f e r = absurd (omega (arith, h))
 mark_here (x ∷ text) rest mark first h f e r = ap (λ y. y ∷ text) (sym f ∙ e) ∙ ap (λ l. mark ∷ l) (sym (r ∙ take_all (length (x ∷ text) - 1) text (omega arith)))
 
@@ -169,7 +181,8 @@ mark_none (x ∷ text) mark h = absurd (omega (arith, h))
 pub int_kept : (types : List DataType) (w : List ℕ) (z : ℤ) → IntRead w z → Named types kind.Int w (item.Int (to_z w32 (of_z w32 z))) []
 int_kept types w z r = subst (λ y. Named types kind.Int w (item.Int y) []) (sym (to_z-of_z w32 z (small r.is))) (int_named types w z r)
   where
-    small : ((r.size ≤ 2147483647) × (w ≡ decimal r.size) × (z ≡ pos r.size)) ⊎ ((r.size ≤ 2147483648) × (w ≡ 45 ∷ decimal r.size) × (z ≡ neg_ℤ (pos r.size))) → IsInt32 z
+    small : ((r.size ≤ 2147483647) × (w ≡ decimal r.size) × (z ≡ pos r.size))
+        ⊎ ((r.size ≤ 2147483648) × (w ≡ 45 ∷ decimal r.size) × (z ≡ neg_ℤ (pos r.size))) → IsInt32 z
     small (inl p) = subst IsInt32 (sym p.2) (small_pos r.size p.0)
     small (inr p) = subst IsInt32 (sym p.2) (small_neg r.size p.0)
 

@@ -25,7 +25,8 @@ use Rattle.value_text.proofs.Texts.{accepts_text, one_text, possible_first, read
 
 -- ---- the word of a node is that of no other one
 
-same_node : (types : List DataType) (t : ℕ) (w : List ℕ) (x y : Item) (fields others : List Kind) → DistinctNames types → (a : ConNode types t x fields) → IsNodeText (constructor_name types) x w
+same_node : (types : List DataType) (t : ℕ) (w : List ℕ) (x y : Item) (fields others : List Kind) → DistinctNames types
+    → (a : ConNode types t x fields) → IsNodeText (constructor_name types) x w
     → (b : ConNode types t y others) → IsNodeText (constructor_name types) y w → (y ≡ x) × (others ≡ fields)
 same_node types t w x y fields others d a k b l =
     let same : a.c ≡ b.c = same_con types a.c b.c a.con b.con d a.is b.is (sym (con_text types t x fields w a k) ∙ con_text types t y others w b l) in
@@ -34,7 +35,8 @@ same_node types t w x y fields others d a k b l =
     let f : others ≡ fields = b.fields_is ∙ ap (λ c. c.fields) (sym v) ∙ sym a.fields_is in
     (b.x_is ∙ ap (λ m. item.Con m (length others)) (sym same) ∙ ap (λ l. item.Con a.c (length l)) f ∙ sym a.x_is, f)
 
-named_con : (types : List DataType) (q : Kind) (w : List ℕ) (x : Item) (fields : List Kind) (o : Option ℕ) → DistinctNames types → HaveValues types fields → IsNode types q x fields
+named_con : (types : List DataType) (q : Kind) (w : List ℕ) (x : Item) (fields : List Kind) (o : Option ℕ) → DistinctNames types
+    → HaveValues types fields → IsNode types q x fields
     → IsNodeText (constructor_name types) x w → option_map kind.Of o ≡ Some q → Named types q w x fields
 named_con types q w x fields None d h n k e = absurd cc
 named_con types q w x fields (Some t) d h n k e =
@@ -47,7 +49,8 @@ named_con types q w x fields (Some t) d h n k e =
       only = λ y others m l. same_node types t w x y fields others d a k (con_node types t y others (subst (λ p. IsNode types p y others) (sym s) m)) l;
     }
 
-pub named_node : (types : List DataType) (q : Kind) (w : List ℕ) (x : Item) (fields : List Kind) → DistinctNames types → HaveValues types fields → IsNode types q x fields
+pub named_node : (types : List DataType) (q : Kind) (w : List ℕ) (x : Item) (fields : List Kind) → DistinctNames types → HaveValues types fields
+    → IsNode types q x fields
     → IsNodeText (constructor_name types) x w → Named types q w x fields
 named_node types q w (item.Int z) fields d h n k =
     subst (λ p. Named types p w (item.Int z) fields) (sym n.0) (subst (λ f. Named types kind.Int w (item.Int z) f) (sym n.2) (by_sign k.is))
@@ -73,7 +76,8 @@ word_here IsText Then (b ∷ text) h = by_test (b == 32) refl h (λ k. word_here
         let k : 32 ≡ c = sym s ∙ (same_tail b c text (w ++ rest) e).0 in
         let t : is_word_byte 32 ≡ true = subst (λ y. is_word_byte y ≡ true) (sym k) (and_parts (is_word_byte c) _ f).0 in absurd cc
 
-    by_test : (t : Bool) → (b == 32) ≡ t → AfterSpaces (WordThen IsText Then) (b ∷ text) → (AfterSpaces (WordThen IsText Then) text → WordThen IsText Then (skip text)) → WordThen IsText Then (if t then skip text else b ∷ text)
+    by_test : (t : Bool) → (b == 32) ≡ t → AfterSpaces (WordThen IsText Then) (b ∷ text)
+        → (AfterSpaces (WordThen IsText Then) text → WordThen IsText Then (skip text)) → WordThen IsText Then (if t then skip text else b ∷ text)
     by_test true e (inl w) f = let s : b ≡ 32 = grind (arith, nat_tests, e) in absurd (no_space w.word w.rest w.parts w.form s)
     by_test true e (inr p) f = f p.1
     by_test false e (inl w) f = w
@@ -98,7 +102,8 @@ read_through (suc room) types first text xs (due.Mark m ∷ ds) rest zs names d 
     stopped : NotFirst m (before_mark m rest) → Found types first text
     stopped n = absurd ((mark_stop types first text xs m ds rest (length (before_mark m rest)) names r refl n).none zs a)
 
-    by_byte : (t : Bool) (b : ℕ) (after : List ℕ) → (b == m) ≡ t → before_mark m rest ≡ b ∷ after → ((after : List ℕ) → before_mark m rest ≡ m ∷ after → Found types first text) → Found types first text
+    by_byte : (t : Bool) (b : ℕ) (after : List ℕ) → (b == m) ≡ t → before_mark m rest ≡ b ∷ after
+        → ((after : List ℕ) → before_mark m rest ≡ m ∷ after → Found types first text) → Found types first text
     by_byte true b after e is f = let s : b ≡ m = grind (arith, nat_tests, e) in f after (is ∙ ap (λ c. c ∷ after) s)
     by_byte false b after e is f = stopped (subst (NotFirst m) (sym is) (λ s. let k : (b == m) ≡ true = grind (arith, nat_tests, s) in let c : true ≡ false = sym k ∙ e in absurd cc))
 
@@ -119,16 +124,19 @@ read_through (suc room) types first text xs (due.Value q ∷ ds) rest zs names d
 
 -- ---- one reading, and one answer
 
-pub one_reading : (types : List DataType) (kinds : List Kind) (text : List ℕ) (vs ws : List Value) → AreNamed types → DistinctNames types → IsTextOf types kinds text vs → IsTextOf types kinds text ws → vs ≡ ws
+pub one_reading : (types : List DataType) (kinds : List Kind) (text : List ℕ) (vs ws : List Value) → AreNamed types → DistinctNames types
+    → IsTextOf types kinds text vs → IsTextOf types kinds text ws → vs ≡ ws
 one_reading types kinds text vs ws names d a b =
     let start = reading_starts types (first_due kinds) text (possible_first types kinds (record { values = parts vs; fit = a.fit })) in
     let f = read_through (suc (length text)) types (first_due kinds) text [] (first_due kinds) text _ names d (omega arith) start (accepts_text types kinds text vs a) in
     one_text types kinds text f.xs vs ws f.whole a b
 
-pub one_size : (types : List DataType) (kinds : List Kind) (text : List ℕ) (m n : ℕ) → AreNamed types → DistinctNames types → IsTooLong types kinds text m → IsTooLong types kinds text n → m ≡ n
+pub one_size : (types : List DataType) (kinds : List Kind) (text : List ℕ) (m n : ℕ) → AreNamed types → DistinctNames types
+    → IsTooLong types kinds text m → IsTooLong types kinds text n → m ≡ n
 one_size types kinds text m n names d a b = a.items_is ∙ ap (λ v. size_all (parts v)) (one_reading types kinds text a.values b.values names d a.text_of b.text_of) ∙ sym b.items_is
 
-pub never_both : (types : List DataType) (kinds : List Kind) (text : List ℕ) (vs : List Value) (n : ℕ) → AreNamed types → DistinctNames types → IsRead types kinds text vs → IsTooLong types kinds text n → ⊥
+pub never_both : (types : List DataType) (kinds : List Kind) (text : List ℕ) (vs : List Value) (n : ℕ) → AreNamed types → DistinctNames types
+    → IsRead types kinds text vs → IsTooLong types kinds text n → ⊥
 never_both types kinds text vs n names d a b =
     let s = one_reading types kinds text vs b.values names d a.text_of b.text_of in absurd (omega (arith, a.few, b.many, b.items_is, ap (λ v. size_all (parts v)) s))
 

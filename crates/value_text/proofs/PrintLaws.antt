@@ -34,24 +34,28 @@ mutual
 last_first : (qs rs : List ℕ) (q : ℕ) → qs ≡ rs ++ q ∷ [] → reverse qs ≡ q ∷ reverse rs
 last_first qs rs q e = ap reverse e ∙ reverse-append rs (q ∷ [])
 
-pub one_closed_text : (old rest out new all : List ℕ) (left : ℕ) → old ≡ rest ++ left ∷ [] → left ≤ 0 → new ≡ out ++ 41 ∷ [] → out ++ closing_text (reverse old) ≡ all → new ++ closing_text (reverse rest) ≡ all
+pub one_closed_text : (old rest out new all : List ℕ) (left : ℕ) → old ≡ rest ++ left ∷ [] → left ≤ 0 → new ≡ out ++ 41 ∷ []
+    → out ++ closing_text (reverse old) ≡ all → new ++ closing_text (reverse rest) ≡ all
 one_closed_text old rest out new all left e z push h =
     let none : left ≡ 0 = omega (arith, z) in
     ap (λ l. l ++ closing_text (reverse rest)) push ∙ append_assoc out (41 ∷ []) (closing_text (reverse rest))
     ∙ ap (λ l. out ++ closing_text l) (sym (last_first old rest left e ∙ ap (λ n. n ∷ reverse rest) none)) ∙ h
 
-pub one_closed_due : (old rest all : List ℕ) (left : ℕ) → old ≡ rest ++ left ∷ [] → left ≤ 0 → closing_due (reverse old) ≡ all → closing_due (reverse rest) ≡ all
+pub one_closed_due : (old rest all : List ℕ) (left : ℕ) → old ≡ rest ++ left ∷ [] → left ≤ 0 → closing_due (reverse old) ≡ all
+    → closing_due (reverse rest) ≡ all
 one_closed_due old rest all left e z h = let none : left ≡ 0 = omega (arith, z) in ap closing_due (sym (last_first old rest left e ∙ ap (λ n. n ∷ reverse rest) none)) ∙ h
 
 pub fewer_due : (old rest : List ℕ) (left : ℕ) → old ≡ rest ++ left ∷ [] → length rest < length old
 fewer_due old rest left e = omega (arith, ap length e, length-append rest (left ∷ []))
 
-pub comma_text : (old rest out new all : List ℕ) (left : ℕ) → old ≡ rest ++ left ∷ [] → 0 < left → new ≡ out ++ 44 ∷ [] → out ++ closing_text (reverse old) ≡ all → new ≡ all
+pub comma_text : (old rest out new all : List ℕ) (left : ℕ) → old ≡ rest ++ left ∷ [] → 0 < left → new ≡ out ++ 44 ∷ []
+    → out ++ closing_text (reverse old) ≡ all → new ≡ all
 comma_text old rest out new all left e z push h =
     let some : left ≡ suc (left - 1) = omega (arith, z) in
     push ∙ ap (λ l. out ++ closing_text l) (sym (last_first old rest left e ∙ ap (λ n. n ∷ reverse rest) some)) ∙ h
 
-pub comma_due : (old rest new all : List ℕ) (left : ℕ) → old ≡ rest ++ left ∷ [] → 0 < left → new ≡ rest ++ (left - 1) ∷ [] → closing_due (reverse old) ≡ all → reverse new ≡ all
+pub comma_due : (old rest new all : List ℕ) (left : ℕ) → old ≡ rest ++ left ∷ [] → 0 < left → new ≡ rest ++ (left - 1) ∷ []
+    → closing_due (reverse old) ≡ all → reverse new ≡ all
 comma_due old rest new all left e z push h =
     let some : left ≡ suc (left - 1) = omega (arith, z) in
     last_first new rest (left - 1) push ∙ ap closing_due (sym (last_first old rest left e ∙ ap (λ n. n ∷ reverse rest) some)) ∙ h
@@ -75,6 +79,7 @@ node_written names xs i x due new out mid end all parts h is e first p second ne
     ∙ ap (λ l. out ++ (node_text names x ++ (opening_text (reverse due) (parts_of x) ++ l))) tail
     ∙ ap (λ ys. out ++ nodes_text names (reverse due) ys) (sym (drop-cons xs i x h ∙ ap (λ y. y ∷ drop (suc i) xs) (sym is))) ∙ e
 
-pub all_written : (names : ℕ → List ℕ) (v : Value) (xs : List Item) (i : ℕ) (due out : List ℕ) → xs ≡ items_of v → length xs ≤ i → out ++ nodes_text names (reverse due) (drop i xs) ≡ nodes_text names [] xs → out ≡ value_text names v
+pub all_written : (names : ℕ → List ℕ) (v : Value) (xs : List Item) (i : ℕ) (due out : List ℕ) → xs ≡ items_of v → length xs ≤ i
+    → out ++ nodes_text names (reverse due) (drop i xs) ≡ nodes_text names [] xs → out ≡ value_text names v
 all_written names v xs i due out is h e =
     sym (append-nil out) ∙ ap (λ ys. out ++ nodes_text names (reverse due) ys) (sym (drop_of_length-le xs {i = i} h)) ∙ e ∙ ap (nodes_text names []) is ∙ nodes_text_is names v [] [] ∙ append-nil (value_text names v)

@@ -33,7 +33,8 @@ no_word_space (b ∷ w) r t e h =
     let k : is_word_byte 32 ≡ true = subst (λ c. is_word_byte c ≡ true) (sym s) (and_parts (is_word_byte b) _ h).0 in absurd cc
 
 -- a space that was read changes nothing of what is due, where none is due
-drop_space : (types : List DataType) (ds : List Due) (ps : List Piece) (xs : List Item) (t : List ℕ) → NoSpace ds → Comes types ds ps xs → Spelled (constructor_name types) ps (32 ∷ t) → Spelled (constructor_name types) ps t
+drop_space : (types : List DataType) (ds : List Due) (ps : List Piece) (xs : List Item) (t : List ℕ) → NoSpace ds → Comes types ds ps xs
+    → Spelled (constructor_name types) ps (32 ∷ t) → Spelled (constructor_name types) ps t
 drop_space types [] ps xs t n c h = subst (λ l. Spelled (constructor_name types) l t) (sym c.0) (bare (subst (λ l. Spelled (constructor_name types) l (32 ∷ t)) c.0 h))
   where
     bare : Spelled (constructor_name types) [] (32 ∷ t) → Spelled (constructor_name types) [] t
@@ -82,7 +83,8 @@ leads_mark types ds m = record {
     marked more t (inl h) = subst (Spelled (constructor_name types) more) (sym (same_tail m m t h.rest h.parts).1) h.next
     marked more t (inr p) = spaces_then (constructor_name types) more m t p.0 p.1
 
-    back : (t : List ℕ) (zs : List Item) (ps : List Piece) → Comes types (due.Mark m ∷ ds) ps zs → Spelled (constructor_name types) ps (m ∷ t) → Rest types ds t [] zs
+    back : (t : List ℕ) (zs : List Item) (ps : List Piece) → Comes types (due.Mark m ∷ ds) ps zs → Spelled (constructor_name types) ps (m ∷ t)
+        → Rest types ds t [] zs
     back t zs ps (more, e, c) h = record { ys = zs; is = refl; accepts = record { ps = more; comes = c; spelled = marked more t (subst (λ l. Spelled (constructor_name types) l (m ∷ t)) e h) } }
 
 -- ---- words
@@ -93,7 +95,8 @@ put_word IsText Then [] (b ∷ t) h = inl h
 put_word IsText Then (b ∷ w) t h = inl h
 
 -- the word in front
-pub first_word : (IsText Then : List ℕ → Type 0) (w t : List ℕ) → IsTrue (is_word w) → AfterSpaces (WordThen IsText Then) (w ++ t) → WordThen IsText Then (w ++ t)
+pub first_word : (IsText Then : List ℕ → Type 0) (w t : List ℕ) → IsTrue (is_word w) → AfterSpaces (WordThen IsText Then) (w ++ t)
+    → WordThen IsText Then (w ++ t)
 first_word IsText Then [] t f h = absurd cc
 first_word IsText Then (b ∷ w) t f (inl h) = h
 first_word IsText Then (b ∷ w) t f (inr p) =
@@ -110,7 +113,8 @@ leads_word types ds q w x fields form n = record {
   from = λ t zs a acc. back t zs a acc.ps acc.comes acc.spelled;
 }
   where
-    same : (t : List ℕ) (y : Item) (others : List Kind) (more : List Piece) (ys zs : List Item) → Ends t → IsNode types q y others → zs ≡ y ∷ ys → Comes types (parts_due others ++ ds) more ys
+    same : (t : List ℕ) (y : Item) (others : List Kind) (more : List Piece) (ys zs : List Item) → Ends t → IsNode types q y others → zs ≡ y ∷ ys
+        → Comes types (parts_due others ++ ds) more ys
         → WordThen (IsNodeText (constructor_name types) y) (Spelled (constructor_name types) more) (w ++ t) → Rest types (parts_due fields ++ ds) t (x ∷ []) zs
     same t y others more ys zs a node e c h =
         let s = word_split w h.word t h.rest (word_all w form) (word_all h.word h.form) a h.ends h.parts in
@@ -121,7 +125,8 @@ leads_word types ds q w x fields form n = record {
           accepts = record { ps = more; comes = subst (λ f. Comes types (parts_due f ++ ds) more ys) o.1 c; spelled = subst (Spelled (constructor_name types) more) (sym s.1) h.next };
         }
 
-    back : (t : List ℕ) (zs : List Item) → Ends t → (ps : List Piece) → Comes types (due.Value q ∷ ds) ps zs → Spelled (constructor_name types) ps (w ++ t) → Rest types (parts_due fields ++ ds) t (x ∷ []) zs
+    back : (t : List ℕ) (zs : List Item) → Ends t → (ps : List Piece) → Comes types (due.Value q ∷ ds) ps zs
+        → Spelled (constructor_name types) ps (w ++ t) → Rest types (parts_due fields ++ ds) t (x ∷ []) zs
     back t zs a ps c h =
         let b = unfold_node types ds q ps zs c in
         same t b.x b.fields b.more b.ys zs a b.node b.xs_is b.comes
@@ -152,13 +157,15 @@ read_on types first text xs ds b u ys word es rest r l a p = record {
     back : (t : List ℕ) (zs : List Item) → After word t → Rest types ds ((b ∷ u) ++ t) xs zs → Rest types es t (xs ++ ys) zs
     back t zs k h = let m = l.from t h.ys k h.accepts in record { ys = m.ys; is = h.is ∙ ap (λ y. xs ++ y) m.is ∙ sym (append_assoc xs ys m.ys); accepts = m.accepts }
 
-pub read_space : (types : List DataType) (first : List Due) (text : List ℕ) (xs : List Item) (ds : List Due) (rest : List ℕ) → NoSpace ds → Reading types first text xs ds (32 ∷ rest) → Reading types first text xs ds rest
+pub read_space : (types : List DataType) (first : List Due) (text : List ℕ) (xs : List Item) (ds : List Due) (rest : List ℕ) → NoSpace ds
+    → Reading types first text xs ds (32 ∷ rest) → Reading types first text xs ds rest
 read_space types first text xs ds rest n r = subst (λ y. Reading types first text y ds rest) (append-nil xs) (read_on types first text xs ds 32 [] [] false ds rest r (leads_space types ds n) tt r.possible)
 
 after_mark : (types : List DataType) (m : ℕ) (ds : List Due) → Possible types (due.Mark m ∷ ds) → Possible types ds
 after_mark types m ds p = let (more, e, c) = p.comes in record { ps = more; xs = p.xs; comes = c }
 
-pub read_mark : (types : List DataType) (first : List Due) (text : List ℕ) (xs : List Item) (m : ℕ) (ds : List Due) (rest : List ℕ) → Reading types first text xs (due.Mark m ∷ ds) (m ∷ rest) → Reading types first text xs ds rest
+pub read_mark : (types : List DataType) (first : List Due) (text : List ℕ) (xs : List Item) (m : ℕ) (ds : List Due) (rest : List ℕ)
+    → Reading types first text xs (due.Mark m ∷ ds) (m ∷ rest) → Reading types first text xs ds rest
 read_mark types first text xs m ds rest r =
     subst (λ y. Reading types first text y ds rest) (append-nil xs) (read_on types first text xs (due.Mark m ∷ ds) m [] [] false ds rest r (leads_mark types ds m) tt (after_mark types m ds r.possible))
 

@@ -48,7 +48,8 @@ some_front : (f : List ℕ) (n : ℕ) → n < length f → f ≡ [] → ⊥
 some_front [] n h e = absurd (omega (arith, h))
 some_front (x ∷ f) n h e = absurd cc
 
-pub stops : (types : List DataType) (first : List Due) (text : List ℕ) (xs : List Item) (ds : List Due) (rest good bad : List ℕ) → Reading types first text xs ds rest → rest ≡ good ++ bad
+pub stops : (types : List DataType) (first : List Due) (text : List ℕ) (xs : List Item) (ds : List Due) (rest good bad : List ℕ)
+    → Reading types first text xs ds rest → rest ≡ good ++ bad
     → Live types ds good → ((ys : List Item) → Accepts types ds rest ys → ⊥)
     → ((front last : List ℕ) → rest ≡ front ++ last → length good < length front → (s : List ℕ) (ys : List Item) → Accepts types ds (front ++ s) ys → ⊥)
     → Stops types first text (length text - length bad)
@@ -74,7 +75,8 @@ stops types first text xs ds rest good bad r parts live whole dead = record {
     rest_length : length rest ≡ length good + length bad
     rest_length = ap length parts ∙ length-append good bad
 
-    beyond : (n m : ℕ) (s : List ℕ) (ys : List Item) → n ≡ length r.front + m → length good < m → m ≤ length rest → Accepts types first (take n text ++ s) ys → ⊥
+    beyond : (n m : ℕ) (s : List ℕ) (ys : List Item) → n ≡ length r.front + m → length good < m → m ≤ length rest
+        → Accepts types first (take n text ++ s) ys → ⊥
     beyond n m s ys e more within acc =
         let f = take m rest in
         let split : f ++ drop m rest ≡ rest = take-append-drop m rest in
@@ -85,7 +87,8 @@ stops types first text xs ds rest good bad r parts live whole dead = record {
         let k = r.leads.from (f ++ s) ys (front_after r.word f (drop m rest) s (λ none. absurd (some_front f (length good) long none)) (subst (After r.word) (sym split) r.after)) a in
         dead f (drop m rest) (sym split) long s k.ys k.accepts
 
-    by_length : (n : ℕ) (s : List ℕ) (ys : List Item) → n ≤ length text → Accepts types first (take n text ++ s) ys → (length text - length bad < n) ⊎ (n ≤ length text - length bad) → n ≤ length text - length bad
+    by_length : (n : ℕ) (s : List ℕ) (ys : List Item) → n ≤ length text → Accepts types first (take n text ++ s) ys
+        → (length text - length bad < n) ⊎ (n ≤ length text - length bad) → n ≤ length text - length bad
     by_length n s ys within acc (inr h) = h
     by_length n s ys within acc (inl h) =
         absurd (beyond n (n - length r.front) s ys (omega (arith, h, text_length, rest_length)) (omega (arith, h, text_length, rest_length)) (omega (arith, within, text_length)) acc)
@@ -115,7 +118,8 @@ refuses types (due.Mark m ∷ ds) c t ys n a = let (more, e, k) = a.comes in mar
     mark more (inr p) = n.0 p.0
 refuses types (due.Value q ∷ ds) c t ys n a = n
 
-pub stops_at_byte : (types : List DataType) (first : List Due) (text : List ℕ) (xs : List Item) (ds : List Due) (c : ℕ) (rest : List ℕ) → AreNamed types → Reading types first text xs ds (c ∷ rest) → Refuses ds c
+pub stops_at_byte : (types : List DataType) (first : List Due) (text : List ℕ) (xs : List Item) (ds : List Due) (c : ℕ) (rest : List ℕ)
+    → AreNamed types → Reading types first text xs ds (c ∷ rest) → Refuses ds c
     → Stops types first text (length text - length (c ∷ rest))
 stops_at_byte types first text xs ds c rest names r n =
     stops types first text xs ds (c ∷ rest) [] (c ∷ rest) r refl (lives types ds names r.possible) (λ ys a. refuses types ds c rest ys n a) dead
@@ -141,7 +145,8 @@ wants types (due.Value q) ds ys a = let b = unfold_node types ds q a.ps ys a.com
     word : (x : Item) (more : List Piece) → Spelled (constructor_name types) (g.Node x ∷ more) [] → ⊥
     word x more h = no_word h.word h.rest h.parts h.form
 
-pub stops_at_end : (types : List DataType) (first : List Due) (text : List ℕ) (xs : List Item) (d : Due) (ds : List Due) → AreNamed types → Reading types first text xs (d ∷ ds) [] → Stops types first text (length text)
+pub stops_at_end : (types : List DataType) (first : List Due) (text : List ℕ) (xs : List Item) (d : Due) (ds : List Due) → AreNamed types
+    → Reading types first text xs (d ∷ ds) [] → Stops types first text (length text)
 stops_at_end types first text xs d ds names r =
     subst (Stops types first text) (omega arith) (stops types first text xs (d ∷ ds) [] [] [] r refl (lives types (d ∷ ds) names r.possible) (λ ys a. wants types d ds ys a) dead)
   where
@@ -156,7 +161,8 @@ word_at IsText Then [] n h = h
 word_at IsText Then (b ∷ t) n (inl h) = h
 word_at IsText Then (b ∷ t) n (inr p) = absurd (n p.0)
 
-live_word : (types : List DataType) (ds : List Due) (q : Kind) (front : List ℕ) (possible : Possible types (due.Value q ∷ ds)) → AreNamed types → IsWordFront types q front → Live types (due.Value q ∷ ds) front
+live_word : (types : List DataType) (ds : List Due) (q : Kind) (front : List ℕ) (possible : Possible types (due.Value q ∷ ds)) → AreNamed types
+    → IsWordFront types q front → Live types (due.Value q ∷ ds) front
 live_word types ds q [] possible names b = lives types (due.Value q ∷ ds) names possible
 live_word types ds q (c ∷ front) possible names b =
     let (v, ps, xs, f, p, x, come) = possible.comes in
@@ -196,19 +202,22 @@ record Headed (types : List DataType) (q : Kind) (text : List ℕ) : Type 0 wher
   ends : Ends rest
   is : IsNodeText (constructor_name types) x word
 
-headed : (types : List DataType) (ds : List Due) (q : Kind) (t : List ℕ) (ys : List Item) → NotSpace t → Accepts types (due.Value q ∷ ds) t ys → Headed types q t
+headed : (types : List DataType) (ds : List Due) (q : Kind) (t : List ℕ) (ys : List Item) → NotSpace t → Accepts types (due.Value q ∷ ds) t ys
+    → Headed types q t
 headed types ds q t ys n a =
     let b = unfold_node types ds q a.ps ys a.comes in
     let h = word_at (IsNodeText (constructor_name types) b.x) (Spelled (constructor_name types) b.more) t n (subst (λ l. Spelled (constructor_name types) l t) b.ps_is a.spelled) in
     record { x = b.x; fields = b.fields; node = b.node; have = parts_have types ds b.fields b.more b.ys b.comes; word = h.word; rest = h.rest; parts = h.parts; form = h.form; ends = h.ends; is = h.is }
 
 -- the whole word was read, and is no node's
-none_whole : (types : List DataType) (q : Kind) (w t rest : List ℕ) (good : ℕ) → IsTrue (list_all is_word_byte w) → Ends rest → t ≡ w ++ rest → Unnamed types q w good → Headed types q t → ⊥
+none_whole : (types : List DataType) (q : Kind) (w t rest : List ℕ) (good : ℕ) → IsTrue (list_all is_word_byte w) → Ends rest → t ≡ w ++ rest
+    → Unnamed types q w good → Headed types q t → ⊥
 none_whole types q w t rest good all ends e u h =
     let s = word_split w h.word rest h.rest all (word_all h.word h.form) ends h.ends (sym e ∙ h.parts) in
     u.none h.x h.fields h.node h.have (subst (IsNodeText (constructor_name types) h.x) (sym s.0) h.is)
 
-none_front : (types : List DataType) (q : Kind) (w rest front last s : List ℕ) (good : ℕ) → IsTrue (list_all is_word_byte w) → Ends rest → w ++ rest ≡ front ++ last → good < length front → Unnamed types q w good → Headed types q (front ++ s) → ⊥
+none_front : (types : List DataType) (q : Kind) (w rest front last s : List ℕ) (good : ℕ) → IsTrue (list_all is_word_byte w) → Ends rest
+    → w ++ rest ≡ front ++ last → good < length front → Unnamed types q w good → Headed types q (front ++ s) → ⊥
 none_front types q w rest front last s good all ends e long u h = by_front (front_cases w rest front last e)
   where
     within : (l : Longer front w) → Longer front h.word → ⊥

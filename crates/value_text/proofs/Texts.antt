@@ -54,13 +54,15 @@ fit_count types (q ∷ qs) [] h = absurd h
 
 -- ---- lists of values and what is due
 
-comes_others : (types : List DataType) (qs : List Kind) (vs : List Value) → FitAll types qs (parts vs) → Comes types (others_due qs) (other_pieces vs) (nodes_all (parts vs) [])
+comes_others : (types : List DataType) (qs : List Kind) (vs : List Value) → FitAll types qs (parts vs)
+    → Comes types (others_due qs) (other_pieces vs) (nodes_all (parts vs) [])
 comes_others types [] [] h = (refl, refl)
 comes_others types (q ∷ qs) (v ∷ vs) h = (pieces v (other_pieces vs), refl, (v, other_pieces vs, nodes_all (parts vs) [], h.0, refl, refl, comes_others types qs vs h.1))
 comes_others types [] (v ∷ vs) h = absurd h
 comes_others types (q ∷ qs) [] h = absurd h
 
-comes_list : (types : List DataType) (qs : List Kind) (vs : List Value) → FitAll types qs (parts vs) → Comes types (first_due qs) (list_pieces vs) (nodes_all (parts vs) [])
+comes_list : (types : List DataType) (qs : List Kind) (vs : List Value) → FitAll types qs (parts vs)
+    → Comes types (first_due qs) (list_pieces vs) (nodes_all (parts vs) [])
 comes_list types [] [] h = (refl, refl)
 comes_list types (q ∷ qs) (v ∷ vs) h = (v, other_pieces vs, nodes_all (parts vs) [], h.0, refl, refl, comes_others types qs vs h.1)
 comes_list types [] (v ∷ vs) h = absurd h
@@ -72,7 +74,8 @@ record OfValues (types : List DataType) (qs : List Kind) (way : List Value → L
   ps_is : ps ≡ way vs
   xs_is : xs ≡ nodes_all (parts vs) []
 
-others_come : (types : List DataType) (qs : List Kind) (ps : List Piece) (xs : List Item) → Comes types (others_due qs) ps xs → OfValues types qs other_pieces ps xs
+others_come : (types : List DataType) (qs : List Kind) (ps : List Piece) (xs : List Item) → Comes types (others_due qs) ps xs
+    → OfValues types qs other_pieces ps xs
 others_come types [] ps xs c = record { vs = []; fit = tt; ps_is = c.0; xs_is = c.1 }
 others_come types (q ∷ qs) ps xs c =
     let (a, e, b) = c in
@@ -80,14 +83,16 @@ others_come types (q ∷ qs) ps xs c =
     let r = others_come types qs more ys k in
     record { vs = v ∷ r.vs; fit = (f, r.fit); ps_is = e ∙ ap (λ l. g.Mark 32 ∷ l) (p ∙ ap (pieces v) r.ps_is); xs_is = x ∙ ap (nodes v) r.xs_is }
 
-list_comes : (types : List DataType) (qs : List Kind) (ps : List Piece) (xs : List Item) → Comes types (first_due qs) ps xs → OfValues types qs list_pieces ps xs
+list_comes : (types : List DataType) (qs : List Kind) (ps : List Piece) (xs : List Item) → Comes types (first_due qs) ps xs
+    → OfValues types qs list_pieces ps xs
 list_comes types [] ps xs c = record { vs = []; fit = tt; ps_is = c.0; xs_is = c.1 }
 list_comes types (q ∷ qs) ps xs c =
     let (v, more, ys, f, p, x, k) = c in
     let r = others_come types qs more ys k in
     record { vs = v ∷ r.vs; fit = (f, r.fit); ps_is = p ∙ ap (pieces v) r.ps_is; xs_is = x ∙ ap (nodes v) r.xs_is }
 
-pub accepts_text : (types : List DataType) (kinds : List Kind) (text : List ℕ) (vs : List Value) → IsTextOf types kinds text vs → Accepts types (first_due kinds) text (nodes_all (parts vs) [])
+pub accepts_text : (types : List DataType) (kinds : List Kind) (text : List ℕ) (vs : List Value) → IsTextOf types kinds text vs
+    → Accepts types (first_due kinds) text (nodes_all (parts vs) [])
 accepts_text types kinds text vs t = record { ps = list_pieces vs; comes = comes_list types kinds vs t.fit; spelled = t.spelled }
 
 pub record TextOf (types : List DataType) (kinds : List Kind) (text : List ℕ) (xs : List Item) : Type 0 where
@@ -95,7 +100,8 @@ pub record TextOf (types : List DataType) (kinds : List Kind) (text : List ℕ) 
   pub is : IsTextOf types kinds text values
   pub items : xs ≡ nodes_all (parts values) []
 
-pub text_accepted : (types : List DataType) (kinds : List Kind) (text : List ℕ) (xs : List Item) → Accepts types (first_due kinds) text xs → TextOf types kinds text xs
+pub text_accepted : (types : List DataType) (kinds : List Kind) (text : List ℕ) (xs : List Item) → Accepts types (first_due kinds) text xs
+    → TextOf types kinds text xs
 text_accepted types kinds text xs a =
     let r = list_comes types kinds a.ps xs a.comes in
     record { values = r.vs; is = record { fit = r.fit; spelled = subst (λ l. Spelled (constructor_name types) l text) r.ps_is a.spelled }; items = r.xs_is }
@@ -124,7 +130,8 @@ reading_ends types first text xs r = record {
 -- ---- what is answered
 
 -- the values of the nodes that were read, which are the only ones
-pub one_text : (types : List DataType) (kinds : List Kind) (text : List ℕ) (xs : List Item) (vs ws : List Value) → Whole types (first_due kinds) text xs → IsTextOf types kinds text vs → IsTextOf types kinds text ws → vs ≡ ws
+pub one_text : (types : List DataType) (kinds : List Kind) (text : List ℕ) (xs : List Item) (vs ws : List Value)
+    → Whole types (first_due kinds) text xs → IsTextOf types kinds text vs → IsTextOf types kinds text ws → vs ≡ ws
 one_text types kinds text xs vs ws w a b =
     let e : nodes_all (parts vs) [] ≡ nodes_all (parts ws) [] = w.only _ (accepts_text types kinds text vs a) ∙ sym (w.only _ (accepts_text types kinds text ws b)) in
     parts_same vs ws (nodes_all_same (parts vs) (parts ws) [] [] (sym (fit_count types kinds vs a.fit) ∙ fit_count types kinds ws b.fit) e).0

@@ -44,7 +44,8 @@ same_front (x ∷ xs) (y ∷ ys) rest e = let a : x ≡ y = cc in let b : xs ++ 
 pub length_start : (xs : List Item) → BeginsValue xs → left_over 1 (drop 0 xs) ≡ left_over 1 xs
 length_start xs b = refl
 
-pub length_more : (xs ys : List Item) (due at n : ℕ) (d : Item) → 0 < due → at < length xs → n ≡ parts_of (get_or xs at d) → left_over due (drop at xs) ≡ ys → left_over (due - 1 + n) (drop (at + 1) xs) ≡ ys
+pub length_more : (xs ys : List Item) (due at n : ℕ) (d : Item) → 0 < due → at < length xs → n ≡ parts_of (get_or xs at d)
+    → left_over due (drop at xs) ≡ ys → left_over (due - 1 + n) (drop (at + 1) xs) ≡ ys
 length_more xs ys due at n d some h e k =
     ap (λ m. left_over (due - 1 + m) (drop (at + 1) xs)) e ∙ ap (λ m. left_over (due - 1 + parts_of (get_or xs at d)) (drop m xs)) (add-one at)
     ∙ ap (λ l. left_over (suc (due - 1)) l) (sym (drop-cons xs at d h)) ∙ ap (λ m. left_over m (drop at xs)) (let s : suc (due - 1) ≡ due = omega (arith, some) in s) ∙ k
@@ -53,7 +54,8 @@ none_over : (n : ℕ) → left_over n [] ≡ []
 none_over zero = refl
 none_over (suc n) = refl
 
-pub length_done : (xs : List Item) (due at : ℕ) → BeginsValue xs → at ≤ length xs → (due ≤ 0) ⊎ (length xs ≤ at) → left_over due (drop at xs) ≡ left_over 1 xs → ValueLength xs at
+pub length_done : (xs : List Item) (due at : ℕ) → BeginsValue xs → at ≤ length xs → (due ≤ 0) ⊎ (length xs ≤ at)
+    → left_over due (drop at xs) ≡ left_over 1 xs → ValueLength xs at
 length_done xs due at b within stop e = record {
   within = within;
   value = b.value;
@@ -73,7 +75,8 @@ length_done xs due at b within stop e = record {
 pub one_value : (xs items : List Item) (n : ℕ) → ValueLength xs n → items ≡ take n xs → IsOneValue items
 one_value xs items n l e = subst IsOneValue (sym (e ∙ l.first)) (IsOneValue-items_of l.value)
 
-pub cut_there : (xs items rest : List Item) (n : ℕ) (v : Value) → ValueLength xs n → items ≡ take n xs → items_of v ≡ items → rest ≡ take (length xs - n) (drop n xs) → xs ≡ nodes v rest
+pub cut_there : (xs items rest : List Item) (n : ℕ) (v : Value) → ValueLength xs n → items ≡ take n xs → items_of v ≡ items
+    → rest ≡ take (length xs - n) (drop n xs) → xs ≡ nodes v rest
 cut_there xs items rest n v l e o r =
     let s : v ≡ l.value = (nodes_same v l.value [] [] (o ∙ e ∙ l.first)).0 in
     let k : rest ≡ l.rest = r ∙ take_all (length xs - n) (drop n xs) (omega (arith, length-drop n xs)) ∙ l.others in
@@ -82,18 +85,22 @@ cut_there xs items rest n v l e o r =
 pub cuts_first : (all : List Item) (count : ℕ) (none : List Value) → OfValues all count → none ≡ [] → Cuts all count none all
 cuts_first all count none o e = record { values = o.values; rest_is = o.is; all_is = o.is ∙ ap (λ l. nodes_all (parts (l ++ o.values)) []) (sym e); count_is = o.count_is ∙ ap (λ l. length (l ++ o.values)) (sym e) }
 
-some_left : (all rest : List Item) (count : ℕ) (done : List Value) → Cuts all count done rest → length done < count → (v : Value) × (vs : List Value) × (rest ≡ nodes v (nodes_all (parts vs) [])) × (all ≡ nodes_all (parts (done ++ v ∷ vs)) []) × (count ≡ length (done ++ v ∷ vs))
+some_left : (all rest : List Item) (count : ℕ) (done : List Value) → Cuts all count done rest → length done < count
+    → (v : Value) × (vs : List Value) × (rest ≡ nodes v (nodes_all (parts vs) [])) × (all ≡ nodes_all (parts (done ++ v ∷ vs)) [])
+    × (count ≡ length (done ++ v ∷ vs))
 some_left all rest count done c h = by_values c.values c.rest_is c.all_is c.count_is
   where
     by_values : (vs : List Value) → rest ≡ nodes_all (parts vs) [] → all ≡ nodes_all (parts (done ++ vs)) [] → count ≡ length (done ++ vs)
-        → (v : Value) × (vs : List Value) × (rest ≡ nodes v (nodes_all (parts vs) [])) × (all ≡ nodes_all (parts (done ++ v ∷ vs)) []) × (count ≡ length (done ++ v ∷ vs))
+        → (v : Value) × (vs : List Value) × (rest ≡ nodes v (nodes_all (parts vs) [])) × (all ≡ nodes_all (parts (done ++ v ∷ vs)) [])
+        × (count ≡ length (done ++ v ∷ vs))
     by_values [] r a n = absurd (omega (arith, h, n, length-append done []))
     by_values (v ∷ vs) r a n = (v, vs, r, a, n)
 
 pub cuts_begin : (all rest : List Item) (count : ℕ) (done : List Value) → Cuts all count done rest → length done < count → BeginsValue rest
 cuts_begin all rest count done c h = let (v, vs, r, a, n) = some_left all rest count done c h in record { value = v; rest = nodes_all (parts vs) []; is = r }
 
-pub cuts_more : (all rest after : List Item) (count : ℕ) (done new : List Value) (w : Value) → Cuts all count done rest → length done < count → rest ≡ nodes w after → new ≡ done ++ w ∷ [] → Cuts all count new after
+pub cuts_more : (all rest after : List Item) (count : ℕ) (done new : List Value) (w : Value) → Cuts all count done rest → length done < count
+    → rest ≡ nodes w after → new ≡ done ++ w ∷ [] → Cuts all count new after
 cuts_more all rest after count done new w c h e push =
     let (v, vs, r, a, n) = some_left all rest count done c h in
     let s = nodes_same w v after (nodes_all (parts vs) []) (sym e ∙ r) in
@@ -103,9 +110,11 @@ cuts_more all rest after count done new w c h e push =
 pub cuts_few : (all rest after : List Item) (count : ℕ) (done : List Value) (w : Value) → rest ≡ nodes w after → length rest ≤ 65536 → length after ≤ 65536
 cuts_few all rest after count done w e h = omega (arith, h, ap length e, ap length (nodes_front w after), length-append (nodes w []) after)
 
-pub cuts_done : (all rest : List Item) (count : ℕ) (done : List Value) → Cuts all count done rest → count ≤ length done → (all ≡ nodes_all (parts done) []) × (length done ≡ count)
+pub cuts_done : (all rest : List Item) (count : ℕ) (done : List Value) → Cuts all count done rest → count ≤ length done
+    → (all ≡ nodes_all (parts done) []) × (length done ≡ count)
 cuts_done all rest count done c h = by_values c.values c.all_is c.count_is
   where
-    by_values : (vs : List Value) → all ≡ nodes_all (parts (done ++ vs)) [] → count ≡ length (done ++ vs) → (all ≡ nodes_all (parts done) []) × (length done ≡ count)
+    by_values : (vs : List Value) → all ≡ nodes_all (parts (done ++ vs)) [] → count ≡ length (done ++ vs)
+        → (all ≡ nodes_all (parts done) []) × (length done ≡ count)
     by_values [] a n = (a ∙ ap (λ l. nodes_all (parts l) []) (append-nil done), omega (arith, n, length-append done []))
     by_values (v ∷ vs) a n = absurd (omega (arith, h, n, length-append done (v ∷ vs)))

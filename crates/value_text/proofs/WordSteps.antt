@@ -15,7 +15,8 @@ skip_here text all at h is e =
     ap (λ n. skip (drop n text)) (add-one at) ∙ ap (λ b. if b then skip (drop (suc at) text) else get_or text at 0 ∷ drop (suc at) text) (let t : true ≡ (get_or text at 0 == 32) = grind (arith, nat_tests, is) in t)
     ∙ ap skip (sym (drop-cons text at 0 h)) ∙ e
 
-pub skip_done : (text all result : List ℕ) (at : ℕ) → at < length text → (get_or text at 0 ≡ 32 → ⊥) → result ≡ take (length text - at) (drop at text) → skip (drop at text) ≡ all → result ≡ all
+pub skip_done : (text all result : List ℕ) (at : ℕ) → at < length text → (get_or text at 0 ≡ 32 → ⊥)
+    → result ≡ take (length text - at) (drop at text) → skip (drop at text) ≡ all → result ≡ all
 skip_done text all result at h not is e =
     is ∙ take_all (length text - at) (drop at text) (omega (arith, length-drop at text)) ∙ drop-cons text at 0 h
     ∙ ap (λ b. if b then skip (drop (suc at) text) else get_or text at 0 ∷ drop (suc at) text) (let t : false ≡ (get_or text at 0 == 32) = grind (arith, nat_tests, not) in t)
@@ -28,22 +29,26 @@ all_more : (xs : List ℕ) (c : ℕ) → IsTrue (list_all is_word_byte xs) → i
 all_more [] c h k = and_both (is_word_byte c) true k refl
 all_more (d ∷ xs) c h k = let p = and_parts (is_word_byte d) _ h in and_both (is_word_byte d) _ p.0 (all_more xs c p.1 k)
 
-pub word_here : (text : List ℕ) (at : ℕ) → at < length text → is_word_byte (get_or text at 0) ≡ true → IsTrue (list_all is_word_byte (take at text)) → IsTrue (list_all is_word_byte (take (at + 1) text))
+pub word_here : (text : List ℕ) (at : ℕ) → at < length text → is_word_byte (get_or text at 0) ≡ true → IsTrue (list_all is_word_byte (take at text))
+    → IsTrue (list_all is_word_byte (take (at + 1) text))
 word_here text at h is all =
     subst (λ n. IsTrue (list_all is_word_byte (take n text))) (sym (add-one at)) (subst (λ l. IsTrue (list_all is_word_byte l)) (sym (take-suc text at 0 h)) (all_more (take at text) (get_or text at 0) all is))
 
-pub word_done : (text : List ℕ) (at : ℕ) → at < length text → is_word_byte (get_or text at 0) ≡ false → IsTrue (list_all is_word_byte (take at text)) → IsWordLength text at
+pub word_done : (text : List ℕ) (at : ℕ) → at < length text → is_word_byte (get_or text at 0) ≡ false → IsTrue (list_all is_word_byte (take at text))
+    → IsWordLength text at
 word_done text at h is all = record { within = omega (arith, h); all = all; ends = subst Ends (sym (drop-cons text at 0 h)) is }
 
 pub word_end : (text : List ℕ) (at : ℕ) → length text ≤ at → at ≤ length text → IsTrue (list_all is_word_byte (take at text)) → IsWordLength text at
 word_end text at h k all = record { within = k; all = all; ends = subst Ends (sym (drop_of_length-le text {i = at} h)) tt }
 
-pub split_there : (text word rest : List ℕ) (at : ℕ) → IsWordLength text at → word ≡ take at text → rest ≡ take (length text - at) (drop at text) → IsSplit text word rest
+pub split_there : (text word rest : List ℕ) (at : ℕ) → IsWordLength text at → word ≡ take at text → rest ≡ take (length text - at) (drop at text)
+    → IsSplit text word rest
 split_there text word rest at w e f =
     let r : rest ≡ drop at text = f ∙ take_all (length text - at) (drop at text) (omega (arith, length-drop at text)) in
     record { parts = sym (ap (λ l. l ++ rest) e ∙ ap (λ l. take at text ++ l) r ∙ take-append-drop at text); all = subst (λ l. IsTrue (list_all is_word_byte l)) (sym e) w.all; ends = subst Ends (sym r) w.ends }
 
-pub common_here : (xs ys : List ℕ) (at all : ℕ) → at < length xs → at < length ys → get_or xs at 0 ≡ get_or ys at 0 → at + common (drop at xs) (drop at ys) ≡ all → at + 1 + common (drop (at + 1) xs) (drop (at + 1) ys) ≡ all
+pub common_here : (xs ys : List ℕ) (at all : ℕ) → at < length xs → at < length ys → get_or xs at 0 ≡ get_or ys at 0
+    → at + common (drop at xs) (drop at ys) ≡ all → at + 1 + common (drop (at + 1) xs) (drop (at + 1) ys) ≡ all
 common_here xs ys at all h k same e =
     let s : common (drop at xs) (drop at ys) ≡ suc (common (drop (suc at) xs) (drop (suc at) ys)) =
     ap (λ l. common l (drop at ys)) (drop-cons xs at 0 h) ∙ ap (common (get_or xs at 0 ∷ drop (suc at) xs)) (drop-cons ys at 0 k)
@@ -51,7 +56,8 @@ common_here xs ys at all h k same e =
     let n : common (drop (at + 1) xs) (drop (at + 1) ys) ≡ common (drop (suc at) xs) (drop (suc at) ys) = ap (λ n. common (drop n xs) (drop n ys)) (add-one at) in
     omega (arith, e, s, n)
 
-pub common_done : (xs ys : List ℕ) (at all : ℕ) → at < length xs → at < length ys → (get_or xs at 0 ≡ get_or ys at 0 → ⊥) → at + common (drop at xs) (drop at ys) ≡ all → at ≡ all
+pub common_done : (xs ys : List ℕ) (at all : ℕ) → at < length xs → at < length ys → (get_or xs at 0 ≡ get_or ys at 0 → ⊥)
+    → at + common (drop at xs) (drop at ys) ≡ all → at ≡ all
 common_done xs ys at all h k not e =
     let s : common (drop at xs) (drop at ys) ≡ 0 =
     ap (λ l. common l (drop at ys)) (drop-cons xs at 0 h) ∙ ap (common (get_or xs at 0 ∷ drop (suc at) xs)) (drop-cons ys at 0 k)

@@ -24,7 +24,8 @@ pub same_tail : (a b : ℕ) (xs ys : List ℕ) → a ∷ xs ≡ b ∷ ys → (a 
 same_tail a b xs ys e = (cc, cc)
 
 -- two words as far as they go, in front of rests
-pub word_split : (w v r s : List ℕ) → IsTrue (list_all is_word_byte w) → IsTrue (list_all is_word_byte v) → Ends r → Ends s → w ++ r ≡ v ++ s → (w ≡ v) × (r ≡ s)
+pub word_split : (w v r s : List ℕ) → IsTrue (list_all is_word_byte w) → IsTrue (list_all is_word_byte v) → Ends r → Ends s → w ++ r ≡ v ++ s
+    → (w ≡ v) × (r ≡ s)
 word_split [] [] r s a b c d e = (refl, e)
 word_split [] (y ∷ v) r s a b c d e =
     let k : Ends (y ∷ (v ++ s)) = subst Ends e c in absurd (true_false (is_word_byte y) (and_parts (is_word_byte y) _ b).0 k)

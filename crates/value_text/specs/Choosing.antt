@@ -62,7 +62,8 @@ pub record IntRefused (word : List ℕ) (good : ℕ) : Type 0 where
   pub value : ℕ
   pub count : ℕ
   pub part : count ≡ length digits → count ≡ 0
-  pub is : ((word ≡ digits) × (good ≡ count) × DigitsRead 2147483647 digits value count × IsPlain word) ⊎ ((word ≡ 45 ∷ digits) × (good ≡ count + 1) × DigitsRead 2147483648 digits value count)
+  pub is : ((word ≡ digits) × (good ≡ count) × DigitsRead 2147483647 digits value count × IsPlain word)
+      ⊎ ((word ≡ 45 ∷ digits) × (good ≡ count + 1) × DigitsRead 2147483648 digits value count)
 
 -- the number of a type's first constructor
 abbrev pub first_con : List DataType → ℕ → ℕ

@@ -12,8 +12,8 @@ use Rattle.camelot_values.specs.declared.value.Item.{Item}
 use Rattle.camelot_values.specs.declared.value.Item.TheVariants as item
 use Rattle.value_text.specs.Grammar as g
 use Rattle.value_text.specs.Grammar.{Piece, pieces, Spelled, Ends, IsNodeText, is_word}
-use Rattle.value_text.specs.declared.reading.Stop.{Stop}
-use Rattle.value_text.specs.declared.reading.Stop.TheVariants as stop
+use Rattle.value_text.specs.declared.reading.TextStop.{TextStop}
+use Rattle.value_text.specs.declared.reading.TextStop.TheVariants as stop
 use Rattle.value_text.specs.declared.due.Due.{Due}
 use Rattle.value_text.specs.declared.due.Due.TheVariants as due
 
@@ -108,7 +108,8 @@ pub record Named (types : List DataType) (q : Kind) (word : List ℕ) (x : Item)
   pub text : IsNodeText (constructor_name types) x word
   pub only : (y : Item) (others : List Kind) → IsNode types q y others → IsNodeText (constructor_name types) y word → (y ≡ x) × (others ≡ fields)
 
--- The word is that of no node of the kind whose parts have values, and `good` bytes of it are the most that begin such a word.
+-- The word is that of no node of the kind whose parts have values, and `good` bytes of it are the most that begin such
+-- a word.
 pub record Unnamed (types : List DataType) (q : Kind) (word : List ℕ) (good : ℕ) : Type 0 where
   pub front : List ℕ
   pub more : List ℕ
@@ -141,6 +142,6 @@ each_due mark [] = []
 each_due mark (q ∷ qs) = due.Mark mark ∷ due.Value q ∷ each_due mark qs
 
 -- memory ran out, or reading stops there
-abbrev pub IsStop : List DataType → List Kind → List ℕ → Stop → Type 0
+abbrev pub IsStop : List DataType → List Kind → List ℕ → TextStop → Type 0
 IsStop types kinds text stop.Memory = Unit {0}
 IsStop types kinds text (stop.At at) = Stops types (first_due kinds) text at

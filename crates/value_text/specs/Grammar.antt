@@ -1,6 +1,6 @@
 -- Cited by contracts.
--- Texts of lists of values: words and marks in order, with any number of spaces before each of them and at the end. What is printed is
--- one text of a value among many.
+-- Texts of lists of values: words and marks in order, with any number of spaces before each of them and at the end.
+-- What is printed is one text of a value among many.
 use Rattle.std.specs.Prelude.{◌≡◌, ℕ, suc, ◌≤◌, ◌<◌, ◌==◌, ◌||◌, ◌&&◌, ◌⊎◌, not, Bool, false, cond, ℤ, pos, neg_ℤ, List, [], ◌∷◌, ◌++◌, length, map, take, codes, decimal, IsTrue, IsFalse}
 use Rattle.std.specs.List.{list_all, AllByRecursion}
 use Rattle.camelot_values.specs.Value as value
@@ -136,8 +136,8 @@ pub record IsTooLong (types : List DataType) (kinds : List Kind) (text : List �
   pub items_is : items ≡ size_all (parts values)
   pub many : 65536 < items
 
--- The text is none of values of these kinds. Its front of this length begins one, and no longer front does; where nothing is a text of
--- values of these kinds, since one of them has no value, the length is 0.
+-- The text is none of values of these kinds. Its front of this length begins one, and no longer front does; where
+-- nothing is a text of values of these kinds, since one of them has no value, the length is 0.
 pub record IsBadShape (types : List DataType) (kinds : List Kind) (text : List ℕ) (at : ℕ) : Type 0 where
   pub none : (values : List Value) → IsTextOf types kinds text values → ⊥
   pub within : at ≤ length text

@@ -20,13 +20,11 @@ pub record OnlyLong (types : List DataType) (kinds : List Kind) (text : List ℕ
   pub long : IsTooLong types kinds text items
   pub only : OnlyText types kinds text long.values
 
--- memory ran out, or the shape is wrong
+-- the shape is wrong
 abbrev pub IsBad : List DataType → List Kind → List ℕ → ValueFault → Type 0
 IsBad types kinds text (fault.BadShape at) = IsBadShape types kinds text at
 IsBad types kinds text (fault.TooLong items) = ⊥
-IsBad types kinds text fault.Memory = Unit {0}
 
 abbrev pub OnlyFault : List DataType → List Kind → List ℕ → ValueFault → Type 0
 OnlyFault types kinds text (fault.BadShape at) = IsBadShape types kinds text at
 OnlyFault types kinds text (fault.TooLong items) = OnlyLong types kinds text items
-OnlyFault types kinds text fault.Memory = Unit {0}

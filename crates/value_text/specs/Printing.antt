@@ -1,5 +1,6 @@
 -- Private: words for functions of this crate.
--- The text of a value node by node, over the numbers of parts that are still to come, those of the innermost constructor first.
+-- The text of a value node by node, over the numbers of parts that are still to come, those of the innermost
+-- constructor first.
 use Rattle.std.specs.Prelude.{ℕ, zero, suc, cond, List, [], ◌∷◌, ◌++◌, codes}
 use Rattle.std.specs.Fmt.{signed_decimal}
 use Rattle.camelot_values.specs.declared.value.Item.{Item}
@@ -12,7 +13,8 @@ node_text names (item.Flag b) = cond b (codes "true") (codes "false")
 node_text names item.Dia = codes "<>"
 node_text names (item.Con c n) = names c
 
--- what stands behind a part that is complete: a comma before the next one, or what closes its constructor and those that it completes
+-- what stands behind a part that is complete: a comma before the next one, or what closes its constructor and those
+-- that it completes
 abbrev pub closing_text : List ℕ → List ℕ
 closing_text [] = []
 closing_text (zero ∷ due) = codes ")" ++ closing_text due

@@ -1,6 +1,7 @@
 ghost use Rattle.std.specs.Prelude.{◌≡◌, ℕ, List, ◌<◌, length, MatchResult};
 ghost use Rattle.std.specs.List.{list_all};
 ghost use Rattle.camelot_values.specs.Value.{Value};
+ghost use Rattle.stops.specs.Stopping.{FaultIs};
 ghost use Rattle.value_text.specs.Grammar.{AreNamed, DistinctNames, IsRead, IsTooLong, IsBadShape};
 ghost use Rattle.value_text.specs.Answers.{IsFault, IsMemory, IsBadAt, IsLongBy};
 ghost use Rattle.value_text.specs.Finite.{Exact, has_value};
@@ -10,10 +11,11 @@ ghost use Rattle.value_text.specs.Only.{OnlyRead, OnlyFault, IsBad};
 
 use super::finite::has_value;
 use super::inhabited::Inhabited;
-use super::reading::{Stop, read_items};
+use super::reading::{TextStop, read_items};
 use super::splitting::split_values;
 use camelot_values::{Flat, Item, Kind, Types};
 use std::alloc::Global;
+use stops::Stop;
 use thiserror::Error;
 
 /// How many nodes the values of a text may have in all.
@@ -22,15 +24,13 @@ const MOST_ITEMS: usize = 65_536;
 /// Why a text is refused.
 #[derive(Clone, Copy, Debug, PartialEq, Eq, Error)]
 pub enum ValueFault {
-    /// The text isn't of values of the kinds. `at` is the length of its longest front that begins such a text; 0 where nothing is one.
+    /// The text isn't of values of the kinds. `at` is the length of its longest front that begins such a text; 0 where
+    /// nothing is one.
     #[error("no values of these kinds at byte {at}")]
     BadShape { at: u64 },
     /// The values have so many nodes in all, more than 65,536.
     #[error("the values have {items} nodes")]
     TooLong { items: u64 },
-    /// Memory ran out.
-    #[error("out of memory")]
-    Memory,
 }
 
 // Whether each of these kinds has a value.
@@ -53,19 +53,20 @@ fn read_nodes(
     types: &Types,
     marks: &[bool],
     kinds: &[Kind],
-) -> Result<Vec<Item>, ValueFault>
+) -> Result<Vec<Item>, Stop<ValueFault>>
     requires exact { Exact types.now marks.now }
     requires named { AreNamed types.now }
     requires distinct { DistinctNames types.now }
-    ensures { MatchResult result (λ items. Whole types.now (first_due kinds.now) text.now items.items) (λ fault. IsBad types.now kinds.now text.now fault) }
+    ensures { MatchResult result (λ items. Whole types.now (first_due kinds.now) text.now items.items)
+        (λ stop. FaultIs (IsBad types.now kinds.now text.now) stop) }
 {
     if !all_have_values(marks, kinds) {
-        return Err(ValueFault::BadShape { at: 0 });
+        return Err(Stop::Fault(ValueFault::BadShape { at: 0 }));
     }
     match read_items(alloc, types, marks, kinds, text) {
         Ok(items) => Ok(items),
-        Err(Stop::Memory) => Err(ValueFault::Memory),
-        Err(Stop::At(at)) => Err(ValueFault::BadShape { at: at as u64 }),
+        Err(TextStop::Memory) => Err(Stop::Memory),
+        Err(TextStop::At(at)) => Err(Stop::Fault(ValueFault::BadShape { at: at as u64 })),
     }
 }
 
@@ -77,28 +78,31 @@ fn read_whole(
     types: &Types,
     inhabited: &Inhabited,
     kinds: &[Kind],
-) -> Result<Vec<Flat>, ValueFault>
+) -> Result<Vec<Flat>, Stop<ValueFault>>
     requires knows { Knows types.now inhabited.now }
     requires named { AreNamed types.now }
     requires distinct { DistinctNames types.now }
-    ensures { MatchResult result (λ values. OnlyRead types.now kinds.now text.now values.items) (λ fault. OnlyFault types.now kinds.now text.now fault) }
+    ensures { MatchResult result (λ values. OnlyRead types.now kinds.now text.now values.items)
+        (λ stop. FaultIs (OnlyFault types.now kinds.now text.now) stop) }
 {
     let items = read_nodes(alloc, text, types, &inhabited.marks, kinds)?;
     if items.len() > MOST_ITEMS {
-        return Err(ValueFault::TooLong {
+        return Err(Stop::Fault(ValueFault::TooLong {
             items: items.len() as u64,
-        });
+        }));
     }
     match split_values(alloc, &items, kinds.len()) {
         Ok(values) => Ok(values),
-        Err(_) => Err(ValueFault::Memory),
+        Err(_) => Err(Stop::Memory),
     }
 }
 
-/// Reads a text of one value for each of these kinds, at least one space between two values, and any number of spaces before, after, and around
-/// `(`, `,` and `)`. An int is `-` or nothing and then `0` or digits without a leading zero, from -2147483648 to 2147483647; `-0` is 0.
-/// The names of constructors are upper names, and no two are the same. `BadShape` comes exactly where the text isn't of such values, and `TooLong`
-/// exactly where it is, and they have more than 65,536 nodes in all. Which types have values was looked up before, once for many texts.
+/// Reads a text of one value for each of these kinds, at least one space between two values, and any number of spaces
+/// before, after, and around `(`, `,` and `)`. An int is `-` or nothing and then `0` or digits without a leading zero,
+/// from -2147483648 to 2147483647; `-0` is 0. The names of constructors are upper names, and no two are the same.
+/// `BadShape` comes exactly where the text isn't of such values, and `TooLong` exactly where it is, and they have more
+/// than 65,536 nodes in all. [`Stop::Memory`] is no answer about the text. Which types have values was looked up
+/// before, once for many texts.
 #[tactic(auto, using(crate::proofs::Answering::read_found, crate::proofs::Answering::fault_found, crate::proofs::Answering::read_same, crate::proofs::Answering::read_fault, crate::proofs::Answering::read_bad, crate::proofs::Answering::fault_bad, crate::proofs::Answering::read_long, crate::proofs::Answering::fault_long))]
 pub fn read_known(
     alloc: Global,
@@ -106,19 +110,25 @@ pub fn read_known(
     types: &Types,
     inhabited: &Inhabited,
     kinds: &[Kind],
-) -> Result<Vec<Flat>, ValueFault>
+) -> Result<Vec<Flat>, Stop<ValueFault>>
     requires short { length text.now < 4294967296 }
     requires knows { Knows types.now inhabited.now }
     requires named { AreNamed types.now }
     requires distinct { DistinctNames types.now }
-    ensures found { MatchResult result (λ values. IsRead types.now kinds.now text.now values.items) (λ fault. IsFault types.now kinds.now text.now fault) }
-    ensures read { (values : List Value) → IsRead types.now kinds.now text.now values → MatchResult result (λ found. found.items ≡ values) (λ fault. IsMemory fault) }
-    ensures bad { (at : ℕ) → IsBadShape types.now kinds.now text.now at → MatchResult result (λ found. ⊥) (λ fault. IsBadAt at fault) }
-    ensures long { (items : ℕ) → IsTooLong types.now kinds.now text.now items → MatchResult result (λ found. ⊥) (λ fault. IsLongBy items fault) }
+    // What stands behind each answer.
+    ensures found { MatchResult result (λ values. IsRead types.now kinds.now text.now values.items)
+        (λ stop. FaultIs (IsFault types.now kinds.now text.now) stop) }
+    // The text of few enough values is read as these values.
+    ensures read { (values : List Value) → IsRead types.now kinds.now text.now values →
+        MatchResult result (λ found. found.items ≡ values) (λ stop. IsMemory stop) }
+    // A text that isn't of such values is answered with the place where it goes wrong.
+    ensures bad { (at : ℕ) → IsBadShape types.now kinds.now text.now at → MatchResult result (λ found. ⊥) (λ stop. IsBadAt at stop) }
+    // The text of too many values is answered with how many nodes they have.
+    ensures long { (items : ℕ) → IsTooLong types.now kinds.now text.now items → MatchResult result (λ found. ⊥) (λ stop. IsLongBy items stop) }
 {
     match read_whole(alloc, text, types, inhabited, kinds) {
         Ok(values) => Ok(values),
-        Err(fault) => Err(fault),
+        Err(stop) => Err(stop),
     }
 }
 
@@ -128,14 +138,20 @@ pub fn read(
     text: &[u8],
     types: &Types,
     kinds: &[Kind],
-) -> Result<Vec<Flat>, ValueFault>
+) -> Result<Vec<Flat>, Stop<ValueFault>>
     requires short { length text.now < 4294967296 }
     requires named { AreNamed types.now }
     requires distinct { DistinctNames types.now }
-    ensures found { MatchResult result (λ values. IsRead types.now kinds.now text.now values.items) (λ fault. IsFault types.now kinds.now text.now fault) }
-    ensures read { (values : List Value) → IsRead types.now kinds.now text.now values → MatchResult result (λ found. found.items ≡ values) (λ fault. IsMemory fault) }
-    ensures bad { (at : ℕ) → IsBadShape types.now kinds.now text.now at → MatchResult result (λ found. ⊥) (λ fault. IsBadAt at fault) }
-    ensures long { (items : ℕ) → IsTooLong types.now kinds.now text.now items → MatchResult result (λ found. ⊥) (λ fault. IsLongBy items fault) }
+    // What stands behind each answer.
+    ensures found { MatchResult result (λ values. IsRead types.now kinds.now text.now values.items)
+        (λ stop. FaultIs (IsFault types.now kinds.now text.now) stop) }
+    // The text of few enough values is read as these values.
+    ensures read { (values : List Value) → IsRead types.now kinds.now text.now values →
+        MatchResult result (λ found. found.items ≡ values) (λ stop. IsMemory stop) }
+    // A text that isn't of such values is answered with the place where it goes wrong.
+    ensures bad { (at : ℕ) → IsBadShape types.now kinds.now text.now at → MatchResult result (λ found. ⊥) (λ stop. IsBadAt at stop) }
+    // The text of too many values is answered with how many nodes they have.
+    ensures long { (items : ℕ) → IsTooLong types.now kinds.now text.now items → MatchResult result (λ found. ⊥) (λ stop. IsLongBy items stop) }
 {
     read_known(alloc, text, types, &Inhabited::of(types), kinds)
 }

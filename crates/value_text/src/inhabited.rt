@@ -3,8 +3,9 @@ ghost use Rattle.value_text.specs.Inhabited.{Knows};
 use super::finite::{MOST_TYPES, finite_types};
 use camelot_values::Types;
 
-/// Which of a list of types have values: all but those each of whose constructors leads back to one of them. It is looked up once for many texts: in the
-/// worst case, where each type has a value because of the one behind it, that takes a round over all types for each type.
+/// Which of a list of types have values: all but those each of whose constructors leads back to one of them. It is
+/// looked up once for many texts: in the worst case, where each type has a value because of the one behind it, that
+/// takes a round over all types for each type.
 #[derive(Drop)]
 pub struct Inhabited {
     pub(crate) marks: [bool; MOST_TYPES],

@@ -9,7 +9,8 @@ fn is_digit(byte: u8) -> bool
     byte >= b'0' && byte <= b'9'
 }
 
-// The number with one digit more; None where the byte is no digit, stands behind a leading zero, or makes the number larger than `most`.
+// The number with one digit more; None where the byte is no digit, stands behind a leading zero, or makes the number
+// larger than `most`.
 #[tactic(auto, using(crate::proofs::Digits::not_digit, crate::proofs::Digits::behind_zero, crate::proofs::Digits::above_most, crate::proofs::Digits::next_first, crate::proofs::Digits::next_later))]
 fn add_digit(value: u32, at: usize, byte: u8, most: u32) -> Option<u32>
     requires { value ≤ most }
@@ -31,7 +32,8 @@ fn add_digit(value: u32, at: usize, byte: u8, most: u32) -> Option<u32>
     Some(next as u32)
 }
 
-// The number of the digits in front, and how many of them it has: as many as make a number without a leading zero of at most `most`.
+// The number of the digits in front, and how many of them it has: as many as make a number without a leading zero of at
+// most `most`.
 #[tactic(auto, using(crate::proofs::Digits::no_digits, crate::proofs::Digits::digits_on, crate::proofs::Digits::digits_off, crate::proofs::Digits::all_digits))]
 fn read_digits(word: &[u8], most: u32) -> (u32, usize)
     ensures { DigitsRead most word.now result.0 result.1 }
@@ -87,8 +89,8 @@ fn read_plus(word: &[u8]) -> Result<i32, usize>
     Ok(value as i32)
 }
 
-// The int that the word is: digits without a leading zero, with or without `-` before them, from -2147483648 to 2147483647. Else how many
-// bytes of the word begin an int.
+// The int that the word is: digits without a leading zero, with or without `-` before them, from -2147483648 to
+// 2147483647. Else how many bytes of the word begin an int.
 #[tactic(auto, using(crate::proofs::Digits::minus_tail, crate::proofs::Digits::plain_head, crate::proofs::Digits::empty_refused))]
 pub(crate) fn read_int(word: &[u8]) -> Result<i32, usize>
     ensures { MatchResult result (λ z. IntRead word.now z) (λ good. IntRefused word.now good) }

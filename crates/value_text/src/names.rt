@@ -6,8 +6,8 @@ use super::cutting::common;
 use super::finite::is_ready;
 use camelot_values::{Con, TypeDef};
 
-// What one constructor says of a word: its name is the word, or it has so many bytes in common with it. A constructor with a field that has no value
-// says nothing.
+// What one constructor says of a word: its name is the word, or it has so many bytes in common with it. A constructor
+// with a field that has no value says nothing.
 enum Look {
     Found,
     Common(usize),
@@ -27,11 +27,14 @@ fn compare(marks: &[bool], word: &[u8], con: &Con) -> Look
     Look::Common(common(con.name.bytes(), word))
 }
 
-// The place of the type's constructor with this name, whose fields all have values. Else how many bytes of the word begin such a name.
+// The place of the type's constructor with this name, whose fields all have values. Else how many bytes of the word
+// begin such a name.
 #[tactic(auto, using(crate::proofs::NameSteps::chosen_here, crate::proofs::NameSteps::chosen_later, crate::proofs::NameSteps::best_later, crate::proofs::NameSteps::chosen_none, crate::proofs::NameSteps::best_end))]
 pub(crate) fn choose(marks: &[bool], word: &[u8], def: &TypeDef) -> Result<usize, usize>
     ensures within { IfOk result (λ place. place < vec_len def.now.cons) }
-    ensures chosen { MatchResult result (λ place. choose marks.now word.now (data_type_of def.now).cons ≡ Some place) (λ good. (choose marks.now word.now (data_type_of def.now).cons ≡ None) × (good ≡ best marks.now word.now (data_type_of def.now).cons)) }
+    ensures chosen { MatchResult result (λ place. choose marks.now word.now (data_type_of def.now).cons ≡ Some place)
+        (λ good. (choose marks.now word.now (data_type_of def.now).cons ≡ None)
+        × (good ≡ best marks.now word.now (data_type_of def.now).cons)) }
 {
     let mut good = 0;
     for (place, con) in def.cons.iter().enumerate() {

@@ -27,7 +27,8 @@ fn con_node<'a>(defs: &'a [TypeDef], number: usize, place: usize) -> (Item, &'a 
     (item, &con.fields)
 }
 
-// The constructor of the type that the word names, whose fields all have values. Else how many bytes of the word begin such a name.
+// The constructor of the type that the word names, whose fields all have values. Else how many bytes of the word begin
+// such a name.
 #[tactic(auto, using(crate::proofs::NodeSteps::named_node, crate::proofs::NodeSteps::unnamed_node, crate::proofs::NodeSteps::absent_node, crate::proofs::NodeSteps::has_place))]
 fn find_con<'a>(
     types: &'a Types,
@@ -66,8 +67,8 @@ fn find_flag(word: &[u8]) -> Result<bool, usize>
     Err(common(b"true", word).max(common(b"false", word)))
 }
 
-// The node of this kind whose word this is, and the kinds of its parts, all of which have values. Else how many bytes of the word begin a word of
-// such a node.
+// The node of this kind whose word this is, and the kinds of its parts, all of which have values. Else how many bytes
+// of the word begin a word of such a node.
 #[tactic(auto, using(crate::proofs::NodeSteps::int_named, crate::proofs::NodeSteps::int_unnamed, crate::proofs::NodeSteps::flag_is, crate::proofs::NodeSteps::flag_not, crate::proofs::NodeSteps::dia_is, crate::proofs::NodeSteps::dia_not))]
 fn find_node<'a>(
     types: &'a Types,
@@ -121,7 +122,8 @@ pub(crate) fn read_node<'a, 'b>(
     requires distinct { DistinctNames types.now }
     requires exact { Exact types.now marks.now }
     requires value { HasValue types.now kind }
-    ensures { MatchResult result (λ node. NodeRead types.now kind text.now node.item node.fields.now node.rest.now) (λ left. NodeRefused types.now kind text.now left) }
+    ensures { MatchResult result (λ node. NodeRead types.now kind text.now node.item node.fields.now node.rest.now)
+        (λ left. NodeRefused types.now kind text.now left) }
 {
     let text = skip_spaces(text);
     let (word, rest) = split_word(text);
@@ -134,7 +136,8 @@ pub(crate) fn read_node<'a, 'b>(
 /// Reads a mark: behind spaces, unless it is a space itself. Else how many bytes are left from the first bad one on.
 #[tactic(auto, using(crate::proofs::NodeSteps::mark_here, crate::proofs::NodeSteps::mark_other, crate::proofs::NodeSteps::mark_none))]
 pub(crate) fn read_mark(text: &[u8], mark: u8) -> Result<&[u8], usize>
-    ensures { MatchResult result (λ rest. before_mark mark text.now ≡ mark ∷ rest.now) (λ left. (left ≡ length (before_mark mark text.now)) × NotFirst mark (before_mark mark text.now)) }
+    ensures { MatchResult result (λ rest. before_mark mark text.now ≡ mark ∷ rest.now)
+        (λ left. (left ≡ length (before_mark mark text.now)) × NotFirst mark (before_mark mark text.now)) }
 {
     let text = if mark == b' ' {
         text

@@ -13,7 +13,7 @@ use camelot_values::{Flat, Item, Kind, Types};
 use std::alloc::{AllocError, Global};
 
 // Why a text wasn't read.
-pub(crate) enum Stop {
+pub(crate) enum TextStop {
     Memory,
     // The text is none of values of these kinds; so long is its longest front that begins one.
     At(usize),
@@ -29,15 +29,17 @@ fn follow_mark<'a>(
     mark: u8,
     due: &[Due],
     items: &[Item],
-) -> Result<&'a [u8], Stop>
+) -> Result<&'a [u8], TextStop>
     requires named { AreNamed types.now }
     requires reading { Reading types.now (first_due kinds.now) text.now items.now (MarkDue mark ∷ reverse due.now) rest.now }
     ensures shorter { IfOk result (λ after. length after.now < length rest.now) }
-    ensures reading { MatchResult result (λ after. Reading types.now (first_due kinds.now) text.now items.now (reverse due.now) after.now) (λ stop. IsStop types.now kinds.now text.now stop) }
+    ensures reading { MatchResult result
+        (λ after. Reading types.now (first_due kinds.now) text.now items.now (reverse due.now) after.now)
+        (λ stop. IsStop types.now kinds.now text.now stop) }
 {
     match read_mark(rest, mark) {
         Ok(after) => Ok(after),
-        Err(left) => Err(Stop::At(text.len().saturating_sub(left))),
+        Err(left) => Err(TextStop::At(text.len().saturating_sub(left))),
     }
 }
 
@@ -52,25 +54,27 @@ fn follow_value<'a>(
     kind: Kind,
     due: &mut Vec<Due>,
     items: &mut Vec<Item>,
-) -> Result<&'a [u8], Stop>
+) -> Result<&'a [u8], TextStop>
     requires named { AreNamed types.now }
     requires distinct { DistinctNames types.now }
     requires exact { Exact types.now marks.now }
     requires reading { Reading types.now (first_due kinds.now) text.now items.old.items (Value kind ∷ reverse due.old.items) rest.now }
     ensures shorter { IfOk result (λ after. length after.now < length rest.now) }
-    ensures reading { MatchResult result (λ after. Reading types.now (first_due kinds.now) text.now items.new.items (reverse due.new.items) after.now) (λ stop. IsStop types.now kinds.now text.now stop) }
+    ensures reading { MatchResult result
+        (λ after. Reading types.now (first_due kinds.now) text.now items.new.items (reverse due.new.items) after.now)
+        (λ stop. IsStop types.now kinds.now text.now stop) }
 {
     let node = match read_node(types, marks, kind, rest) {
         Ok(node) => node,
-        Err(left) => return Err(Stop::At(text.len().saturating_sub(left))),
+        Err(left) => return Err(TextStop::At(text.len().saturating_sub(left))),
     };
     match push_parts(due, node.fields) {
         Ok(()) => {}
-        Err(_) => return Err(Stop::Memory),
+        Err(_) => return Err(TextStop::Memory),
     }
     match items.push(node.item) {
         Ok(()) => Ok(node.rest),
-        Err(_) => Err(Stop::Memory),
+        Err(_) => Err(TextStop::Memory),
     }
 }
 
@@ -81,7 +85,7 @@ fn finish(
     text: &[u8],
     rest: &[u8],
     items: Vec<Item>,
-) -> Result<Vec<Item>, Stop>
+) -> Result<Vec<Item>, TextStop>
     requires named { AreNamed types.now }
     requires reading { Reading types.now (first_due kinds.now) text.now items.items [] rest.now }
     ensures { MatchResult result (λ items. Whole types.now (first_due kinds.now) text.now items.items) (λ stop. IsStop types.now kinds.now text.now stop) }
@@ -90,7 +94,7 @@ fn finish(
     if rest.is_empty() {
         Ok(items)
     } else {
-        Err(Stop::At(text.len().saturating_sub(rest.len())))
+        Err(TextStop::At(text.len().saturating_sub(rest.len())))
     }
 }
 
@@ -102,7 +106,7 @@ pub(crate) fn read_items(
     marks: &[bool],
     kinds: &[Kind],
     text: &[u8],
-) -> Result<Vec<Item>, Stop>
+) -> Result<Vec<Item>, TextStop>
     requires named { AreNamed types.now }
     requires distinct { DistinctNames types.now }
     requires exact { Exact types.now marks.now }
@@ -111,7 +115,7 @@ pub(crate) fn read_items(
 {
     let mut due = match start(alloc, kinds) {
         Ok(due) => due,
-        Err(_) => return Err(Stop::Memory),
+        Err(_) => return Err(TextStop::Memory),
     };
     let mut items = Vec::new(alloc);
     let mut rest = text;

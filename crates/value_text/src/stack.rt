@@ -5,7 +5,8 @@ use super::due::Due;
 use camelot_values::Kind;
 use std::alloc::{AllocError, Global};
 
-// Puts a value of each of these kinds but the first on the stack, each behind the mark, so that the first of them is on top.
+// Puts a value of each of these kinds but the first on the stack, each behind the mark, so that the first of them is on
+// top.
 #[tactic(auto, using(crate::proofs::StackSteps::one_lower, crate::proofs::StackSteps::each_start, crate::proofs::StackSteps::each_end))]
 fn push_others(due: &mut Vec<Due>, mark: u8, kinds: &[Kind]) -> Result<(), AllocError>
     ensures { OnOk result (reverse due.new.items ≡ each_due mark (drop 1 kinds.now) ++ reverse due.old.items) }

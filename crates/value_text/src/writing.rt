@@ -65,9 +65,10 @@ fn open(out: &mut Vec<u8>, due: &mut Vec<u8>, parts: u8) -> Result<(), AllocErro
     }
 }
 
-/// The text of a value: an int in decimal, with `-` where it is negative; `true` or `false`; `<>` for a diamond; a constructor by its name,
-/// and where it has parts, these in parentheses with commas between them. There are no spaces. A constructor that isn't there has the empty
-/// name; no value of a kind of these types has one. `AllocError` where memory runs out.
+/// The text of a value: an int in decimal, with `-` where it is negative; `true` or `false`; `<>` for a diamond; a
+/// constructor by its name, and where it has parts, these in parentheses with commas between them. There are no spaces.
+/// A constructor that isn't there has the empty name; no value of a kind of these types has one. `AllocError` where
+/// memory runs out.
 #[tactic(auto, using(crate::proofs::PrintLaws::node_written, crate::proofs::PrintLaws::all_written))]
 pub fn print(alloc: Global, value: &Flat, types: &Types) -> Result<Vec<u8>, AllocError>
     ensures { IfOk result (λ text. text.items ≡ value_text (constructor_name types.now) value.now) }

@@ -1,10 +1,12 @@
 ghost use Rattle.std.specs.Prelude.{◌<◌, length};
 
-use camelot_compiler::{CompileFault, compile, write_bundle};
-use refusals::{Cause, cause_text};
+use camelot_compiler::{compile, write_bundle};
+use cause_texts::{Cause, cause_text};
 use std::io;
+use stops::Stop;
 
-/// Prints the name of the case and what comes of its text. What stands before the first case has no name, and no answer.
+/// Prints the name of the case and what comes of its text. What stands before the first case has no name, and no
+/// answer.
 pub(crate) fn answer(rt: &HostRuntime, name: &str, text: &str) -> io::Result<()> {
     let bytes = text.as_bytes();
     if name == "" {
@@ -22,8 +24,8 @@ fn answer_text(rt: &HostRuntime, text: &[u8]) -> io::Result<()>
 {
     match compile(rt.alloc(), text) {
         Ok(bundle) => print_bytes(rt, &write_bundle(rt.alloc(), &bundle)?),
-        Err(CompileFault::Refused(cause)) => print_cause(rt, &cause),
-        Err(CompileFault::Memory) => println!(rt; "out of memory"),
+        Err(Stop::Fault(cause)) => print_cause(rt, &cause),
+        Err(Stop::Memory) => println!(rt; "out of memory"),
     }
 }
 

@@ -15,6 +15,7 @@ use normal_form::{NormalFault, normalise};
 use std::alloc::{AllocError, Global};
 use std::fmt::Write;
 use std::io;
+use stops::Stop;
 
 /// Prints the name of the case and what comes of it. What stands before the first case has no name, and no answer.
 pub(crate) fn answer(rt: &HostRuntime, case: &Case) -> io::Result<()> {
@@ -46,16 +47,19 @@ fn answer_text(rt: &HostRuntime, case: &Case, text: &[u8]) -> io::Result<()>
     }
 }
 
-/// The code by the two passes, one after the other over the whole program.
-fn by_passes(alloc: Global, linear: &Linear) -> Result<Code, NormalFault> {
+// The code by the two passes, one after the other over the whole program.
+fn by_passes(alloc: Global, linear: &Linear) -> Result<Code, Stop<NormalFault>> {
     law_of_room(linear);
     let normal = normalise(alloc, linear)?;
     let code = generate(alloc, normal)?;
     Ok(code)
 }
 
-/// What the case shows of code, or the fault.
-fn show_answer(alloc: Global, answer: &Result<Code, NormalFault>) -> Result<String, AllocError> {
+// What the case shows of code, or the fault.
+fn show_answer(
+    alloc: Global,
+    answer: &Result<Code, Stop<NormalFault>>,
+) -> Result<String, AllocError> {
     let mut shown = String::new(alloc);
     match answer {
         Ok(code) => {
@@ -95,7 +99,7 @@ fn answer_linear(rt: &HostRuntime, case: &Case, linear: &Linear) -> io::Result<(
     }
 }
 
-/// How many further locals and blocks each function has.
+// How many further locals and blocks each function has.
 fn print_sizes(rt: &HostRuntime, code: &Code) -> io::Result<()> {
     for func in &code.funcs {
         print!(rt;
@@ -108,7 +112,7 @@ fn print_sizes(rt: &HostRuntime, code: &Code) -> io::Result<()> {
     println!(rt; "")
 }
 
-/// The spelling of the code.
+// The spelling of the code.
 fn print_bytes(rt: &HostRuntime, code: &Code) -> io::Result<()>
     requires { FitsCode (code_of code.now) }
 {
@@ -135,7 +139,7 @@ fn print_blocks(rt: &HostRuntime, func: &Func) -> io::Result<()> {
     Ok(())
 }
 
-/// How the run ends that the words tell: the name of a function, the fuel, and numbers.
+// How the run ends that the words tell: the name of a function, the fuel, and numbers.
 fn answer_run(rt: &HostRuntime, code: &Code, words: &str) -> io::Result<()> {
     let words: Vec<&str> = words.split_whitespace().collect(rt.alloc())?;
     match words.as_slice() {

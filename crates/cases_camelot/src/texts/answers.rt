@@ -3,6 +3,7 @@ ghost use Rattle.std.specs.Prelude.{ℕ, ◌<◌, ◌^◌, length};
 use crate::texts::tree::show_program;
 use camelot_syntax::parse;
 use camelot_types::check_program;
+use camelot_typing::Typed;
 use camelot_values::{Kind, Types};
 use case_lines::Case;
 use linear_use::check_use;
@@ -10,9 +11,9 @@ use std::alloc::AllocError;
 use std::fmt::Write;
 use std::io;
 use text_scan::scan;
-use typing_rules::Typed;
 
-/// Prints the name of the case and what is answered to it. What stands before the first case has no head, and no answer.
+/// Prints the name of the case and what is answered to it. What stands before the first case has no head, and no
+/// answer.
 pub(crate) fn answer(rt: &HostRuntime, case: &Case) -> io::Result<()> {
     let text = case.text().as_bytes();
     if case.command() == "" {
@@ -83,8 +84,8 @@ fn answer_check(rt: &HostRuntime, text: &[u8], with_expressions: bool) -> io::Re
     }
 }
 
-/// A line for each function: its name, the kinds of its parameters and of its result, and those of its expressions where
-/// they are wanted.
+// A line for each function: its name, the kinds of its parameters and of its result, and those of its expressions where
+// they are wanted.
 fn print_functions(rt: &HostRuntime, typed: &Typed, with_expressions: bool) -> io::Result<()> {
     for (decl, kinds) in typed.program.funs.iter().zip(&typed.funs) {
         let mut shown = String::new(rt.alloc());

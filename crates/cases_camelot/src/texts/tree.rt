@@ -22,7 +22,7 @@ fn symbol(op: PrimOp) -> &'static str {
     }
 }
 
-/// The pattern of an arm: the constructor, its fields, and what becomes of the cell.
+// The pattern of an arm: the constructor, its fields, and what becomes of the cell.
 fn show_pattern(out: &mut String, arm: &Arm) -> Result<(), AllocError> {
     out.push_str(" | ")?;
     show_name(out, &arm.con)?;

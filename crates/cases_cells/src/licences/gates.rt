@@ -22,8 +22,8 @@ impl Gate for Refuses {
     }
 }
 
-/// Holds job 0 until job 1 has passed, and notes whether it did. Jobs that run on one thread, one after the other, don't
-/// get by before the last look.
+/// Holds job 0 until job 1 has passed, and notes whether it did. Jobs that run on one thread, one after the other,
+/// don't get by before the last look.
 #[derive(Drop)]
 pub(crate) struct Holds {
     second_passed: AtomicBool,

@@ -12,6 +12,7 @@ use grail_verifier::verify;
 use licence::Licence;
 use std::alloc::Global;
 use std::io;
+use stops::Stop;
 use value_text::{ValueFault, read};
 
 /// A run of licensed code.
@@ -36,8 +37,8 @@ pub(crate) fn licence_of(rt: &HostRuntime, code: &[u8], cert: &[u8]) -> io::Resu
             licence.kept();
             Ok(Some(licence))
         }
-        Err(refusal) => {
-            print!(rt; " {refusal}")?;
+        Err(stop) => {
+            print!(rt; " {stop}")?;
             Ok(None)
         }
     }
@@ -49,7 +50,7 @@ pub(crate) fn arguments_of(
     code: &Code,
     entry: u32,
     text: &[u8],
-) -> Result<Vec<Flat>, ValueFault>
+) -> Result<Vec<Flat>, Stop<ValueFault>>
     requires there { entry < length (code_of code.now).funcs }
     requires readable { IsReadable (code_of code.now) }
     requires short { length text.now < 4294967296 }
@@ -58,7 +59,8 @@ pub(crate) fn arguments_of(
     read(alloc, text, &code.types, &code.funcs[entry as usize].params)
 }
 
-/// The run of these bytes as code and certificate, with arguments of this text; where it can't be made, the reason is printed.
+/// The run of these bytes as code and certificate, with arguments of this text; where it can't be made, the reason is
+/// printed.
 pub(crate) fn job_of(
     rt: &HostRuntime,
     code: &[u8],

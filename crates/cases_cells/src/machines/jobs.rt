@@ -49,15 +49,16 @@ fn cells_fit(types: &Types, args: &[Flat], most: u64) -> bool
     }
 }
 
-// Whether so many cells are enough for the arguments and for what the run takes. What it takes is known from its code and fuel, or else
-// from the evaluator.
+// Whether so many cells are enough for the arguments and for what the run takes. What it takes is known from its code
+// and fuel, or else from the evaluator.
 fn is_enough(
     alloc: Global,
     code: &Code,
     numbers: Numbers,
     args: &[Flat],
 ) -> Result<bool, AllocError>
-    ensures { IfOk result (λ enough. IsTrue enough → cells_among (code_of code.now).types args.now + peak_of (run_of (code_of code.now) most_calls numbers.entry numbers.fuel args.now) ≤ numbers.lease) }
+    ensures { IfOk result (λ enough. IsTrue enough → cells_among (code_of code.now).types args.now + peak_of
+        (run_of (code_of code.now) most_calls numbers.entry numbers.fuel args.now) ≤ numbers.lease) }
 {
     let lease = u64::from(numbers.lease);
     if let Some(most) = most_taken(code, numbers.fuel) {

@@ -170,8 +170,8 @@ fn time_runs(rt: &HostRuntime, job: &Job, place: Place, times: u32) -> io::Resul
     sum
 }
 
-/// Makes the run once, so that its memory was used before, and prints how it ends; then so many times more in the same range, and prints the
-/// calls and the nanoseconds of all these, with loading and reading back.
+/// Makes the run once, so that its memory was used before, and prints how it ends; then so many times more in the same
+/// range, and prints the calls and the nanoseconds of all these, with loading and reading back.
 pub(crate) fn answer_time(
     rt: &HostRuntime,
     bytes: &[u8],

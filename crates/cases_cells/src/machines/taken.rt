@@ -72,7 +72,8 @@ fn in_funcs(funcs: &[Func]) -> Option<u64>
     }
 }
 
-/// A bound of the cells that any run of the code takes with so much fuel: a call takes at most one for each let that builds in a new cell.
+/// A bound of the cells that any run of the code takes with so much fuel: a call takes at most one for each let that
+/// builds in a new cell.
 #[tactic(auto, using(crate::proofs::Taking::at_most))]
 pub(crate) fn most_taken(code: &Code, fuel: u64) -> Option<u64>
     ensures { IfSome result (TakesAtMost (code_of code.now) fuel) }

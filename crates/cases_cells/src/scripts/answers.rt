@@ -4,8 +4,9 @@ use case_lines::Judge;
 use job_script::{Entry, ScriptFault, read_script};
 use std::alloc::Global;
 use std::io;
+use stops::Stop;
 
-/// The bytes, or how many there are where they are many.
+// The bytes, or how many there are where they are many.
 fn shown(alloc: Global, bytes: &[u8]) -> io::Result<String> {
     if bytes.len() > 60 {
         return Ok(format!(in alloc; "{} bytes", bytes.len())?);
@@ -13,7 +14,7 @@ fn shown(alloc: Global, bytes: &[u8]) -> io::Result<String> {
     Ok(format!(in alloc; "'{}'", bytes.escape_ascii())?)
 }
 
-/// An entry, as its parts.
+// An entry, as its parts.
 fn shown_entry(alloc: Global, entry: Option<&Entry>) -> io::Result<String> {
     match entry {
         None => Ok(format!(in alloc; "no entry")?),
@@ -39,6 +40,15 @@ fn shown_entry(alloc: Global, entry: Option<&Entry>) -> io::Result<String> {
     }
 }
 
+// What is wrong with a text, and its line.
+fn shown_fault(alloc: Global, fault: ScriptFault) -> io::Result<String> {
+    match fault {
+        ScriptFault::Line { line } => Ok(format!(in alloc; "line {line}")?),
+        ScriptFault::Count { line } => Ok(format!(in alloc; "count {line}")?),
+        ScriptFault::Repeat { line } => Ok(format!(in alloc; "repeat {line}")?),
+    }
+}
+
 /// What the reader says of a text.
 pub(crate) struct Scripts;
 
@@ -55,10 +65,8 @@ impl Judge for Scripts {
                 script.items.len(),
                 shown_entry(alloc, script.items.last())?
             )?),
-            Err(ScriptFault::Line { line }) => Ok(format!(in alloc; "line {line}")?),
-            Err(ScriptFault::Count { line }) => Ok(format!(in alloc; "count {line}")?),
-            Err(ScriptFault::Repeat { line }) => Ok(format!(in alloc; "repeat {line}")?),
-            Err(ScriptFault::Memory) => Ok(format!(in alloc; "memory")?),
+            Err(Stop::Fault(fault)) => shown_fault(alloc, fault),
+            Err(Stop::Memory) => Ok(format!(in alloc; "memory")?),
         }
     }
 }

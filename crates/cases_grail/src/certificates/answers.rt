@@ -4,6 +4,7 @@ use case_lines::Judge;
 use certificate::{CertFault, read_cert, write_cert};
 use std::alloc::Global;
 use std::io;
+use stops::Stop;
 
 /// What the reader says of a text.
 pub(crate) struct Certificates;
@@ -27,9 +28,9 @@ impl Judge for Certificates {
                     cert.funcs().len()
                 )?)
             }
-            Err(CertFault::Line { number }) => Ok(format!(in alloc; "line {number}")?),
-            Err(CertFault::Number { line }) => Ok(format!(in alloc; "number {line}")?),
-            Err(CertFault::Memory) => Ok(format!(in alloc; "memory")?),
+            Err(Stop::Fault(CertFault::Line { number })) => Ok(format!(in alloc; "line {number}")?),
+            Err(Stop::Fault(CertFault::Number { line })) => Ok(format!(in alloc; "number {line}")?),
+            Err(Stop::Memory) => Ok(format!(in alloc; "memory")?),
         }
     }
 }

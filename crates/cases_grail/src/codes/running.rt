@@ -8,7 +8,7 @@ use std::fmt::Write;
 use std::io;
 use std::io::ErrorKind;
 
-/// The value of a word: a number, or a list of numbers as `[1,2]`.
+// The value of a word: a number, or a list of numbers as `[1,2]`.
 fn value_of(alloc: Global, word: &str) -> io::Result<Tree> {
     match word.strip_prefix("[") {
         Some(rest) => list_of(alloc, rest.trim_end_matches("]")),
@@ -23,7 +23,7 @@ fn number_of(word: &str) -> io::Result<Tree> {
     }
 }
 
-/// The list of the numbers of a text, with commas between them.
+// The list of the numbers of a text, with commas between them.
 fn list_of(alloc: Global, text: &str) -> io::Result<Tree> {
     let mut rest = Tree::Con {
         con: 0,
@@ -46,7 +46,7 @@ fn values_of(alloc: Global, words: &[&str]) -> io::Result<Vec<Tree>> {
     Ok(values)
 }
 
-/// A value as it is written in Camelot.
+// A value as it is written in Camelot.
 #[cycle(show)]
 fn show(out: &mut String, types: &Types, value: &Tree) -> Result<(), AllocError> {
     match value {
@@ -98,7 +98,7 @@ fn print_outcome(rt: &HostRuntime, types: &Types, outcome: &Outcome) -> io::Resu
     }
 }
 
-/// The numbers of a run: of its function, its fuel, and how many calls may wait.
+// The numbers of a run: of its function, its fuel, and how many calls may wait.
 fn numbers_of(func: &str, fuel: &str, limit: &str) -> Option<(u32, u64, u64)> {
     let func = func.parse::<u32>().ok()?;
     let fuel = fuel.parse::<u64>().ok()?;

@@ -3,6 +3,7 @@
 use grail_code::{DecodeFault, decode, encode};
 use std::alloc::AllocError;
 use std::io;
+use stops::Stop;
 
 /// The code of the bytes, if they are the spelling of one, and whether it is written as them again.
 pub(crate) fn answer_decode(rt: &HostRuntime, bytes: &[u8]) -> io::Result<()> {
@@ -28,14 +29,14 @@ pub(crate) fn answer_decode(rt: &HostRuntime, bytes: &[u8]) -> io::Result<()> {
 pub(crate) fn answer_fronts(rt: &HostRuntime, bytes: &[u8]) -> io::Result<()> {
     let mut short = 0u32;
     for size in 0..bytes.len() {
-        if decode(rt.alloc(), &bytes[..size]).err() == Some(DecodeFault::Short) {
+        if decode(rt.alloc(), &bytes[..size]).err() == Some(Stop::Fault(DecodeFault::Short)) {
             short = short.saturating_add(1);
         }
     }
     println!(rt; " {short} of {} are short", bytes.len())
 }
 
-/// At how many values of the byte at this place the bytes are the spelling of some code, and are written again.
+// At how many values of the byte at this place the bytes are the spelling of some code, and are written again.
 fn values_at(rt: &HostRuntime, bytes: &[u8], place: usize) -> Result<u32, AllocError> {
     let mut codes = 0u32;
     for value in 0..=255u8 {

@@ -5,7 +5,7 @@ use grail_check::check_code;
 use grail_code::decode;
 use std::io;
 
-/// Prints the constructors that a value of this kind may have somewhere.
+// Prints the constructors that a value of this kind may have somewhere.
 fn print_reached(rt: &HostRuntime, types: &Types, kind: Kind) -> io::Result<()> {
     for number in 0..64 * 64 {
         if types.reaches(kind, number) {

@@ -65,7 +65,7 @@ fn number_of(word: &str) -> io::Result<i64> {
     }
 }
 
-/// The term of a word as `2:-1`: the number of an unknown, and its factor.
+// The term of a word as `2:-1`: the number of an unknown, and its factor.
 fn term_of(word: &str) -> io::Result<Summand> {
     let (unknown, factor) = match word.split_once(":") {
         Some(parts) => parts,

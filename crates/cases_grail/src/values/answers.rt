@@ -6,6 +6,7 @@ use camelot_values::{Flat, Kind, Types};
 use grail_check::check_code;
 use grail_code::decode;
 use std::io;
+use stops::Stop;
 use value_text::{ValueFault, print, read};
 
 /// What of an outcome is printed.
@@ -19,11 +20,11 @@ enum Show {
     Sizes,
 }
 
-fn print_fault(rt: &HostRuntime, fault: ValueFault) -> io::Result<()> {
-    match fault {
-        ValueFault::BadShape { at } => print!(rt; " bad {at}"),
-        ValueFault::TooLong { items } => print!(rt; " long {items}"),
-        ValueFault::Memory => print!(rt; " memory"),
+fn print_stop(rt: &HostRuntime, stop: Stop<ValueFault>) -> io::Result<()> {
+    match stop {
+        Stop::Fault(ValueFault::BadShape { at }) => print!(rt; " bad {at}"),
+        Stop::Fault(ValueFault::TooLong { items }) => print!(rt; " long {items}"),
+        Stop::Memory => print!(rt; " memory"),
     }
 }
 
@@ -50,7 +51,7 @@ fn print_sizes(rt: &HostRuntime, types: &Types, values: &[Flat]) -> io::Result<(
     Ok(())
 }
 
-/// Prints what a text is read as.
+// Prints what a text is read as.
 fn answer_text(
     rt: &HostRuntime,
     types: &Types,
@@ -68,12 +69,12 @@ fn answer_text(
         (Ok(values), Show::Values) => print_values(rt, types, &values),
         (Ok(_), Show::Place) => print!(rt; " ok"),
         (Ok(values), Show::Sizes) => print_sizes(rt, types, &values),
-        (Err(ValueFault::BadShape { at }), Show::Place) => print!(rt; " {at}"),
-        (Err(fault), _) => print_fault(rt, fault),
+        (Err(Stop::Fault(ValueFault::BadShape { at })), Show::Place) => print!(rt; " {at}"),
+        (Err(stop), _) => print_stop(rt, stop),
     }
 }
 
-/// Prints what each front of the text is read as.
+// Prints what each front of the text is read as.
 fn answer_fronts(rt: &HostRuntime, types: &Types, kinds: &[Kind], text: &[u8]) -> io::Result<()>
     requires named { AreNamed types.now }
     requires distinct { DistinctNames types.now }
@@ -84,7 +85,7 @@ fn answer_fronts(rt: &HostRuntime, types: &Types, kinds: &[Kind], text: &[u8]) -
     answer_text(rt, types, kinds, text, Show::Place)
 }
 
-/// Answers a command with a text of values of the table's types and kinds.
+// Answers a command with a text of values of the table's types and kinds.
 fn answer_read(rt: &HostRuntime, table: &Table, text: &[u8], command: &str) -> io::Result<()> {
     let alloc = rt.alloc();
     let code = match decode(alloc, &table.code(alloc)?) {
@@ -102,7 +103,7 @@ fn answer_read(rt: &HostRuntime, table: &Table, text: &[u8], command: &str) -> i
     }
 }
 
-/// The text that has the first part so many times, then the second, and then the third so many times.
+// The text that has the first part so many times, then the second, and then the third so many times.
 fn nested(
     rt: &HostRuntime,
     times: u32,

@@ -18,7 +18,7 @@ pub(crate) struct Table {
     pub(crate) kinds: Vec<Kind>,
 }
 
-/// The number of a kind in code.
+// The number of a kind in code.
 fn number_of(word: &str) -> u8 {
     match word {
         "int" => 0,
@@ -28,7 +28,7 @@ fn number_of(word: &str) -> u8 {
     }
 }
 
-/// The kind of a word.
+// The kind of a word.
 fn kind_of(word: &str) -> Kind {
     match word {
         "int" => Kind::Int,
@@ -38,7 +38,7 @@ fn kind_of(word: &str) -> Kind {
     }
 }
 
-/// Adds a name with its length before it.
+// Adds a name with its length before it.
 fn push_name(out: &mut Vec<u8>, name: &str) -> Result<(), AllocError> {
     out.push(name.len().min(127) as u8)?;
     out.extend_from_slice(name.as_bytes())
@@ -52,7 +52,7 @@ impl Table {
         }
     }
 
-    /// Adds a constructor to the type that was begun last.
+    // Adds a constructor to the type that was begun last.
     fn add_con(
         &mut self,
         alloc: Global,

@@ -56,7 +56,7 @@ fn push_line(text: &mut Vec<u8>, line: &str) -> Result<(), AllocError> {
     Ok(())
 }
 
-/// Adds these lines, where `|` ends one.
+// Adds these lines, where `|` ends one.
 fn push_lines(alloc: Global, text: &mut Vec<u8>, lines: &str) -> io::Result<()> {
     let parts: Vec<&str> = lines.split("|").collect(alloc)?;
     for part in &parts {
@@ -65,7 +65,7 @@ fn push_lines(alloc: Global, text: &mut Vec<u8>, lines: &str) -> io::Result<()> 
     Ok(())
 }
 
-/// The number of a line and what stands in its place; none, where the line is left out.
+// The number of a line and what stands in its place; none, where the line is left out.
 fn edit_of(edit: &str) -> io::Result<(usize, Option<&str>)> {
     let (number, other) = match edit.split_once(" ") {
         Some((number, other)) => (number, Some(other)),

@@ -52,7 +52,8 @@ module _ (ps : Starts) (goes : GoOn ps) (w : Bare) (job : ℕ) (r : Run) (k : Wo
   }
 
   -- another job's
-  other_behind : (xs : List Cell) → length xs ≡ r.size → (j : ℕ) (q : Run) (l : Worker) → (job ≡ j → ⊥) → slice_get w.leases j ≡ Some (Some q) → slice_get w.workers j ≡ Some (Some l) → StandsAlone ps (put_at r.first xs w.cells) j q l
+  other_behind : (xs : List Cell) → length xs ≡ r.size → (j : ℕ) (q : Run) (l : Worker) → (job ≡ j → ⊥) → slice_get w.leases j ≡ Some (Some q)
+      → slice_get w.workers j ≡ Some (Some l) → StandsAlone ps (put_at r.first xs w.cells) j q l
   other_behind xs n j q l ne el ew =
       let a = all j q l el ew in
       record {
@@ -136,7 +137,8 @@ module _ (ps : Starts) (goes : GoOn ps) (w : Bare) (job : ℕ) (r : Run) (k : Wo
 pub step_alone : (ps : Starts) → GoOn ps → (w : Bare) (job : ℕ) → AreAlone ps w → AreApart w → AreAlone ps (bare_step ps w job)
 step_alone ps goes w job all apart = by_worker (slice_get w.workers job) refl (slice_get w.leases job) refl
   where
-    by_worker : (o : Option (Option Worker)) → slice_get w.workers job ≡ o → (l : Option (Option Run)) → slice_get w.leases job ≡ l → AreAlone ps (bare_step_in ps w job o l)
+    by_worker : (o : Option (Option Worker)) → slice_get w.workers job ≡ o → (l : Option (Option Run)) → slice_get w.leases job ≡ l
+        → AreAlone ps (bare_step_in ps w job o l)
     by_worker None e l f = all
     by_worker (Some None) e l f = all
     by_worker (Some (Some k)) e None f = all
@@ -146,7 +148,8 @@ step_alone ps goes w job all apart = by_worker (slice_get w.workers job) refl (s
 -- ---- taking and giving back
 
 -- Behind a job that is taken: its run has as many cells as it is loaded with, and lies apart from the other leases.
-pub take_alone : (ps : Starts) (w : Bare) (job : ℕ) (r : Run) (o : Option Run) (k : Option Worker) → slice_get w.leases job ≡ Some o → slice_get w.workers job ≡ Some k → length (cells_of (ps.machine job)) ≡ r.size → r.first + r.size ≤ length w.cells
+pub take_alone : (ps : Starts) (w : Bare) (job : ℕ) (r : Run) (o : Option Run) (k : Option Worker) → slice_get w.leases job ≡ Some o
+    → slice_get w.workers job ≡ Some k → length (cells_of (ps.machine job)) ≡ r.size → r.first + r.size ≤ length w.cells
     → AreAlone ps w → AreApart (bare_take ps w job r) → AreAlone ps (bare_take ps w job r)
 take_alone ps w job r o k leased working n within all apart j q l el ew = by_job (cases_eq job j)
   where

@@ -17,7 +17,8 @@ use Rattle.lease_desk.specs.theory.Sound.{size_at}
 -- ---- two leases
 
 -- two leases have their cells among those of all
-pub pair_out : (ls : List (Option Run)) (i j : ℕ) (r q : Run) (x : ℕ) → slice_get ls i ≡ Some (Some r) → slice_get ls j ≡ Some (Some q) → (i ≡ j → ⊥) → in_run r x + in_run q x ≤ times_in (leased ls) x
+pub pair_out : (ls : List (Option Run)) (i j : ℕ) (r q : Run) (x : ℕ) → slice_get ls i ≡ Some (Some r) → slice_get ls j ≡ Some (Some q) → (i ≡ j → ⊥)
+    → in_run r x + in_run q x ≤ times_in (leased ls) x
 pair_out [] i j r q x e f ne = let k : None ≡ Some (Some r) = e in absurd cc
 pair_out (o ∷ ls) zero zero r q x e f ne = absurd (ne refl)
 pair_out (None ∷ ls) zero (suc j) r q x e f ne = let k : None ≡ Some r = some_same None (Some r) e in absurd cc
@@ -32,7 +33,8 @@ module _ (arena : ℕ) (sizes : List ℕ) (es : List Event) (s : DeskState) (fit
   some_cells job r e = (size_at arena sizes job r.size fit (k.sized job r e)).0
 
   -- two leases share no cell
-  pub leases_apart : (i j : ℕ) (r q : Run) → slice_get s.leases i ≡ Some (Some r) → slice_get s.leases j ≡ Some (Some q) → (i ≡ j → ⊥) → (q.first + q.size ≤ r.first) ⊎ (r.first + r.size ≤ q.first)
+  pub leases_apart : (i j : ℕ) (r q : Run) → slice_get s.leases i ≡ Some (Some r) → slice_get s.leases j ≡ Some (Some q) → (i ≡ j → ⊥)
+      → (q.first + q.size ≤ r.first) ⊎ (r.first + r.size ≤ q.first)
   leases_apart i j r q e f ne = apart_runs q r (some_cells j q f) (some_cells i r e) (λ x. omega (arith, pair_out s.leases i j r q x e f ne, k.cells x, at_most_one (run 0 arena) x))
 
   -- a lease lies in the arena
@@ -62,7 +64,8 @@ pub record Waits (s : DeskState) (m : Move) : Type 0 where
 pub next_tells : (sizes : List ℕ) (s : DeskState) (m : Move) → next_move sizes s ≡ Some m → Takes sizes s m ⊎ Waits s m
 next_tells sizes s m e = by_size (slice_get sizes s.asked) refl e
   where
-    by_taken : (size : ℕ) → slice_get sizes s.asked ≡ Some size → (o : Option Taken) → take_run s.holes size ≡ o → asked_for s s.asked size o ≡ m → Takes sizes s m ⊎ Waits s m
+    by_taken : (size : ℕ) → slice_get sizes s.asked ≡ Some size → (o : Option Taken) → take_run s.holes size ≡ o → asked_for s s.asked size o ≡ m
+        → Takes sizes s m ⊎ Waits s m
     by_taken size is None t same = inr (record { job = s.asked; need = size; largest = largest s.holes; event_is = ap (λ (m : Move). m.event) (sym same); leases = ap (λ (m : Move). m.state.leases) (sym same) })
     by_taken size is (Some t) took same = inl (record {
       job = s.asked;
@@ -74,7 +77,8 @@ next_tells sizes s m e = by_size (slice_get sizes s.asked) refl e
       fits = (taken_of s.holes size t took).sized;
     })
 
-    by_size : (o : Option ℕ) → slice_get sizes s.asked ≡ o → option_map (λ size. asked_for s s.asked size (take_run s.holes size)) o ≡ Some m → Takes sizes s m ⊎ Waits s m
+    by_size : (o : Option ℕ) → slice_get sizes s.asked ≡ o → option_map (λ size. asked_for s s.asked size (take_run s.holes size)) o ≡ Some m
+        → Takes sizes s m ⊎ Waits s m
     by_size None is k = absurd cc
     by_size (Some size) is k = by_taken size is (take_run s.holes size) refl (some_same (asked_for s s.asked size (take_run s.holes size)) m k)
 
@@ -86,7 +90,8 @@ pub record TakesLeft (sizes : List ℕ) (s : DeskState) (m : Move) : Type 0 wher
 pub left_tells : (sizes : List ℕ) (s : DeskState) (m : Move) → left_move sizes s ≡ Some m → TakesLeft sizes s m
 left_tells sizes s m e = by_test (s.asked == length sizes) refl (is_none_out s.leases) e
   where
-    by_taken : (job size : ℕ) (ws : List ℕ) → slice_get sizes job ≡ Some size → (o : Option Taken) → take_run s.holes size ≡ o → option_map (λ t. move (event.Took job t.run.first size) (took_left s ws job t)) o ≡ Some m → Takes sizes s m
+    by_taken : (job size : ℕ) (ws : List ℕ) → slice_get sizes job ≡ Some size → (o : Option Taken) → take_run s.holes size ≡ o
+        → option_map (λ t. move (event.Took job t.run.first size) (took_left s ws job t)) o ≡ Some m → Takes sizes s m
     by_taken job size ws is None t k = absurd cc
     by_taken job size ws is (Some t) took k =
         let same : move (event.Took job t.run.first size) (took_left s ws job t) ≡ m = some_same (move (event.Took job t.run.first size) (took_left s ws job t)) m k in

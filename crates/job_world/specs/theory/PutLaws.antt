@@ -23,7 +23,8 @@ over_rest [] (y ∷ ys) more e = absurd (omega (arith, e))
 over_rest (x ∷ xs) [] more e = absurd (omega (arith, e))
 over_rest (x ∷ xs) (y ∷ ys) more e = ap (λ l. x ∷ l) (over_rest xs ys more (omega (arith, e)))
 
-pub put_rest : {A : Type 0} (first : ℕ) (xs ys more whole : List A) → drop first whole ≡ ys ++ more → length xs ≡ length ys → put_at first (xs ++ more) whole ≡ put_at first xs whole
+pub put_rest : {A : Type 0} (first : ℕ) (xs ys more whole : List A) → drop first whole ≡ ys ++ more → length xs ≡ length ys
+    → put_at first (xs ++ more) whole ≡ put_at first xs whole
 put_rest zero xs ys more whole e n = ap (over_first (xs ++ more)) e ∙ over_rest xs ys more n ∙ sym (ap (over_first xs) e)
 put_rest (suc first) xs ys more [] e n = refl
 put_rest (suc first) xs ys more (w ∷ whole) e n = ap (λ l. w ∷ l) (put_rest first xs ys more whole e n)
@@ -40,7 +41,8 @@ put_here (suc first) xs [] h = absurd (omega (arith, h))
 put_here (suc first) xs (w ∷ whole) h = put_here first xs whole (omega (arith, h))
 
 -- before and behind all stays
-pub put_before : {A : Type 0} (first from size : ℕ) (xs whole : List A) → from + size ≤ first → take size (drop from (put_at first xs whole)) ≡ take size (drop from whole)
+pub put_before : {A : Type 0} (first from size : ℕ) (xs whole : List A) → from + size ≤ first
+    → take size (drop from (put_at first xs whole)) ≡ take size (drop from whole)
 put_before first zero zero xs whole h = refl
 put_before zero zero (suc size) xs whole h = absurd (omega (arith, h))
 put_before (suc first) zero (suc size) xs [] h = refl
@@ -62,7 +64,8 @@ put_behind (suc first) (suc from) xs [] h = refl
 put_behind (suc first) (suc from) xs (w ∷ whole) h = put_behind first from xs whole (omega (arith, h))
 
 -- a run that lies apart has the cells that it had
-pub put_apart : {A : Type 0} (first from size : ℕ) (xs whole : List A) → (from + size ≤ first) ⊎ (first + length xs ≤ from) → take size (drop from (put_at first xs whole)) ≡ take size (drop from whole)
+pub put_apart : {A : Type 0} (first from size : ℕ) (xs whole : List A) → (from + size ≤ first) ⊎ (first + length xs ≤ from)
+    → take size (drop from (put_at first xs whole)) ≡ take size (drop from whole)
 put_apart first from size xs whole (inl h) = put_before first from size xs whole h
 put_apart first from size xs whole (inr h) = ap (take size) (put_behind first from xs whole h)
 
@@ -83,7 +86,8 @@ over_get (x ∷ xs) [] (suc i) h = refl
 over_get (x ∷ xs) (w ∷ whole) (suc i) h = over_get xs whole i (omega (arith, h))
 
 -- each item outside stays
-pub put_get : {A : Type 0} (first : ℕ) (xs whole : List A) (i : ℕ) → (i < first) ⊎ (first + length xs ≤ i) → slice_get (put_at first xs whole) i ≡ slice_get whole i
+pub put_get : {A : Type 0} (first : ℕ) (xs whole : List A) (i : ℕ) → (i < first) ⊎ (first + length xs ≤ i)
+    → slice_get (put_at first xs whole) i ≡ slice_get whole i
 put_get zero xs whole i (inl h) = absurd (omega (arith, h))
 put_get zero xs whole i (inr h) = over_get xs whole i (omega (arith, h))
 put_get (suc first) xs [] i h = refl
@@ -129,7 +133,8 @@ pub record StepsSame (p : Code) (first size : ℕ) (whole : List Cell) (k : Core
   pub core : core_of other ≡ core_of m
   pub cells : put_at first (cells_of other) whole ≡ put_at first (cells_of m) whole
 
-pub steps_same : (p : Code) (first size : ℕ) (whole : List Cell) (k : Core) (m : Machine) → first + size ≤ length whole → one_step p (machine_of (take size (drop first whole)) k) ≡ Some m → length (cells_of m) ≡ size
+pub steps_same : (p : Code) (first size : ℕ) (whole : List Cell) (k : Core) (m : Machine) → first + size ≤ length whole
+    → one_step p (machine_of (take size (drop first whole)) k) ≡ Some m → length (cells_of m) ≡ size
     → StepsSame p first size whole k m
 steps_same p first size whole k m h e n =
     let more = drop size (drop first whole) in

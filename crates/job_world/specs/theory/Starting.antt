@@ -69,7 +69,8 @@ pub run_is : {ps : Planned} {job : ℕ} (q : PlanAt ps job) → job_run ps job �
 unfolding job_run
 run_is {ps} {job} q = ap (run_at ps.licences) q.is ∙ ap (λ o. run_with o q.plan) q.licence_is
 
-pub cells_are : {ps : Planned} {job : ℕ} (q : PlanAt ps job) → job_cells ps job ≡ cells_of (planned_state q.licence q.plan.entry q.func q.plan.args q.plan.fuel q.plan.lease (steps_a_call * q.plan.fuel))
+pub cells_are : {ps : Planned} {job : ℕ} (q : PlanAt ps job)
+    → job_cells ps job ≡ cells_of (planned_state q.licence q.plan.entry q.func q.plan.args q.plan.fuel q.plan.lease (steps_a_call * q.plan.fuel))
 unfolding job_cells
 cells_are {ps} {job} q = ap (cells_at ps.licences) q.is ∙ ap (λ o. cells_with o q.plan) q.licence_is ∙ ap (plans.cells_of q.licence q.plan) q.func_is
 
@@ -110,7 +111,8 @@ none_begins ps job is = ap (start_at ps.licences) is
 pub goes_on : (ps : Planned) → AreFit ps → GoOn (starts_of ps)
 goes_on ps fit job count s e = by_plan (slice_get ps.plans job) refl
   where
-    by_plan : (o : Option Plan) → slice_get ps.plans job ≡ o → (n : Machine) × (step (code_or (start_of ps job)) most_calls s ≡ Some n) × (length (cells_of n) ≡ length s.cells)
+    by_plan : (o : Option Plan) → slice_get ps.plans job ≡ o
+        → (n : Machine) × (step (code_or (start_of ps job)) most_calls s ≡ Some n) × (length (cells_of n) ≡ length s.cells)
     by_plan None is =
         let over : lone_or (start_of ps job) count ≡ Over (record { cells = []; end = OutOfFuel; calls = 0; peak = 0; low = 0 }) = ap (λ o. lone_or o count) (none_begins ps job is) ∙ over_stays (record { types = []; funcs = [] }) most_calls count (record { cells = []; end = OutOfFuel; calls = 0; peak = 0; low = 0 }) in
         let k : Running s ≡ Over (record { cells = []; end = OutOfFuel; calls = 0; peak = 0; low = 0 }) = sym e ∙ over in absurd cc

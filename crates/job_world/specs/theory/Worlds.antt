@@ -107,14 +107,17 @@ module _ (arena : ℕ) (ps : Planned) (can : Holds arena ps) (w : World) (k : Is
   pub step_holds : (job : ℕ) → IsWorld arena ps (after_step ps w job)
   step_holds job = by_start (start_of ps job) refl (slice_get w.workers job) refl (slice_get w.desk.leases job) refl
     where
-      still_working : (q x : Worker) → slice_get w.workers job ≡ Some (Some q) → (j : ℕ) (r : Run) → slice_get w.desk.leases j ≡ Some (Some r) → (y : Worker) × (slice_get (slice_set w.workers job (Some x)) j ≡ Some (Some y))
+      still_working : (q x : Worker) → slice_get w.workers job ≡ Some (Some q) → (j : ℕ) (r : Run) → slice_get w.desk.leases j ≡ Some (Some r)
+          → (y : Worker) × (slice_get (slice_set w.workers job (Some x)) j ≡ Some (Some y))
       still_working q x f j r e = by_job (cases_eq job j) (k.working j r e)
         where
-          by_job : (job ≡ j) ⊎ (job ≡ j → ⊥) → ((y : Worker) × (slice_get w.workers j ≡ Some (Some y))) → (y : Worker) × (slice_get (slice_set w.workers job (Some x)) j ≡ Some (Some y))
+          by_job : (job ≡ j) ⊎ (job ≡ j → ⊥) → ((y : Worker) × (slice_get w.workers j ≡ Some (Some y)))
+              → (y : Worker) × (slice_get (slice_set w.workers job (Some x)) j ≡ Some (Some y))
           by_job (inl same) y = (x, sym (ap (slice_get (slice_set w.workers job (Some x))) same) ∙ set_here w.workers job (Some x) (Some q) f)
           by_job (inr ne) y = (y.0, set_there w.workers job j (Some x) ne ∙ y.1)
 
-      by_step : (r : Run) (q : Worker) → slice_get w.workers job ≡ Some (Some q) → (o : Option Machine) → AreAlone (starts_of ps) (bare_stepped (bare w) job r.first q o) → IsWorld arena ps (stepped w job r.first q o)
+      by_step : (r : Run) (q : Worker) → slice_get w.workers job ≡ Some (Some q) → (o : Option Machine)
+          → AreAlone (starts_of ps) (bare_stepped (bare w) job r.first q o) → IsWorld arena ps (stepped w job r.first q o)
       by_step r q f None h = k
       by_step r q f (Some m) h = record {
         many = put_length r.first (cells_of m) w.cells ∙ k.many;
@@ -126,7 +129,8 @@ module _ (arena : ℕ) (ps : Planned) (can : Holds arena ps) (w : World) (k : Is
         filed = k.filed;
       }
 
-      by_start : (o : Option Start) → start_of ps job ≡ o → (v : Option (Option Worker)) → slice_get w.workers job ≡ v → (l : Option (Option Run)) → slice_get w.desk.leases job ≡ l → IsWorld arena ps (step_in w job o v l)
+      by_start : (o : Option Start) → start_of ps job ≡ o → (v : Option (Option Worker)) → slice_get w.workers job ≡ v → (l : Option (Option Run))
+          → slice_get w.desk.leases job ≡ l → IsWorld arena ps (step_in w job o v l)
       by_start None e v f l g = k
       by_start (Some s) e None f l g = k
       by_start (Some s) e (Some None) f l g = k
@@ -141,10 +145,12 @@ module _ (arena : ℕ) (ps : Planned) (can : Holds arena ps) (w : World) (k : Is
 
   -- ---- asking
 
-  behind_move : (m : Move) → after_event (leases_of ps.plans) w.desk m.event ≡ Some m.state → IsSound arena (leases_of ps.plans) (w.journal ++ m.event ∷ []) m.state
+  behind_move : (m : Move) → after_event (leases_of ps.plans) w.desk m.event ≡ Some m.state
+      → IsSound arena (leases_of ps.plans) (w.journal ++ m.event ∷ []) m.state
   behind_move m to = sound_behind arena (leases_of ps.plans) (w.journal ++ m.event ∷ []) m.state can.some can.sizes (replay_more arena (leases_of ps.plans) w.journal w.desk m.state m.event k.replayed to)
 
-  waits_holds : (m : Move) → after_event (leases_of ps.plans) w.desk m.event ≡ Some m.state → Waits w.desk m → IsWorld arena ps (told ps (worlds.moved w m) m.event)
+  waits_holds : (m : Move) → after_event (leases_of ps.plans) w.desk m.event ≡ Some m.state → Waits w.desk m
+      → IsWorld arena ps (told ps (worlds.moved w m) m.event)
   waits_holds m to t =
       subst (λ e. IsWorld arena ps (told ps (worlds.moved w m) e)) (sym t.event_is)
       (record {
@@ -157,7 +163,8 @@ module _ (arena : ℕ) (ps : Planned) (can : Holds arena ps) (w : World) (k : Is
         filed = k.filed;
       })
 
-  takes_holds : (m : Move) → after_event (leases_of ps.plans) w.desk m.event ≡ Some m.state → Takes (leases_of ps.plans) w.desk m → IsWorld arena ps (told ps (worlds.moved w m) m.event)
+  takes_holds : (m : Move) → after_event (leases_of ps.plans) w.desk m.event ≡ Some m.state → Takes (leases_of ps.plans) w.desk m
+      → IsWorld arena ps (told ps (worlds.moved w m) m.event)
   takes_holds m to t =
       subst (λ e. IsWorld arena ps (told ps (worlds.moved w m) e)) (sym t.event_is)
       (subst (λ o. IsWorld arena ps (loaded (worlds.moved w m) t.job t.run.first o)) (sym (start_is q.0))
@@ -206,7 +213,8 @@ module _ (arena : ℕ) (ps : Planned) (can : Holds arena ps) (w : World) (k : Is
           subst (λ l. AreAlone (starts_of ps) (record { cells = put_at t.run.first (begins q.0).begins.cells w.cells; leases = l; workers = slice_set w.workers t.job (Some first) })) (sym t.leases)
           (subst (λ o. AreAlone (starts_of ps) (record { cells = put_at t.run.first (cells_of (machine_or o)) w.cells; leases = slice_set w.desk.leases t.job (Some t.run); workers = slice_set w.workers t.job (Some (record { core = core_of (machine_or o); count = 0 })) })) (start_is q.0) taken_alone)
 
-      now_working : (j : ℕ) (r : Run) → slice_get m.state.leases j ≡ Some (Some r) → (y : Worker) × (slice_get (slice_set w.workers t.job (Some first)) j ≡ Some (Some y))
+      now_working : (j : ℕ) (r : Run) → slice_get m.state.leases j ≡ Some (Some r)
+          → (y : Worker) × (slice_get (slice_set w.workers t.job (Some first)) j ≡ Some (Some y))
       now_working j r e = by_job (cases_eq t.job j)
         where
           by_job : (t.job ≡ j) ⊎ (t.job ≡ j → ⊥) → (y : Worker) × (slice_get (slice_set w.workers t.job (Some first)) j ≡ Some (Some y))
@@ -218,11 +226,13 @@ module _ (arena : ℕ) (ps : Planned) (can : Holds arena ps) (w : World) (k : Is
   pub next_holds : IsWorld arena ps (worlds.after_next ps w)
   next_holds = by_next (next_move (leases_of ps.plans) w.desk) refl (left_move (leases_of ps.plans) w.desk) refl
     where
-      by_told : (m : Move) → next_move (leases_of ps.plans) w.desk ≡ Some m → Takes (leases_of ps.plans) w.desk m ⊎ Waits w.desk m → IsWorld arena ps (told ps (worlds.moved w m) m.event)
+      by_told : (m : Move) → next_move (leases_of ps.plans) w.desk ≡ Some m → Takes (leases_of ps.plans) w.desk m ⊎ Waits w.desk m
+          → IsWorld arena ps (told ps (worlds.moved w m) m.event)
       by_told m e (inl t) = takes_holds m (after_next (leases_of ps.plans) w.desk m.event m.state e) t
       by_told m e (inr t) = waits_holds m (after_next (leases_of ps.plans) w.desk m.event m.state e) t
 
-      by_next : (o : Option Move) → next_move (leases_of ps.plans) w.desk ≡ o → (p : Option Move) → left_move (leases_of ps.plans) w.desk ≡ p → IsWorld arena ps (gone_on ps w (either_move o p))
+      by_next : (o : Option Move) → next_move (leases_of ps.plans) w.desk ≡ o → (p : Option Move) → left_move (leases_of ps.plans) w.desk ≡ p
+          → IsWorld arena ps (gone_on ps w (either_move o p))
       by_next None e None f = k
       by_next None e (Some m) f =
           let t = left_tells (leases_of ps.plans) w.desk m f in
@@ -281,10 +291,12 @@ module _ (arena : ℕ) (ps : Planned) (can : Holds arena ps) (w : World) (k : Is
       size_is : length (begins q.0).begins.cells ≡ t.size
       size_is = (runs q.0).size 0 ∙ q.1
 
-      outside : (index : ℕ) → (t.run.first ≤ index → index < t.run.first + t.size → ⊥) → (index < t.run.first) ⊎ (t.run.first + length (begins q.0).begins.cells ≤ index)
+      outside : (index : ℕ) → (t.run.first ≤ index → index < t.run.first + t.size → ⊥)
+          → (index < t.run.first) ⊎ (t.run.first + length (begins q.0).begins.cells ≤ index)
       outside index out = by_first (cases_lt index t.run.first) (cases_lt index (t.run.first + t.size))
         where
-          by_first : (index < t.run.first) ⊎ (t.run.first ≤ index) → (index < t.run.first + t.size) ⊎ (t.run.first + t.size ≤ index) → (index < t.run.first) ⊎ (t.run.first + length (begins q.0).begins.cells ≤ index)
+          by_first : (index < t.run.first) ⊎ (t.run.first ≤ index) → (index < t.run.first + t.size) ⊎ (t.run.first + t.size ≤ index)
+              → (index < t.run.first) ⊎ (t.run.first + length (begins q.0).begins.cells ≤ index)
           by_first (inl h) j = inl h
           by_first (inr h) (inl j) = absurd (out h j)
           by_first (inr h) (inr j) = inr (omega (arith, j, size_is))
@@ -299,7 +311,8 @@ module _ (arena : ℕ) (ps : Planned) (can : Holds arena ps) (w : World) (k : Is
       by_first n (inl t) = takes_asked n t
       by_first n (inr t) = waits_asked n t
 
-      by_next : (o : Option Move) → next_move (leases_of ps.plans) w.desk ≡ o → (p : Option Move) → left_move (leases_of ps.plans) w.desk ≡ p → either_move o p ≡ Some m → HasAsked ps w (gone_on ps w (either_move o p)) m
+      by_next : (o : Option Move) → next_move (leases_of ps.plans) w.desk ≡ o → (p : Option Move) → left_move (leases_of ps.plans) w.desk ≡ p
+          → either_move o p ≡ Some m → HasAsked ps w (gone_on ps w (either_move o p)) m
       by_next None e None f is = let none : None ≡ Some m = is in absurd cc
       by_next None e (Some n) f is = by_told n (some_same n m is) (takes_asked n (left_tells (leases_of ps.plans) w.desk n f).takes)
       by_next (Some n) e p f is = by_told n (some_same n m is) (by_first n (next_tells (leases_of ps.plans) w.desk n e))
@@ -339,7 +352,8 @@ module _ (arena : ℕ) (ps : Planned) (can : Holds arena ps) (w : World) (k : Is
               let z : None ≡ Some s = some_same None (Some s) (sym (set_here w.desk.leases job None (Some r) g) ∙ ap (slice_get (slice_set w.desk.leases job None)) same ∙ is) in
               absurd cc
 
-          now_working : (j : ℕ) (s : Run) → slice_get (slice_set w.desk.leases job None) j ≡ Some (Some s) → (y : Worker) × (slice_get (slice_set w.workers job None) j ≡ Some (Some y))
+          now_working : (j : ℕ) (s : Run) → slice_get (slice_set w.desk.leases job None) j ≡ Some (Some s)
+              → (y : Worker) × (slice_get (slice_set w.workers job None) j ≡ Some (Some y))
           now_working j s is =
               let ne = not_given j s is in
               let y = k.working j s (sym (set_there w.desk.leases job j None ne) ∙ is) in
@@ -354,7 +368,8 @@ module _ (arena : ℕ) (ps : Planned) (can : Holds arena ps) (w : World) (k : Is
                   subst (λ n. EndsAlone ps n h) same (subst (EndsAlone ps job) one (ends_alone ps job q.count final p.0 over))
               by_job (inr ne) = k.filed j h (sym (set_there w.filed job j (Some final) ne) ∙ is)
 
-      by_worker : (v : Option (Option Worker)) → slice_get w.workers job ≡ v → (l : Option (Option Run)) → slice_get w.desk.leases job ≡ l → IsWorld arena ps (give_in w job v l)
+      by_worker : (v : Option (Option Worker)) → slice_get w.workers job ≡ v → (l : Option (Option Run)) → slice_get w.desk.leases job ≡ l
+          → IsWorld arena ps (give_in w job v l)
       by_worker None f l g = k
       by_worker (Some None) f l g = k
       by_worker (Some (Some q)) f None g = k
@@ -387,7 +402,8 @@ some_cell licences p fit = by_licence (slice_get licences p.licence) fit.plan
     by_licence None h = absurd h
     by_licence (Some l) h = omega (arith, h.lease)
 
-sizes_hold : (arena : ℕ) (licences : List Licensed) (plans : List Plan) → AllByRecursion (IsFit licences) plans → AllByRecursion (λ p. p.lease ≤ arena) plans → AreSizes arena (leases_of plans)
+sizes_hold : (arena : ℕ) (licences : List Licensed) (plans : List Plan) → AllByRecursion (IsFit licences) plans
+    → AllByRecursion (λ p. p.lease ≤ arena) plans → AreSizes arena (leases_of plans)
 sizes_hold arena licences [] fit h = fit
 sizes_hold arena licences (p ∷ plans) fit h = ((some_cell licences p fit.0, h.0), sizes_hold arena licences plans fit.1 h.1)
 
@@ -425,10 +441,12 @@ pub world_stays : (arena : ℕ) (ps : Planned) (events : List WorldEvent) → ps
 unfolding world
 world_stays arena ps events none = behind_first arena ps events none
 
-pub none_out : (arena : ℕ) (ps : Planned) (events : List WorldEvent) (job : ℕ) (r : Run) → ps.plans ≡ [] → slice_get (world arena ps events).desk.leases job ≡ Some (Some r) → ⊥
+pub none_out : (arena : ℕ) (ps : Planned) (events : List WorldEvent) (job : ℕ) (r : Run) → ps.plans ≡ []
+    → slice_get (world arena ps events).desk.leases job ≡ Some (Some r) → ⊥
 none_out arena ps events job r none e = none_there (length (leases_of ps.plans)) job r (sym (ap (λ (w : World). slice_get w.desk.leases job) (world_stays arena ps events none)) ∙ e)
 
-pub none_filed : (arena : ℕ) (ps : Planned) (events : List WorldEvent) (job : ℕ) (f : Final) → ps.plans ≡ [] → slice_get (world arena ps events).filed job ≡ Some (Some f) → ⊥
+pub none_filed : (arena : ℕ) (ps : Planned) (events : List WorldEvent) (job : ℕ) (f : Final) → ps.plans ≡ []
+    → slice_get (world arena ps events).filed job ≡ Some (Some f) → ⊥
 none_filed arena ps events job f none e = none_there (length ps.plans) job f (sym (ap (λ (w : World). slice_get w.filed job) (world_stays arena ps events none)) ∙ e)
 
 pub none_asked : (arena : ℕ) (ps : Planned) (events : List WorldEvent) (m : Move) → ps.plans ≡ [] → move_of ps (world arena ps events) ≡ Some m → ⊥

@@ -15,7 +15,8 @@ use Rattle.lease_desk.specs.Progress.{one_if, gave_times}
 use Rattle.hole_list.specs.PlacingLaws.{in_yes, some_same}
 use Rattle.hole_list.specs.HolesLaws.{OfCells, OfAll, given_all}
 
-behind_more : (filed : FiledCells) (i : ℕ) (known : Option Cell) (es : List Event) (e : Event) → cell_behind filed i known (es ++ e ∷ []) ≡ cell_after filed i (cell_behind filed i known es) e
+behind_more : (filed : FiledCells) (i : ℕ) (known : Option Cell) (es : List Event) (e : Event)
+    → cell_behind filed i known (es ++ e ∷ []) ≡ cell_after filed i (cell_behind filed i known es) e
 behind_more filed i known [] e = refl
 behind_more filed i known (f ∷ es) e = behind_more filed i (cell_after filed i known f) es e
 
@@ -25,7 +26,8 @@ unfolding filed_cell
 filed_more filed es e i = behind_more filed i (Some blank) es e
 
 -- what other jobs filed doesn't matter
-behind_same : (filed other : FiledCells) (i : ℕ) (known : Option Cell) (es : List Event) → ((job : ℕ) → 1 ≤ gave_times job es → filed job ≡ other job) → cell_behind filed i known es ≡ cell_behind other i known es
+behind_same : (filed other : FiledCells) (i : ℕ) (known : Option Cell) (es : List Event)
+    → ((job : ℕ) → 1 ≤ gave_times job es → filed job ≡ other job) → cell_behind filed i known es ≡ cell_behind other i known es
 behind_same filed other i known [] k = refl
 behind_same filed other i known (event.Took job first size ∷ es) k = behind_same filed other i known es (λ j m. k j (omega (arith, m)))
 behind_same filed other i known (event.Full job need most ∷ es) k = behind_same filed other i known es (λ j m. k j (omega (arith, m)))
@@ -35,7 +37,8 @@ behind_same filed other i known (event.Gave job first size ∷ es) k =
     ap (λ (cells : Option (List Cell)). cell_behind filed i (if nat_le first i && nat_lt i (first + size) then cell_of cells (i - first) else known) es) same
     ∙ behind_same filed other i (cell_after other i known (event.Gave job first size)) es (λ j m. k j (omega (arith, m)))
 
-pub filed_same : (filed other : FiledCells) (es : List Event) (i : ℕ) → ((job : ℕ) → 1 ≤ gave_times job es → filed job ≡ other job) → filed_cell filed es i ≡ filed_cell other es i
+pub filed_same : (filed other : FiledCells) (es : List Event) (i : ℕ) → ((job : ℕ) → 1 ≤ gave_times job es → filed job ≡ other job)
+    → filed_cell filed es i ≡ filed_cell other es i
 unfolding filed_cell
 filed_same filed other es i k = behind_same filed other i (Some blank) es k
 
@@ -67,7 +70,8 @@ from_all P [] l = tt
 from_all P (h ∷ hs) l = (l.0, from_all P hs l.1)
 
 -- what holds of each cell of holes
-pub each_cell : (P Q : ℕ → Cell → Type 0) (hs : List Range) → ((i : ℕ) (cell : Cell) → 1 ≤ times_in (map run_of hs) i → P i cell → Q i cell) → AllByRecursion (OfCells P) hs → AllByRecursion (OfCells Q) hs
+pub each_cell : (P Q : ℕ → Cell → Type 0) (hs : List Range) → ((i : ℕ) (cell : Cell) → 1 ≤ times_in (map run_of hs) i → P i cell → Q i cell)
+    → AllByRecursion (OfCells P) hs → AllByRecursion (OfCells Q) hs
 each_cell P Q [] k l = tt
 each_cell P Q (h ∷ hs) k l = (
   λ at cell e. k (h.first + at) cell
@@ -116,6 +120,7 @@ all_given filed other es job r hs same is once l =
         ∙ ap (λ (b : Bool). if b then cell_of (other job) ((r.first + at) - r.first) else filed_cell other es (r.first + at)) (inside r.first (length r.cells) (r.first + at) (omega arith) (omega (arith, k)))
         ∙ ap (λ n. cell_of (other job) n) (let q : (r.first + at) - r.first ≡ at = omega arith in q)
 
-    by_filed : (at : ℕ) (cell : Cell) → slice_get r.cells at ≡ Some cell → (other job ≡ None) ⊎ (other job ≡ Some r.cells) → IsKnownAs (cell_of (other job) at) cell
+    by_filed : (at : ℕ) (cell : Cell) → slice_get r.cells at ≡ Some cell → (other job ≡ None) ⊎ (other job ≡ Some r.cells)
+        → IsKnownAs (cell_of (other job) at) cell
     by_filed at cell e (inl none) = subst (λ (o : Option (List Cell)). IsKnownAs (cell_of o at) cell) (sym none) tt
     by_filed at cell e (inr some) = subst (λ (o : Option (List Cell)). IsKnownAs (cell_of o at) cell) (sym some) (subst (λ (o : Option Cell). IsKnownAs o cell) (sym e) refl)

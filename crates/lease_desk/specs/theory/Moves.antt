@@ -55,7 +55,8 @@ unfolding after_event
 moved sizes s e t is = by_three (as_told e (next_move sizes s)) (as_told e (left_move sizes s)) (as_told e (give_move s (job_of e)))
     (λ k. next (told_same e (next_move sizes s) t k)) (λ k. left (told_same e (left_move sizes s) t k)) (λ k. back (job_of e) (told_same e (give_move s (job_of e)) t k)) is
   where
-    by_three : (a b c : Option DeskState) → (a ≡ Some t → Moves sizes s (move e t)) → (b ≡ Some t → Moves sizes s (move e t)) → (c ≡ Some t → Moves sizes s (move e t))
+    by_three : (a b c : Option DeskState) → (a ≡ Some t → Moves sizes s (move e t)) → (b ≡ Some t → Moves sizes s (move e t))
+        → (c ≡ Some t → Moves sizes s (move e t))
         → or_else a (or_else b c) ≡ Some t → Moves sizes s (move e t)
     by_three (Some x) b c f g h is = f is
     by_three None (Some x) c f g h is = g is
@@ -68,7 +69,8 @@ after_next sizes s e t is = ap (λ o. or_else o (or_else (as_told e (left_move s
 none_left : (sizes : List ℕ) (s : DeskState) → s.asked ≡ length sizes → next_move sizes s ≡ None
 none_left sizes s all = ap (option_map (λ size. asked_for s s.asked size (take_run s.holes size))) (slice_get_past sizes s.asked (omega (arith, all)))
 
-pub after_left : (sizes : List ℕ) (s : DeskState) (e : Event) (t : DeskState) → s.asked ≡ length sizes → left_move sizes s ≡ Some (move e t) → after_event sizes s e ≡ Some t
+pub after_left : (sizes : List ℕ) (s : DeskState) (e : Event) (t : DeskState) → s.asked ≡ length sizes → left_move sizes s ≡ Some (move e t)
+    → after_event sizes s e ≡ Some t
 unfolding after_event
 after_left sizes s e t all is =
     ap (λ o. or_else (as_told e o) (or_else (as_told e (left_move sizes s)) (as_told e (give_move s (job_of e))))) (none_left sizes s all)
@@ -89,7 +91,8 @@ next_not_gave sizes s job first size = by_size (slice_get sizes s.asked)
 left_not_gave : (sizes : List ℕ) (s : DeskState) (job first size : ℕ) → as_told (event.Gave job first size) (left_move sizes s) ≡ None
 left_not_gave sizes s job first size = by_test ((s.asked == length sizes) && is_none_out s.leases) (by_waiting s.waiting)
   where
-    by_taken : (ws : List ℕ) (j n : ℕ) (o : Option Taken) → as_told (event.Gave job first size) (option_map (λ t. move (event.Took j t.run.first n) (took_left s ws j t)) o) ≡ None
+    by_taken : (ws : List ℕ) (j n : ℕ) (o : Option Taken)
+        → as_told (event.Gave job first size) (option_map (λ t. move (event.Took j t.run.first n) (took_left s ws j t)) o) ≡ None
     by_taken ws j n None = refl
     by_taken ws j n (Some t) = refl
 
@@ -101,11 +104,13 @@ left_not_gave sizes s job first size = by_test ((s.asked == length sizes) && is_
     by_waiting [] = refl
     by_waiting (j ∷ ws) = by_size ws j (slice_get sizes j)
 
-    by_test : (b : Bool) → as_told (event.Gave job first size) (first_left sizes s s.waiting) ≡ None → as_told (event.Gave job first size) (if b then first_left sizes s s.waiting else None) ≡ None
+    by_test : (b : Bool) → as_told (event.Gave job first size) (first_left sizes s s.waiting) ≡ None
+        → as_told (event.Gave job first size) (if b then first_left sizes s s.waiting else None) ≡ None
     by_test true k = k
     by_test false k = refl
 
-pub after_back : (sizes : List ℕ) (s : DeskState) (job : ℕ) (r : Run) → slice_get s.leases job ≡ Some (Some r) → after_event sizes s (event.Gave job r.first r.size) ≡ Some (gave s job r)
+pub after_back : (sizes : List ℕ) (s : DeskState) (job : ℕ) (r : Run) → slice_get s.leases job ≡ Some (Some r)
+    → after_event sizes s (event.Gave job r.first r.size) ≡ Some (gave s job r)
 unfolding after_event
 after_back sizes s job r is =
     ap (λ o. or_else o (or_else (as_told (event.Gave job r.first r.size) (left_move sizes s)) (as_told (event.Gave job r.first r.size) (give_move s job)))) (next_not_gave sizes s job r.first r.size)

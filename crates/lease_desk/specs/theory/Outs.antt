@@ -27,7 +27,8 @@ copies_with : (q : Run) (rs : List Run) (r : Run) → copies q (with_run rs r) �
 copies_with q [] r = omega arith
 copies_with q (s ∷ ss) r = by_test (nat_lt r.first s.first) (copies_with q ss r)
   where
-    by_test : (b : Bool) → copies q (with_run ss r) ≡ copies q ss + one_same q r → copies q (if b then r ∷ s ∷ ss else s ∷ with_run ss r) ≡ (one_same q s + copies q ss) + one_same q r
+    by_test : (b : Bool) → copies q (with_run ss r) ≡ copies q ss + one_same q r
+        → copies q (if b then r ∷ s ∷ ss else s ∷ with_run ss r) ≡ (one_same q s + copies q ss) + one_same q r
     by_test true k = omega arith
     by_test false k = omega (arith, k)
 
@@ -65,7 +66,8 @@ leased_at [] r k = absurd (omega (arith, k))
 leased_at (None ∷ ls) r k = let q = leased_at ls r k in (suc q.0, q.1)
 leased_at (Some s ∷ ls) r k = by_same (one_same r s) refl (λ m. leased_at ls r m)
   where
-    by_same : (n : ℕ) → one_same r s ≡ n → (1 ≤ copies r (leased ls) → (job : ℕ) × (slice_get ls job ≡ Some (Some r))) → (job : ℕ) × (slice_get (Some s ∷ ls) job ≡ Some (Some r))
+    by_same : (n : ℕ) → one_same r s ≡ n → (1 ≤ copies r (leased ls) → (job : ℕ) × (slice_get ls job ≡ Some (Some r)))
+        → (job : ℕ) × (slice_get (Some s ∷ ls) job ≡ Some (Some r))
     by_same zero e go = let q = go (omega (arith, k, e)) in (suc q.0, q.1)
     by_same (suc n) e go = (0, ap (λ (x : Run). Some (Some x)) (sym (same_run r s (omega (arith, e)))))
 
@@ -78,7 +80,8 @@ copy_cells (s ∷ ss) r i k = by_same (one_same r s) refl (λ m. copy_cells ss r
     by_same (suc n) e go = omega (arith, ap (λ x. in_run x i) (same_run r s (omega (arith, e))))
 
 -- runs with cells, no cell of which is in two, begin at different cells
-same_first : (rs : List Run) (r s : Run) → 1 ≤ copies r rs → 1 ≤ copies s rs → r.first ≡ s.first → 1 ≤ r.size → 1 ≤ s.size → ((i : ℕ) → times_in rs i ≤ 1) → r ≡ s
+same_first : (rs : List Run) (r s : Run) → 1 ≤ copies r rs → 1 ≤ copies s rs → r.first ≡ s.first → 1 ≤ r.size → 1 ≤ s.size
+    → ((i : ℕ) → times_in rs i ≤ 1) → r ≡ s
 same_first [] r s k l e a b once = absurd (omega (arith, k))
 same_first (q ∷ qs) r s k l e a b once = by_both (one_same r q) (one_same s q) refl refl (λ m n o. same_first qs r s m n e a b o)
   where
@@ -112,7 +115,8 @@ without_same (s ∷ ss) r k only = by_test (s.first == r.first) refl (λ m o. wi
   where
     by_test : (b : Bool) → (s.first == r.first) ≡ b
         → (1 ≤ copies r ss → ((t : Run) → 1 ≤ copies t ss → t.first ≡ r.first → t ≡ r) → ((q : Run) → copies q (without_run ss r.first) + one_same q r ≡ copies q ss) × (length (without_run ss r.first) + 1 ≡ length ss))
-        → ((q : Run) → copies q (if b then ss else s ∷ without_run ss r.first) + one_same q r ≡ one_same q s + copies q ss) × (length (if b then ss else s ∷ without_run ss r.first) + 1 ≡ suc (length ss))
+        → ((q : Run) → copies q (if b then ss else s ∷ without_run ss r.first) + one_same q r ≡ one_same q s + copies q ss)
+        × (length (if b then ss else s ∷ without_run ss r.first) + 1 ≡ suc (length ss))
     by_test true e go =
         let same : s ≡ r = only s (omega (arith, same_itself s)) (grind arith) in
         (λ q. omega (arith, ap (one_same q) same), omega arith)

@@ -144,7 +144,8 @@ module _ (arena : ℕ) (sizes : List ℕ) (es : List Event) (s : DeskState) (k :
         few = omega (arith, k.few, out_length_is s.asked t.run n.0, length-append es (event.Took s.asked t.run.first size ∷ []));
       }
     where
-      by_once : (job : ℕ) → (slice_get s.leases s.asked ≡ Some None) × (times_at s.asked s.waiting ≡ 0) × (gave_times s.asked es ≡ 0) × (took_times s.asked es ≡ 0) → s.asked < length s.leases
+      by_once : (job : ℕ) → (slice_get s.leases s.asked ≡ Some None) × (times_at s.asked s.waiting ≡ 0) × (gave_times s.asked es ≡ 0)
+          × (took_times s.asked es ≡ 0) → s.asked < length s.leases
           → (s.asked ≡ job) ⊎ ((s.asked ≡ job) → ⊥)
           → times_at job s.waiting + one_out (slice_get (slice_set s.leases s.asked (Some t.run)) job) + gave_times job (es ++ event.Took s.asked t.run.first size ∷ []) ≡ one_if (nat_lt job (suc s.asked))
       by_once job n within (inl here) =
@@ -153,7 +154,8 @@ module _ (arena : ℕ) (sizes : List ℕ) (es : List Event) (s : DeskState) (k :
       by_once job n within (inr there) =
           omega (arith, k.once job, gave_more job es (event.Took s.asked t.run.first size), ap one_out (set_there s.leases s.asked job (Some t.run) there), asked_else s.asked job there)
 
-      by_took : (job : ℕ) → (slice_get s.leases s.asked ≡ Some None) × (times_at s.asked s.waiting ≡ 0) × (gave_times s.asked es ≡ 0) × (took_times s.asked es ≡ 0)
+      by_took : (job : ℕ) → (slice_get s.leases s.asked ≡ Some None) × (times_at s.asked s.waiting ≡ 0) × (gave_times s.asked es ≡ 0)
+          × (took_times s.asked es ≡ 0)
           → (s.asked ≡ job) ⊎ ((s.asked ≡ job) → ⊥) → times_at job s.waiting + took_times job (es ++ event.Took s.asked t.run.first size ∷ []) ≡ one_if (nat_lt job (suc s.asked))
       by_took job n (inl here) =
           subst (λ j. times_at j s.waiting + took_times j (es ++ event.Took s.asked t.run.first size ∷ []) ≡ one_if (nat_lt j (suc s.asked)))
@@ -222,7 +224,8 @@ module _ (arena : ℕ) (sizes : List ℕ) (es : List Event) (s : DeskState) (k :
         few = omega (arith, k.few, ap (λ (js : List ℕ). length js) e, out_length_is job t.run n.1, length-append es (event.Took job t.run.first size ∷ []));
       }
     where
-      by_once : (j : ℕ) → (job < s.asked) × (slice_get s.leases job ≡ Some None) × (times_at job ws ≡ 0) × (gave_times job es ≡ 0) × (took_times job es ≡ 0) → job < length s.leases
+      by_once : (j : ℕ) → (job < s.asked) × (slice_get s.leases job ≡ Some None) × (times_at job ws ≡ 0) × (gave_times job es ≡ 0)
+          × (took_times job es ≡ 0) → job < length s.leases
           → (job ≡ j) ⊎ ((job ≡ j) → ⊥)
           → times_at j ws + one_out (slice_get (slice_set s.leases job (Some t.run)) j) + gave_times j (es ++ event.Took job t.run.first size ∷ []) ≡ one_if (nat_lt j s.asked)
       by_once j n within (inl here) =
@@ -261,7 +264,8 @@ module _ (arena : ℕ) (sizes : List ℕ) (es : List Event) (s : DeskState) (k :
         few = omega (arith, k.few, sum_back (λ q. 1) s.leases job r e, sum_length (leased s.leases), sum_length (leased (slice_set s.leases job None)), length-append es (event.Gave job r.first r.size ∷ []));
       }
     where
-      by_sized : (j : ℕ) (q : Run) → slice_get (slice_set s.leases job None) j ≡ Some (Some q) → job < length s.leases → (job ≡ j) ⊎ ((job ≡ j) → ⊥) → slice_get sizes j ≡ Some q.size
+      by_sized : (j : ℕ) (q : Run) → slice_get (slice_set s.leases job None) j ≡ Some (Some q) → job < length s.leases → (job ≡ j) ⊎ ((job ≡ j) → ⊥)
+          → slice_get sizes j ≡ Some q.size
       by_sized j q is within (inl here) =
           absurd (let z : None ≡ Some q = some_same None (Some q) (sym (set_here s.leases job None within) ∙ subst (λ n. slice_get (slice_set s.leases job None) n ≡ Some (Some q)) (sym here) is) in grind arith)
       by_sized j q is within (inr there) = k.sized j q (sym (set_there s.leases job j None there) ∙ is)
@@ -306,11 +310,13 @@ module _ (arena : ℕ) (sizes : List ℕ) (es : List Event) (s : DeskState) (k :
   by_next : (m : Move) → next_move sizes s ≡ Some m → IsSound arena sizes (es ++ m.event ∷ []) m.state
   by_next m e = by_size (slice_get sizes s.asked) refl e
     where
-      by_taken : (size : ℕ) → slice_get sizes s.asked ≡ Some size → (o : Option Taken) → take_run s.holes size ≡ o → asked_for s s.asked size o ≡ m → IsSound arena sizes (es ++ m.event ∷ []) m.state
+      by_taken : (size : ℕ) → slice_get sizes s.asked ≡ Some size → (o : Option Taken) → take_run s.holes size ≡ o → asked_for s s.asked size o ≡ m
+          → IsSound arena sizes (es ++ m.event ∷ []) m.state
       by_taken size is None fits e = subst (λ (n : Move). IsSound arena sizes (es ++ n.event ∷ []) n.state) e (sound_full arena sizes es s k size (largest s.holes) is)
       by_taken size is (Some t) fits e = subst (λ (n : Move). IsSound arena sizes (es ++ n.event ∷ []) n.state) e (sound_took arena sizes es s k size t is fits a)
 
-      by_size : (o : Option ℕ) → slice_get sizes s.asked ≡ o → option_map (λ size. asked_for s s.asked size (take_run s.holes size)) o ≡ Some m → IsSound arena sizes (es ++ m.event ∷ []) m.state
+      by_size : (o : Option ℕ) → slice_get sizes s.asked ≡ o → option_map (λ size. asked_for s s.asked size (take_run s.holes size)) o ≡ Some m
+          → IsSound arena sizes (es ++ m.event ∷ []) m.state
       by_size None is e = absurd (grind arith)
       by_size (Some size) is e = by_taken size is (take_run s.holes size) refl (some_same (asked_for s s.asked size (take_run s.holes size)) m e)
 
@@ -318,13 +324,15 @@ module _ (arena : ℕ) (sizes : List ℕ) (es : List Event) (s : DeskState) (k :
   by_left m e = by_test ((s.asked == length sizes) && is_none_out s.leases) e
     where
       by_taken : (job : ℕ) (ws : List ℕ) (size : ℕ) → s.waiting ≡ job ∷ ws → slice_get sizes job ≡ Some size → (o : Option Taken) → take_run s.holes size ≡ o
-          → option_map (λ (t : Taken). move (event.Took job t.run.first size) (took_left s ws job t)) o ≡ Some m → IsSound arena sizes (es ++ m.event ∷ []) m.state
+          → option_map (λ (t : Taken). move (event.Took job t.run.first size) (took_left s ws job t)) o ≡ Some m
+          → IsSound arena sizes (es ++ m.event ∷ []) m.state
       by_taken job ws size w is None fits e = absurd (grind arith)
       by_taken job ws size w is (Some t) fits e =
           subst (λ (n : Move). IsSound arena sizes (es ++ n.event ∷ []) n.state) (some_same (move (event.Took job t.run.first size) (took_left s ws job t)) m e)
           (sound_left arena sizes es s k job size ws t w is fits)
 
-      by_size : (job : ℕ) (ws : List ℕ) → s.waiting ≡ job ∷ ws → (o : Option ℕ) → slice_get sizes job ≡ o → left_with s ws job o ≡ Some m → IsSound arena sizes (es ++ m.event ∷ []) m.state
+      by_size : (job : ℕ) (ws : List ℕ) → s.waiting ≡ job ∷ ws → (o : Option ℕ) → slice_get sizes job ≡ o → left_with s ws job o ≡ Some m
+          → IsSound arena sizes (es ++ m.event ∷ []) m.state
       by_size job ws w None is e = absurd (grind arith)
       by_size job ws w (Some size) is e = by_taken job ws size w is (take_run s.holes size) refl e
 
@@ -350,7 +358,8 @@ module _ (arena : ℕ) (sizes : List ℕ) (es : List Event) (s : DeskState) (k :
   sound_move m (left e) = by_left m e
   sound_move m (back job e) = by_back m job e
 
-sound_on : (arena : ℕ) (sizes : List ℕ) (s t : DeskState) (done es : List Event) → AreSizes arena sizes → IsSound arena sizes done s → after_events sizes (Some s) es ≡ Some t
+sound_on : (arena : ℕ) (sizes : List ℕ) (s t : DeskState) (done es : List Event) → AreSizes arena sizes → IsSound arena sizes done s
+    → after_events sizes (Some s) es ≡ Some t
     → IsSound arena sizes (done ++ es) t
 sound_on arena sizes s t done [] a k e =
     subst (λ (js : List Event). IsSound arena sizes js t) (sym (append-nil done)) (subst (λ (x : DeskState). IsSound arena sizes done x) (some_same s t e) k)
@@ -363,7 +372,8 @@ sound_on arena sizes s t done (f ∷ es) a k e = by_one (after_event sizes s f) 
     by_one (Some v) is go e =
         subst (λ (js : List Event). IsSound arena sizes js t) (append_assoc done (f ∷ []) es) (go v (sound_move arena sizes done s k a (move f v) (moved sizes s f v is)) e)
 
-pub sound_behind : (arena : ℕ) (sizes : List ℕ) (es : List Event) (s : DeskState) → 1 ≤ arena → AreSizes arena sizes → replay arena sizes es ≡ Some s → IsSound arena sizes es s
+pub sound_behind : (arena : ℕ) (sizes : List ℕ) (es : List Event) (s : DeskState) → 1 ≤ arena → AreSizes arena sizes → replay arena sizes es ≡ Some s
+    → IsSound arena sizes es s
 unfolding replay
 sound_behind arena sizes es s some a e = sound_on arena sizes (opened arena (length sizes)) s [] es a (sound_first arena sizes some) e
 
@@ -382,10 +392,12 @@ pub gave_once : (arena : ℕ) (sizes : List ℕ) (es : List Event) (s : DeskStat
 gave_once arena sizes es s job k = omega (arith, k.once job, one_at_most s.asked job)
 
 -- where no lease is out, the arena is one hole, so that each job fits
-pub none_out_one : (arena : ℕ) (sizes : List ℕ) (es : List Event) (s : DeskState) → 1 ≤ arena → IsSound arena sizes es s → leased s.leases ≡ [] → s.holes ≡ run 0 arena ∷ []
+pub none_out_one : (arena : ℕ) (sizes : List ℕ) (es : List Event) (s : DeskState) → 1 ≤ arena → IsSound arena sizes es s → leased s.leases ≡ []
+    → s.holes ≡ run 0 arena ∷ []
 none_out_one arena sizes es s some k none = one_hole (run 0 arena) s.holes some k.apart (λ i. omega (arith, k.cells i, ap (λ (rs : List Run). times_in rs i) none))
 
-pub left_fits : (arena : ℕ) (sizes : List ℕ) (es : List Event) (s : DeskState) (job size : ℕ) → 1 ≤ arena → IsSound arena sizes es s → AreSizes arena sizes → leased s.leases ≡ []
+pub left_fits : (arena : ℕ) (sizes : List ℕ) (es : List Event) (s : DeskState) (job size : ℕ) → 1 ≤ arena → IsSound arena sizes es s
+    → AreSizes arena sizes → leased s.leases ≡ []
     → slice_get sizes job ≡ Some size → take_run s.holes size ≡ None → ⊥
 left_fits arena sizes es s job size some k a none is fits =
     let z = size_at arena sizes job size a is in

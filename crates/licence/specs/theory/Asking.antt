@@ -19,7 +19,8 @@ each_locals asked [] = refl
 each_locals asked (x ∷ xs) = ap (λ ys. x ∷ ys) (each_locals asked xs)
 
 -- of all arguments, where there are as many as parameters
-pub arguments_locals : {A : Type 0} (param : Carried A) (f : Func) (number : ℕ) (kinds : List Kind) (args : List ℕ) → HaveKinds f args kinds → locals_of (arguments_asks param number (length kinds) args) ≡ args
+pub arguments_locals : {A : Type 0} (param : Carried A) (f : Func) (number : ℕ) (kinds : List Kind) (args : List ℕ) → HaveKinds f args kinds
+    → locals_of (arguments_asks param number (length kinds) args) ≡ args
 arguments_locals param f number [] [] h = refl
 arguments_locals param f number [] (x ∷ xs) h = absurd cc
 arguments_locals param f number (q ∷ qs) [] h = refl
@@ -39,7 +40,8 @@ pub each_asked : {A : Type 0} (P : Units A → Type 0) (asked : Carried A) → (
 each_asked P asked h [] = tt
 each_asked P asked h (x ∷ xs) = (h x, each_asked P asked h xs)
 
-pub arguments_asked : {A : Type 0} (P : Units A → Type 0) (param : Carried A) → ((x : ℕ) → P (param x)) → (number count : ℕ) (args : List ℕ) → AllAsked P (arguments_asks param number count args)
+pub arguments_asked : {A : Type 0} (P : Units A → Type 0) (param : Carried A) → ((x : ℕ) → P (param x)) → (number count : ℕ) (args : List ℕ)
+    → AllAsked P (arguments_asks param number count args)
 arguments_asked P param h number zero args = tt
 arguments_asked P param h number (suc count) [] = tt
 arguments_asked P param h number (suc count) (x ∷ xs) = (h number, arguments_asked P param h (suc number) count xs)
@@ -57,7 +59,8 @@ pub each_like : {A B : Type 0} (R : Units A → Units B → Type 0) (asked : Car
 each_like R asked other h [] = tt
 each_like R asked other h (x ∷ xs) = (refl, h x, each_like R asked other h xs)
 
-pub arguments_like : {A B : Type 0} (R : Units A → Units B → Type 0) (param : Carried A) (other : Carried B) → ((x : ℕ) → R (param x) (other x)) → (number count : ℕ) (args : List ℕ)
+pub arguments_like : {A B : Type 0} (R : Units A → Units B → Type 0) (param : Carried A) (other : Carried B) → ((x : ℕ) → R (param x) (other x))
+    → (number count : ℕ) (args : List ℕ)
     → AreLike R (arguments_asks param number count args) (arguments_asks other number count args)
 arguments_like R param other h number zero args = tt
 arguments_like R param other h number (suc count) [] = tt

@@ -42,7 +42,8 @@ local_there types f env x h = by_value (env x) h
     by_value (Some v) g = below_of (local_kinds f) x (λ q. Fits types q v) g
 
 -- what a local of a kind that needs no cell holds carries nothing
-plain_local : (types : List DataType) (f : Func) (env : Locals) (x : ℕ) (units : Units ℕ) → AreTypes types → Holds types f env x → is_owned types f x ≡ false → value_units types units (env x) ≡ 0
+plain_local : (types : List DataType) (f : Func) (env : Locals) (x : ℕ) (units : Units ℕ) → AreTypes types → Holds types f env x
+    → is_owned types f x ≡ false → value_units types units (env x) ≡ 0
 plain_local types f env x units well h plain = by_value (env x) h
   where
     by_kind : (v : Value) (o : Option Kind) → option_map_or (is_heap types) o false ≡ false → IsSomeAnd o (λ q. Fits types q v) → potential types units v ≡ 0
@@ -68,7 +69,8 @@ use_total types f s env carried x well held ready = by_heap (is_owned types f x)
     kept y true = omega arith
     kept y false = omega arith
 
-    by_heap : (b : Bool) → is_owned types f x ≡ b → total types f (use_of (is_owned types f) s x) env carried + value_units types (carried x) (env x) ≤ total types f s env carried
+    by_heap : (b : Bool) → is_owned types f x ≡ b
+        → total types f (use_of (is_owned types f) s x) env carried + value_units types (carried x) (env x) ≤ total types f s env carried
     by_heap true e =
         sum_less_at (local_units types (use_of (is_owned types f) s x) env carried) (local_units types s env carried) x (value_units types (carried x) (env x)) (length (local_kinds f)) there
         (λ y apart. kept y ((x == y) && is_owned types f x)) spent
@@ -93,15 +95,18 @@ asked_units types env [] = 0
 asked_units types env (a ∷ asks) = value_units types a.1 (env a.0) + asked_units types env asks
 
 -- where a local carries what is asked of it, its value carries as much
-asked_of_local : (types : List DataType) (f : Func) (env : Locals) (carried : Carried ℕ) (x : ℕ) (asked : Units ℕ) → Holds types f env x → Carries types f carried x asked
+asked_of_local : (types : List DataType) (f : Func) (env : Locals) (carried : Carried ℕ) (x : ℕ) (asked : Units ℕ) → Holds types f env x
+    → Carries types f carried x asked
     → value_units types asked (env x) ≤ value_units types (carried x) (env x)
 asked_of_local types f env carried x asked h c = by_value (env x) h
   where
-    by_kind : (v : Value) (o : Option Kind) → IfSome o (λ q. AtLeast types q (carried x) asked) → IsSomeAnd o (λ q. Fits types q v) → potential types asked v ≤ potential types (carried x) v
+    by_kind : (v : Value) (o : Option Kind) → IfSome o (λ q. AtLeast types q (carried x) asked) → IsSomeAnd o (λ q. Fits types q v)
+        → potential types asked v ≤ potential types (carried x) v
     by_kind v None a g = absurd g
     by_kind v (Some q) a g = potential_at_least types q (carried x) asked a v g
 
-    by_value : (o : Option Value) → IsSomeAnd o (λ v. IsSomeAnd (kind_of f x) (λ q. Fits types q v)) → value_units types asked o ≤ value_units types (carried x) o
+    by_value : (o : Option Value) → IsSomeAnd o (λ v. IsSomeAnd (kind_of f x) (λ q. Fits types q v))
+        → value_units types asked o ≤ value_units types (carried x) o
     by_value None g = absurd g
     by_value (Some v) g = by_kind v (kind_of f x) c g
 
@@ -109,13 +114,15 @@ asked_of_local types f env carried x asked h c = by_value (env x) h
 abbrev pub AllHold : List DataType → Func → Locals → List ℕ → Type 0
 AllHold types f env xs = AllByRecursion (Holds types f env) xs
 
-pub all_held : (types : List DataType) (f : Func) (s : State) (env : Locals) (xs : List ℕ) → LocalsFit types f s env → AreReady (is_owned types f) s (map Use xs) → AllHold types f env xs
+pub all_held : (types : List DataType) (f : Func) (s : State) (env : Locals) (xs : List ℕ) → LocalsFit types f s env
+    → AreReady (is_owned types f) s (map Use xs) → AllHold types f env xs
 all_held types f s env [] fit r = tt
 all_held types f s env (x ∷ xs) fit r =
     (fit.holds x r.0, all_held types f (use_of (is_owned types f) s x) env xs (fit_used types f (is_owned types f) s (x ∷ []) env fit) r.1)
 
 -- uses of all locals that something is asked of
-asks_total : (types : List DataType) (f : Func) (s : State) (env : Locals) (carried : Carried ℕ) (asks : Asks ℕ) → AreTypes types → AllHold types f env (locals_of asks)
+asks_total : (types : List DataType) (f : Func) (s : State) (env : Locals) (carried : Carried ℕ) (asks : Asks ℕ) → AreTypes types
+    → AllHold types f env (locals_of asks)
     → AreReady (is_owned types f) s (map Use (locals_of asks)) → AllCarry types f carried asks
     → total types f (after (is_owned types f) s (map Use (locals_of asks))) env carried + asked_units types env asks ≤ total types f s env carried
 asks_total types f s env carried [] well held r all = omega arith
@@ -126,7 +133,8 @@ asks_total types f s env carried (a ∷ asks) well held r all =
     omega (arith, one, enough, rest)
 
 -- uses of just the locals that something is asked of
-pub uses_total : (types : List DataType) (f : Func) (s : State) (env : Locals) (carried : Carried ℕ) (xs : List ℕ) (asks : Asks ℕ) → locals_of asks ≡ xs → AreTypes types → AllHold types f env xs
+pub uses_total : (types : List DataType) (f : Func) (s : State) (env : Locals) (carried : Carried ℕ) (xs : List ℕ) (asks : Asks ℕ)
+    → locals_of asks ≡ xs → AreTypes types → AllHold types f env xs
     → AreReady (is_owned types f) s (map Use xs) → AllCarry types f carried asks
     → total types f (after (is_owned types f) s (map Use xs)) env carried + asked_units types env asks ≤ total types f s env carried
 uses_total types f s env carried xs asks of_these well =
@@ -135,11 +143,13 @@ uses_total types f s env carried xs asks of_these well =
     (asks_total types f s env carried asks well)
 
 -- uses leave no more
-pub no_more : (types : List DataType) (f : Func) (s : State) (env : Locals) (carried : Carried ℕ) (xs : List ℕ) → AreTypes types → LocalsFit types f s env → AreReady (is_owned types f) s (map Use xs)
+pub no_more : (types : List DataType) (f : Func) (s : State) (env : Locals) (carried : Carried ℕ) (xs : List ℕ) → AreTypes types
+    → LocalsFit types f s env → AreReady (is_owned types f) s (map Use xs)
     → total types f (after (is_owned types f) s (map Use xs)) env carried ≤ total types f s env carried
 no_more types f s env carried xs well fit r = each s xs (all_held types f s env xs fit r) r
   where
-    each : (u : State) (ys : List ℕ) → AllHold types f env ys → AreReady (is_owned types f) u (map Use ys) → total types f (after (is_owned types f) u (map Use ys)) env carried ≤ total types f u env carried
+    each : (u : State) (ys : List ℕ) → AllHold types f env ys → AreReady (is_owned types f) u (map Use ys)
+        → total types f (after (is_owned types f) u (map Use ys)) env carried ≤ total types f u env carried
     each u [] held ready = omega arith
     each u (y ∷ ys) held ready =
         let one = use_total types f u env carried y well held.0 ready.0 in
@@ -147,7 +157,8 @@ no_more types f s env carried xs well fit r = each s xs (all_held types f s env 
         omega (arith, one, rest)
 
 -- What arguments carry is asked of them.
-pub arguments_units : (types : List DataType) (env : Locals) (param : Carried ℕ) (number : ℕ) (kinds : List Kind) (xs : List ℕ) (vs : List Value) → ArgumentsFit types kinds vs → values_of env xs ≡ Some vs
+pub arguments_units : (types : List DataType) (env : Locals) (param : Carried ℕ) (number : ℕ) (kinds : List Kind) (xs : List ℕ) (vs : List Value)
+    → ArgumentsFit types kinds vs → values_of env xs ≡ Some vs
     → arguments_carry types param number vs ≤ asked_units types env (arguments_asks param number (length kinds) xs)
 arguments_units types env param number kinds xs [] fit e = omega arith
 arguments_units types env param number [] xs (v ∷ vs) fit e = absurd fit
@@ -169,12 +180,14 @@ arguments_units types env param number (q ∷ qs) (x ∷ xs) (v ∷ vs) fit e = 
         omega (arith, rest, one)
 
 -- What parts carry is asked of them.
-pub parts_units : (types : List DataType) (env : Locals) (units : Units ℕ) (xs : List ℕ) (vs : List Value) → values_of env xs ≡ Some vs → potential_all types units (parts vs) ≤ asked_units types env (map (λ x. (x, units)) xs)
+pub parts_units : (types : List DataType) (env : Locals) (units : Units ℕ) (xs : List ℕ) (vs : List Value) → values_of env xs ≡ Some vs
+    → potential_all types units (parts vs) ≤ asked_units types env (map (λ x. (x, units)) xs)
 parts_units types env units [] vs e = let none : [] ≡ vs = cc in subst (λ us. potential_all types units (parts us) ≤ 0) none (omega arith)
 parts_units types env units (x ∷ xs) vs e = by_value (parts_units types env units xs) (env x) refl (values_of env xs) refl e
   where
     by_value : ((us : List Value) → values_of env xs ≡ Some us → potential_all types units (parts us) ≤ asked_units types env (map (λ y. (y, units)) xs))
-        → (o : Option Value) → env x ≡ o → (l : Option (List Value)) → values_of env xs ≡ l → in_front o l ≡ Some vs → potential_all types units (parts vs) ≤ value_units types units (env x) + asked_units types env (map (λ y. (y, units)) xs)
+        → (o : Option Value) → env x ≡ o → (l : Option (List Value)) → values_of env xs ≡ l → in_front o l ≡ Some vs
+        → potential_all types units (parts vs) ≤ value_units types units (env x) + asked_units types env (map (λ y. (y, units)) xs)
     by_value rec None here l there k = let c : None ≡ Some vs = k in absurd cc
     by_value rec (Some v) here None there k = let c : None ≡ Some vs = k in absurd cc
     by_value rec (Some v) here (Some us) there k =
@@ -195,7 +208,8 @@ params_total types f h s env carried (x ∷ xs) =
     omega (arith, one, rest)
 
 -- narrowing to other locals leaves no more
-pub narrowed_asked : (types : List DataType) (env : Locals) (params : List ℕ) (asks : Asks ℕ) → asked_units types (narrowed params env) asks ≤ asked_units types env asks
+pub narrowed_asked : (types : List DataType) (env : Locals) (params : List ℕ) (asks : Asks ℕ)
+    → asked_units types (narrowed params env) asks ≤ asked_units types env asks
 narrowed_asked types env params [] = omega arith
 narrowed_asked types env params (a ∷ asks) = let rest = narrowed_asked types env params asks in let one = by_test (list_any (λ p. p == a.0) params) in omega (arith, rest, one)
   where

@@ -47,7 +47,8 @@ in_parts (x ∷ xs) ys c h = by_front (in_parts xs ys c) h.before h.parts h.good
     onward (inl k) good = inl (record { before = x ∷ k.before; after = k.after; parts = ap (λ rest. x ∷ rest) k.parts; good = (good, k.good); wrong = k.wrong })
     onward (inr (all, k)) good = inr ((good, all), k)
 
-    by_front : (FirstFails (xs ++ ys) c → FirstFails xs c ⊎ (AllHold xs × FirstFails ys c)) → (front : List (Check ℤ)) → x ∷ (xs ++ ys) ≡ front ++ c ∷ h.after → AllHold front → FirstFails (x ∷ xs) c ⊎ (AllHold (x ∷ xs) × FirstFails ys c)
+    by_front : (FirstFails (xs ++ ys) c → FirstFails xs c ⊎ (AllHold xs × FirstFails ys c)) → (front : List (Check ℤ))
+        → x ∷ (xs ++ ys) ≡ front ++ c ∷ h.after → AllHold front → FirstFails (x ∷ xs) c ⊎ (AllHold (x ∷ xs) × FirstFails ys c)
     by_front further [] e good = let same : x ≡ c = head_is x c (xs ++ ys) h.after e in inl (record { before = []; after = xs; parts = ap (λ k. k ∷ xs) same; good = tt; wrong = h.wrong })
     by_front further (y ∷ front) e good = let same : x ≡ y = head_is x y (xs ++ ys) (front ++ c ∷ h.after) e in
         onward (further (record { before = front; after = h.after; parts = tail_is x y (xs ++ ys) (front ++ c ∷ h.after) e; good = good.1; wrong = h.wrong })) (subst Holds (sym same) good.0)
@@ -78,7 +79,8 @@ locals_at : (types : List DataType) (f : Func) (s : Site) (carried : Carried ℤ
 locals_at types f s carried [] = tt
 locals_at types f s carried (a ∷ asks) = both_at s (value_checks types s (kind_of f a.0) (carried a.0) a.1) (local_checks types f s carried asks) (value_at types s (kind_of f a.0) (carried a.0) a.1) (locals_at types f s carried asks)
 
-arguments_at : (p : Code) (f : Func) (book : Book ℤ) (s : Site) (a : Account ℤ) (callee : ℕ) (args : List ℕ) → AllAt s (arguments_checks p f book s a callee args)
+arguments_at : (p : Code) (f : Func) (book : Book ℤ) (s : Site) (a : Account ℤ) (callee : ℕ) (args : List ℕ)
+    → AllAt s (arguments_checks p f book s a callee args)
 arguments_at p f book s a callee args = by_func (slice_get p.funcs callee)
   where
     by_func : (o : Option Func) → AllAt s (option_map_or (λ g. local_checks p.types f s a.carried (call_asks book callee g args)) o [])
@@ -107,7 +109,8 @@ jump_at : (p : Code) (f : Func) (book : Book ℤ) (s : Site) (a : Account ℤ) (
 jump_at p f book s a to = both_at s (local_checks p.types f s a.carried (jump_asks f book s.func to)) (left_check s a.left (book.block_need s.func to) ∷ [])
     (locals_at p.types f s a.carried (jump_asks f book s.func to)) (left_at s a.left (book.block_need s.func to))
 
-arms_at : (p : Code) (f : Func) (book : Book ℤ) (s : Site) (a : Account ℤ) (on con : ℕ) (arms : List CaseArm) → AllAt s (arms_checks integers p f book s a on con arms)
+arms_at : (p : Code) (f : Func) (book : Book ℤ) (s : Site) (a : Account ℤ) (on con : ℕ) (arms : List CaseArm)
+    → AllAt s (arms_checks integers p f book s a on con arms)
 arms_at p f book s a on con [] = tt
 arms_at p f book s a on con (arm ∷ arms) = both_at s (jump_checks p f book s (in_arm integers p.types book a on con arm) arm.target) (arms_checks integers p f book s a on (suc con) arms)
     (jump_at p f book s (in_arm integers p.types book a on con arm) arm.target) (arms_at p f book s a on (suc con) arms)
@@ -144,8 +147,11 @@ failed_at s xs c all h = behind h.before (subst (AllAt s) h.parts all)
 
 -- behind so many lets, or at the end
 data FailsFrom (p : Code) (f : Func) (book : Book ℕ) (func number place : ℕ) (a : Account ℕ) (ls : List Let) (t : Term) (c : Check ℤ) : Type 0 where
-  at_let : (n : ℕ) (l : Let) → slice_get ls n ≡ Some l → c.place ≡ place + n → (LetPays p f book func number (place + n) (after_lets naturals p.types book func number place a (take n ls)) l.op → ⊥) → FailsFrom p f book func number place a ls t c
-  at_end : c.place ≡ place + length ls → (TermPays p f book func (after_lets naturals p.types book func number place a (take (length ls) ls)) t → ⊥) → FailsFrom p f book func number place a ls t c
+  at_let : (n : ℕ) (l : Let) → slice_get ls n ≡ Some l → c.place ≡ place + n
+      → (LetPays p f book func number (place + n) (after_lets naturals p.types book func number place a (take n ls)) l.op → ⊥)
+      → FailsFrom p f book func number place a ls t c
+  at_end : c.place ≡ place + length ls → (TermPays p f book func (after_lets naturals p.types book func number place a (take (length ls) ls)) t → ⊥)
+      → FailsFrom p f book func number place a ls t c
 
 record Placed (p : Code) (f : Func) (book : Book ℕ) (func number place : ℕ) (a : Account ℕ) (ls : List Let) (t : Term) (c : Check ℤ) : Type 0 where
   func_is : c.func ≡ func
@@ -181,7 +187,8 @@ lets_fail p f book func number place a b (l ∷ ls) t c same h = by_part (lets_f
         at_let (suc n) m e (i ∙ there) (subst (λ j. LetPays p f book func number j (after_lets naturals p.types book func number (suc place) a' (take n ls)) m.op → ⊥) there wrong)
     onward (at_end i wrong) = let there : suc place + length ls ≡ place + suc (length ls) = omega arith in at_end (i ∙ there) wrong
 
-    by_part : (Same a' b' → FirstFails rest c → Placed p f book func number (suc place) a' ls t c) → FirstFails now c ⊎ (AllHold now × FirstFails rest c) → Placed p f book func number place a (l ∷ ls) t c
+    by_part : (Same a' b' → FirstFails rest c → Placed p f book func number (suc place) a' ls t c)
+        → FirstFails now c ⊎ (AllHold now × FirstFails rest c) → Placed p f book func number place a (l ∷ ls) t c
     by_part further (inl k) =
         let it : IsAt s c = failed_at s now c (op_at p f (in_integers book) s b l.op) k in
         let here : place ≡ place + 0 = omega arith in
@@ -224,7 +231,8 @@ block_fails p f book func first b bs c h =
         let_fails n l e (i ∙ there) (subst (λ j. LetPays p f book func first j (after_lets naturals p.types book func first 1 (account_at book func first) (take n b.lets)) l.op → ⊥) there wrong)
     as_fails (at_end i wrong) = let there : 1 + length b.lets ≡ suc (length b.lets) = omega arith in end_fails (i ∙ there) wrong
 
-blocks_fail : (p : Code) (f : Func) (book : Book ℕ) (func first : ℕ) (bs : List Block) (c : Check ℤ) → FirstFails (blocks_checks integers p f (in_integers book) func first bs) c → InBlocks p f book func first bs c
+blocks_fail : (p : Code) (f : Func) (book : Book ℕ) (func first : ℕ) (bs : List Block) (c : Check ℤ)
+    → FirstFails (blocks_checks integers p f (in_integers book) func first bs) c → InBlocks p f book func first bs c
 blocks_fail p f book func first [] c h = absurd (nothing_fails c h)
 blocks_fail p f book func first (b ∷ bs) c h = by_part (blocks_fail p f book func (suc first) bs c) (in_parts now rest c h)
   where
@@ -234,7 +242,8 @@ blocks_fail p f book func first (b ∷ bs) c h = by_part (blocks_fail p f book f
     rest : List (Check ℤ)
     rest = blocks_checks integers p f (in_integers book) func (suc first) bs
 
-    by_part : (FirstFails rest c → InBlocks p f book func (suc first) bs c) → FirstFails now c ⊎ (AllHold now × FirstFails rest c) → InBlocks p f book func first (b ∷ bs) c
+    by_part : (FirstFails rest c → InBlocks p f book func (suc first) bs c) → FirstFails now c ⊎ (AllHold now × FirstFails rest c)
+        → InBlocks p f book func first (b ∷ bs) c
     by_part further (inl k) = block_fails p f book func first b bs c k
     by_part further (inr (all, k)) =
         let next = further k in
@@ -249,7 +258,8 @@ record InFuncs (p : Code) (book : Book ℕ) (first : ℕ) (fs : List Func) (c : 
   func_is : c.func ≡ first + number
   inside : InBlocks p f book (first + number) 0 f.blocks c
 
-funcs_fail : (p : Code) (book : Book ℕ) (first : ℕ) (fs : List Func) (c : Check ℤ) → FirstFails (funcs_checks integers p (in_integers book) first fs) c → InFuncs p book first fs c
+funcs_fail : (p : Code) (book : Book ℕ) (first : ℕ) (fs : List Func) (c : Check ℤ)
+    → FirstFails (funcs_checks integers p (in_integers book) first fs) c → InFuncs p book first fs c
 funcs_fail p book first [] c h = absurd (nothing_fails c h)
 funcs_fail p book first (f ∷ fs) c h = by_part (funcs_fail p book (suc first) fs c) (in_parts now rest c h)
   where

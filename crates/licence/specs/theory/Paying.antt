@@ -12,7 +12,8 @@ between : (x left left' top top' y : ℕ) → x + left ≤ top + y → top ≤ t
 between x left left' top top' y a b c = omega (arith, a, b, c)
 
 -- more to begin with, and less at the end
-pub paid_more : {A : Type 0} (P : A → Type 0) (u top top' : ℕ) (left left' : A → ℕ) (o : Outcome A) → top ≤ top' → ((v : A) → P v → left' v ≤ left v) → Yields P o → IsPaidBy u top left o → IsPaidBy u top' left' o
+pub paid_more : {A : Type 0} (P : A → Type 0) (u top top' : ℕ) (left left' : A → ℕ) (o : Outcome A) → top ≤ top' → ((v : A) → P v → left' v ≤ left v)
+    → Yields P o → IsPaidBy u top left o → IsPaidBy u top' left' o
 paid_more P u top top' left left' (Done v c p l) more less y h = (below (u * p) top top' h.0 more, between (u * p) (left v) (left' v) top top' (u * l) h.1 more (less v y))
 paid_more P u top top' left left' (Fuel c p) more less y h = below (u * p) top top' h more
 paid_more P u top top' left left' (Deep p) more less y h = below (u * p) top top' h more
@@ -63,7 +64,8 @@ given_back : (u top middle : ℕ) → middle ≤ top + u → u * 0 + middle ≤ 
 given_back u top middle a = omega (arith, a)
 
 -- behind a cell that was given back
-pub paid_behind_free : {A : Type 0} (u top middle : ℕ) (left : A → ℕ) (o : Outcome A) → middle ≤ top + u → IsPaidBy u middle left o → IsPaidBy u top left (after 0 0 1 o)
+pub paid_behind_free : {A : Type 0} (u top middle : ℕ) (left : A → ℕ) (o : Outcome A) → middle ≤ top + u → IsPaidBy u middle left o
+    → IsPaidBy u top left (after 0 0 1 o)
 paid_behind_free u top middle left o a h = paid_after u top middle left 0 0 1 o (zero_at_most u top) (given_back u top middle a) h
 
 -- behind an entered function

@@ -43,7 +43,8 @@ use Rattle.licence.specs.theory.Steps.{CallsPaid, worth, op_paid}
 
 -- ---- blocks of a function that fits
 
-block_fits_at : (p : Code) (f : Func) (first : ℕ) (bs : List Block) (i : ℕ) (b : Block) → BlocksFit p f first bs → slice_get bs i ≡ Some b → BlockFits p f (first + i) b
+block_fits_at : (p : Code) (f : Func) (first : ℕ) (bs : List Block) (i : ℕ) (b : Block) → BlocksFit p f first bs → slice_get bs i ≡ Some b
+    → BlockFits p f (first + i) b
 block_fits_at p f first [] i b h e = let k : None ≡ Some b = e in absurd cc
 block_fits_at p f first (c ∷ bs) zero b h e = let same : c ≡ b = cc in let n : first ≡ first + 0 = omega arith in subst (λ m. BlockFits p f m b) n (subst (BlockFits p f first) same h.0)
 block_fits_at p f first (c ∷ bs) (suc i) b h e = let n : suc first + i ≡ first + suc i = omega arith in subst (λ m. BlockFits p f m b) n (block_fits_at p f (suc first) bs i b h.1 e)
@@ -72,7 +73,8 @@ next_account amounts types book func block at account (m ∷ ls) (suc n) l e =
 
 -- ---- where arms stand
 
-arms_pay_at : (p : Code) (f : Func) (book : Book ℕ) (func : ℕ) (account : Account ℕ) (on con : ℕ) (arms : List CaseArm) (i : ℕ) (a : CaseArm) → ArmsPay p f book func account on con arms → slice_get arms i ≡ Some a
+arms_pay_at : (p : Code) (f : Func) (book : Book ℕ) (func : ℕ) (account : Account ℕ) (on con : ℕ) (arms : List CaseArm) (i : ℕ) (a : CaseArm)
+    → ArmsPay p f book func account on con arms → slice_get arms i ≡ Some a
     → JumpPays p f book func (in_arm naturals p.types book account on (con + i) a) a.target
 arms_pay_at p f book func account on con [] i a h e = let c : None ≡ Some a = e in absurd cc
 arms_pay_at p f book func account on con (b ∷ arms) zero a h e =
@@ -92,7 +94,8 @@ numbered first (d ∷ ds) c t i h e = by_test (numbered (suc first) ds (c - leng
     some_is m n k = cc
 
     by_test : ((u j : ℕ) → type_from (suc first) ds (c - length d.cons) ≡ Some (suc first + u) → place_of ds (c - length d.cons) ≡ Some j → c - length d.cons ≡ first_con ds u + j) → (b : Bool) → nat_lt c (length d.cons) ≡ b
-        → (u : ℕ) → (if b then Some first else type_from (suc first) ds (c - length d.cons)) ≡ Some (first + u) → (if b then Some c else place_of ds (c - length d.cons)) ≡ Some i → c ≡ first_con (d ∷ ds) u + i
+        → (u : ℕ) → (if b then Some first else type_from (suc first) ds (c - length d.cons)) ≡ Some (first + u)
+        → (if b then Some c else place_of ds (c - length d.cons)) ≡ Some i → c ≡ first_con (d ∷ ds) u + i
     by_test rec true k zero g l = let same : c ≡ i = some_is c i l in let none : first_con (d ∷ ds) 0 ≡ 0 = refl in omega (arith, same, none)
     by_test rec true k (suc u) g l = let same = some_is first (first + suc u) g in absurd (omega (arith, same))
     by_test rec false k zero g l = absurd (past (suc first) ds (c - length d.cons) first g (omega arith))
@@ -101,7 +104,8 @@ numbered first (d ∷ ds) c t i h e = by_test (numbered (suc first) ds (c - leng
         past from [] x u k less = let n : None ≡ Some (u + 0) = k in absurd cc
         past from (s ∷ ts) x u k less = by_here (past (suc from) ts (x - length s.cons) u) (nat_lt x (length s.cons)) k
           where
-            by_here : (type_from (suc from) ts (x - length s.cons) ≡ Some (u + 0) → u < suc from → ⊥) → (b : Bool) → (if b then Some from else type_from (suc from) ts (x - length s.cons)) ≡ Some (u + 0) → ⊥
+            by_here : (type_from (suc from) ts (x - length s.cons) ≡ Some (u + 0) → u < suc from → ⊥) → (b : Bool)
+                → (if b then Some from else type_from (suc from) ts (x - length s.cons)) ≡ Some (u + 0) → ⊥
             by_here rec true k = let same = some_is from (u + 0) k in omega (arith, same, less)
             by_here rec false k = rec k (omega (arith, less))
     by_test rec false k (suc u) g l =
@@ -114,7 +118,8 @@ numbered first (d ∷ ds) c t i h e = by_test (numbered (suc first) ds (c - leng
 -- ---- jumps
 
 -- What the target's parameters carry there is no more than what was carried where the jump begins.
-jump_worth : (p : Code) (f : Func) (book : Book ℕ) (func to : ℕ) (target : Block) (s : State) (env : Locals) (account : Account ℕ) → AreTypes p.types → AllHold p.types f env (params_at f.blocks to) → slice_get f.blocks to ≡ Some target
+jump_worth : (p : Code) (f : Func) (book : Book ℕ) (func to : ℕ) (target : Block) (s : State) (env : Locals) (account : Account ℕ) → AreTypes p.types
+    → AllHold p.types f env (params_at f.blocks to) → slice_get f.blocks to ≡ Some target
     → AreReady (is_owned p.types f) s (jump_events f.blocks to) → JumpPays p f book func account to → 0 < to
     → worth p.types f (at_start (is_owned p.types f) target) (narrowed target.params env) (account_at book func to) ≤ worth p.types f s env account
 jump_worth p f book func zero target s env account well held is r pays later = absurd (omega (arith, later))
@@ -132,7 +137,8 @@ jump_worth p f book func (suc n) target s env account well held is r pays later 
 
 -- ---- a run in one function
 
--- so many units are left at a place of a block, and so much is carried; at the end the result carries what is said, and so much is given back
+-- so many units are left at a place of a block, and so much is carried; at the end the result carries what is said, and
+-- so much is given back
 abbrev Paid : Code → Func → Book ℕ → ℕ → Claim
 Paid p f book func = λ number n env o. (b : Block) → slice_get f.blocks number ≡ Some b
     → IsPaidBy book.unit (worth p.types f (state_at (reads_of p) (is_owned p.types f) b n) env (account_before naturals p.types book func number b n))
@@ -145,7 +151,8 @@ one_block f number b c is there = some_is b c (sym is ∙ there)
     some_is x y k = cc
 
 -- a let
-let_paid : (p : Code) (f : Func) (book : Book ℕ) (func : ℕ) (enter : Enter) → AreTypes p.types → CallsSafe p enter → CallsPaid p book enter → (number n : ℕ) (b : Block) (l : Let) (q : Kind) (env : Locals) (k w : ℕ) (next : ℕ → Value → Outcome Value)
+let_paid : (p : Code) (f : Func) (book : Book ℕ) (func : ℕ) (enter : Enter) → AreTypes p.types → CallsSafe p enter → CallsPaid p book enter
+    → (number n : ℕ) (b : Block) (l : Let) (q : Kind) (env : Locals) (k w : ℕ) (next : ℕ → Value → Outcome Value)
     → BlockFits p f number b → BlockPays p f book func number b → slice_get b.lets n ≡ Some l → kind_of f l.target ≡ Some q → FitAt p f b n env → IsSafe p.types q (op_run enter k w env l.op)
     → ((j : ℕ) (v : Value) → Fits p.types q v → IsPaidBy book.unit (worth p.types f (state_at (reads_of p) (is_owned p.types f) b (n + 1)) (put env l.target v) (account_before naturals p.types book func number b (n + 1)))
     (λ v. book.back func + potential p.types (book.result func) v) (next j v))
@@ -205,7 +212,8 @@ record AtEnd (p : Code) (f : Func) (book : Book ℕ) (func number : ℕ) (b : Bl
   term : AreReady (is_owned p.types f) s (term_events (reads_of p) b.term)
   onward : AllByRecursion (AreReady (is_owned p.types f) (after (is_owned p.types f) s (term_events (reads_of p) b.term))) (ways f.blocks b.term)
 
-result_paid : (p : Code) (f : Func) (book : Book ℕ) (func number : ℕ) (b : Block) (env : Locals) (s : State) (account : Account ℕ) → AtEnd p f book func number b env s account → (x : ℕ) (v : Value) → b.term ≡ Ret x → env x ≡ Some v
+result_paid : (p : Code) (f : Func) (book : Book ℕ) (func number : ℕ) (b : Block) (env : Locals) (s : State) (account : Account ℕ)
+    → AtEnd p f book func number b env s account → (x : ℕ) (v : Value) → b.term ≡ Ret x → env x ≡ Some v
     → IsPaidBy book.unit (worth p.types f s env account) (λ v. book.back func + potential p.types (book.result func) v) (Done v 0 0 0)
 result_paid p f book func number b env s account e x v is here =
     let h : ℕ → Bool = is_owned p.types f in
@@ -221,8 +229,10 @@ tail_sum left need carried spent whole asked a b c = omega (arith, a, b, c)
 tail_back : (left need back own result asked : ℕ) → own ≤ left - need + back → asked ≤ result → own + asked ≤ back + result + (left - need)
 tail_back left need back own result asked a b = omega (arith, a, b)
 
-tail_paid : (p : Code) (f : Func) (book : Book ℕ) (func number : ℕ) (b : Block) (env : Locals) (s : State) (account : Account ℕ) (enter : Enter) → CallsSafe p enter → CallsPaid p book enter → AtEnd p f book func number b env s account
-    → (callee : ℕ) (args : List ℕ) (vs : List Value) (g : Func) (k w : ℕ) → b.term ≡ Tail callee args → values_of env args ≡ Some vs → slice_get p.funcs callee ≡ Some g → ArgumentsFit p.types g.params vs → g.result ≡ f.result
+tail_paid : (p : Code) (f : Func) (book : Book ℕ) (func number : ℕ) (b : Block) (env : Locals) (s : State) (account : Account ℕ) (enter : Enter)
+    → CallsSafe p enter → CallsPaid p book enter → AtEnd p f book func number b env s account
+    → (callee : ℕ) (args : List ℕ) (vs : List Value) (g : Func) (k w : ℕ) → b.term ≡ Tail callee args → values_of env args ≡ Some vs
+    → slice_get p.funcs callee ≡ Some g → ArgumentsFit p.types g.params vs → g.result ≡ f.result
     → IsPaidBy book.unit (worth p.types f s env account) (λ v. book.back func + potential p.types (book.result func) v) (enter k w true callee vs)
 tail_paid p f book func number b env s account enter safe paid e callee args vs g k w is here there fit result = by_rule pays_tail
   where
@@ -241,7 +251,8 @@ tail_paid p f book func number b env s account enter safe paid e callee args vs 
     kinds : HaveKinds f args g.params × (g.result ≡ f.result)
     kinds = subst (λ o. IsSomeAnd o (λ g. HaveKinds f args g.params × (g.result ≡ f.result))) there (subst (TermFits p f number) is e.fits.term)
 
-    by_rule : TermPays p f book func account (Tail callee args) → IsPaidBy book.unit (worth p.types f s env account) (λ v. book.back func + potential p.types (book.result func) v) (enter k w true callee vs)
+    by_rule : TermPays p f book func account (Tail callee args)
+        → IsPaidBy book.unit (worth p.types f s env account) (λ v. book.back func + potential p.types (book.result func) v) (enter k w true callee vs)
     by_rule pays =
         let spent = uses_total p.types f s env account.carried args (call_asks book callee g args) (arguments_locals (book.param callee) f 0 g.params args kinds.0) e.well (all_held p.types f s env args e.fit ready) ready arguments in
         let asked = arguments_units p.types env (book.param callee) 0 g.params args vs fit here in
@@ -255,7 +266,8 @@ tail_paid p f book func number b env s account enter safe paid e callee args vs 
         (paid_beside book.unit (book.need callee + arguments_carry p.types (book.param callee) 0 vs) rest (λ v. book.back callee + potential p.types (book.result callee) v) (enter k w true callee vs) (paid k w true callee vs g there fit))
 
 -- a jump without bindings
-jump_paid : (p : Code) (f : Func) (book : Book ℕ) (func number : ℕ) (b : Block) (env : Locals) (s : State) (account : Account ℕ) → AtEnd p f book func number b env s account → (to : ℕ) (target : Block) → JumpsTo b.term to → number < to
+jump_paid : (p : Code) (f : Func) (book : Book ℕ) (func number : ℕ) (b : Block) (env : Locals) (s : State) (account : Account ℕ)
+    → AtEnd p f book func number b env s account → (to : ℕ) (target : Block) → JumpsTo b.term to → number < to
     → slice_get f.blocks to ≡ Some target → worth p.types f (at_start (is_owned p.types f) target) (narrowed target.params env) (account_at book func to) ≤ worth p.types f s env account
 jump_paid p f book func number b env s account e to target jumps less there = by_term b.term refl jumps e.pays e.term e.onward
   where
@@ -276,7 +288,8 @@ jump_paid p f book func number b env s account e to target jumps less there = by
         let used = no_more p.types f s env account.carried (x ∷ []) e.well e.fit ready in
         omega (arith, jump, used)
 
-    by_term : (t : Term) → b.term ≡ t → JumpsTo t to → TermPays p f book func account t → AreReady h s (term_events (reads_of p) t) → AllByRecursion (AreReady h (after h s (term_events (reads_of p) t))) (ways f.blocks t)
+    by_term : (t : Term) → b.term ≡ t → JumpsTo t to → TermPays p f book func account t → AreReady h s (term_events (reads_of p) t)
+        → AllByRecursion (AreReady h (after h s (term_events (reads_of p) t))) (ways f.blocks t)
         → worth p.types f (at_start h target) (narrowed target.params env) (account_at book func to) ≤ worth p.types f s env account
     by_term (Ret x) is j pays ready onward = absurd j
     by_term (Tail g args) is j pays ready onward = absurd j
@@ -288,7 +301,8 @@ jump_paid p f book func number b env s account e to target jumps less there = by
 
 -- ---- arms
 
-way_of : (f : Func) (h : ℕ → Bool) (s : State) (arms : List CaseArm) (i : ℕ) (a : CaseArm) → AllByRecursion (AreReady h s) (map (λ a. map Bind (bound_by a) ++ jump_events f.blocks a.target) arms) → slice_get arms i ≡ Some a
+way_of : (f : Func) (h : ℕ → Bool) (s : State) (arms : List CaseArm) (i : ℕ) (a : CaseArm)
+    → AllByRecursion (AreReady h s) (map (λ a. map Bind (bound_by a) ++ jump_events f.blocks a.target) arms) → slice_get arms i ≡ Some a
     → AreReady h s (map Bind (bound_by a) ++ jump_events f.blocks a.target)
 way_of f h s [] i a all e = let c : None ≡ Some a = e in absurd cc
 way_of f h s (b ∷ arms) zero a all e = let same : b ≡ a = cc in subst (λ d. AreReady h s (map Bind (bound_by d) ++ jump_events f.blocks d.target)) same all.0
@@ -302,7 +316,8 @@ cell_total types f h s env carried cell.Free = omega arith
 cell_total types f h s env carried (cell.Keep d) = bind_plain types f s env carried d value.Dia refl
 
 -- what holds where a jump arrives holds where it begins
-held_at_target : (p : Code) (f : Func) (to : ℕ) (target : Block) (env : Locals) → slice_get f.blocks to ≡ Some target → FitsTarget p f target env → AllHold p.types f env (params_at f.blocks to)
+held_at_target : (p : Code) (f : Func) (to : ℕ) (target : Block) (env : Locals) → slice_get f.blocks to ≡ Some target → FitsTarget p f target env
+    → AllHold p.types f env (params_at f.blocks to)
 held_at_target p f to target env is fits = subst (AllHold p.types f env) (sym here) (all target.params (λ x m. m))
   where
     h : ℕ → Bool
@@ -323,7 +338,8 @@ held_at_target p f to target env is fits = subst (AllHold p.types f env) (sym he
     bound s [] x m = absurd cc
     bound s (y ∷ xs) x m = by_test (bound (bind s y) xs x) (y == x) refl m
       where
-        by_test : (is_among xs x ≡ true → after h (bind s y) (map Bind xs) x ≡ Ready) → (b : Bool) → (y == x) ≡ b → (b || is_among xs x) ≡ true → after h (bind s y) (map Bind xs) x ≡ Ready
+        by_test : (is_among xs x ≡ true → after h (bind s y) (map Bind xs) x ≡ Ready) → (b : Bool) → (y == x) ≡ b → (b || is_among xs x) ≡ true
+            → after h (bind s y) (map Bind xs) x ≡ Ready
         by_test rec true e k = stays (bind s y) xs x (ap (λ b. if b then Ready else s x) e)
         by_test rec false e k = rec k
 
@@ -345,7 +361,8 @@ held_at_target p f to target env is fits = subst (AllHold p.types f env) (sym he
             by_test false = m
 
 -- the matched value is of the type whose constructors the arms stand for
-con_of_arm : (types : List DataType) (con i : ℕ) (vs : Values) (o : Option Kind) → IsSomeAnd o (λ q. Fits types q (value.Con con vs)) → place_of types con ≡ Some i → con ≡ first_con_of types o + i
+con_of_arm : (types : List DataType) (con i : ℕ) (vs : Values) (o : Option Kind) → IsSomeAnd o (λ q. Fits types q (value.Con con vs))
+    → place_of types con ≡ Some i → con ≡ first_con_of types o + i
 con_of_arm types con i vs None g e = absurd g
 con_of_arm types con i vs (Some q) g e = by_type (type_of types con) refl g.0
   where
@@ -360,7 +377,8 @@ with_price unit cell.Inline n = n
 with_price unit (cell.Keep d) n = n
 
 -- An arm begins with what was there, what the matched node carried, and a cell's price where its cell is given back.
-arm_worth : (p : Code) (f : Func) (book : Book ℕ) (func number : ℕ) (b : Block) (env : Locals) (s : State) (account : Account ℕ) → AtEnd p f book func number b env s account → (con : ℕ) (vs : Values) (a : CaseArm) (bound : Locals) (target : Block)
+arm_worth : (p : Code) (f : Func) (book : Book ℕ) (func number : ℕ) (b : Block) (env : Locals) (s : State) (account : Account ℕ)
+    → AtEnd p f book func number b env s account → (con : ℕ) (vs : Values) (a : CaseArm) (bound : Locals) (target : Block)
     → TakesArm p env b.term con vs a bound → number < a.target → slice_get f.blocks a.target ≡ Some target → FitsTarget p f target (with_cell a.cell bound)
     → worth p.types f (at_start (is_owned p.types f) target) (narrowed target.params (with_cell a.cell bound)) (account_at book func a.target) ≤ with_price book.unit a.cell (worth p.types f s env account)
 arm_worth p f book func number b env s account e con vs a bound target t less there hand = sum
@@ -424,7 +442,8 @@ arm_worth p f book func number b env s account e con vs a bound target t less th
     node : value_units p.types units (env t.on) ≡ node_units p.types units con + potential_all p.types units vs
     node = ap (value_units p.types units) t.value_is
 
-    by_heap : (left one two three all parts : ℕ) (c : Bool) → three ≤ two → two ≤ one + parts → one + (cond c (units con) 0 + parts) ≤ all → cond c (left + units con) left + three ≤ left + all
+    by_heap : (left one two three all parts : ℕ) (c : Bool) → three ≤ two → two ≤ one + parts → one + (cond c (units con) 0 + parts) ≤ all
+        → cond c (left + units con) left + three ≤ left + all
     by_heap left one two three all parts true x y z = omega (arith, x, y, z)
     by_heap left one two three all parts false x y z = omega (arith, x, y, z)
 
@@ -447,14 +466,16 @@ arm_worth p f book func number b env s account e con vs a bound target t less th
         let less = by_cell a.cell s3 (with_cell a.cell bound) inside in
         omega (arith, jump, less)
 
-effect_paid : (q : Kind) (types : List DataType) (u top middle : ℕ) (left : Value → ℕ) (c : CaseCell) (o : Outcome Value) → middle ≤ with_price u c top → IsSafe types q o → IsPaidBy u middle left o → IsPaidBy u top left (cell_effect c o)
+effect_paid : (q : Kind) (types : List DataType) (u top middle : ℕ) (left : Value → ℕ) (c : CaseCell) (o : Outcome Value)
+    → middle ≤ with_price u c top → IsSafe types q o → IsPaidBy u middle left o → IsPaidBy u top left (cell_effect c o)
 effect_paid q types u top middle left cell.Inline o less safe h = paid_more (Fits types q) u middle top left left o less (λ v y. omega arith) safe h
 effect_paid q types u top middle left cell.Free o less safe h = paid_behind_free u top middle left o less h
 effect_paid q types u top middle left (cell.Keep d) o less safe h = paid_more (Fits types q) u middle top left left o less (λ v y. omega arith) safe h
 
 -- ---- the whole of a function
 
-both_kept : (p : Code) (f : Func) (book : Book ℕ) (func : ℕ) (enter : Enter) → AreTypes p.types → CallsSafe p enter → CallsPaid p book enter → FuncFits p f → ((number : ℕ) (b : Block) → slice_get f.blocks number ≡ Some b → BlockPays p f book func number b)
+both_kept : (p : Code) (f : Func) (book : Book ℕ) (func : ℕ) (enter : Enter) → AreTypes p.types → CallsSafe p enter → CallsPaid p book enter
+    → FuncFits p f → ((number : ℕ) (b : Block) → slice_get f.blocks number ≡ Some b → BlockPays p f book func number b)
     → IsKept p f enter (λ number n env o. IsSafe p.types f.result o × Paid p f book func number n env o)
 both_kept p f book func enter well safe paid fits pays = record {
   by_let = λ number n b l q env k w next at here kind fit sound go. (
@@ -527,7 +548,8 @@ arguments_are types param first before (v ∷ vs) same =
     omega (arith, one, others)
 
 -- a function on fitting arguments, from its first block on
-body_paid : (p : Code) (book : Book ℕ) (enter : Enter) → AreTypes p.types → CallsSafe p enter → CallsPaid p book enter → Pays p book → (func : ℕ) (f : Func) (k w : ℕ) (args : List Value) → slice_get p.funcs func ≡ Some f → FuncFits p f
+body_paid : (p : Code) (book : Book ℕ) (enter : Enter) → AreTypes p.types → CallsSafe p enter → CallsPaid p book enter → Pays p book
+    → (func : ℕ) (f : Func) (k w : ℕ) (args : List Value) → slice_get p.funcs func ≡ Some f → FuncFits p f
     → 1 ≤ length f.blocks → ArgumentsFit p.types f.params args
     → IsPaidBy book.unit (book.need func + arguments_carry p.types (book.param func) 0 args) (λ v. book.back func + potential p.types (book.result func) v) (body_run p.types enter (Some f) k w args)
 body_paid p book enter well safe paid pays func f k w args is fits some fit =
@@ -539,7 +561,8 @@ body_paid p book enter well safe paid pays func f k w args is fits some fit =
     as_many (q ∷ qs) [] fit = absurd fit
     as_many (q ∷ qs) (v ∷ vs) fit = ap suc (as_many qs vs fit.1)
 
-    begin : (bs : List Block) → f.blocks ≡ bs → IsPaidBy book.unit (book.need func + arguments_carry p.types (book.param func) 0 args) (λ v. book.back func + potential p.types (book.result func) v)
+    begin : (bs : List Block) → f.blocks ≡ bs
+        → IsPaidBy book.unit (book.need func + arguments_carry p.types (book.param func) 0 args) (λ v. book.back func + potential p.types (book.result func) v)
         (from_block p.types enter (map narrow f.blocks) 0 k w (arguments args))
     begin [] e = absurd (omega (arith, ap length e, some))
     begin (b ∷ bs) e = from (both.1 b at)
@@ -556,7 +579,8 @@ body_paid p book enter well safe paid pays func f k w args is fits some fit =
         starts : FitAt p f b 0 (arguments args)
         starts = arguments_fit p f b args params fit
 
-        both : IsSafe p.types f.result (from_block p.types enter (map narrow f.blocks) 0 k w (arguments args)) × Paid p f book func 0 0 (arguments args) (from_block p.types enter (map narrow f.blocks) 0 k w (arguments args))
+        both : IsSafe p.types f.result (from_block p.types enter (map narrow f.blocks) 0 k w (arguments args))
+            × Paid p f book func 0 0 (arguments args) (from_block p.types enter (map narrow f.blocks) 0 k w (arguments args))
         both = holds_from_block p f enter safe fits (λ number n env o. IsSafe p.types f.result o × Paid p f book func number n env o)
             (both_kept p f book func enter well safe paid fits (λ number c there. pays.blocks func number f c is there)) 0 b at k w (arguments args) starts
 
@@ -576,7 +600,8 @@ body_paid p book enter well safe paid pays func f k w args is fits some fit =
             (λ v. book.back func + potential p.types (book.result func) v) (λ v. book.back func + potential p.types (book.result func) v) (from_block p.types enter (map narrow f.blocks) 0 k w (arguments args)) entry (λ v y. omega arith) both.0 h
 
 -- calls with every clock
-pub calls_paid : (p : Code) (book : Book ℕ) → IsWellFormed p → HaveBlocks p → AreTypes p.types → Pays p book → (limit clock : ℕ) → CallsPaid p book (calls (bodies p) limit clock)
+pub calls_paid : (p : Code) (book : Book ℕ) → IsWellFormed p → HaveBlocks p → AreTypes p.types → Pays p book → (limit clock : ℕ)
+    → CallsPaid p book (calls (bodies p) limit clock)
 calls_paid p book well some types pays limit clock zero w t g args callee is fit = omega arith
 calls_paid p book well some types pays limit zero (suc k) w t g args callee is fit = omega arith
 calls_paid p book well some types pays limit (suc clock) (suc k) w t g args callee is fit =
@@ -591,13 +616,16 @@ calls_paid p book well some types pays limit (suc clock) (suc k) w t g args call
     by_depth true h = omega arith
     by_depth false h = paid_behind_entry book.unit (book.need g + arguments_carry p.types (book.param g) 0 args) (λ v. book.back g + potential p.types (book.result g) v) (body_run p.types (calls (bodies p) limit clock) (slice_get p.funcs g) k (cond t w (suc w)) args) h
 
--- Every run of annotated code from a function on fitting arguments, with any fuel and any limit of waiting calls, ended or stopped.
-pub run_paid : (p : Code) (book : Book ℕ) → IsWellFormed p → HaveBlocks p → AreTypes p.types → Pays p book → (limit func fuel : ℕ) (args : List Value) (f : Func) → slice_get p.funcs func ≡ Some f → ArgumentsFit p.types f.params args
+-- Every run of annotated code from a function on fitting arguments, with any fuel and any limit of waiting calls, ended
+-- or stopped.
+pub run_paid : (p : Code) (book : Book ℕ) → IsWellFormed p → HaveBlocks p → AreTypes p.types → Pays p book
+    → (limit func fuel : ℕ) (args : List Value) (f : Func) → slice_get p.funcs func ≡ Some f → ArgumentsFit p.types f.params args
     → IsPaidBy book.unit (book.need func + arguments_carry p.types (book.param func) 0 args) (λ v. book.back func + potential p.types (book.result func) v) (run_of p limit func fuel args)
 run_paid p book well some types pays limit func fuel args f is fit = calls_paid p book well some types pays limit fuel fuel 0 true func args f is fit
 
 -- What follows a place, where every ready local has a value of its kind, is paid for by what the place is worth.
-pub place_paid : (p : Code) (book : Book ℕ) → IsWellFormed p → HaveBlocks p → AreTypes p.types → Pays p book → (limit func number place fuel waits : ℕ) (f : Func) (b : Block) (env : Locals)
+pub place_paid : (p : Code) (book : Book ℕ) → IsWellFormed p → HaveBlocks p → AreTypes p.types → Pays p book
+    → (limit func number place fuel waits : ℕ) (f : Func) (b : Block) (env : Locals)
     → slice_get p.funcs func ≡ Some f → slice_get f.blocks number ≡ Some b → place ≤ length b.lets → FitAt p f b place env
     → IsPaidBy book.unit (worth_at p book func f number b place env) (λ v. book.back func + potential p.types (book.result func) v) (from_place p.types (entering (bodies p) limit) f b number place env fuel waits)
 place_paid p book well some types pays limit func number place fuel waits f b env is at within fit = (claim number place b at within fuel waits env fit).1 b at

@@ -50,7 +50,8 @@ map_append f (x ∷ xs) ys = ap (λ l. f x ∷ l) (map_append f xs ys)
 -- ---- lets that leave the account as it was
 
 -- an operator costs nothing
-operator_free : (u top : ℕ) (left : Value → ℕ) (op : Operator) (x y : Value) → ((v : Value) → operate op x y ≡ at_once v → left v ≤ top) → IsPaidBy u top left (operate op x y)
+operator_free : (u top : ℕ) (left : Value → ℕ) (op : Operator) (x y : Value) → ((v : Value) → operate op x y ≡ at_once v → left v ≤ top)
+    → IsPaidBy u top left (operate op x y)
 operator_free u top left operator.Add (value.Int x) (value.Int y) h = paid_at_once u top left _ 0 (h _ refl)
 operator_free u top left operator.Sub (value.Int x) (value.Int y) h = paid_at_once u top left _ 0 (h _ refl)
 operator_free u top left operator.Mul (value.Int x) (value.Int y) h = paid_at_once u top left _ 0 (h _ refl)
@@ -85,7 +86,8 @@ operator_plain types operator.Ge = refl
 inline_of_plain : (p : Code) (con t : ℕ) → type_of p.types con ≡ Some t → is_heap_con p.types con ≡ false → is_heap p.types (kind.Of t) ≡ false
 inline_of_plain p con t e h = sym (ap (λ o. option_map_or (is_heap_type p.types) o false) e) ∙ h
 
-kind_of_con : (types : List DataType) (con : ℕ) (q : Kind) → option_map kind.Of (type_of types con) ≡ Some q → is_heap_con types con ≡ false → is_heap types q ≡ false
+kind_of_con : (types : List DataType) (con : ℕ) (q : Kind) → option_map kind.Of (type_of types con) ≡ Some q → is_heap_con types con ≡ false
+    → is_heap types q ≡ false
 kind_of_con types con q e h = by_type (type_of types con) refl e
   where
     by_type : (o : Option ℕ) → type_of types con ≡ o → option_map kind.Of o ≡ Some q → is_heap types q ≡ false
@@ -106,7 +108,8 @@ none_holds P (y ∷ ys) (suc i) x h e = none_holds P ys i x (rest (P y) h) e
     rest false k = k
 
 -- a boxed constructor makes its type a heap type
-boxed_is_heap : (types : List DataType) (con : ℕ) (c : Constructor) (q : Kind) → constructor types con ≡ Some c → option_map kind.Of (type_of types con) ≡ Some q → c.inline ≡ false → is_heap_con types con ≡ true
+boxed_is_heap : (types : List DataType) (con : ℕ) (c : Constructor) (q : Kind) → constructor types con ≡ Some c
+    → option_map kind.Of (type_of types con) ≡ Some q → c.inline ≡ false → is_heap_con types con ≡ true
 boxed_is_heap types con c q is e boxed = by_type (type_of types con) refl e
   where
     by_heap : (t : ℕ) → type_of types con ≡ Some t → (b : Bool) → is_heap_type types t ≡ b → is_heap_type types t ≡ true
@@ -127,7 +130,8 @@ boxed_is_heap types con c q is e boxed = by_type (type_of types con) refl e
     by_type (Some t) i k = ap (λ o. option_map_or (is_heap_type types) o false) i ∙ by_heap t i (is_heap_type types t) refl
 
 -- what is built costs what the rule says, and is left with what its node and its parts carry
-built_paid : (u top cost : ℕ) (left : Value → ℕ) (con : ℕ) (vs : List Value) (at : Place) (env : Locals) → left (value.Con con (parts vs)) + build_cost naturals u at cost ≤ top + cost
+built_paid : (u top cost : ℕ) (left : Value → ℕ) (con : ℕ) (vs : List Value) (at : Place) (env : Locals)
+    → left (value.Con con (parts vs)) + build_cost naturals u at cost ≤ top + cost
     → IsPaidBy u top left (built con vs at env)
 built_paid u top cost left con vs place.Inline env less = paid_at_once u top left (value.Con con (parts vs)) 0 (omega (arith, less))
 built_paid u top cost left con vs place.New env less = paid_for_cell u top left (value.Con con (parts vs)) (omega (arith, less))
@@ -147,18 +151,21 @@ apart : false ≡ true → ⊥
 apart d = absurd cc
 
 -- sums of a build, and of a call
-heap_sum : (left cost bound used behind spent whole node units parts asked : ℕ) → bound ≤ used + (node + parts) → used ≡ behind → behind ≤ spent → spent + asked ≤ whole → parts ≤ asked → node ≡ units → cost ≤ left
+heap_sum : (left cost bound used behind spent whole node units parts asked : ℕ) → bound ≤ used + (node + parts) → used ≡ behind → behind ≤ spent
+    → spent + asked ≤ whole → parts ≤ asked → node ≡ units → cost ≤ left
     → (left - cost) + bound + cost ≤ left + whole + units
 heap_sum left cost bound used behind spent whole node units parts asked a b c d e g k = omega (arith, a, b, c, d, e, g, k)
 
-call_sum : (left need carried spent whole asked : ℕ) → spent + asked ≤ whole → carried ≤ asked → need ≤ left → need + carried + (left - need + spent) ≤ left + whole
+call_sum : (left need carried spent whole asked : ℕ) → spent + asked ≤ whole → carried ≤ asked → need ≤ left
+    → need + carried + (left - need + spent) ≤ left + whole
 call_sum left need carried spent whole asked a b c = omega (arith, a, b, c)
 
 back_sum : (left need back result spent bound : ℕ) → bound ≤ spent + result → (left - need + back) + bound ≤ back + result + (left - need + spent)
 back_sum left need back result spent bound a = omega (arith, a)
 
 -- a build that costs nothing
-free_build : (u top : ℕ) (left : Value → ℕ) (con : ℕ) (vs : List Value) (at : Place) (env : Locals) → (at ≡ place.New → ⊥) → left (value.Con con (parts vs)) ≤ top → IsPaidBy u top left (built con vs at env)
+free_build : (u top : ℕ) (left : Value → ℕ) (con : ℕ) (vs : List Value) (at : Place) (env : Locals) → (at ≡ place.New → ⊥)
+    → left (value.Con con (parts vs)) ≤ top → IsPaidBy u top left (built con vs at env)
 free_build u top left con vs place.New env old less = absurd (old refl)
 free_build u top left con vs place.Inline env old less = paid_at_once u top left (value.Con con (parts vs)) 0 less
 free_build u top left con vs (place.Reuse x) env old less = by_value (env x)
@@ -174,7 +181,8 @@ free_build u top left con vs (place.Reuse x) env old less = by_value (env x)
     by_value (Some v) = by_diamond v
 
 -- a value that carries nothing, bound behind some uses
-plain_bound : (types : List DataType) (f : Func) (s : State) (env : Locals) (account : Account ℕ) (uses : List ℕ) (t : ℕ) (v : Value) (q : Kind) → AreTypes types → LocalsFit types f s env
+plain_bound : (types : List DataType) (f : Func) (s : State) (env : Locals) (account : Account ℕ) (uses : List ℕ) (t : ℕ) (v : Value) (q : Kind)
+    → AreTypes types → LocalsFit types f s env
     → AreReady (is_owned types f) s (map Use uses) → is_heap types q ≡ false → Fits types q v
     → worth types f (bind (after (is_owned types f) s (map Use uses)) t) (put env t v) account ≤ worth types f s env account
 plain_bound types f s env account uses t v q well fit r plain fits =
@@ -186,8 +194,10 @@ plain_bound types f s env account uses t v q well fit r plain fits =
 -- ---- each let
 
 -- The let at this place is paid for by what is left and what ready locals carry, and leaves the account that follows.
-pub op_paid : (p : Code) (f : Func) (book : Book ℕ) (enter : Enter) → AreTypes p.types → CallsSafe p enter → CallsPaid p book enter → (func block at : ℕ) (s : State) (env : Locals) (account : Account ℕ) → LocalsFit p.types f s env
-    → (t : ℕ) (op : Op) (q : Kind) (k w : ℕ) → AreReady (is_owned p.types f) s (uses_of (reads_of p) op) → Gives p f op q → LetPays p f book func block at account op
+pub op_paid : (p : Code) (f : Func) (book : Book ℕ) (enter : Enter) → AreTypes p.types → CallsSafe p enter → CallsPaid p book enter
+    → (func block at : ℕ) (s : State) (env : Locals) (account : Account ℕ) → LocalsFit p.types f s env
+    → (t : ℕ) (op : Op) (q : Kind) (k w : ℕ) → AreReady (is_owned p.types f) s (uses_of (reads_of p) op) → Gives p f op q
+    → LetPays p f book func block at account op
     → IsSafe p.types q (op_run enter k w env op)
     → IsPaidBy book.unit (worth p.types f s env account)
     (λ v. worth p.types f (bind (after (is_owned p.types f) s (uses_of (reads_of p) op)) t) (put env t v) (after_op naturals p.types book func block at account t op)) (op_run enter k w env op)
@@ -256,7 +266,8 @@ op_paid p f book enter well safe paid func block at s env account fit t (Make co
     taken_total : total p.types f behind env account.carried ≤ total p.types f (after h s (map Use args)) env account.carried
     taken_total = no_more p.types f (after h s (map Use args)) env account.carried (taken at_) well (fit_used p.types f h s args env fit) (ready_second h s (map Use args) (map Use (taken at_)) both)
 
-    of_heap : (vs : List Value) → values_of env args ≡ Some vs → is_heap_con p.types con ≡ true → AllCarry p.types f account.carried asks × (cost ≤ account.left)
+    of_heap : (vs : List Value) → values_of env args ≡ Some vs → is_heap_con p.types con ≡ true
+        → AllCarry p.types f account.carried asks × (cost ≤ account.left)
         → (account.left - cost) + total p.types f (bind used t) (put env t (value.Con con (parts vs))) (carrying account.carried t units) + cost ≤ worth p.types f s env account + units con
     of_heap vs is heap pay =
         let bound = bind_total p.types f used env account.carried t (value.Con con (parts vs)) units in
@@ -269,8 +280,10 @@ op_paid p f book enter well safe paid func block at s env account fit t (Make co
         (total p.types f (after h s (map Use args)) env account.carried) (total p.types f s env account.carried) (node_units p.types units con) (units con) (potential_all p.types units (parts vs)) (asked_units p.types env asks)
         bound same taken_total spent parts_less node pay.1
 
-    plain_place : (vs : List Value) → Fits p.types q (value.Con con (parts vs)) → is_heap_con p.types con ≡ false → (c : Constructor) → constructor p.types con ≡ Some c → option_map kind.Of (type_of p.types con) ≡ Some q
-        → (where_ : Place) → PlaceFits f c.inline where_ → IsPaidBy book.unit (worth p.types f s env account) (λ v. worth p.types f (bind used t) (put env t v) account) (built con vs where_ env)
+    plain_place : (vs : List Value) → Fits p.types q (value.Con con (parts vs)) → is_heap_con p.types con ≡ false → (c : Constructor)
+        → constructor p.types con ≡ Some c → option_map kind.Of (type_of p.types con) ≡ Some q
+        → (where_ : Place) → PlaceFits f c.inline where_
+        → IsPaidBy book.unit (worth p.types f s env account) (λ v. worth p.types f (bind used t) (put env t v) account) (built con vs where_ env)
     plain_place vs fits plain c is e where_ fine =
         let none = kind_of_con p.types con q e plain in
         let bound = plain_bound p.types f s env account (args ++ taken at_) t (value.Con con (parts vs)) q well fit r none fits in
@@ -281,7 +294,8 @@ op_paid p f book enter well safe paid func block at s env account fit t (Make co
         not_new place.Inline fine k = let d : place.Inline ≡ place.New = k in absurd cc
         not_new (place.Reuse d) fine k = let c : place.Reuse d ≡ place.New = k in absurd cc
 
-    by_heap : (vs : List Value) → values_of env args ≡ Some vs → Fits p.types q (value.Con con (parts vs)) → (c : Constructor) → constructor p.types con ≡ Some c → PlaceFits f c.inline at_ → option_map kind.Of (type_of p.types con) ≡ Some q
+    by_heap : (vs : List Value) → values_of env args ≡ Some vs → Fits p.types q (value.Con con (parts vs)) → (c : Constructor)
+        → constructor p.types con ≡ Some c → PlaceFits f c.inline at_ → option_map kind.Of (type_of p.types con) ≡ Some q
         → (b : Bool) → is_heap_con p.types con ≡ b → cond b (AllCarry p.types f account.carried asks × (cost ≤ account.left)) (Unit {0})
         → IsPaidBy book.unit (worth p.types f s env account)
         (λ v. worth p.types f (bind used t) (put env t v) (cond b (record { left = account.left - cost; carried = carrying account.carried t units }) account)) (built con vs at_ env)
@@ -289,7 +303,8 @@ op_paid p f book enter well safe paid func block at s env account fit t (Make co
         (λ v. account.left - cost + total p.types f (bind used t) (put env t v) (carrying account.carried t units)) con vs at_ env (of_heap vs is heap pay)
     by_heap vs is fits c there fine e false plain pay = plain_place vs fits plain c there e at_ fine
 
-    by_con : (o : Option Constructor) → constructor p.types con ≡ o → IsSomeAnd o (λ c. HaveKinds f args c.fields × PlaceFits f c.inline at_ × (option_map kind.Of (type_of p.types con) ≡ Some q))
+    by_con : (o : Option Constructor) → constructor p.types con ≡ o
+        → IsSomeAnd o (λ c. HaveKinds f args c.fields × PlaceFits f c.inline at_ × (option_map kind.Of (type_of p.types con) ≡ Some q))
         → IsPaidBy book.unit (worth p.types f s env account) (λ v. worth p.types f (bind used t) (put env t v) (after_op naturals p.types book func block at account t (Make con args at_))) (op_run enter k w env (Make con args at_))
     by_con None there m = absurd m
     by_con (Some c) there m =

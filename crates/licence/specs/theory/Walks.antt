@@ -112,7 +112,8 @@ local_same : (types : List DataType) (f : Func) (s : Site) (carried : Carried �
 local_same types f s carried carried' x y asked asked' e same d =
     subst (λ z. Carries types f carried z asked ↔ AllHold (value_checks types s (kind_of f y) (carried' y) asked')) (sym same) (value_same types s (kind_of f y) (carried y) asked (carried' y) asked' (e y) d)
 
-locals_same : (types : List DataType) (f : Func) (s : Site) (carried : Carried ℕ) (carried' : Carried ℤ) (asks : Asks ℕ) (asks' : Asks ℤ) → SameCarried carried carried' → AreLike SameUnits asks asks'
+locals_same : (types : List DataType) (f : Func) (s : Site) (carried : Carried ℕ) (carried' : Carried ℤ) (asks : Asks ℕ) (asks' : Asks ℤ)
+    → SameCarried carried carried' → AreLike SameUnits asks asks'
     → AllCarry types f carried asks ↔ AllHold (local_checks types f s carried' asks')
 locals_same types f s carried carried' [] [] e d = (λ h. tt, λ h. tt)
 locals_same types f s carried carried' [] (b ∷ asks') e d = absurd d
@@ -126,14 +127,16 @@ pub record Same (a : Account ℕ) (b : Account ℤ) : Type 0 where
   pub left : b.left ≡ pos a.left
   pub carried : SameCarried a.carried b.carried
 
-carrying_same : (carried : Carried ℕ) (carried' : Carried ℤ) (x : ℕ) (units : Units ℕ) (units' : Units ℤ) → SameCarried carried carried' → SameUnits units units' → SameCarried (carrying carried x units) (carrying carried' x units')
+carrying_same : (carried : Carried ℕ) (carried' : Carried ℤ) (x : ℕ) (units : Units ℕ) (units' : Units ℤ) → SameCarried carried carried'
+    → SameUnits units units' → SameCarried (carrying carried x units) (carrying carried' x units')
 carrying_same carried carried' x units units' e d = λ y c. by_test y c (x == y)
   where
     by_test : (y c : ℕ) (b : Bool) → (if b then units' else carried' y) c ≡ pos ((if b then units else carried y) c)
     by_test y c true = d c
     by_test y c false = e y c
 
-all_carrying_same : (xs : List ℕ) (carried : Carried ℕ) (carried' : Carried ℤ) (units : Units ℕ) (units' : Units ℤ) → SameCarried carried carried' → SameUnits units units' → SameCarried (all_carrying carried xs units) (all_carrying carried' xs units')
+all_carrying_same : (xs : List ℕ) (carried : Carried ℕ) (carried' : Carried ℤ) (units : Units ℕ) (units' : Units ℤ) → SameCarried carried carried'
+    → SameUnits units units' → SameCarried (all_carrying carried xs units) (all_carrying carried' xs units')
 all_carrying_same [] carried carried' units units' e d = e
 all_carrying_same (x ∷ xs) carried carried' units units' e d = all_carrying_same xs (carrying carried x units) (carrying carried' x units') units units' (carrying_same carried carried' x units units' e d) d
 
@@ -147,7 +150,8 @@ start_same book func zero = record { left = refl; carried = λ x c. refl }
 start_same book func (suc n) = record { left = refl; carried = λ x c. refl }
 
 -- behind a let that pays
-pub after_same : (p : Code) (f : Func) (book : Book ℕ) (func block at : ℕ) (a : Account ℕ) (b : Account ℤ) (x : ℕ) (op : Op) → Same a b → LetPays p f book func block at a op
+pub after_same : (p : Code) (f : Func) (book : Book ℕ) (func block at : ℕ) (a : Account ℕ) (b : Account ℤ) (x : ℕ) (op : Op) → Same a b
+    → LetPays p f book func block at a op
     → Same (after_op naturals p.types book func block at a x op) (after_op integers p.types (in_integers book) func block at b x op)
 after_same p f book func block at a b x (Lit z) e pays = e
 after_same p f book func block at a b x (Flag z) e pays = e
@@ -177,12 +181,14 @@ arguments_same : (p : Code) (f : Func) (book : Book ℕ) (s : Site) (a : Account
     → IfSome (slice_get p.funcs callee) (λ g. AllCarry p.types f a.carried (call_asks book callee g args)) ↔ AllHold (arguments_checks p f (in_integers book) s b callee args)
 arguments_same p f book s a b callee args e = by_func (slice_get p.funcs callee)
   where
-    by_func : (o : Option Func) → IfSome o (λ g. AllCarry p.types f a.carried (call_asks book callee g args)) ↔ AllHold (option_map_or (λ g. local_checks p.types f s b.carried (call_asks (in_integers book) callee g args)) o [])
+    by_func : (o : Option Func) → IfSome o (λ g. AllCarry p.types f a.carried (call_asks book callee g args))
+        ↔ AllHold (option_map_or (λ g. local_checks p.types f s b.carried (call_asks (in_integers book) callee g args)) o [])
     by_func None = (λ h. tt, λ h. tt)
     by_func (Some g) = locals_same p.types f s a.carried b.carried (call_asks book callee g args) (call_asks (in_integers book) callee g args) e.carried
         (arguments_like SameUnits (book.param callee) ((in_integers book).param callee) (λ x c. refl) 0 (length g.params) args)
 
-pub op_same : (p : Code) (f : Func) (book : Book ℕ) (s : Site) (a : Account ℕ) (b : Account ℤ) (op : Op) → Same a b → LetPays p f book s.func s.block s.place a op ↔ AllHold (op_checks integers p f (in_integers book) s b op)
+pub op_same : (p : Code) (f : Func) (book : Book ℕ) (s : Site) (a : Account ℕ) (b : Account ℤ) (op : Op) → Same a b
+    → LetPays p f book s.func s.block s.place a op ↔ AllHold (op_checks integers p f (in_integers book) s b op)
 op_same p f book s a b (Lit z) e = (λ h. tt, λ h. tt)
 op_same p f book s a b (Flag z) e = (λ h. tt, λ h. tt)
 op_same p f book s a b (Copy x) e = (λ h. tt, λ h. tt)
@@ -214,14 +220,16 @@ op_same p f book s a b (Make con args at) e = by_heap (is_heap_con p.types con)
         (one s a.left cost b.left (build_cost integers (pos book.unit) at (units' con)) e.left (cost_same book.unit (units con) at))
     by_heap false = (λ h. tt, λ h. tt)
 
-jump_same : (p : Code) (f : Func) (book : Book ℕ) (s : Site) (a : Account ℕ) (b : Account ℤ) (to : ℕ) → Same a b → JumpPays p f book s.func a to ↔ AllHold (jump_checks p f (in_integers book) s b to)
+jump_same : (p : Code) (f : Func) (book : Book ℕ) (s : Site) (a : Account ℕ) (b : Account ℤ) (to : ℕ) → Same a b → JumpPays p f book s.func a to
+    ↔ AllHold (jump_checks p f (in_integers book) s b to)
 jump_same p f book s a b to e =
     both (local_checks p.types f s b.carried (jump_asks f (in_integers book) s.func to)) (left_check s b.left (pos (book.block_need s.func to)) ∷ [])
     (locals_same p.types f s a.carried b.carried (jump_asks f book s.func to) (jump_asks f (in_integers book) s.func to) e.carried
     (each_like SameUnits (book.block_var s.func to) ((in_integers book).block_var s.func to) (λ x c. refl) (params_at f.blocks to)))
     (one s a.left (book.block_need s.func to) b.left (pos (book.block_need s.func to)) e.left refl)
 
-arm_same : (p : Code) (book : Book ℕ) (a : Account ℕ) (b : Account ℤ) (on con : ℕ) (m : CaseArm) → Same a b → Same (in_arm naturals p.types book a on con m) (in_arm integers p.types (in_integers book) b on con m)
+arm_same : (p : Code) (book : Book ℕ) (a : Account ℕ) (b : Account ℤ) (on con : ℕ) (m : CaseArm) → Same a b
+    → Same (in_arm naturals p.types book a on con m) (in_arm integers p.types (in_integers book) b on con m)
 arm_same p book a b on con m e = by_cell m.cell
   where
     by_heap : (h : Bool) → cond h (b.left +ℤ b.carried on con) b.left ≡ pos (cond h (a.left + a.carried on con) a.left)
@@ -281,7 +289,8 @@ tail_same p f book s a b callee args e = (
     back need = one s (a.left - book.need callee + book.back callee) (book.back s.func) ((b.left -ℤ pos (book.need callee)) +ℤ pos (book.back callee)) (pos (book.back s.func))
         (ap (λ m. (m -ℤ pos (book.need callee)) +ℤ pos (book.back callee)) e.left ∙ ap (λ m. m +ℤ pos (book.back callee)) (sym (minus_is a.left (book.need callee) need)) ∙ sym (plus_is (a.left - book.need callee) (book.back callee))) refl
 
-pub term_same : (p : Code) (f : Func) (book : Book ℕ) (s : Site) (a : Account ℕ) (b : Account ℤ) (t : Term) → Same a b → TermPays p f book s.func a t ↔ AllHold (term_checks integers p f (in_integers book) s b t)
+pub term_same : (p : Code) (f : Func) (book : Book ℕ) (s : Site) (a : Account ℕ) (b : Account ℤ) (t : Term) → Same a b → TermPays p f book s.func a t
+    ↔ AllHold (term_checks integers p f (in_integers book) s b t)
 term_same p f book s a b (Ret x) e =
     both (value_checks p.types s (kind_of f x) (b.carried x) (λ c. pos (book.result s.func c))) (left_check s b.left (pos (book.back s.func)) ∷ [])
     (value_same p.types s (kind_of f x) (a.carried x) (book.result s.func) (b.carried x) (λ c. pos (book.result s.func c)) (e.carried x) (λ c. refl)) (one s a.left (book.back s.func) b.left (pos (book.back s.func)) e.left refl)
@@ -339,7 +348,8 @@ from_places p f book func block place a (l ∷ ls) t lets term = (
       subst (λ i. LetPays p f book func block i (after_lets naturals p.types book func block (suc place) (after_op naturals p.types book func block place a l.target l.op) (take n ls)) m.op) there (lets (suc n) m e)) term,
 )
 
-to_place : (p : Code) (f : Func) (book : Book ℕ) (func block place : ℕ) (a : Account ℕ) (ls : List Let) (t : Term) → FromHere p f book func block place a ls t → (n : ℕ) (l : Let) → slice_get ls n ≡ Some l
+to_place : (p : Code) (f : Func) (book : Book ℕ) (func block place : ℕ) (a : Account ℕ) (ls : List Let) (t : Term)
+    → FromHere p f book func block place a ls t → (n : ℕ) (l : Let) → slice_get ls n ≡ Some l
     → LetPays p f book func block (place + n) (after_lets naturals p.types book func block place a (take n ls)) l.op
 to_place p f book func block place a [] t h n l e = let c : None ≡ Some l = e in absurd cc
 to_place p f book func block place a (m ∷ ls) t h zero l e =
@@ -372,7 +382,8 @@ block_same p f book func number b = (
     here = here_same p f book func number 1 (account_at book func number) (account_at (in_integers book) func number) b.lets b.term (start_same book func number)
 
 blocks_same : (p : Code) (f : Func) (book : Book ℕ) (func first : ℕ) (bs : List Block)
-    → ((i : ℕ) (b : Block) → slice_get bs i ≡ Some b → BlockPays p f book func (first + i) b) ↔ AllHold (blocks_checks integers p f (in_integers book) func first bs)
+    → ((i : ℕ) (b : Block) → slice_get bs i ≡ Some b → BlockPays p f book func (first + i) b)
+    ↔ AllHold (blocks_checks integers p f (in_integers book) func first bs)
 blocks_same p f book func first [] = (λ h. tt, λ h i b e. let c : None ≡ Some b = e in absurd cc)
 blocks_same p f book func first (b ∷ bs) = join (blocks_same p f book func (suc first) bs)
   where
@@ -385,7 +396,8 @@ blocks_same p f book func first (b ∷ bs) = join (blocks_same p f book func (su
     block : BlockPays p f book func first b ↔ AllHold now
     block = block_same p f book func first b
 
-    at : BlockPays p f book func first b → ((i : ℕ) (c : Block) → slice_get bs i ≡ Some c → BlockPays p f book func (suc first + i) c) → (i : ℕ) (c : Block) → slice_get (b ∷ bs) i ≡ Some c → BlockPays p f book func (first + i) c
+    at : BlockPays p f book func first b → ((i : ℕ) (c : Block) → slice_get bs i ≡ Some c → BlockPays p f book func (suc first + i) c)
+        → (i : ℕ) (c : Block) → slice_get (b ∷ bs) i ≡ Some c → BlockPays p f book func (first + i) c
     at h k zero c e = let same : b ≡ c = cc in let here : first ≡ first + 0 = omega arith in subst (λ n. BlockPays p f book func n c) here (subst (BlockPays p f book func first) same h)
     at h k (suc i) c e = let there : suc first + i ≡ first + suc i = omega arith in subst (λ n. BlockPays p f book func n c) there (k i c e)
 

@@ -1,27 +1,13 @@
--- A text has one licence or one cause, by the laws of bundles, of spellings, of the walk over code and of the texts of certificates.
-use Rattle.bundle_licence.proofs.OneVerdict.{Stages}
+-- A text has one licence or one cause, by the laws of bundles and of the verifier.
 use Rattle.bundle_licence.proofs.OneLicence.{Laws, one_licence, one_cause, not_both}
 use Rattle.bundle_licence.proofs.laws.law_of_licences.Goals as goal
 
-stages : goal.After-law_of_texts → Stages
-stages c = record {
-  meaning = c.one_meaning.ensures.one;
-  well_or_fault = c.law_of_walk.ensures.apart;
-  fault = c.law_of_walk.ensures.one;
-  cert = c.law_of_texts.ensures.one;
-  line = c.law_of_texts.ensures.line;
-  number = c.law_of_texts.ensures.number;
-  line_or_number = c.law_of_texts.ensures.apart;
-  cert_or_line = c.law_of_texts.ensures.right_line;
-  cert_or_number = c.law_of_texts.ensures.right_number;
-}
-
-laws : goal.After-law_of_texts → Laws
+laws : goal.After-law_of_verdicts → Laws
 laws c = record {
   bundle = c.law_of_bundles.ensures.one;
   line = c.law_of_faults.ensures.one;
   bundle_or_line = c.law_of_faults.ensures.apart;
-  stages = stages c;
+  verdict = c.law_of_verdicts.ensures;
 }
 
 pub returns-clause-one : goal.returns-clause-one

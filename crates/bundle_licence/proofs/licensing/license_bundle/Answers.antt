@@ -1,7 +1,9 @@
 -- What is answered of a bundle that was read is what the verifier answers of its bytes.
-use Rattle.std.proofs.Common.{Err, sym, subst}
+use Rattle.std.proofs.Common.{◌≡◌, Err, sym, subst}
+use Rattle.stops.specs.declared.stop.Stop.TheVariants.{Memory}
+use Rattle.stops.specs.Stopping.{IsFault}
 use Rattle.grail_bundle.specs.Bundles.{IsBundle}
-use Rattle.bundle_licence.specs.Bundled.{IsLicensedOr, IsRefusedOr, IsMemory}
+use Rattle.bundle_licence.specs.Bundled.{IsLicensedOr}
 use Rattle.bundle_licence.proofs.Answering.{code_short, cert_short, found_yes, found_no, yes_yes, yes_no, no_yes, no_no}
 use Rattle.bundle_licence.proofs.licensing.license_bundle.Goals as goal
 
@@ -26,12 +28,12 @@ returns-in-Ok-verify_bundle-clause-refuses c =
 pub returns-in-Ok-clause-found : goal.returns-in-Ok-clause-found
 returns-in-Ok-clause-found c =
     let right : IsBundle c.in-Ok.bundle = record { parts = c.kept.ensures.parts; bytes = c.kept.ensures.bytes } in
-    subst (λ x. IsLicensedOr c.args.text.now (Err x)) (sym c.fault_of.ensures) (found_no c.args.text.now c.in-Ok.bundle c.in-Err.refusal right c.in-Ok.ensures.found c.in-Err.ensures.found)
+    subst (λ x. IsLicensedOr c.args.text.now (Err x)) (sym c.for_cause.ensures) (found_no c.args.text.now c.in-Ok.bundle c.in-Err.stop right c.in-Ok.ensures.found c.in-Err.ensures.found)
 
 pub returns-in-Ok-clause-accepts : goal.returns-in-Ok-clause-accepts
 returns-in-Ok-clause-accepts c =
-    λ l has. subst IsMemory (sym c.fault_of.ensures) (yes_no c.args.text.now c.in-Ok.bundle c.in-Err.refusal l c.in-Ok.ensures.bundle c.in-Err.ensures.exact has)
+    λ l has. subst (λ x. x ≡ Memory) (sym c.for_cause.ensures) (yes_no c.args.text.now c.in-Ok.bundle c.in-Err.stop l c.in-Ok.ensures.bundle c.in-Err.ensures.exact has)
 
 pub returns-in-Ok-clause-refuses : goal.returns-in-Ok-clause-refuses
 returns-in-Ok-clause-refuses c =
-    λ cause so. subst (IsRefusedOr cause) (sym c.fault_of.ensures) (no_no c.args.text.now c.in-Ok.bundle c.in-Err.refusal cause c.in-Ok.ensures.bundle c.in-Ok.ensures.fault c.in-Err.ensures.exact so)
+    λ cause so. subst (IsFault cause) (sym c.for_cause.ensures) (no_no c.args.text.now c.in-Ok.bundle c.in-Err.stop cause c.in-Ok.ensures.bundle c.in-Ok.ensures.fault c.in-Err.ensures.exact so)

@@ -13,10 +13,10 @@ pub returns-in-Ok-clause-stands : goal.returns-in-Ok-clause-stands
 returns-in-Ok-clause-stands c = certified_stands (code_of c.args.code.now) c.in-Ok.cert c.bundle.result c.bundle.ensures.code c.bundle.ensures.cert c.bundle.ensures.memory c.requires.well c.requires.fits c.limits.ensures c.in-Ok.ensures.least c.in-Ok.ensures.found
 
 pub returns-in-Err-clause-found : goal.returns-in-Err-clause-found
-returns-in-Err-clause-found c = uncertified_found (code_of c.args.code.now) c.in-Err.fault c.inference_fault.result c.inference_fault.ensures c.in-Err.ensures.found
+returns-in-Err-clause-found c = uncertified_found (code_of c.args.code.now) c.in-Err.stop c.inference_fault.result c.inference_fault.ensures c.in-Err.ensures.found
 
 pub returns-in-Err-clause-exact : goal.returns-in-Err-clause-exact
-returns-in-Err-clause-exact c = uncertified_exact (code_of c.args.code.now) c.in-Err.fault c.inference_fault.result c.inference_fault.ensures c.in-Err.ensures.exact
+returns-in-Err-clause-exact c = uncertified_exact (code_of c.args.code.now) c.in-Err.stop c.inference_fault.result c.inference_fault.ensures c.in-Err.ensures.exact
 
 pub returns-in-Err-clause-stands : goal.returns-in-Err-clause-stands
-returns-in-Err-clause-stands c = uncertified_stands (code_of c.args.code.now) c.in-Err.fault c.inference_fault.result c.inference_fault.ensures (λ e. λ d. λ g. c.in-Err.ensures.none d (ap Err e) g)
+returns-in-Err-clause-stands c = uncertified_stands (code_of c.args.code.now) c.in-Err.stop c.inference_fault.result c.inference_fault.ensures (λ e. λ d. λ g. c.in-Err.ensures.none d (ap Err e) g)

@@ -1,4 +1,4 @@
-use Rattle.typing_rules.specs.TypedPrograms.{typing_of}
+use Rattle.camelot_typing.specs.TypedPrograms.{typing_of}
 use Rattle.grail_code.specs.Code.{code_of}
 use Rattle.grail_code.specs.declared.code.Code.{Code as DeclaredCode}
 use Rattle.code_gen.specs.Generated.{compiled}
@@ -19,10 +19,10 @@ pub returns-in-Ok-clause-stands : goal.returns-in-Ok-clause-stands
 returns-in-Ok-clause-stands c = generated_stands (typing_of c.args.linear.now.typed) (code_of c.in-Ok.code) (compiled_of c.certify.result) c.in-Ok.ensures.code c.certify.ensures.stands
 
 pub returns-in-Err-clause-found : goal.returns-in-Err-clause-found
-returns-in-Err-clause-found c = ungenerated_found (typing_of c.args.linear.now.typed) c.in-Err.fault c.normal_fault.result c.normal_fault.ensures c.in-Err.ensures.finds
+returns-in-Err-clause-found c = ungenerated_found DeclaredCode (typing_of c.args.linear.now.typed) c.in-Err.stop c.normal_fault.result c.normal_fault.ensures c.in-Err.ensures.finds
 
 pub returns-in-Err-clause-exact : goal.returns-in-Err-clause-exact
-returns-in-Err-clause-exact c = ungenerated_exact DeclaredCode (typing_of c.args.linear.now.typed) c.in-Err.fault c.normal_fault.result c.normal_fault.ensures c.in-Err.ensures.takes c.in-Err.ensures.refuses
+returns-in-Err-clause-exact c = ungenerated_exact DeclaredCode (typing_of c.args.linear.now.typed) c.in-Err.stop c.normal_fault.result c.normal_fault.ensures c.in-Err.ensures.takes c.in-Err.ensures.refuses
 
 pub returns-in-Err-clause-stands : goal.returns-in-Err-clause-stands
-returns-in-Err-clause-stands c = unfounded_normal (compiled (typing_of c.args.linear.now.typed)) c.in-Err.fault c.normal_fault.result c.normal_fault.ensures
+returns-in-Err-clause-stands c = unfounded_normal (compiled (typing_of c.args.linear.now.typed)) c.in-Err.stop c.normal_fault.result c.normal_fault.ensures

@@ -1,5 +1,5 @@
 use Rattle.camelot_tree.specs.Programs.{program_of}
-use Rattle.typing_rules.specs.TypedPrograms.{typing_of}
+use Rattle.camelot_typing.specs.TypedPrograms.{typing_of}
 use Rattle.code_gen.specs.Generated.{compiled}
 use Rattle.camelot_compiler.specs.Compiled.{compiled_of}
 use Rattle.camelot_compiler.proofs.Reading.{typing, typed_found, typed_exact, typed_stands, untyped_found, untyped_exact, unfounded_type}
@@ -23,10 +23,10 @@ returns-in-Ok-clause-stands c =
     c.compile_typed.ensures.stands
 
 pub returns-in-Err-clause-found : goal.returns-in-Err-clause-found
-returns-in-Err-clause-found c = untyped_found (program_of c.args.program) c.in-Err.fault c.type_fault.result c.type_fault.ensures c.in-Err.ensures.fault
+returns-in-Err-clause-found c = untyped_found (program_of c.args.program) c.in-Err.stop c.type_fault.result c.type_fault.ensures c.in-Err.ensures.fault
 
 pub returns-in-Err-clause-exact : goal.returns-in-Err-clause-exact
-returns-in-Err-clause-exact c = untyped_exact (program_of c.args.program) c.in-Err.fault c.type_fault.result c.type_fault.ensures c.in-Err.ensures.takes c.in-Err.ensures.refuses
+returns-in-Err-clause-exact c = untyped_exact (program_of c.args.program) c.in-Err.stop c.type_fault.result c.type_fault.ensures c.in-Err.ensures.takes c.in-Err.ensures.refuses
 
 pub returns-in-Err-clause-stands : goal.returns-in-Err-clause-stands
-returns-in-Err-clause-stands c = λ t source typed settled. unfounded_type (compiled t) c.in-Err.fault c.type_fault.result c.type_fault.ensures
+returns-in-Err-clause-stands c = λ t source typed settled. unfounded_type (compiled t) c.in-Err.stop c.type_fault.result c.type_fault.ensures

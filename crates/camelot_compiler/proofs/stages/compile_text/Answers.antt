@@ -15,10 +15,10 @@ pub returns-in-Ok-clause-stands : goal.returns-in-Ok-clause-stands
 returns-in-Ok-clause-stands c = parsed_stands c.args.text.now (program_of c.in-Ok.program) c.in-Ok.ensures.takes (compiled_of c.compile_program.result) c.compile_program.ensures.stands
 
 pub returns-in-Err-clause-found : goal.returns-in-Err-clause-found
-returns-in-Err-clause-found c = unparsed_found c.args.text.now c.in-Err.fault c.parse_fault.result c.parse_fault.ensures c.in-Err.ensures.fault
+returns-in-Err-clause-found c = unparsed_found c.args.text.now c.in-Err.stop c.parse_fault.result c.parse_fault.ensures c.in-Err.ensures.fault
 
 pub returns-in-Err-clause-exact : goal.returns-in-Err-clause-exact
-returns-in-Err-clause-exact c = unparsed_exact c.args.text.now c.in-Err.fault c.parse_fault.result c.parse_fault.ensures c.in-Err.ensures.takes c.in-Err.ensures.refuses c.in-Err.ensures.scans
+returns-in-Err-clause-exact c = unparsed_exact c.args.text.now c.in-Err.stop c.parse_fault.result c.parse_fault.ensures c.in-Err.ensures.takes c.in-Err.ensures.refuses c.in-Err.ensures.scans
 
 pub returns-in-Err-clause-stands : goal.returns-in-Err-clause-stands
-returns-in-Err-clause-stands c = λ t source typed settled. unfounded_parse (compiled t) c.in-Err.fault c.parse_fault.result c.parse_fault.ensures
+returns-in-Err-clause-stands c = λ t source typed settled. unfounded_parse (compiled t) c.in-Err.stop c.parse_fault.result c.parse_fault.ensures

@@ -1,5 +1,5 @@
 use Rattle.std.proofs.Common.{◌≡◌, ◌++◌, drop, map}
-use Rattle.typing_rules.specs.Kinds.{bound_names}
+use Rattle.camelot_typing.specs.Kinds.{bound_names}
 use Rattle.camelot_types.proofs.arms.bound_names.Given as goal
 
 abbrev pub invariant-fields : goal.invariant-fields

@@ -18,6 +18,6 @@ pub returns-in-Err : goal.returns-in-Err
 returns-in-Err c =
     let g = globals_view c.args.globals.now in
     bodies_fail function_of head_view g c.funs.work.table.items (map (λ v. v.items) c.funs.work.atoms.items) c.args.funs.now c.args.globals.now.heads.items c.funs.index c.index-funs-index.result c.in-Some.head.now
-    (bodies_on g c.args.table.items [] (map function_of c.args.funs.now) g.heads) c.in-Err.fault c.funs-test.true c.index-funs-index.is
+    (bodies_on g c.args.table.items [] (map function_of c.args.funs.now) g.heads) c.in-Err.stop c.funs-test.true c.index-funs-index.is
     (subst (λ hs. c.funs.index < length hs) c.deref.ensures.value c.in-Some.ensures.lookup.3.0) (subst (λ hs. c.in-Some.head.now ≡ get_or hs c.funs.index c.in-Some.head.now) c.deref.ensures.value c.in-Some.ensures.lookup.1)
     c.funs.invariant c.in-Err.ensures

@@ -1,6 +1,6 @@
 use Rattle.std.proofs.Common.{◌≡◌, ◌++◌, drop, map}
 use Rattle.camelot_tree.specs.Programs.{program_of}
-use Rattle.typing_rules.specs.Kinds.{field_kind}
+use Rattle.camelot_typing.specs.Kinds.{field_kind}
 use Rattle.camelot_types.proofs.compile.field_kinds.Given as goal
 
 abbrev pub invariant-fields : goal.invariant-fields

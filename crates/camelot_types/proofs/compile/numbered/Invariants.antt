@@ -1,6 +1,6 @@
 use Rattle.std.proofs.Common.{◌≡◌, ◌+◌, ◌++◌, drop, map}
 use Rattle.camelot_values.specs.Kinds as values
-use Rattle.typing_rules.specs.Kinds.{numbered}
+use Rattle.camelot_typing.specs.Kinds.{numbered}
 use Rattle.camelot_types.proofs.compile.numbered.Given as goal
 
 abbrev pub invariant-cons : goal.invariant-cons

@@ -1,6 +1,6 @@
 use Rattle.std.proofs.Common.{◌+◌, ◌≤◌, length, rules, arith, sym, subst}
 use Rattle.camelot_values.specs.Kinds.{constructors}
-use Rattle.typing_rules.specs.NumberLaws.{few_constructors}
+use Rattle.camelot_typing.specs.NumberLaws.{few_constructors}
 use Rattle.camelot_types.proofs.compile.type_numbers.Goals as goal
 
 pub types-init : goal.types-init

@@ -8,5 +8,6 @@ use Rattle.camelot_types.proofs.heads.head_guesses.Given as goal
 abbrev pub invariant-funs : goal.invariant-funs
 invariant-funs l = record {
   number : l.first ≤ 17 * l.fun-index;
-  left : map head_view l.heads.items ++ head_guesses (program_of l.program) l.first (map function_of (drop l.fun-index l.funs)) ≡ head_guesses (program_of l.program) 0 (map function_of l.funs);
+  left : map head_view l.heads.items
+      ++ head_guesses (program_of l.program) l.first (map function_of (drop l.fun-index l.funs)) ≡ head_guesses (program_of l.program) 0 (map function_of l.funs);
 }

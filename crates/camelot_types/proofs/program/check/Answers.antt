@@ -1,14 +1,14 @@
 use Rattle.std.proofs.Common.{◌≡◌, List, subst}
 use Rattle.std.specs.Prelude.{IfOk, IfErr, MatchResult, ◌⊎◌, ⊤}
 use Rattle.camelot_tree.specs.Tree.{Source}
-use Rattle.typing_rules.specs.Typing.{Signature, IsTyped, IsWithinLimits, globals_of}
-use Rattle.typing_rules.specs.Typed.{functions_kinds, typing_kinds}
-use Rattle.typing_rules.specs.TypedPrograms.{typing_of}
-use Rattle.typing_rules.specs.Settled.{KindsSettled}
+use Rattle.camelot_typing.specs.Typing.{Signature, IsTyped, IsWithinLimits, globals_of}
+use Rattle.camelot_typing.specs.Typed.{functions_kinds, typing_kinds}
+use Rattle.camelot_typing.specs.TypedPrograms.{typing_of}
+use Rattle.camelot_typing.specs.Settled.{KindsSettled}
 use Rattle.camelot_types.specs.Walk.{HasFault}
-use Rattle.camelot_types.specs.Walk.{HasCause}
 use Rattle.camelot_types.specs.declared.fault.TypeFault.{TypeFault}
-use Rattle.camelot_types.specs.declared.fault.TypeFault.TheVariants.{Memory}
+use Rattle.stops.specs.declared.stop.Stop.TheVariants.{Fault, Memory}
+use Rattle.stops.specs.Stopping.{FaultIs}
 use Rattle.camelot_types.proofs.program.check.Goals as goal
 
 pub returns-clause-program : goal.returns-clause-program
@@ -26,7 +26,7 @@ returns-clause-settled c =
     c.in_ok-copy.ensures c.check_program.ensures.settled
 
 pub returns-clause-fault : goal.returns-clause-fault
-returns-clause-fault c = subst (λ (p : Source). IfErr c.check_program.result (HasCause p)) c.in_ok-copy.ensures c.check_program.ensures.fault
+returns-clause-fault c = subst (λ (p : Source). IfErr c.check_program.result (FaultIs (HasFault p))) c.in_ok-copy.ensures c.check_program.ensures.fault
 
 pub returns-clause-takes : goal.returns-clause-takes
 returns-clause-takes c =
@@ -34,4 +34,4 @@ returns-clause-takes c =
 
 pub returns-clause-refuses : goal.returns-clause-refuses
 returns-clause-refuses c =
-    subst (λ (p : Source). (fault : TypeFault) → HasFault p fault → MatchResult c.check_program.result (λ _. ⊥) (λ found. (found ≡ fault) ⊎ (found ≡ Memory))) c.in_ok-copy.ensures c.check_program.ensures.refuses
+    subst (λ (p : Source). (fault : TypeFault) → HasFault p fault → MatchResult c.check_program.result (λ _. ⊥) (λ found. (found ≡ Fault fault) ⊎ (found ≡ Memory))) c.in_ok-copy.ensures c.check_program.ensures.refuses

@@ -1,6 +1,6 @@
 use Rattle.std.proofs.Common.{◌∙◌, ap, map, length, arith}
 use Rattle.camelot_values.specs.Kinds.{constructors}
-use Rattle.typing_rules.specs.NumberLaws.{few_constructors}
+use Rattle.camelot_typing.specs.NumberLaws.{few_constructors}
 use Rattle.camelot_types.proofs.Declaring.{length_map}
 use Rattle.camelot_tree.specs.Programs.{program_of}
 use Rattle.camelot_tree.specs.Tree.{function_of}

@@ -1,5 +1,5 @@
 use Rattle.std.proofs.Common.{◌≡◌, ◌++◌, drop, map}
-use Rattle.typing_rules.specs.Typed.{kinds_of}
+use Rattle.camelot_typing.specs.Typed.{kinds_of}
 use Rattle.camelot_types.specs.Tables.{head_view}
 use Rattle.camelot_types.specs.Solving.{settled_funs}
 use Rattle.camelot_types.proofs.settle.settled_funs.Given as goal

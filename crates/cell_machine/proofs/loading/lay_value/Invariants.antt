@@ -14,7 +14,9 @@ invariant-items l = record {
   left : l.left ≤ length l.items;
   at : l.at + cell_count l.types (drop l.left l.items) ≡ l.fn.before;
   words : vec_len l.words ≡ vec_len l.initial.words + word_count (drop l.left l.items);
-  laid : (rest : List Item) (others : List Cell) → IsLaid l.fn.before (lay_all l.types l.fn.before rest) others l.initial.span.cells l.initial.words.items → IsLaid l.at (lay_all l.types l.at (drop l.left l.items ++ rest)) others l.span.cells l.words.items;
+  laid : (rest : List Item) (others : List Cell)
+      → IsLaid l.fn.before (lay_all l.types l.fn.before rest) others l.initial.span.cells l.initial.words.items
+      → IsLaid l.at (lay_all l.types l.at (drop l.left l.items ++ rest)) others l.span.cells l.words.items;
   room : vec_capacity l.words ≡ vec_capacity l.initial.words;
   range : SameRange l.initial.span l.span;
 }

@@ -8,7 +8,7 @@ use Rattle.std.specs.Prelude.{codes, MatchResult}
 use Rattle.std.specs.Str.{bytes_eq}
 use Rattle.certificate.specs.Reading.{bare_func, function_of_words, IsNoMemory}
 use Rattle.certificate.specs.declared.types.FuncCert.{FuncCert as DeclaredFunc}
-use Rattle.certificate.specs.declared.stop.Stop.{Stop}
+use Rattle.certificate.specs.declared.stop.LineStop.{LineStop}
 use Rattle.certificate.proofs.FuncSteps.{function_no_need, function_no_back, function_there, function_no_name, function_no_first, function_no_second, function_much, function_more, function_read, no_memory}
 use Rattle.certificate.proofs.functions.read_function.Goals as goal
 
@@ -50,7 +50,9 @@ returns-then-back-gt-MOST_NEED c =
     function_more (further c.args.rest.now) c.in-Some.name.now c.in-Some.need_tag.now c.in-Some.back_tag.now c.in-Some-number.need c.in-Some-number-2.back there (sym c.is_lower_name.ensures ∙ c.if-not-is_lower_name.false) first second (omega arith)
 
 -- what the last call makes
-made : (r : Result DeclaredFunc Stop) (o : Option FuncCert) (name : List ℕ) (need back : ℕ) → MatchResult r (λ f. func_of f ≡ bare_func name need back) (λ stop. IsNoMemory stop) → ((f : DeclaredFunc) → func_of f ≡ bare_func name need back → IsRead o FuncIsWithin (func_of f))
+made : (r : Result DeclaredFunc LineStop) (o : Option FuncCert) (name : List ℕ) (need back : ℕ)
+    → MatchResult r (λ f. func_of f ≡ bare_func name need back) (λ stop. IsNoMemory stop)
+    → ((f : DeclaredFunc) → func_of f ≡ bare_func name need back → IsRead o FuncIsWithin (func_of f))
     → MatchResult r (λ f. IsRead o FuncIsWithin (func_of f)) (λ stop. IsStopped o FuncIsWithin stop)
 made (Ok f) o name need back h g = g f h
 made (Err s) o name need back h g = no_memory s o h

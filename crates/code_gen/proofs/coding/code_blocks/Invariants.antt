@@ -11,7 +11,8 @@ abbrev pub invariant-each_block : goal.invariant-each_block
 invariant-each_block l =
     let takes = told_params l.own l.size l.live in
     record {
-      blocks : map code.block_of l.all.items ++ coded_blocks takes l.number (map block_of (into_iter_items l.block-iterator)) ≡ coded_blocks takes 0 (map block_of l.fn.blocks.items);
+      blocks : map code.block_of l.all.items
+          ++ coded_blocks takes l.number (map block_of (into_iter_items l.block-iterator)) ≡ coded_blocks takes 0 (map block_of l.fn.blocks.items);
       few : l.number + length (into_iter_items l.block-iterator) ≤ 256;
       few_lets : AllByRecursion (λ b. length b.lets ≤ 256) (map block_of (into_iter_items l.block-iterator));
     }

@@ -1,7 +1,7 @@
 use Rattle.std.proofs.Common.{sym, ap, ◌∙◌, subst, arith}
 use Rattle.std.proofs.Math.Logic.{∥∥₁_elim}
 use Rattle.camelot_tree.specs.Meaning as source
-use Rattle.typing_rules.specs.TypedPrograms.{typing_of}
+use Rattle.camelot_typing.specs.TypedPrograms.{typing_of}
 use Rattle.grail_code.specs.Meaning.{run_of}
 use Rattle.grail_code.specs.Spelling.{FitsCode}
 use Rattle.grail_code.specs.WellFormed.{IsWellFormed}

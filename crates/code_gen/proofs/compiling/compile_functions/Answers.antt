@@ -1,7 +1,7 @@
 use Rattle.std.proofs.Common.{◌≡◌, length, map, ◌⊎◌, inl, inr, ⊎_elim}
 use Rattle.camelot_tree.specs.Tree.{function_of}
-use Rattle.typing_rules.specs.Typed.{kinds_of}
-use Rattle.typing_rules.specs.TypedPrograms.{typing_of}
+use Rattle.camelot_typing.specs.Typed.{kinds_of}
+use Rattle.camelot_typing.specs.TypedPrograms.{typing_of}
 use Rattle.grail_code.specs.Code.{func_of}
 use Rattle.normal_form.specs.Answers.{program_fault}
 use Rattle.code_gen.specs.Generated.{compiled}

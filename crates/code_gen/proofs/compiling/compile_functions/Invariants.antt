@@ -1,8 +1,8 @@
 use Rattle.std.proofs.Common.{◌≡◌, ◌≤◌, ◌++◌, map, length}
 use Rattle.std.specs.List.{AllByRecursion}
 use Rattle.camelot_tree.specs.Tree.{function_of}
-use Rattle.typing_rules.specs.Typed.{kinds_of, signatures_of}
-use Rattle.typing_rules.specs.TypedPrograms.{typing_of}
+use Rattle.camelot_typing.specs.Typed.{kinds_of, signatures_of}
+use Rattle.camelot_typing.specs.TypedPrograms.{typing_of}
 use Rattle.grail_code.specs.Code.{func_of}
 use Rattle.normal_form.specs.Answers.{first_fault, program_fault}
 use Rattle.normal_form.specs.Normal.{normal_functions}

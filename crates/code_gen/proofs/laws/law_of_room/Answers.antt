@@ -1,5 +1,5 @@
 use Rattle.std.proofs.Math.Logic.{∥∥₁_elim}
-use Rattle.typing_rules.specs.TypedPrograms.{typing_of}
+use Rattle.camelot_typing.specs.TypedPrograms.{typing_of}
 use Rattle.code_gen.specs.Generated.{compiled}
 use Rattle.code_gen.proofs.Props.{within_prop}
 use Rattle.code_gen.proofs.laws.law_of_room.Goals as goal

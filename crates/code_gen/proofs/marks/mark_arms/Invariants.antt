@@ -7,7 +7,8 @@ use Rattle.code_gen.proofs.marks.mark_arms.Given as goal
 abbrev pub invariant-loop-left : goal.invariant-loop-left
 invariant-loop-left l = record {
   within : l.left ≤ length l.arms;
-  marked : (live : Marks) → IsMarked l.initial.marks live → IsMarked l.marks (either_live (arms_live (told l.later l.count) (map arm_of (drop l.left l.arms))) live);
+  marked : (live : Marks) → IsMarked l.initial.marks live
+      → IsMarked l.marks (either_live (arms_live (told l.later l.count) (map arm_of (drop l.left l.arms))) live);
 }
 
 abbrev pub decreases-loop-left : goal.decreases-loop-left

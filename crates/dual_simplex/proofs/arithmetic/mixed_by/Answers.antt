@@ -12,5 +12,5 @@ returns c =
     let fu = c.ranges.other in
     let fm : FitsSigned w128 c.mix.result = record { sfits = c.mix.type_inv } in
     let value : c.mix.result ≡ mixed c.args.scale c.args.times c.args.own c.args.other = simp to_z-of_z at c.mix.ensures.value in
-    let got = simp to_z-of_z at c.narrowed.ensures in
-    subst (λ x. MatchResult c.narrowed.result (λ n. (n ≡ int_div x (pos c.args.shared)) × (is_small n ≡ true)) (λ _. is_small (int_div x (pos c.args.shared)) ≡ false)) value got
+    let got = simp to_z-of_z at c.narrowed_by.ensures in
+    subst (λ x. MatchResult c.narrowed_by.result (λ n. (n ≡ int_div x (pos c.args.shared)) × (is_small n ≡ true)) (λ _. is_small (int_div x (pos c.args.shared)) ≡ false)) value got

@@ -20,12 +20,12 @@ loop-place-preserved c =
     let ft = c.ranges.times in
     let fo : FitsSigned w64 (get_or owns i (pos 0)) = search rules in
     let fu : FitsSigned w64 (get_or others i (pos 0)) = search rules in
-    let step : IsGreatestCommon c.loop-place.shared (unsigned_abs (mixed c.args.scale c.args.times (get_or owns i (pos 0)) (get_or others i (pos 0)))) c.shared_with-shared.result = simp to_z-of_z at c.shared_with-shared.ensures in
+    let step : IsGreatestCommon c.loop-place.shared (unsigned_abs (mixed c.args.scale c.args.times (get_or owns i (pos 0)) (get_or others i (pos 0)))) c.shared_with-next.result = simp to_z-of_z at c.shared_with-next.ensures in
     let inside : i < length owns = c.loop-place-test.true in
     let before = simp to_z-of_z at c.loop-place.invariant.so_far in
     record {
-      positive = common_positive _ _ _ c.loop-place.invariant.positive c.shared_with-shared.ensures;
-      so_far = simp to_z-of_z (shares_turn c.args.scale c.args.times owns others i c.args.start c.loop-place.shared c.shared_with-shared.result inside (omega arith) step before);
+      positive = common_positive _ _ _ c.loop-place.invariant.positive c.shared_with-next.ensures;
+      so_far = simp to_z-of_z (shares_turn c.args.scale c.args.times owns others i c.args.start c.loop-place.shared c.shared_with-next.result inside (omega arith) step before);
     }
 
 pub returns-clause-shared : goal.returns-clause-shared

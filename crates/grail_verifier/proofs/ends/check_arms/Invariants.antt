@@ -2,7 +2,7 @@ use Rattle.std.proofs.Common.{◌≡◌, drop, map}
 use Rattle.grail_code.specs.Code.{arm_of, code_of}
 use Rattle.grail_code.specs.Code.{func_of as body_of}
 use Rattle.grail_verifier.specs.Numbered.{held, func_in}
-use Rattle.grail_verifier.specs.Finding.{site_of}
+use Rattle.licence.specs.Sites.{site_of}
 use Rattle.grail_verifier.specs.Remembered.{IsSound}
 use Rattle.grail_verifier.specs.Walk.{arms_short}
 use Rattle.grail_verifier.proofs.ends.check_arms.Given as goal

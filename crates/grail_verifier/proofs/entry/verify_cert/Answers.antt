@@ -5,5 +5,7 @@ use Rattle.grail_verifier.proofs.entry.verify_cert.Goals as goal
 pub returns-in-Ok-clause-exact : goal.returns-in-Ok-clause-exact
 returns-in-Ok-clause-exact c = cert_exact (code_of c.args.code) c.args.cert.now c.in-Ok.read c.judge.result c.in-Ok.ensures.read c.in-Ok.ensures.line c.in-Ok.ensures.number c.judge.ensures.exact
 
-pub returns-in-Err-clause-exact : goal.returns-in-Err-clause-exact
-returns-in-Err-clause-exact c = cert_unread (code_of c.args.code) c.args.cert.now c.in-Err.fault c.in-Err.ensures.read c.in-Err.ensures.line c.in-Err.ensures.number c.cert_refusal.result c.cert_refusal.ensures
+pub returns-in-Err-Fault-clause-exact : goal.returns-in-Err-Fault-clause-exact
+returns-in-Err-Fault-clause-exact c =
+    rw c.in-Err-Fault.field-0-is
+    (cert_unread (code_of c.args.code) c.args.cert.now c.in-Err-Fault.field-0 c.in-Err-Fault.fault c.in-Err-Fault.field-0-is c.in-Err-Fault.ensures.read c.in-Err-Fault.ensures.line c.in-Err-Fault.ensures.number)

@@ -1,7 +1,7 @@
 use Rattle.std.proofs.Common.{◌≡◌, drop, map, Some}
 use Rattle.grail_code.specs.Code.{func_of, code_of}
 use Rattle.grail_verifier.specs.Numbered.{held, var_in}
-use Rattle.grail_verifier.specs.Finding.{site_of}
+use Rattle.licence.specs.Sites.{site_of}
 use Rattle.grail_verifier.specs.Remembered.{IsSound}
 use Rattle.grail_verifier.specs.Walk.{asked_short, bound}
 use Rattle.grail_verifier.proofs.values.check_params.Given as goal

@@ -2,7 +2,7 @@ use Rattle.std.proofs.Common.{◌≡◌, ◌+◌, drop, map}
 use Rattle.grail_code.specs.Code.{let_of, term_of, code_of}
 use Rattle.grail_code.specs.Code.{func_of as body_of}
 use Rattle.grail_verifier.specs.Numbered.{held, make_in, func_in}
-use Rattle.grail_verifier.specs.Finding.{site_of}
+use Rattle.licence.specs.Sites.{site_of}
 use Rattle.grail_verifier.specs.Remembered.{IsSound}
 use Rattle.grail_verifier.specs.Walk.{lets_short}
 use Rattle.grail_verifier.proofs.walk.check_lets.Given as goal

@@ -8,4 +8,4 @@ pub returns-in-Ok : goal.returns-in-Ok
 returns-in-Ok c = arena_read c.args.text.now c.in-Some.line.now c.in-Some.rest.now c.in-Ok.arena c.in-Some.ensures c.in-Ok.ensures.is c.in-Ok.ensures.fits
 
 pub returns-in-Err : goal.returns-in-Err
-returns-in-Err c = rw c.fault_at.ensures (arena_stopped c.in-Err.stop c.args.text.now c.in-Some.line.now c.in-Some.rest.now c.in-Some.ensures c.in-Err.ensures)
+returns-in-Err c = rw c.stop_at.ensures (arena_stopped c.in-Err.stop c.args.text.now c.in-Some.line.now c.in-Some.rest.now c.in-Some.ensures c.in-Err.ensures)

@@ -8,4 +8,4 @@ pub returns-in-Ok : goal.returns-in-Ok
 returns-in-Ok c = workers_read c.args.text.now c.args.arena c.args.rest.now c.in-Some.line.now c.in-Some.after.now c.in-Ok.workers c.requires c.in-Some.ensures c.in-Ok.ensures.is c.in-Ok.ensures.fits
 
 pub returns-in-Err : goal.returns-in-Err
-returns-in-Err c = rw c.fault_at.ensures (workers_stopped c.in-Err.stop c.args.text.now c.args.arena c.args.rest.now c.in-Some.line.now c.in-Some.after.now c.requires c.in-Some.ensures c.in-Err.ensures)
+returns-in-Err c = rw c.stop_at.ensures (workers_stopped c.in-Err.stop c.args.text.now c.args.arena c.args.rest.now c.in-Some.line.now c.in-Some.after.now c.requires c.in-Some.ensures c.in-Err.ensures)

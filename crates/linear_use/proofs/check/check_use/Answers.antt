@@ -1,4 +1,4 @@
-use Rattle.typing_rules.specs.TypedPrograms.{typing_of}
+use Rattle.camelot_typing.specs.TypedPrograms.{typing_of}
 use Rattle.linear_use.proofs.Answering.{takes_err}
 use Rattle.linear_use.proofs.check.check_use.Goals as goal
 

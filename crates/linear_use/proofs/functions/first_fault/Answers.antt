@@ -1,8 +1,8 @@
-use Rattle.std.proofs.Common.{◌≡◌, length, map, sym, ap, ◌∙◌, ◌⊎◌, inl, inr, ⊎_elim}
+use Rattle.std.proofs.Common.{◌≡◌, length, map, sym, ap, ◌∙◌, subst, ◌⊎◌, inl, inr, ⊎_elim}
 use Rattle.camelot_tree.specs.Tree.{function_of}
-use Rattle.typing_rules.specs.Typed.{kinds_of}
+use Rattle.camelot_typing.specs.Typed.{kinds_of}
 use Rattle.linear_use.specs.Flow.{functions_faults}
-use Rattle.linear_use.specs.Walk.{globals_in}
+use Rattle.linear_use.specs.Walk.{StopsAt, globals_in}
 use Rattle.linear_use.specs.Answers.{first}
 use Rattle.linear_use.proofs.FunctionLaws.{funs_step, funs_stop, kinds_step, functions_over, finds_err, globals_is}
 use Rattle.linear_use.proofs.functions.first_fault.Goals as goal
@@ -25,11 +25,10 @@ returns-in_err-walk_function c =
     let a = c.funs.decl-iterator.a.rest.now in
     let b = c.funs.decl-iterator.b.rest.now in
     let s = c.in-Some.ensures.steps in
-    let fault = c.in_err-walk_function.field-0.0 in
-    finds_err c.from_residual-in_err-walk_function.result fault _ c.from_residual-in_err-walk_function.ensures.1
-    (λ m.
-    ap (λ x. first (functions_faults x (map function_of t.program.funs.items) g.heads)) (sym (globals_is t))
-    ∙ funs_stop function_of kinds_of g a c.next.new.self.a.rest.now b c.next.new.self.b.rest.now c.in-Some.decl.now c.in-Some.kinds.now _ fault s.0 s.1 (c.in_err-walk_function.ensures m) c.funs.invariant.first)
+    let stop = c.in_err-walk_function.field-0.0 in
+    finds_err c.from_residual-in_err-walk_function.result stop _ c.from_residual-in_err-walk_function.ensures.1
+    (subst (λ x. StopsAt (first (functions_faults x (map function_of t.program.funs.items) g.heads)) stop) (globals_is t)
+    (funs_stop function_of kinds_of g a c.next.new.self.a.rest.now b c.next.new.self.b.rest.now c.in-Some.decl.now c.in-Some.kinds.now _ stop s.0 s.1 c.in_err-walk_function.ensures c.funs.invariant.first))
 
 pub returns : goal.returns
 returns c =

@@ -1,6 +1,6 @@
 use Rattle.std.proofs.Common.{◌≡◌, map}
 use Rattle.camelot_tree.specs.Tree.{function_of}
-use Rattle.typing_rules.specs.Typed.{kinds_of, functions_kinds, signatures_of}
+use Rattle.camelot_typing.specs.Typed.{kinds_of, functions_kinds, signatures_of}
 use Rattle.linear_use.specs.Flow.{functions_faults}
 use Rattle.linear_use.specs.Walk.{globals_in}
 use Rattle.linear_use.specs.Answers.{first}

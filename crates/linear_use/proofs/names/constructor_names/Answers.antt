@@ -1,8 +1,9 @@
 use Rattle.std.proofs.Common.{◌+◌, [], map, drop, refl, sym, ap, ◌∙◌}
 use Rattle.camelot_values.specs.Kinds.{data_type_of}
-use Rattle.typing_rules.specs.TypedPrograms.{typing_of}
+use Rattle.camelot_typing.specs.TypedPrograms.{typing_of}
 use Rattle.linear_use.specs.Tables.{with_names}
-use Rattle.linear_use.proofs.Tables.{con_words, names_new, with_new, with_append, left_words, words_over}
+use Rattle.linear_use.specs.TableLaws.{with_new, with_append}
+use Rattle.linear_use.proofs.Tables.{con_words, names_new, left_words, words_over}
 use Rattle.linear_use.proofs.names.constructor_names.Goals as goal
 
 pub types-preserved : goal.types-preserved

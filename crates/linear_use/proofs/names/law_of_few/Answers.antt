@@ -1,4 +1,4 @@
-use Rattle.typing_rules.specs.NumberLaws.{few_constructors}
+use Rattle.camelot_typing.specs.NumberLaws.{few_constructors}
 use Rattle.linear_use.proofs.names.law_of_few.Goals as goal
 
 pub returns : goal.returns

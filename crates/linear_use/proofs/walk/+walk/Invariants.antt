@@ -24,7 +24,8 @@ invariant-walk_arms-arms l = record {
   left : ArmsLeft (globals_in l.known.typed.now) l.known.exprs.now (arms (map branch_of l.arms)) (arms (map branch_of (drop l.arm-index l.arms))) l.held l.initial.state l.state;
 }
 
--- ranks: arms, one arm, arguments and branches, an expression, its innermost part and the parts around it, and a let or a match
+-- ranks: arms, one arm, arguments and branches, an expression, its innermost part and the parts around it, and a let or
+-- a match
 abbrev pub decreases-walk : goal.decreases-walk
 decreases-walk l = 8 * size (expression_of l.expr.now) + 6
 

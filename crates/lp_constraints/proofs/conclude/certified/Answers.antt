@@ -1,7 +1,7 @@
 use Rattle.std.proofs.Common.{◌≡◌}
 use Rattle.grail_code.specs.Code.{code_of}
 use Rattle.certificate.specs.Certificates.{IsWithin}
-use Rattle.bound_system.specs.Found.{certificate_of}
+use Rattle.lp_system.specs.Found.{certificate_of}
 use Rattle.lp_constraints.proofs.Concluding.{all_values, wide, of_none}
 use Rattle.lp_constraints.proofs.conclude.certified.Goals as goal
 

@@ -2,7 +2,7 @@ use Rattle.std.proofs.Common.{subst}
 use Rattle.dual_simplex.specs.Promises.{SaysNothing}
 use Rattle.dual_simplex.specs.Run.{plain_answer}
 use Rattle.grail_code.specs.Code.{code_of}
-use Rattle.bound_system.specs.Forms.{system_of}
+use Rattle.lp_system.specs.Forms.{system_of}
 use Rattle.lp_constraints.proofs.conclude.conclude.Goals as goal
 
 pub returns-in-Nothing-clause-none : goal.returns-in-Nothing-clause-none

@@ -1,4 +1,4 @@
-use Rattle.typing_rules.specs.TypedPrograms.{typing_of}
+use Rattle.camelot_typing.specs.TypedPrograms.{typing_of}
 use Rattle.normal_form.proofs.FunctionLaws.{params_few}
 use Rattle.normal_form.proofs.facts.law_of_params.Goals as goal
 

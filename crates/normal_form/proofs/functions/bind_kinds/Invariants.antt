@@ -1,5 +1,5 @@
 use Rattle.std.proofs.Common.{◌≡◌, ◌≤◌, drop, length}
-use Rattle.typing_rules.specs.Typing.{params_scope}
+use Rattle.camelot_typing.specs.Typing.{params_scope}
 use Rattle.normal_form.proofs.functions.bind_kinds.Given as goal
 
 abbrev pub invariant-loop-number : goal.invariant-loop-number

@@ -1,6 +1,6 @@
 use Rattle.std.proofs.Common.{◌≡◌, ◌≤◌, drop, length}
-use Rattle.typing_rules.specs.Kinds.{numbered}
-use Rattle.typing_rules.specs.Typing.{params_scope}
+use Rattle.camelot_typing.specs.Kinds.{numbered}
+use Rattle.camelot_typing.specs.Typing.{params_scope}
 use Rattle.normal_form.proofs.functions.bind_locals.Given as goal
 
 abbrev pub invariant-loop-number : goal.invariant-loop-number

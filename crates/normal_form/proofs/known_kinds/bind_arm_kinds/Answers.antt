@@ -2,8 +2,8 @@ use Rattle.std.proofs.Common.{◌≡◌, ap, sym, subst, ◌∙◌}
 use Rattle.std.specs.Prelude.{OnOk}
 use Rattle.camelot_tree.specs.Tree.{Branch}
 use Rattle.camelot_tree.specs.declared.tree.ArmCell.TheVariants as cell
-use Rattle.typing_rules.specs.Kinds.{bind, bind_fields, arm_scope, types_of, fields_of}
-use Rattle.typing_rules.specs.Typing.{known_kind}
+use Rattle.camelot_typing.specs.Kinds.{bind, bind_fields, arm_scope, types_of, fields_of}
+use Rattle.camelot_typing.specs.Typing.{known_kind}
 use Rattle.camelot_values.specs.declared.kinds.Kind.TheVariants as kind
 use Rattle.normal_form.specs.Normal.{con_of}
 use Rattle.normal_form.specs.Tables.{source_in}

@@ -1,6 +1,6 @@
 use Rattle.std.proofs.Common.{◌≡◌}
-use Rattle.typing_rules.specs.Kinds.{bind_fields}
-use Rattle.typing_rules.specs.Typing.{known_kind}
+use Rattle.camelot_typing.specs.Kinds.{bind_fields}
+use Rattle.camelot_typing.specs.Typing.{known_kind}
 use Rattle.normal_form.proofs.known_kinds.bind_field_kinds.Given as goal
 
 abbrev pub invariant-fields : goal.invariant-fields

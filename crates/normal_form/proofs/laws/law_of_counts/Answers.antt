@@ -1,6 +1,6 @@
 use Rattle.std.proofs.Common.{length}
-use Rattle.typing_rules.specs.Kinds.{numbered}
-use Rattle.typing_rules.specs.Typing.{params_scope}
+use Rattle.camelot_typing.specs.Kinds.{numbered}
+use Rattle.camelot_typing.specs.Typing.{params_scope}
 use Rattle.normal_form.proofs.Lengths.{blocks_counted, locals_counted}
 use Rattle.normal_form.proofs.laws.law_of_counts.Goals as goal
 

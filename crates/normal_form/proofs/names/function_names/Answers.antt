@@ -1,8 +1,9 @@
 use Rattle.std.proofs.Common.{[], map, sym, ap, ◌∙◌}
 use Rattle.camelot_tree.specs.Tree.{function_of}
-use Rattle.typing_rules.specs.TypedPrograms.{typing_of}
-use Rattle.normal_form.specs.Tables.{with_names}
-use Rattle.normal_form.proofs.Tables.{functions_new, functions_over, with_new}
+use Rattle.camelot_typing.specs.TypedPrograms.{typing_of}
+use Rattle.linear_use.specs.Tables.{with_names}
+use Rattle.linear_use.specs.TableLaws.{with_new}
+use Rattle.normal_form.proofs.Tables.{functions_new, functions_over}
 use Rattle.normal_form.proofs.names.function_names.Goals as goal
 
 pub returns : goal.returns

@@ -1,6 +1,6 @@
 use Rattle.std.proofs.Common.{◌≡◌, [], drop, map}
 use Rattle.camelot_tree.specs.Tree.{function_of}
-use Rattle.normal_form.specs.Tables.{with_names}
+use Rattle.linear_use.specs.Tables.{with_names}
 use Rattle.normal_form.proofs.names.function_names.Given as goal
 
 abbrev pub invariant-funs : goal.invariant-funs

@@ -1,6 +1,6 @@
 use Rattle.std.proofs.Common.{ap, map, ◌∙◌}
-use Rattle.typing_rules.specs.Kinds.{types_of}
-use Rattle.typing_rules.specs.TypedPrograms.{typing_of}
+use Rattle.camelot_typing.specs.Kinds.{types_of}
+use Rattle.camelot_typing.specs.TypedPrograms.{typing_of}
 use Rattle.normal_form.specs.Normal.{NormalProgram, normal_form}
 use Rattle.normal_form.specs.Programs.{normal_function_of}
 use Rattle.normal_form.specs.Running.{run_of}

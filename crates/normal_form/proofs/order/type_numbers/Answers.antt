@@ -1,6 +1,6 @@
 use Rattle.std.proofs.Common.{◌≡◌, length, sym, ap, ◌∙◌, subst, arith}
 use Rattle.std.specs.Prelude.{IfOk}
-use Rattle.typing_rules.specs.Kinds.{numbered, numbers_of}
+use Rattle.camelot_typing.specs.Kinds.{numbered, numbers_of}
 use Rattle.normal_form.proofs.Naming.{few_here, numbers_here, numbers_later}
 use Rattle.normal_form.proofs.order.type_numbers.Goals as goal
 

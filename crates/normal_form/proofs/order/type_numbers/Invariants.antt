@@ -1,6 +1,6 @@
 use Rattle.std.proofs.Common.{◌≡◌, ◌*◌, ◌≤◌, drop, map}
 use Rattle.camelot_values.specs.Kinds.{data_type_of}
-use Rattle.typing_rules.specs.Kinds.{numbers_from, numbers_of}
+use Rattle.camelot_typing.specs.Kinds.{numbers_from, numbers_of}
 use Rattle.normal_form.proofs.order.type_numbers.Given as goal
 
 abbrev pub invariant-types : goal.invariant-types

@@ -1,5 +1,5 @@
 use Rattle.std.proofs.Common.{◌≡◌, ◌+◌, ◌++◌, drop}
-use Rattle.typing_rules.specs.Kinds.{numbered}
+use Rattle.camelot_typing.specs.Kinds.{numbered}
 use Rattle.normal_form.proofs.scopes.field_locals.Given as goal
 
 abbrev pub invariant-fields : goal.invariant-fields

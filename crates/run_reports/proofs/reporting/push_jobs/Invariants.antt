@@ -1,7 +1,7 @@
 use Rattle.std.proofs.Common.{◌≡◌, ◌++◌, map, drop}
 use Rattle.job_script.specs.Words.{entry_of}
 use Rattle.run_reports.specs.Report.{job_lines}
-use Rattle.run_reports.specs.Told.{line_of}
+use Rattle.script_outcomes.specs.Told.{line_of}
 use Rattle.run_reports.proofs.reporting.push_jobs.Given as goal
 
 abbrev pub invariant-items : goal.invariant-items

@@ -12,4 +12,4 @@ pub returns-in-Ok-serve_read : goal.returns-in-Ok-serve_read
 returns-in-Ok-serve_read g c = handed_for c.args.input.items (script_of c.in-Ok.script) c.in-Ok-serve_read.served c.law_of_scripts.ensures.one (rw c.deref.ensures.value at c.in-Ok.ensures.found) c.in-Ok-serve_read.ensures
 
 pub returns-in-Err : goal.returns-in-Err
-returns-in-Err g c = refused c.args.input.items c.in-Err.fault c.serve_fault.result c.serve_fault.ensures (rw c.deref.ensures.value at c.in-Err.ensures.found)
+returns-in-Err g c = refused c.args.input.items c.in-Err.stop c.serve_fault.result c.serve_fault.ensures (rw c.deref.ensures.value at c.in-Err.ensures.found)

@@ -45,8 +45,8 @@ pub expr-returns-in-Err-clause-found : goal.expr-returns-in-Err-clause-found
 expr-returns-in-Err-clause-found t c =
     let g = globals_view c.args.globals.now in
     let now : Found = record { work = work_of c.up.self; guess = c.up.guess } in
-    unwound_fails (λ parent. expression_of parent.now) g c.args.self.now.scope c.up.parents.items c.pop.new.self.items c.in-Some.parent now (walk g c.args.self.now.scope (work_of c.args.self.now) (expression_of c.args.expr.now)) c.in-Err.fault
-    c.in-Some.ensures.items c.up.invariant.whole (subst (λ s. StopsWith (rest_of g s (expression_of c.in-Some.parent.now) now) c.in-Err.fault) c.up.invariant.scope c.in-Err.ensures.found)
+    unwound_fails (λ parent. expression_of parent.now) g c.args.self.now.scope c.up.parents.items c.pop.new.self.items c.in-Some.parent now (walk g c.args.self.now.scope (work_of c.args.self.now) (expression_of c.args.expr.now)) c.in-Err.stop
+    c.in-Some.ensures.items c.up.invariant.whole (subst (λ s. StopsWith (rest_of g s (expression_of c.in-Some.parent.now) now) c.in-Err.stop) c.up.invariant.scope c.in-Err.ensures.found)
 
 pub args-args-2-preserved : goal.args-args-2-preserved
 args-args-2-preserved t c =
@@ -66,9 +66,9 @@ args-returns-in-Err-clause-found t c =
     let g = globals_view c.args.globals.now in
     let all = expressions (map expression_of c.args.args.now) in
     let rest = expressions (map expression_of (drop (c.args-2.arg-index + 1) c.args.args.now)) in
-    args_fail g c.args.self.now.scope (work_of c.args.self.now) all (work_of c.args-2.self) c.args-2.guesses.items (expression_of c.arg-item.result) rest c.in-Err.fault
+    args_fail g c.args.self.now.scope (work_of c.args.self.now) all (work_of c.args-2.self) c.args-2.guesses.items (expression_of c.arg-item.result) rest c.in-Err.stop
     (args_here expression_of g c.args.self.now.scope (work_of c.args.self.now) all (work_of c.args-2.self) c.args-2.guesses.items c.args.args.now c.args-2.arg-index c.arg-item.result c.args-2-test.true c.arg-item.is c.args-2.invariant.left)
-    (subst (λ s. StopsWith (walk g s (work_of c.args-2.self) (expression_of c.arg-item.result)) c.in-Err.fault) c.args-2.invariant.scope c.in-Err.ensures.found)
+    (subst (λ s. StopsWith (walk g s (work_of c.args-2.self) (expression_of c.arg-item.result)) c.in-Err.stop) c.args-2.invariant.scope c.in-Err.ensures.found)
 
 pub args-returns-clause-found : goal.args-returns-clause-found
 args-returns-clause-found t c =
@@ -98,10 +98,10 @@ arms-returns-in-Err-clause-found t c =
     let all = arms (map branch_of c.args.arms.now) in
     let rest = arms (map branch_of (drop (c.arms.arm-index + 1) c.args.arms.now)) in
     let arm = branch_of c.arm-item.result in
-    arms_fail g c.args.self.now.scope (work_of c.args.self.now) c.args.first.con c.args.first.guess all (work_of c.arms.self) c.arms.numbers.items arm.con arm.fields arm.cell arm.body rest c.in-Err.fault
+    arms_fail g c.args.self.now.scope (work_of c.args.self.now) c.args.first.con c.args.first.guess all (work_of c.arms.self) c.arms.numbers.items arm.con arm.fields arm.cell arm.body rest c.in-Err.stop
     (arms_here branch_of g c.args.self.now.scope (work_of c.args.self.now) c.args.first.con c.args.first.guess all (work_of c.arms.self) c.arms.numbers.items c.args.arms.now c.arms.arm-index c.arm-item.result c.arms-test.true c.arm-item.is c.arms.invariant.left)
-    (subst (λ ns. StopsWith (next_arm g c.args.self.now.scope (work_of c.arms.self) ns c.args.first.con c.args.first.guess arm.con arm.fields arm.cell arm.body) c.in-Err.fault) c.deref.ensures.value
-    (subst (λ s. StopsWith (next_arm g s (work_of c.arms.self) c.deref.result.now c.args.first.con c.args.first.guess arm.con arm.fields arm.cell arm.body) c.in-Err.fault) c.arms.invariant.scope c.in-Err.ensures.found))
+    (subst (λ ns. StopsWith (next_arm g c.args.self.now.scope (work_of c.arms.self) ns c.args.first.con c.args.first.guess arm.con arm.fields arm.cell arm.body) c.in-Err.stop) c.deref.ensures.value
+    (subst (λ s. StopsWith (next_arm g s (work_of c.arms.self) c.deref.result.now c.args.first.con c.args.first.guess arm.con arm.fields arm.cell arm.body) c.in-Err.stop) c.arms.invariant.scope c.in-Err.ensures.found))
 
 pub arms-returns-clause-found : goal.arms-returns-clause-found
 arms-returns-clause-found t c =

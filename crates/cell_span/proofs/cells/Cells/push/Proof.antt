@@ -84,8 +84,8 @@ push_spec 𝓤 𝓛 𝓜 𝓡 wired X laws =
     first ! $ blocks ! $ sets ! (bin ! (get ! refl) (size_lit ! (record { fits = bytes })) (record { fits = far })) refl (tt, record { fits = far }) $
     sets ! (bin ! (get_in ! (fld ! refl (stop !)) (sub ! 0 refl (whole !))) (get ! refl) tt) refl (tt, tt) $
     rewrite ! 1 (λ (k : ℕ × ℕ). ‵ (Empty E 𝓛 b k.0 k.1)) (λ j. (end j, more j)) refl $ move ! (1 ∷ []) $ fsplit ! $ as_written ! (elτ E) b at $
-    -- [room for the value; the empty places behind; the values before; the owner's fields, its cell and the open borrow,
-    -- in four; the other tokens; what the value owns]
+    -- [room for the value; the empty places behind; the values before; the owner's fields, its cell and the open
+    -- borrow, in four; the other tokens; what the value owns]
     sets ! (of_opd ! (get ! refl)) refl good $ assigns_last ! (of_opd ! (get ! refl)) (through ! refl (stop !)) (init ! 0 refl good) $
     exec ! 𝓣.C 𝓣.Λ En (after 1 fn.body) (at_ret En Post) $ sets ! (of_opd ! (unit_lit !)) refl (tt, tt) $
     move ! (0 ∷ 9 ∷ []) $ use2 𝓛 (‵ (part_at (R E) full_share item b at)) (value_in E 𝓛 b item at v) $ nothing ! $ move ! (1 ∷ 0 ∷ []) $ fjoin ! $ move ! (2 ∷ 0 ∷ []) $

@@ -10,5 +10,5 @@ returns-in_default c =
 
 pub returns-in-Err : goal.returns-in-Err
 returns-in-Err c =
-    rw c.fault_at.ensures (head_stopped c.in-Err.stop c.args.self.now.text.now c.args.self.now.arena c.args.self.now.workers (map entry_of c.args.self.now.items.items) c.args.self.now.programs c.args.self.now.jobs c.args.self.now.rest.now c.in-Some.line.now
+    rw c.stop_at.ensures (head_stopped c.in-Err.stop c.args.self.now.text.now c.args.self.now.arena c.args.self.now.workers (map entry_of c.args.self.now.items.items) c.args.self.now.programs c.args.self.now.jobs c.args.self.now.rest.now c.in-Some.line.now
     c.in-Some.after.now c.args.self.now.number c.requires.going.going c.in-Some.ensures c.in-Err.ensures)

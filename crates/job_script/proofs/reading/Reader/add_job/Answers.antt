@@ -9,7 +9,7 @@ use Rattle.job_script.proofs.reading.Reader.add_job.Goals as goal
 
 pub returns-in-Err : goal.returns-in-Err
 returns-in-Err c =
-    rw c.fault_at.ensures (job_refused c.in-Err.stop c.args.self.now.text.now c.args.self.now.arena c.args.self.now.workers (map entry_of c.args.self.now.items.items) c.args.self.now.programs c.args.self.now.jobs c.args.self.now.rest.now c.args.line.now
+    rw c.stop_at.ensures (job_refused c.in-Err.stop c.args.self.now.text.now c.args.self.now.arena c.args.self.now.workers (map entry_of c.args.self.now.items.items) c.args.self.now.programs c.args.self.now.jobs c.args.self.now.rest.now c.args.line.now
     c.args.after.now (job_view c.args.job.now) c.args.self.now.number c.requires.going.going c.requires.line c.requires.head (record { least = c.requires.some; most = c.requires.fuel }) c.in-Err.ensures)
 
 pub returns : goal.returns

@@ -8,7 +8,7 @@ use Rattle.job_script.proofs.reading.Reader.add_program.Goals as goal
 
 pub returns-in-Err : goal.returns-in-Err
 returns-in-Err c =
-    rw c.fault_at.ensures (program_refused c.in-Err.stop c.args.self.now.text.now c.args.self.now.arena c.args.self.now.workers (map entry_of c.args.self.now.items.items) c.args.self.now.programs c.args.self.now.jobs c.args.self.now.rest.now
+    rw c.stop_at.ensures (program_refused c.in-Err.stop c.args.self.now.text.now c.args.self.now.arena c.args.self.now.workers (map entry_of c.args.self.now.items.items) c.args.self.now.programs c.args.self.now.jobs c.args.self.now.rest.now
     c.args.line.now c.args.after.now c.args.name.now c.args.camelot c.args.self.now.number c.requires.going.going c.requires.line c.requires.head c.in-Err.ensures)
 
 pub returns-in-Err-read_body : goal.returns-in-Err-read_body

@@ -1,5 +1,0 @@
-use Rattle.bound_system.specs.SystemLaws.{none_grants}
-use Rattle.bound_system.proofs.laws.law_of_least.Goals as goal
-
-pub returns-clause-none : goal.returns-clause-none
-returns-clause-none c = none_grants

@@ -1,5 +1,0 @@
-use Rattle.bound_system.specs.SystemLaws.{certificate_solves}
-use Rattle.bound_system.proofs.laws.law_of_solutions.Goals as goal
-
-pub returns-clause-solves : goal.returns-clause-solves
-returns-clause-solves c = certificate_solves

@@ -1,6 +1,0 @@
-use Rattle.grail_code.specs.Code.{code_of}
-use Rattle.certificate_shape.proofs.Functions.{RightBelow}
-use Rattle.certificate_shape.proofs.fit.find_misfit.Given as goal
-
-abbrev pub invariant-funcs : goal.invariant-funcs
-invariant-funcs l = RightBelow (code_of l.code) l.cert l.func

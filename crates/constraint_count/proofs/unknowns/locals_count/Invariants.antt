@@ -1,7 +1,0 @@
-use Rattle.std.proofs.Common.{◌≡◌, drop}
-use Rattle.grail_code.specs.Code.{func_of, code_of}
-use Rattle.constraint_count.specs.Counting.{locals_onto}
-use Rattle.constraint_count.proofs.unknowns.locals_count.Given as goal
-
-abbrev pub invariant-locals : goal.invariant-locals
-invariant-locals l = locals_onto (code_of l.books.code.now).types (func_of l.body) l.total (drop l.local-index l.locals) ≡ locals_onto (code_of l.books.code.now).types (func_of l.body) 0 l.locals

@@ -1,7 +1,0 @@
-use Rattle.std.proofs.Common.{◌≡◌, ◌++◌, drop, map}
-use Rattle.constraint_rows.specs.Dense.{ticks}
-use Rattle.constraint_rows.specs.Plain.{plain}
-use Rattle.constraint_rows.proofs.form.Form.once.Given as goal
-
-abbrev pub invariant-unknowns : goal.invariant-unknowns
-invariant-unknowns l = l.factors.items ++ ticks (map plain (drop l.other-index l.unknowns)) (plain l.unknown) ≡ ticks (map plain l.unknowns) (plain l.unknown)

@@ -1,0 +1,6 @@
+mod Bridge
+mod Made
+mod Same
+mod Locals
+mod Turns
+mod Walking

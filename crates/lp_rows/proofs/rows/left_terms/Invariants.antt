@@ -1,0 +1,13 @@
+use Rattle.std.proofs.Common.{◌≡◌, ◌+◌, ◌++◌, length, map}
+use Rattle.lp_rows.specs.Dense.{ticks, terms_less}
+use Rattle.lp_rows.specs.Plain.{plain}
+use Rattle.lp_rows.proofs.rows.left_terms.Given as goal
+
+abbrev pub invariant-unknowns : goal.invariant-unknowns
+invariant-unknowns l = record {
+  number : l.number + length l.rest ≡ length l.books.unknowns.now;
+  terms : l.terms.items ++ terms_less l.number l.factors (ticks (map plain l.rest) (plain l.need)) ≡ terms_less 0 l.left (ticks (map plain l.books.unknowns.now) (plain l.need));
+}
+
+abbrev pub decreases-unknowns : goal.decreases-unknowns
+decreases-unknowns l = length l.rest

@@ -1,0 +1,31 @@
+-- One function further in the walks over functions.
+use Rattle.std.proofs.Common.{◌≡◌, ℕ, zero, suc, ◌+◌, ◌<◌, List, [], ◌∷◌, length, map, drop, get_or, sym, ap, ◌∙◌, subst, arith}
+use Rattle.camelot_values.specs.Kinds.{DataType}
+use Rattle.grail_code.specs.Code.{func_of}
+use Rattle.grail_code.specs.declared.code.Func.{Func as DeclaredFunc}
+use Rattle.lp_size.specs.Counting.{more, func_rows, funcs_onto, func_count, funcs_count_onto}
+
+item_here : {A : Type 0} (xs : List A) (i : ℕ) (x : A) → i < length xs → x ≡ get_or xs i x → drop i xs ≡ x ∷ drop (suc i) xs
+item_here [] i x h e = absurd (omega (arith, h))
+item_here (y ∷ xs) zero x h e = ap (λ u. u ∷ xs) (sym e)
+item_here (y ∷ xs) (suc i) x h e = item_here xs i x (omega (arith, h)) e
+
+next : (i : ℕ) → suc i ≡ i + 1
+next i = omega arith
+
+pub count_more : (types : List DataType) (fs : List DeclaredFunc) (i total whole : ℕ) (f : DeclaredFunc) (n t : ℕ) → i < length fs
+    → f ≡ get_or fs i f → funcs_count_onto types total (map func_of (drop i fs)) ≡ whole
+    → n ≡ func_count types (func_of f) → t ≡ more total n → funcs_count_onto types t (map func_of (drop (i + 1) fs)) ≡ whole
+count_more types fs i total whole f n t h e before is sum =
+    subst (λ j. funcs_count_onto types t (map func_of (drop j fs)) ≡ whole) (next i)
+    (ap (λ m. funcs_count_onto types m (map func_of (drop (suc i) fs))) (sum ∙ ap (more total) is)
+    ∙ sym (ap (λ xs. funcs_count_onto types total (map func_of xs)) (item_here fs i f h e)) ∙ before)
+
+pub rows_more : (types : List DataType) (fs : List DeclaredFunc) (i number total whole : ℕ) (f : DeclaredFunc) (n t : ℕ) → i < length fs
+    → f ≡ get_or fs i f → funcs_onto types number total (map func_of (drop i fs)) ≡ whole
+    → n ≡ func_rows types number (func_of f) → t ≡ more total n → funcs_onto types (number + 1) t (map func_of (drop (i + 1) fs)) ≡ whole
+rows_more types fs i number total whole f n t h e before is sum =
+    subst (λ k. funcs_onto types k t (map func_of (drop (i + 1) fs)) ≡ whole) (next number)
+    (subst (λ j. funcs_onto types (suc number) t (map func_of (drop j fs)) ≡ whole) (next i)
+    (ap (λ m. funcs_onto types (suc number) m (map func_of (drop (suc i) fs))) (sum ∙ ap (more total) is)
+    ∙ sym (ap (λ xs. funcs_onto types number total (map func_of xs)) (item_here fs i f h e)) ∙ before))

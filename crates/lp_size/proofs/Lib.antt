@@ -1,0 +1,13 @@
+pub mod Bounds
+pub mod Caps
+pub mod Ending
+pub mod Further
+pub mod Asking
+pub mod Left
+pub mod Listed
+pub mod Reach
+pub mod Slots
+pub mod Steps
+pub mod Tests
+pub mod Total
+pub mod Walking

@@ -1,0 +1,111 @@
+ghost use Rattle.std.specs.Prelude.{◌≡◌, map};
+ghost use Rattle.grail_code.specs.Code.{op_of, let_of, block_of, func_of, code_of};
+ghost use Rattle.lp_size.specs.Counting.{kinds_onto, locals_onto, made_count, builds_onto, begin_count, block_count, blocks_count_onto, func_count, funcs_count_onto};
+
+use super::books::Books;
+use super::values::carrier_count;
+use camelot_values::Kind;
+use grail_code::{Block, Func, Let, Op};
+
+// The unknowns of values of these kinds.
+fn kinds_count(books: Books<'_>, kinds: &[Kind]) -> u64
+    ensures { result ≡ kinds_onto (code_of books.entry.code.now).types 0 kinds.now }
+{
+    let mut total: u64 = 0;
+    'kinds: for kind in kinds {
+        total = total.saturating_add(carrier_count(books, Some(*kind)));
+    }
+    total
+}
+
+// The unknowns of these locals.
+fn locals_count(books: Books<'_>, body: &Func, locals: &[u32]) -> u64
+    ensures { result ≡ locals_onto (code_of books.entry.code.now).types (func_of body.now) 0 locals.now }
+{
+    let mut total: u64 = 0;
+    'locals: for local in locals {
+        total = total.saturating_add(carrier_count(books, body.kind_of(*local)));
+    }
+    total
+}
+
+// The unknowns of what a let builds.
+fn made_count(books: Books<'_>, op: &Op) -> u64
+    ensures { result ≡ made_count (code_of books.entry.code.now).types (op_of op.now) }
+{
+    match op {
+        Op::Make { con, .. } => {
+            if books.table.is_heap_con(*con) {
+                carrier_count(books, books.table.type_of(*con).map(Kind::Of))
+            } else {
+                0
+            }
+        }
+        _ => 0,
+    }
+}
+
+// The unknowns of the builds among these lets.
+fn builds_count(books: Books<'_>, lets: &[Let]) -> u64
+    ensures { result ≡ builds_onto (code_of books.entry.code.now).types 0 (map let_of lets.now) }
+{
+    let mut total: u64 = 0;
+    'lets: for binding in lets {
+        total = total.saturating_add(made_count(books, &binding.op));
+    }
+    total
+}
+
+// The unknowns at a block's beginning: what it needs, and its parameters. The first block has those of the function.
+fn begin_count(books: Books<'_>, body: &Func, number: u32, block: &Block) -> u64
+    ensures { result ≡ begin_count (code_of books.entry.code.now).types (func_of body.now) number (block_of block.now) }
+{
+    if number == 0 {
+        0
+    } else {
+        locals_count(books, body, &block.params).saturating_add(1)
+    }
+}
+
+// The unknowns of a block.
+fn block_count(books: Books<'_>, body: &Func, number: u32, block: &Block) -> u64
+    ensures { result ≡ block_count (code_of books.entry.code.now).types (func_of body.now) number (block_of block.now) }
+{
+    begin_count(books, body, number, block).saturating_add(builds_count(books, &block.lets))
+}
+
+// The unknowns of the blocks of a function.
+fn blocks_count(books: Books<'_>, body: &Func) -> u64
+    ensures { result ≡ blocks_count_onto (code_of books.entry.code.now).types (func_of body.now) 0 0 (map block_of body.now.blocks.items) }
+{
+    let mut total: u64 = 0;
+    let mut number = 0;
+    'walk: for block in &body.blocks {
+        total = total.saturating_add(block_count(books, body, number, block));
+        number += 1;
+    }
+    total
+}
+
+// The unknowns of a function: its need, what it gives back, its parameters, its result and its blocks.
+fn func_count(books: Books<'_>, body: &Func) -> u64
+    ensures { result ≡ func_count (code_of books.entry.code.now).types (func_of body.now) }
+{
+    let params = kinds_count(books, &body.params);
+    let result = carrier_count(books, Some(body.result));
+    let blocks = blocks_count(books, body);
+    params
+        .saturating_add(result.saturating_add(blocks))
+        .saturating_add(2)
+}
+
+/// The unknowns of functions.
+pub(crate) fn funcs_count(books: Books<'_>, funcs: &[Func]) -> u64
+    ensures { result ≡ funcs_count_onto (code_of books.entry.code.now).types 0 (map func_of funcs.now) }
+{
+    let mut total: u64 = 0;
+    'walk: for func in funcs {
+        total = total.saturating_add(func_count(books, func));
+    }
+    total
+}

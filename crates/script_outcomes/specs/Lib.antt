@@ -1,0 +1,2 @@
+-- What comes of a script.
+pub mod Told

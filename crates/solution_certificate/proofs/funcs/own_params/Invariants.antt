@@ -1,6 +1,0 @@
-use Rattle.std.proofs.Common.{◌≡◌}
-use Rattle.std.specs.List.{range_with_len}
-use Rattle.solution_certificate.proofs.funcs.own_params.Given as goal
-
-abbrev pub invariant-params : goal.invariant-params
-invariant-params l = l.numbers.items ≡ range_with_len 0 l.number

@@ -1,0 +1,2 @@
+-- What stops a call.
+pub mod Stopping
