@@ -36,7 +36,7 @@ wants types kind con = is_among (reached types kind) con
 
 -- what a node carries, and what all these carry
 abbrev pub item_units : List DataType → (ℕ → ℕ) → Item → ℕ
-item_units types units (item.Con c n) = node_units types units c
+item_units types units (item.Con n c) = node_units types units c
 item_units types units x = 0
 
 abbrev pub all_units : List DataType → (ℕ → ℕ) → List Item → ℕ

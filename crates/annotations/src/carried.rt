@@ -26,12 +26,29 @@ fn node_units(types: &Types, vector: &Vector, con: u32) -> u64
     if is_heap_con(types, con) { units } else { 0 }
 }
 
-// What the node carries.
-fn item_units(types: &Types, vector: &Vector, item: &Item) -> u64
-    ensures { result ≡ item_units types.now (at vector.now) item.now }
+// The constructor that was looked up last, with what a node of it carries. The items of a list repeat one constructor.
+#[derive(Clone, Copy)]
+struct Known {
+    con: u32,
+    units: u64,
+}
+
+// What the node carries. Its constructor is looked up where it isn't the known one.
+fn item_units(types: &Types, vector: &Vector, known: &mut Known, item: &Item) -> u64
+    requires known { known.old.units ≡ node_units types.now (at vector.now) known.old.con }
+    ensures known { known.new.units ≡ node_units types.now (at vector.now) known.new.con }
+    ensures units { result ≡ item_units types.now (at vector.now) item.now }
 {
     match *item {
-        Item::Con { con, parts: _ } => node_units(types, vector, con),
+        Item::Con { con, parts: _ } => {
+            if con != known.con {
+                *known = Known {
+                    con,
+                    units: node_units(types, vector, con),
+                };
+            }
+            known.units
+        }
         _ => 0,
     }
 }
@@ -42,9 +59,13 @@ fn item_units(types: &Types, vector: &Vector, item: &Item) -> u64
 pub fn potential(value: &Flat, types: &Types, vector: &Vector) -> u128
     ensures { result ≡ potential types.now (at vector.now) value.now }
 {
+    let mut known = Known {
+        con: 0,
+        units: node_units(types, vector, 0),
+    };
     let mut total = 0;
     'items: for item in value.items() {
-        total += item_units(types, vector, item) as u128;
+        total += item_units(types, vector, &mut known, item) as u128;
     }
     total
 }

@@ -2,14 +2,15 @@ ghost use Rattle.std.specs.Prelude.{◌≡◌, []};
 ghost use Rattle.annotations.specs.Vectors.{IsVector, at};
 ghost use Rattle.annotations.specs.Steps.{IsFound};
 
+use smallvec::SmallVec;
 use std::alloc::Global;
 use std::marker::Model;
 
 /// Annotations: constructors by their numbers, ascending, each with its units, at least 1. A constructor that isn't
-/// there has none (Hofmann and Jost 2003).
+/// there has none (Hofmann and Jost 2003). One pair takes no memory of its own.
 #[derive(Drop)]
 pub struct Vector {
-    pairs: Vec<(u32, u64)>,
+    pairs: SmallVec<(u32, u64), 1>,
 }
 
 impl Model for Vector {
@@ -24,7 +25,7 @@ impl Model for Vector {
 
 impl Vector {
     /// These annotations, constructors ascending and units at least 1.
-    pub fn of(pairs: Vec<(u32, u64)>) -> Vector
+    pub fn of(pairs: SmallVec<(u32, u64), 1>) -> Vector
         requires { IsVector pairs.items }
         ensures { result ≡ pairs.items }
     {
@@ -36,7 +37,7 @@ impl Vector {
         ensures { result ≡ [] }
     {
         Vector {
-            pairs: Vec::new(alloc),
+            pairs: SmallVec::new(alloc),
         }
     }
 
@@ -60,7 +61,7 @@ impl Vector {
         ensures { result ≡ at self.now con }
     {
         match self.search(con) {
-            Ok(place) => self.pairs[place].1,
+            Ok(place) => self.pairs()[place].1,
             Err(_) => 0,
         }
     }

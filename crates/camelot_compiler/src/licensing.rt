@@ -33,11 +33,11 @@ fn want_of_memory(stop: Stop<Refusal>) -> Stop<Cause>
 
 // Asks the verifier about bytes that it accepts.
 #[tactic(auto, using(crate::proofs::Accepting::is_memory, crate::proofs::Accepting::same_licence))]
-fn verify_bytes(alloc: Global, code: &[u8], cert: &[u8]) -> Result<Licence, Stop<Cause>>
-    requires accepted { AreAccepted code.now cert.now }
-    requires code { length code.now < 4294967296 }
-    requires cert { length cert.now < 4294967296 }
-    ensures { (l : Licensed) → IsAccepted code.now cert.now l → MatchResult result (λ licence. licence ≡ l) (λ x. x ≡ Memory) }
+fn verify_bytes(alloc: Global, code: Vec<u8>, cert: Vec<u8>) -> Result<Licence, Stop<Cause>>
+    requires accepted { AreAccepted code.items cert.items }
+    requires code { length code.items < 4294967296 }
+    requires cert { length cert.items < 4294967296 }
+    ensures { (l : Licensed) → IsAccepted code.items cert.items l → MatchResult result (λ licence. licence ≡ l) (λ x. x ≡ Memory) }
 {
     match verify(alloc, code, cert) {
         Ok(licence) => Ok(licence),
@@ -46,15 +46,14 @@ fn verify_bytes(alloc: Global, code: &[u8], cert: &[u8]) -> Result<Licence, Stop
 }
 
 // The licence of a bundle that the verifier accepts, from its bytes alone.
-fn verify_bundle(alloc: Global, bundle: &Bundle) -> Result<Licence, Stop<Cause>>
-    requires { AreAccepted bundle.now.code bundle.now.cert }
-    ensures { (l : Licensed) → IsAccepted bundle.now.code bundle.now.cert l → MatchResult result (λ licence. licence ≡ l) (λ x. x ≡ Memory) }
+fn verify_bundle(alloc: Global, bundle: Bundle) -> Result<Licence, Stop<Cause>>
+    requires { AreAccepted bundle.code bundle.cert }
+    ensures { (l : Licensed) → IsAccepted bundle.code bundle.cert l → MatchResult result (λ licence. licence ≡ l) (λ x. x ≡ Memory) }
 {
-    let code = bundle.code();
+    let (code, cert) = bundle.parts();
     if code.len() > MOST_BYTES {
         return Err(Stop::Memory);
     }
-    let cert = bundle.cert();
     if cert.len() > MOST_BYTES {
         return Err(Stop::Memory);
     }
@@ -77,7 +76,7 @@ pub fn license(alloc: Global, text: &[u8]) -> Result<Licence, Stop<Cause>>
     ensures refuses { (cause : PlainCause) → IsCompiled text.now (Refused cause) → MatchResult result (λ licence. ⊥) (IsFault cause) }
 {
     match compile(alloc, text) {
-        Ok(bundle) => verify_bundle(alloc, &bundle),
+        Ok(bundle) => verify_bundle(alloc, bundle),
         Err(fault) => Err(fault),
     }
 }

@@ -41,7 +41,7 @@ fn work<R: Threads + Wait + Sync, G: Gate + Sync>(
     match command {
         Command::Serve => serve(rt, alloc, input, gate),
         Command::Compile => compile_source(alloc, &input),
-        Command::Verify => verify_bundle(alloc, &input),
+        Command::Verify => verify_bundle(alloc, input),
         Command::Drill { jobs, workers } => drill_jobs(rt, alloc, jobs, workers, gate),
     }
 }

@@ -12,9 +12,9 @@ use stops::Stop;
 
 /// The reply to a bundle: what its licence grants, or else the line that tells why it has none.
 #[tactic(auto, using(crate::proofs::Verifying::is_bounds, crate::proofs::Verifying::is_unlicensed))]
-pub(crate) fn verify_bundle(alloc: Global, input: &[u8]) -> Result<Reply, AllocError>
-    requires few { length input.now ≤ input_limit }
-    ensures { IfOk result (IsReply Verify input.now) }
+pub(crate) fn verify_bundle(alloc: Global, input: Vec<u8>) -> Result<Reply, AllocError>
+    requires few { length input.items ≤ input_limit }
+    ensures { IfOk result (IsReply Verify input.items) }
 {
     match license_bundle(alloc, input) {
         Ok(licence) => {

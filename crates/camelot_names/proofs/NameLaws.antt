@@ -108,3 +108,25 @@ within (w ∷ ws) name i e = by (bytes_eq w name) (place_among ws name) (λ j. w
 pub place_within : (o : Option ℕ) (ws : List (List ℕ)) (name : List ℕ) → o ≡ place_among ws name → IfSome o (λ i. i < length ws)
 place_within None ws name e = tt
 place_within (Some i) ws name e = within ws name i (sym e)
+
+-- ---- a name that stands gets its place back
+
+updated_back : (old : List ℕ → Option ℕ) (w name : List ℕ) (i place : ℕ) → ((v : List ℕ) → bytes_eq w v ≡ true → old v ≡ old w) → old w ≡ Some place
+    → cond (bytes_eq w name) (Some place) (cond (bytes_eq w name) (Some i) (old name)) ≡ old name
+updated_back old w name i place same is = by (bytes_eq w name) refl
+  where
+    by : (b : Bool) → bytes_eq w name ≡ b → cond b (Some place) (cond b (Some i) (old name)) ≡ old name
+    by true e = sym is ∙ sym (same name e)
+    by false e = refl
+
+pub places_back : (old mid new : BTreeMap (Bor (List ℕ)) ℕ) (ws room : List (Bor (List ℕ))) (w : Bor (List ℕ)) (i place : ℕ)
+    → ArePlaces old (map (λ word. word.now) ws) → room ≡ ws → at_name old w.now ≡ Some place
+    → UpdatesBy (λ x y. slice_cmp nat_cmp x.now y.now) (λ k. slice_cmp nat_cmp w.now k.now) old mid (Some i)
+    → UpdatesBy (λ x y. slice_cmp nat_cmp x.now y.now) (λ k. slice_cmp nat_cmp w.now k.now) mid new (Some place)
+    → ArePlaces new (map (λ word. word.now) room)
+places_back old mid new ws room w i place kept reserved is first second =
+    subst (ArePlaces new) (ap (map (λ word. word.now)) (sym reserved)) (λ name.
+    btree_map_updates_str w.now mid new (Some place) second name
+    ∙ ap (λ o. cond (bytes_eq w.now name) (Some place) o) (btree_map_updates_str w.now old mid (Some i) first name)
+    ∙ updated_back (at_name old) w.now name i place (λ v e. ap (at_name old) (sym ((bytes_decides w.now v).0 e))) is
+    ∙ kept name)

@@ -48,15 +48,26 @@ impl<'a> Names<'a> {
         // A name that stands is never refused.
         ensures absent { OnErr result (IsTrue (not (stands self.old name.now))) }
     {
-        if self.places.contains_key(name) {
-            return Ok(false);
-        }
         // Room first, so that nothing has changed where memory runs out.
-        self.words.reserve(1)?;
+        if self.words.reserve(1).is_err() {
+            if self.places.contains_key(name) {
+                return Ok(false);
+            }
+            return Err(AllocError);
+        }
+        // One search tells whether the name stands. Where it does, its place is put back.
         let number = self.words.len();
-        let _none = self.places.insert(name, number)?;
-        self.words.push(name).unwrap();
-        Ok(true)
+        match self.places.insert(name, number) {
+            Ok(None) => {
+                self.words.push(name).unwrap();
+                Ok(true)
+            }
+            Ok(Some(place)) => {
+                let _number = self.places.insert(name, place);
+                Ok(false)
+            }
+            Err(_) => Err(AllocError),
+        }
     }
 
     /// The number of a name, if it stands.

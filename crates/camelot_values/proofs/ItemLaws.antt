@@ -30,11 +30,11 @@ before-keeps v xs None h = tt
 before-keeps v xs (Some vs) h = ap (nodes v) h
 
 gather-keeps : (c n : ℕ) (xs : List Item) (vs : Values) (o : Option (Values × Values)) → nodes_all vs [] ≡ xs → SplitKeeps n vs o
-    → Keeps (item.Con c n ∷ xs) (gather c o)
+    → Keeps (item.Con n c ∷ xs) (gather c o)
 gather-keeps c n xs vs None h k = tt
-gather-keeps c n xs vs (Some p) h k = ap (λ m. item.Con c m ∷ nodes_all p.0 (nodes_all p.1 [])) k.0 ∙ ap (λ l. item.Con c n ∷ l) (k.1 ∙ h)
+gather-keeps c n xs vs (Some p) h k = ap (λ m. item.Con m c ∷ nodes_all p.0 (nodes_all p.1 [])) k.0 ∙ ap (λ l. item.Con n c ∷ l) (k.1 ∙ h)
 
-take_parts-keeps : (c n : ℕ) (xs : List Item) (o : Option Values) → Keeps xs o → Keeps (item.Con c n ∷ xs) (take_parts c n o)
+take_parts-keeps : (c n : ℕ) (xs : List Item) (o : Option Values) → Keeps xs o → Keeps (item.Con n c ∷ xs) (take_parts c n o)
 take_parts-keeps c n xs None h = tt
 take_parts-keeps c n xs (Some vs) h = gather-keeps c n xs vs (split n vs) h (split-keeps n vs)
 
@@ -43,7 +43,7 @@ values_of-keeps [] = refl
 values_of-keeps (item.Int z ∷ xs) = before-keeps (value.Int z) xs (values_of xs) (values_of-keeps xs)
 values_of-keeps (item.Flag b ∷ xs) = before-keeps (value.Flag b) xs (values_of xs) (values_of-keeps xs)
 values_of-keeps (item.Dia ∷ xs) = before-keeps value.Dia xs (values_of xs) (values_of-keeps xs)
-values_of-keeps (item.Con c n ∷ xs) = take_parts-keeps c n xs (values_of xs) (values_of-keeps xs)
+values_of-keeps (item.Con n c ∷ xs) = take_parts-keeps c n xs (values_of xs) (values_of-keeps xs)
 
 pub items_of_value_of : (xs : List Item) → IsOneValue xs → items_of (value_of xs) ≡ xs
 items_of_value_of xs one = let k : Keeps xs (Some (value.And (value_of xs) value.End)) = subst (Keeps xs) one (values_of-keeps xs) in k

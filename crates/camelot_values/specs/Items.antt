@@ -13,7 +13,7 @@ abbrev mutual
   nodes (value.Int z) rest = item.Int z ∷ rest
   nodes (value.Flag b) rest = item.Flag b ∷ rest
   nodes value.Dia rest = item.Dia ∷ rest
-  nodes (value.Con c vs) rest = item.Con c (part_count vs) ∷ nodes_all vs rest
+  nodes (value.Con c vs) rest = item.Con (part_count vs) c ∷ nodes_all vs rest
 
   pub nodes_all : Values → List Item → List Item
   nodes_all value.End rest = rest
@@ -56,7 +56,7 @@ values_of [] = Some value.End
 values_of (item.Int z ∷ rest) = before (value.Int z) (values_of rest)
 values_of (item.Flag b ∷ rest) = before (value.Flag b) (values_of rest)
 values_of (item.Dia ∷ rest) = before value.Dia (values_of rest)
-values_of (item.Con c n ∷ rest) = take_parts c n (values_of rest)
+values_of (item.Con n c ∷ rest) = take_parts c n (values_of rest)
 
 -- the first of the values, or a diamond where there is none
 abbrev pub first : Option Values → Value

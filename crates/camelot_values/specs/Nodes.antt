@@ -12,13 +12,13 @@ use Rattle.camelot_values.specs.declared.value.Item.TheVariants as item
 
 -- the node is one of constructor c
 abbrev pub is_node_of : ℕ → Item → Bool
-is_node_of c (item.Con d n) = d == c
+is_node_of c (item.Con n d) = d == c
 is_node_of c x = false
 
 -- the node needs a cell
 abbrev pub needs_cell : List DataType → Item → Bool
 needs_cell types item.Dia = true
-needs_cell types (item.Con c n) = is_boxed types c
+needs_cell types (item.Con n c) = is_boxed types c
 needs_cell types x = false
 
 -- how many nodes pass
@@ -41,7 +41,7 @@ abbrev pub parts_due : List DataType → Kind → Item → Option (List Kind)
 parts_due types q (item.Int z) = cond (same_kind q kind.Int && is_int32 z) (Some []) None
 parts_due types q (item.Flag b) = cond (same_kind q kind.Flag) (Some []) None
 parts_due types q item.Dia = cond (same_kind q kind.Dia) (Some []) None
-parts_due types q (item.Con c n) = cond (is_kind_of q (type_of types c)) (fields_where n (constructor types c)) None
+parts_due types q (item.Con n c) = cond (is_kind_of q (type_of types c)) (fields_where n (constructor types c)) None
 
 -- the nodes are those of one value of each of these kinds
 abbrev pub fits_nodes : List DataType → List Kind → List Item → Bool

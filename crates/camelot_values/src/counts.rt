@@ -1,5 +1,5 @@
 ghost use Rattle.std.specs.Prelude.{◌≡◌};
-ghost use Rattle.camelot_values.specs.Counts.{count, cells};
+ghost use Rattle.camelot_values.specs.Counts.{count, cells, is_boxed};
 ghost use Rattle.camelot_values.specs.Nodes.{is_node_of, needs_cell};
 
 use super::kinds::Types;
@@ -18,16 +18,40 @@ fn is_node_of(item: &Item, con: u32) -> bool
     }
 }
 
-// Whether the node needs a cell.
-fn needs_cell(item: &Item, types: &Types) -> bool
-    ensures { result ≡ needs_cell types.now item.now }
+// Whether the constructor needs a cell; one that isn't there needs none.
+fn is_boxed(types: &Types, con: u32) -> bool
+    ensures { result ≡ is_boxed types.now con }
+{
+    match types.con(con) {
+        Some(con) => !con.inline,
+        None => false,
+    }
+}
+
+// The constructor that was looked up last, with whether it needs a cell. The items of a list repeat one constructor.
+#[derive(Clone, Copy)]
+struct Known {
+    con: u32,
+    boxed: bool,
+}
+
+// Whether the node needs a cell. Its constructor is looked up where it isn't the known one.
+fn needs_cell(types: &Types, known: &mut Known, item: &Item) -> bool
+    requires known { known.old.boxed ≡ is_boxed types.now known.old.con }
+    ensures known { known.new.boxed ≡ is_boxed types.now known.new.con }
+    ensures needs { result ≡ needs_cell types.now item.now }
 {
     match *item {
         Item::Dia => true,
-        Item::Con { con, parts: _ } => match types.con(con) {
-            Some(con) => !con.inline,
-            None => false,
-        },
+        Item::Con { con, parts: _ } => {
+            if con != known.con {
+                *known = Known {
+                    con,
+                    boxed: is_boxed(types, con),
+                };
+            }
+            known.boxed
+        }
         _ => false,
     }
 }
@@ -53,9 +77,13 @@ impl Flat {
     pub fn cells(&self, types: &Types) -> u64
         ensures { result ≡ cells types.now self.now }
     {
+        let mut known = Known {
+            con: 0,
+            boxed: is_boxed(types, 0),
+        };
         let mut total = 0;
         'items: for item in self.items() {
-            if needs_cell(item, types) {
+            if needs_cell(types, &mut known, item) {
                 total += 1;
             }
         }

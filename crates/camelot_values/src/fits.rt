@@ -35,7 +35,7 @@ fn parts_due<'a>(types: &'a Types, kind: Kind, item: &Item) -> Option<&'a [Kind]
 
 // The kinds of the constructor's fields; None where it is of another kind or has another number of fields.
 fn fields_due<'a>(types: &'a Types, kind: Kind, con: u32, parts: u8) -> Option<&'a [Kind]>
-    ensures { option_map (λ fields. fields.now) result ≡ parts_due types.now kind (Con con parts) }
+    ensures { option_map (λ fields. fields.now) result ≡ parts_due types.now kind (Con parts con) }
 {
     if types.type_of(con).map(Kind::Of) != Some(kind) {
         return None;

@@ -14,8 +14,11 @@ pub enum Item {
     /// A diamond: the name of a cell that may be built in.
     Dia,
     /// A constructor by its number, with the number of its parts, whose nodes follow.
-    Con { con: u32, parts: u8 },
+    Con { parts: u8, con: u32 },
 }
+
+// A node takes eight bytes, since the number of parts lies beside the tag.
+const _: () = prove!(size_of::<Item>() == 8);
 
 /// One value, kept as its nodes in prefix order.
 #[derive(Drop)]

@@ -22,6 +22,8 @@ fn answer(rt: &HostRuntime, code: &[u8], cert: &[u8]) -> io::Result<()> {
     if code.len() >= 4294967296 || cert.len() >= 4294967296 {
         return println!(rt; " too long");
     }
+    let code = Vec::from_slice(rt.alloc(), code)?;
+    let cert = Vec::from_slice(rt.alloc(), cert)?;
     match verify(rt.alloc(), code, cert) {
         Ok(licence) => println!(rt; " accepted unit {}", licence.cert().unit()),
         Err(Stop::Fault(Refusal::Cert(CertFault::Number { line }))) => {

@@ -6,8 +6,12 @@ pub mod HomeLaws
 pub mod LaidLaws
 pub mod Laying
 pub mod OwnerLaws
+pub mod PackLaws
+pub mod ReturnLaws
 pub mod RunLaws
 pub mod Safety
 pub mod StateLaws
 pub mod StepLaws
+pub mod TermRanges
 pub mod Unloading
+pub mod WalkLaws

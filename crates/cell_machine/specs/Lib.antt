@@ -14,6 +14,8 @@ pub mod Loading
 pub mod MachineLaws
 pub mod Nodes
 pub mod Owners
+pub mod Packed
+pub mod Packing
 pub mod PlanLaws
 pub mod Plans
 pub mod Running
@@ -24,6 +26,7 @@ pub mod State
 pub mod Steps
 pub mod Stopped
 pub mod Stops
+pub mod Walking
 pub mod Wide
 pub mod theory
 pub mod Views

@@ -10,10 +10,13 @@ pub mod laws;
 mod licensed;
 mod loading;
 mod machine;
+mod packed;
+mod packing;
 mod reading;
 mod room;
 mod state;
 mod steps;
+mod walking;
 
 pub use licensed::run;
 pub use machine::{Ending, Machine, Ran, Stack, run_code};

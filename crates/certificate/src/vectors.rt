@@ -7,6 +7,7 @@ use super::cutting::{behind, cut, next_word};
 use super::numbers::{is_before, number};
 use super::stop::LineStop;
 use annotations::Vector;
+use smallvec::SmallVec;
 use std::alloc::Global;
 
 /// The largest number of a local, a block, a place or a constructor.
@@ -64,11 +65,11 @@ fn are_pairs(prev: &[u8], rest: &[u8]) -> bool
 
 // The pairs of a vector.
 #[tactic(auto, using(crate::proofs::Pairs::pairs_first, crate::proofs::Pairs::pairs_wrong, crate::proofs::Pairs::pairs_wide, crate::proofs::Pairs::pairs_not, crate::proofs::Pairs::pairs_more, crate::proofs::Pairs::pairs_within, crate::proofs::Pairs::pairs_end))]
-fn read_pairs(alloc: Global, rest: &[u8]) -> Result<Vec<(u32, u64)>, LineStop>
+fn read_pairs(alloc: Global, rest: &[u8]) -> Result<SmallVec<(u32, u64), 1>, LineStop>
     ensures { MatchResult result (λ pairs. IsRead (vector_from [] (further rest.now)) VectorIsWithin pairs.items)
         (λ stop. IsStopped (vector_from [] (further rest.now)) VectorIsWithin stop) }
 {
-    let mut pairs = Vec::new(alloc);
+    let mut pairs = SmallVec::new(alloc);
     let mut last: &[u8] = &[];
     let mut left = rest;
     'pairs: while let Some((word, after)) = next_word(left) {

@@ -1,3 +1,5 @@
+use smallvec::SmallVec;
+
 /// An operator on two ints. `Add`, `Sub` and `Mul` wrap to 32 bits in two's complement and give an int; the others
 /// compare and give a truth value.
 #[derive(Clone, Copy, Debug, PartialEq, Eq)]
@@ -44,14 +46,14 @@ pub enum Op {
     /// value. `New` takes a cell from the free list.
     Make {
         con: u32,
-        args: Vec<u32>,
+        args: SmallVec<u32, 4>,
         place: Place,
     },
     /// Uses one local for each parameter of the function; gives its result. It takes one unit of fuel, and waits while
     /// the function runs.
     Call {
         func: u32,
-        args: Vec<u32>,
+        args: SmallVec<u32, 4>,
     },
 }
 
@@ -89,7 +91,7 @@ pub enum Term {
     Ret(u32),
     /// Uses one local for each parameter of another function, which takes the place of this one: it takes one unit of
     /// fuel, and nothing waits.
-    Tail { func: u32, args: Vec<u32> },
+    Tail { func: u32, args: SmallVec<u32, 4> },
     /// Uses nothing; goes on in this block.
     Goto(u32),
     /// Uses a truth value; goes on in block `yes` where it is true, and in `no` where it is false.

@@ -51,6 +51,16 @@ impl Bundle {
         &self.cert
     }
 
+    /// The bytes of the code, and the text of the certificate.
+    pub fn parts(self) -> (Vec<u8>, Vec<u8>)
+        // The bytes of the code.
+        ensures code { result.0.items ≡ self.code }
+        // The text of the certificate.
+        ensures cert { result.1.items ≡ self.cert }
+    {
+        (self.code, self.cert)
+    }
+
     /// What the type keeps: there is some code, and the certificate begins with its first line. It does nothing; its
     /// clauses are what whoever holds a `Bundle` can use.
     pub fn kept(&self)

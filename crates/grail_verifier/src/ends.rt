@@ -40,9 +40,9 @@ fn check_line(
     books: Books<'_>,
     memo: &mut Memo,
     here: Here<'_>,
-    slots: &[usize],
+    slots: &[u32],
     fields: &[u32],
-    matched: usize,
+    matched: u32,
     line: &BlockLines,
 ) -> Result<(), Short>
     requires sound { IsSound (code_of books.code.now).types books.lines.now.held memo.old }
@@ -64,9 +64,9 @@ fn check_jump(
     memo: &mut Memo,
     own: &FuncLines<'_>,
     here: Here<'_>,
-    slots: &[usize],
+    slots: &[u32],
     fields: &[u32],
-    matched: usize,
+    matched: u32,
     to: u32,
 ) -> Result<(), Short>
     requires sound { IsSound (code_of books.code.now).types books.lines.now.held memo.old }
@@ -88,7 +88,7 @@ fn check_plain_jump(
     memo: &mut Memo,
     own: &FuncLines<'_>,
     here: Here<'_>,
-    slots: &[usize],
+    slots: &[u32],
     to: u32,
 ) -> Result<(), Short>
     requires sound { IsSound (code_of books.code.now).types books.lines.now.held memo.old }
@@ -111,7 +111,7 @@ fn given(unit: u64, cell: CaseCell, left: u64) -> u64
 }
 
 // What is left where what the matched node carries is there too.
-fn left_with(books: Books<'_>, left: u64, matched: usize, con: u32) -> u64
+fn left_with(books: Books<'_>, left: u64, matched: u32, con: u32) -> u64
     ensures { result ≡ cond (is_heap_con (code_of books.entry.code.now).types con) (capped (left + at (held books.entry.lines.now.held matched) con)) left }
 {
     if is_heap_con(books, con) {
@@ -127,8 +127,8 @@ fn check_arm(
     memo: &mut Memo,
     own: &FuncLines<'_>,
     here: Here<'_>,
-    slots: &[usize],
-    matched: usize,
+    slots: &[u32],
+    matched: u32,
     con: u32,
     arm: &CaseArm,
 ) -> Result<(), Short>
@@ -166,8 +166,8 @@ fn check_arms(
     memo: &mut Memo,
     own: &FuncLines<'_>,
     here: Here<'_>,
-    slots: &[usize],
-    matched: usize,
+    slots: &[u32],
+    matched: u32,
     first: u32,
     arms: &[CaseArm],
 ) -> Result<(), Short>
@@ -192,7 +192,7 @@ fn check_tail(
     memo: &mut Memo,
     own: &FuncLines<'_>,
     here: Here<'_>,
-    slots: &[usize],
+    slots: &[u32],
     callee: &FuncLines<'_>,
     args: &[u32],
 ) -> Result<(), Short>
@@ -219,7 +219,7 @@ fn check_ret(
     memo: &mut Memo,
     own: &FuncLines<'_>,
     here: Here<'_>,
-    slots: &[usize],
+    slots: &[u32],
     local: u32,
 ) -> Result<(), Short>
     requires sound { IsSound (code_of books.code.now).types books.lines.now.held memo.old }
@@ -240,7 +240,7 @@ fn check_case(
     memo: &mut Memo,
     own: &FuncLines<'_>,
     here: Here<'_>,
-    slots: &[usize],
+    slots: &[u32],
     on: u32,
     arms: &[CaseArm],
 ) -> Result<(), Short>
@@ -266,7 +266,7 @@ fn check_if(
     memo: &mut Memo,
     own: &FuncLines<'_>,
     here: Here<'_>,
-    slots: &[usize],
+    slots: &[u32],
     yes: u32,
     no: u32,
 ) -> Result<(), Short>
@@ -290,7 +290,7 @@ pub(crate) fn check_end(
     memo: &mut Memo,
     own: &FuncLines<'_>,
     here: Here<'_>,
-    slots: &[usize],
+    slots: &[u32],
     term: &Term,
 ) -> Result<(), Short>
     requires sound { IsSound (code_of books.code.now).types books.lines.now.held memo.old }

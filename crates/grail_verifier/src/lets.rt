@@ -36,7 +36,7 @@ fn cost(unit: u64, place: Place, units: u64) -> u64
 
 // The local's value carries these from now on.
 #[tactic(auto, using(std::proofs::lemmas::List::set_past))]
-pub(crate) fn put(books: Books<'_>, slots: &mut [usize], local: u32, number: usize)
+pub(crate) fn put(books: Books<'_>, slots: &mut [u32], local: u32, number: u32)
     ensures { map (held books.entry.lines.now.held) slots.new
         ≡ slice_set (map (held books.entry.lines.now.held) slots.old) local (held books.entry.lines.now.held number) }
 {
@@ -46,7 +46,7 @@ pub(crate) fn put(books: Books<'_>, slots: &mut [usize], local: u32, number: usi
 }
 
 // A copy carries what its operand does.
-fn copy(books: Books<'_>, slots: &mut [usize], target: u32, source: u32)
+fn copy(books: Books<'_>, slots: &mut [u32], target: u32, source: u32)
     ensures { map (held books.entry.lines.now.held) slots.new
         ≡ put (map (held books.entry.lines.now.held) slots.old) target
         (slice_get (map (held books.entry.lines.now.held) slots.old) source) }
@@ -75,7 +75,7 @@ pub(crate) fn check_call(
     books: Books<'_>,
     memo: &mut Memo,
     here: Here<'_>,
-    slots: &[usize],
+    slots: &[u32],
     callee: &FuncLines<'_>,
     args: &[u32],
 ) -> Result<(), Short>
@@ -102,8 +102,8 @@ fn check_build(
     books: Books<'_>,
     memo: &mut Memo,
     here: Here<'_>,
-    slots: &[usize],
-    made: usize,
+    slots: &[u32],
+    made: u32,
     args: &[u32],
     cost: u64,
 ) -> Result<(), Short>
@@ -123,8 +123,8 @@ fn check_make(
     books: Books<'_>,
     memo: &mut Memo,
     here: Here<'_>,
-    slots: &[usize],
-    made: usize,
+    slots: &[u32],
+    made: u32,
     con: u32,
     args: &[u32],
     place: Place,
@@ -151,8 +151,8 @@ pub(crate) fn check_op(
     books: Books<'_>,
     memo: &mut Memo,
     here: Here<'_>,
-    slots: &[usize],
-    made: usize,
+    slots: &[u32],
+    made: u32,
     op: &Op,
 ) -> Result<u64, Short>
     requires sound { IsSound (code_of books.code.now).types books.lines.now.held memo.old }
@@ -180,7 +180,7 @@ pub(crate) fn check_op(
 }
 
 /// The target of a let carries what is said of it.
-pub(crate) fn bind(books: Books<'_>, slots: &mut [usize], made: usize, binding: &Let)
+pub(crate) fn bind(books: Books<'_>, slots: &mut [u32], made: u32, binding: &Let)
     ensures { map (held books.entry.lines.now.held) slots.new
         ≡ slots_behind (code_of books.entry.code.now) books.entry.lines.now.cert
         (map (held books.entry.lines.now.held) slots.old) (held books.entry.lines.now.held made)

@@ -11,8 +11,8 @@ use std::marker::Model;
 /// that came last, by the number of the second, and those that are kept.
 #[derive(Drop)]
 pub(crate) struct Memo {
-    last: Vec<((usize, usize), u32)>,
-    passed: BTreeSet<((usize, usize), u32)>,
+    last: Vec<((u32, u32), u32)>,
+    passed: BTreeSet<((u32, u32), u32)>,
 }
 
 impl Model for Memo {
@@ -25,7 +25,7 @@ impl Model for Memo {
 }
 
 // So many times that the annotations of number 0 are at least themselves; nothing where memory runs out.
-fn themselves(alloc: Global, count: usize) -> Vec<((usize, usize), u32)>
+fn themselves(alloc: Global, count: usize) -> Vec<((u32, u32), u32)>
     ensures { (types : List DataType) (all : List Pairs) → IsSound types all result.items }
 {
     match Vec::from_elem(alloc, ((0, 0), 0), count) {
@@ -35,7 +35,7 @@ fn themselves(alloc: Global, count: usize) -> Vec<((usize, usize), u32)>
 }
 
 // Whether the pair is this one.
-fn is_pair(pair: &((usize, usize), u32), have: usize, need: usize, number: u32) -> bool
+fn is_pair(pair: &((u32, u32), u32), have: u32, need: u32, number: u32) -> bool
     ensures { result ≡ ((nat_eq pair.now.0.0 have && nat_eq pair.now.0.1 need) && nat_eq pair.now.1 number) }
 {
     pair.0.0 == have && pair.0.1 == need && pair.1 == number
@@ -53,34 +53,34 @@ impl Memo {
     }
 
     /// Whether this is what was last put down of the second annotations.
-    pub(crate) fn is_last(&self, have: usize, need: usize, number: u32) -> bool
+    pub(crate) fn is_last(&self, have: u32, need: u32, number: u32) -> bool
         ensures { (types : List DataType) (all : List Pairs) → IsSound types all self.now → IsTrue result → IsPassed types all ((have, need), number) }
     {
-        match self.last.get(need) {
+        match self.last.get(need as usize) {
             Some(last) => is_pair(last, have, need, number),
             None => false,
         }
     }
 
     /// Puts this down, in place of what was there of the second annotations.
-    pub(crate) fn put_last(&mut self, have: usize, need: usize, number: u32)
+    pub(crate) fn put_last(&mut self, have: u32, need: u32, number: u32)
         ensures { (types : List DataType) (all : List Pairs) → IsSound types all self.old
             → IsPassed types all ((have, need), number) → IsSound types all self.new }
     {
-        if need < self.last.len() {
-            self.last[need] = ((have, need), number);
+        if (need as usize) < self.last.len() {
+            self.last[need as usize] = ((have, need), number);
         }
     }
 
     /// Whether this is kept.
-    pub(crate) fn has(&self, have: usize, need: usize, number: u32) -> bool
+    pub(crate) fn has(&self, have: u32, need: u32, number: u32) -> bool
         ensures { (types : List DataType) (all : List Pairs) → IsSound types all self.now → IsTrue result → IsPassed types all ((have, need), number) }
     {
         self.passed.contains(&((have, need), number))
     }
 
     /// Keeps this, or, where memory runs out, doesn't.
-    pub(crate) fn add(&mut self, have: usize, need: usize, number: u32)
+    pub(crate) fn add(&mut self, have: u32, need: u32, number: u32)
         ensures { (types : List DataType) (all : List Pairs) → IsSound types all self.old
             → IsPassed types all ((have, need), number) → IsSound types all self.new }
     {

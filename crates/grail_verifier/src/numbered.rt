@@ -7,11 +7,14 @@ use certificate::FuncCert;
 use std::alloc::{AllocError, Global};
 use std::marker::Model;
 
+// The highest number of annotations.
+const MOST_NUMBER: usize = 4_294_967_295;
+
 /// A local, by its number, and the number of its annotations.
 #[derive(Clone, Copy)]
 pub(crate) struct VarLine {
     pub(crate) var: u32,
-    pub(crate) number: usize,
+    pub(crate) number: u32,
 }
 
 /// What a block needs, and the annotations of its parameters.
@@ -27,7 +30,7 @@ pub(crate) struct BlockLines {
 pub(crate) struct MakeLine {
     pub(crate) block: u32,
     pub(crate) place: u32,
-    pub(crate) number: usize,
+    pub(crate) number: u32,
 }
 
 /// The lines of a function.
@@ -37,7 +40,7 @@ pub(crate) struct FuncLines<'a> {
     pub(crate) need: u64,
     pub(crate) back: u64,
     pub(crate) params: Vec<VarLine>,
-    pub(crate) result: usize,
+    pub(crate) result: u32,
     pub(crate) blocks: Vec<BlockLines>,
     pub(crate) makes: Vec<MakeLine>,
 }
@@ -70,15 +73,19 @@ impl<'a> Held<'a> {
         }
     }
 
-    /// Adds annotations, and answers their number.
-    pub(crate) fn add(&mut self, vector: &'a Vector) -> Result<usize, AllocError>
+    /// Adds annotations, and answers their number. `AllocError` where memory runs out, or all numbers of 32 bits: no
+    /// text of fewer than 2^32 bytes has as many annotations.
+    pub(crate) fn add(&mut self, vector: &'a Vector) -> Result<u32, AllocError>
         ensures number { IfOk result (λ number. number ≡ length self.old) }
         ensures held { IfOk result (λ number. slice_get self.new number ≡ Some vector.now) }
         ensures keeps { OnOk result (Keeps self.old self.new) }
     {
         let number = self.vectors.len();
+        if number > MOST_NUMBER {
+            return Err(AllocError);
+        }
         self.vectors.push(vector)?;
-        Ok(number)
+        Ok(number as u32)
     }
 
     /// How many numbers there are.
@@ -89,10 +96,10 @@ impl<'a> Held<'a> {
     }
 
     /// The annotations of this number.
-    pub(crate) fn get(&self, number: usize) -> Option<&'a Vector>
+    pub(crate) fn get(&self, number: u32) -> Option<&'a Vector>
         ensures { option_map (λ v. v.now) result ≡ slice_get self.now number }
     {
-        self.vectors.get(number).copied()
+        self.vectors.get(number as usize).copied()
     }
 }
 
@@ -133,7 +140,7 @@ impl<'a> NumberedCert<'a> {
 
     /// The annotations of this number; none where there are none of it.
     #[tactic(auto, using(crate::proofs::Keeping::held_some, crate::proofs::Keeping::held_none))]
-    pub(crate) fn get(&self, number: usize) -> &'a Vector
+    pub(crate) fn get(&self, number: u32) -> &'a Vector
         ensures { result.now ≡ held self.now.held number }
     {
         match self.held.get(number) {

@@ -42,7 +42,7 @@ pub(crate) fn check_left(site: Site, have: u64, need: u64) -> Result<(), Short>
 }
 
 // The first constructor that the kind reaches of which the first annotations have fewer units, by walking both.
-fn walk_both(books: Books<'_>, kind: Kind, have: usize, need: usize) -> Option<u32>
+fn walk_both(books: Books<'_>, kind: Kind, have: u32, need: u32) -> Option<u32>
     ensures { MatchOption result (AtLeast (code_of books.entry.code.now).types kind
         (at (held books.entry.lines.now.held have)) (at (held books.entry.lines.now.held need)))
         (λ con. IsFirstBelow (code_of books.entry.code.now).types kind (at (held books.entry.lines.now.held have))
@@ -57,13 +57,7 @@ fn walk_both(books: Books<'_>, kind: Kind, have: usize, need: usize) -> Option<u
 }
 
 // The same for a value of the type of this number, where what passes is kept.
-fn walk_once(
-    books: Books<'_>,
-    memo: &mut Memo,
-    number: u32,
-    have: usize,
-    need: usize,
-) -> Option<u32>
+fn walk_once(books: Books<'_>, memo: &mut Memo, number: u32, have: u32, need: u32) -> Option<u32>
     requires sound { IsSound (code_of books.code.now).types books.lines.now.held memo.old }
     ensures found { MatchOption result
         (AtLeast (code_of books.entry.code.now).types (Of number) (at (held books.entry.lines.now.held have))
@@ -93,7 +87,7 @@ fn is_long(vector: &Vector) -> bool
 // here.
 #[cold]
 #[inline(never)]
-fn walk_of(books: Books<'_>, memo: &mut Memo, number: u32, have: usize, need: usize) -> Option<u32>
+fn walk_of(books: Books<'_>, memo: &mut Memo, number: u32, have: u32, need: u32) -> Option<u32>
     requires sound { IsSound (code_of books.code.now).types books.lines.now.held memo.old }
     ensures found { MatchOption result
         (AtLeast (code_of books.entry.code.now).types (Of number) (at (held books.entry.lines.now.held have))
@@ -110,7 +104,7 @@ fn walk_of(books: Books<'_>, memo: &mut Memo, number: u32, have: usize, need: us
 }
 
 // The same, where what passed last against the second annotations isn't walked again.
-fn walk_new(books: Books<'_>, memo: &mut Memo, number: u32, have: usize, need: usize) -> Option<u32>
+fn walk_new(books: Books<'_>, memo: &mut Memo, number: u32, have: u32, need: u32) -> Option<u32>
     requires sound { IsSound (code_of books.code.now).types books.lines.now.held memo.old }
     ensures found { MatchOption result
         (AtLeast (code_of books.entry.code.now).types (Of number) (at (held books.entry.lines.now.held have))
@@ -132,13 +126,7 @@ fn walk_new(books: Books<'_>, memo: &mut Memo, number: u32, have: usize, need: u
 // The first constructor that the kind reaches of which the first annotations have fewer units. The same annotations
 // aren't walked, nor those that passed last; and long ones that pass are walked once.
 #[tactic(auto, using(crate::proofs::Remembering::same_number))]
-fn first_fewer(
-    books: Books<'_>,
-    memo: &mut Memo,
-    kind: Kind,
-    have: usize,
-    need: usize,
-) -> Option<u32>
+fn first_fewer(books: Books<'_>, memo: &mut Memo, kind: Kind, have: u32, need: u32) -> Option<u32>
     requires sound { IsSound (code_of books.code.now).types books.lines.now.held memo.old }
     ensures found { MatchOption result
         (AtLeast (code_of books.entry.code.now).types kind (at (held books.entry.lines.now.held have))
@@ -165,8 +153,8 @@ pub(crate) fn check_value(
     memo: &mut Memo,
     site: Site,
     kind: Kind,
-    have: usize,
-    need: usize,
+    have: u32,
+    need: u32,
 ) -> Result<(), Short>
     requires sound { IsSound (code_of books.code.now).types books.lines.now.held memo.old }
     ensures found { Finds result (value_short (code_of books.entry.code.now).types (site_of site) kind
@@ -193,8 +181,8 @@ fn check_held(
     memo: &mut Memo,
     site: Site,
     kind: Option<Kind>,
-    have: Option<usize>,
-    need: usize,
+    have: Option<u32>,
+    need: u32,
 ) -> Result<(), Short>
     requires sound { IsSound (code_of books.code.now).types books.lines.now.held memo.old }
     ensures found { Finds result (held_short (code_of books.entry.code.now).types (site_of site) kind
@@ -208,7 +196,7 @@ fn check_held(
 }
 
 /// The annotations of a local, where it is there.
-pub(crate) fn slot(books: Books<'_>, slots: &[usize], local: u32) -> Option<usize>
+pub(crate) fn slot(books: Books<'_>, slots: &[u32], local: u32) -> Option<u32>
     ensures { option_map (held books.entry.lines.now.held) result ≡ slice_get (map (held books.entry.lines.now.held) slots.now) local }
 {
     slots.get(local as usize).copied()
@@ -220,9 +208,9 @@ pub(crate) fn check_local(
     memo: &mut Memo,
     func: &Func,
     site: Site,
-    slots: &[usize],
+    slots: &[u32],
     local: u32,
-    need: usize,
+    need: u32,
 ) -> Result<(), Short>
     requires sound { IsSound (code_of books.code.now).types books.lines.now.held memo.old }
     ensures found { Finds result (local_short (code_of books.entry.code.now).types (func_of func.now) (site_of site)
@@ -253,7 +241,7 @@ fn check_argument(
     memo: &mut Memo,
     func: &Func,
     site: Site,
-    slots: &[usize],
+    slots: &[u32],
     args: &[u32],
     line: &VarLine,
 ) -> Result<(), Short>
@@ -275,7 +263,7 @@ pub(crate) fn check_arguments(
     memo: &mut Memo,
     func: &Func,
     site: Site,
-    slots: &[usize],
+    slots: &[u32],
     args: &[u32],
     lines: &[VarLine],
 ) -> Result<(), Short>
@@ -297,9 +285,9 @@ pub(crate) fn check_all(
     memo: &mut Memo,
     func: &Func,
     site: Site,
-    slots: &[usize],
+    slots: &[u32],
     locals: &[u32],
-    need: usize,
+    need: u32,
 ) -> Result<(), Short>
     requires sound { IsSound (code_of books.code.now).types books.lines.now.held memo.old }
     ensures found { Finds result (all_short (code_of books.entry.code.now).types (func_of func.now) (site_of site)
@@ -315,13 +303,7 @@ pub(crate) fn check_all(
 
 // The annotations of a local where an arm has bound these fields.
 #[tactic(auto, unfolding(crate::specs::Walk::bound))]
-fn bound(
-    books: Books<'_>,
-    slots: &[usize],
-    fields: &[u32],
-    matched: usize,
-    local: u32,
-) -> Option<usize>
+fn bound(books: Books<'_>, slots: &[u32], fields: &[u32], matched: u32, local: u32) -> Option<u32>
     ensures { option_map (held books.entry.lines.now.held) result
         ≡ bound (map (held books.entry.lines.now.held) slots.now) fields.now
         (held books.entry.lines.now.held matched) local }
@@ -340,9 +322,9 @@ pub(crate) fn check_params(
     memo: &mut Memo,
     func: &Func,
     site: Site,
-    slots: &[usize],
+    slots: &[u32],
     fields: &[u32],
-    matched: usize,
+    matched: u32,
     lines: &[VarLine],
 ) -> Result<(), Short>
     requires sound { IsSound (code_of books.code.now).types books.lines.now.held memo.old }

@@ -42,7 +42,7 @@ fn makes_from<'a>(books: Books<'_>, makes: &'a [MakeLine], block: u32, place: u3
 }
 
 // The number of the annotations of the build at this place, where its line stands in front.
-fn in_front(books: Books<'_>, makes: &[MakeLine], block: u32, place: u32) -> usize
+fn in_front(books: Books<'_>, makes: &[MakeLine], block: u32, place: u32) -> u32
     ensures { held books.entry.lines.now.held result
         ≡ in_front (held books.entry.lines.now.held 0) block place
         (map (make_in books.entry.lines.now.held) makes.now) }
@@ -54,7 +54,7 @@ fn in_front(books: Books<'_>, makes: &[MakeLine], block: u32, place: u32) -> usi
 }
 
 // Locals carry what these lines say.
-fn put_all(books: Books<'_>, slots: &mut [usize], lines: &[VarLine])
+fn put_all(books: Books<'_>, slots: &mut [u32], lines: &[VarLine])
     ensures { map (held books.entry.lines.now.held) slots.new
         ≡ put_all (map (held books.entry.lines.now.held) slots.old)
         (map (var_in books.entry.lines.now.held) lines.now) }
@@ -72,7 +72,7 @@ fn check_lets<'a>(
     start: Site,
     makes: &[MakeLine],
     need: u64,
-    slots: &mut [usize],
+    slots: &mut [u32],
     block: &Block,
 ) -> Result<(), Short>
     requires place { start.place ≡ 1 }

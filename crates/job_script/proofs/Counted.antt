@@ -18,18 +18,6 @@ head_written n a o p q e f g = three a (codes "Cons(") (number n) (codes ",") o 
 one_less : (left : ℕ) → 1 ≤ suc left → suc left - 1 ≡ left
 one_less left h = omega arith
 
-pub next_head : (left item : ℕ) (out new all : List ℕ) → 0 < left → out ++ heads left item ≡ all
-    → new ≡ out ++ (codes "Cons(" ++ (number item ++ codes ",")) → new ++ heads (left - 1) (item + 1) ≡ all
-next_head zero item out new all h e f = absurd (omega (arith, h))
-next_head (suc left) item out new all h e f =
-    let piece = codes "Cons(" ++ (number item ++ codes ",") in
-    let rest : heads (suc left - 1) (item + 1) ≡ heads left (suc item) = ap (λ l. heads l (item + 1)) (one_less left (omega (arith, h))) ∙ ap (heads left) (add-one item) in
-    ap (λ l. l ++ heads (suc left - 1) (item + 1)) f ∙ ap (λ l. (out ++ piece) ++ l) rest ∙ append_assoc out piece (heads left (suc item)) ∙ e
-
-pub all_heads : (left item : ℕ) (out all : List ℕ) → left ≤ 0 → out ++ heads left item ≡ all → out ≡ all
-all_heads zero item out all h e = sym (append-nil out) ∙ e
-all_heads (suc left) item out all h e = absurd (omega (arith, h))
-
 pub next_end : (left : ℕ) (out new all : List ℕ) → 0 < left → out ++ replicate left 41 ≡ all → new ≡ out ++ 41 ∷ [] → new ++ replicate (left - 1) 41 ≡ all
 next_end zero out new all h e f = absurd (omega (arith, h))
 next_end (suc left) out new all h e f =
@@ -39,9 +27,9 @@ pub all_ends : (left : ℕ) (out all : List ℕ) → left ≤ 0 → out ++ repli
 all_ends zero out all h e = sym (append-nil out) ∙ e
 all_ends (suc left) out all h e = absurd (omega (arith, h))
 
-pub list_written : (count : ℕ) (n o p q : List ℕ) → n ≡ [] → o ≡ n ++ heads count 1 → p ≡ o ++ codes "Nil" → q ≡ p ++ replicate count 41 → q ≡ list_text count
+pub list_written : (count : ℕ) (o p q : List ℕ) → o ≡ heads count 1 → p ≡ o ++ codes "Nil" → q ≡ p ++ replicate count 41 → q ≡ list_text count
 unfolding list_text
-list_written count n o p q e f g h = three n (heads count 1) (codes "Nil") (replicate count 41) o p q f g h ∙ ap (λ l. l ++ (heads count 1 ++ (codes "Nil" ++ replicate count 41))) e
+list_written count o p q e f g = g ∙ ap (λ l. l ++ replicate count 41) (f ∙ ap (λ l. l ++ codes "Nil") e) ∙ append_assoc (heads count 1) (codes "Nil") (replicate count 41)
 
 pub name_written : (n : ℕ) (o p : List ℕ) → o ≡ codes "j" → p ≡ o ++ number n → p ≡ made_name n
 name_written n o p e f = f ∙ ap (λ l. l ++ number n) e

@@ -11,4 +11,5 @@ pub mod Placing
 pub mod Judging
 pub mod Joining
 pub mod Counted
+pub mod Fronts
 pub mod MadeRight

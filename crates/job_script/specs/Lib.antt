@@ -4,6 +4,7 @@ pub mod Text
 pub mod Answers
 pub mod Words
 pub mod Made
+pub mod Fronts
 pub mod Reading
 pub mod Heads
 pub mod Steps

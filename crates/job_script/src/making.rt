@@ -1,8 +1,9 @@
 //! The script of the drill.
-ghost use Rattle.std.specs.Prelude.{◌≡◌, ◌≤◌, ◌++◌, codes, map, replicate, IfOk, OnOk};
+ghost use Rattle.std.specs.Prelude.{◌≡◌, ◌≤◌, ◌++◌, ◌∷◌, [], codes, length, map, replicate, IfOk, OnOk};
 ghost use Rattle.std.specs.List.{AllByRecursion};
 ghost use Rattle.certificate.specs.Numbers.{number};
 ghost use Rattle.job_script.specs.Made.{heads, list_text, made_fuel, made_items, made_job, made_jobs, made_name, made_program, made_script};
+ghost use Rattle.job_script.specs.Fronts.{AreFronts};
 ghost use Rattle.job_script.specs.Scripts.{AJob, AProgram, IsScript, IsUpTo};
 ghost use Rattle.job_script.specs.Text.{EntryIsShort};
 ghost use Rattle.job_script.specs.Words.{entry_of, script_of};
@@ -26,20 +27,53 @@ fn push_head(out: &mut Vec<u8>, item: u32) -> Result<(), AllocError>
     out.extend_from_slice(b",")
 }
 
-// Writes the fronts of so many items, from 1 on.
-#[tactic(auto, using(crate::proofs::Counted::all_heads))]
-fn push_heads(out: &mut Vec<u8>, count: u32) -> Result<(), AllocError>
-    requires few { count ≤ 999 }
-    ensures { OnOk result (out.new.items ≡ out.old.items ++ heads count 1) }
+// The fronts of the items from 1 on, one behind the other, and for each number of them, from none on, how many bytes
+// so many have.
+#[derive(Drop)]
+pub(crate) struct Fronts {
+    pub(crate) text: Vec<u8>,
+    pub(crate) ends: Vec<usize>,
+}
+
+// Adds the front of an item.
+fn add_front(fronts: &mut Fronts, item: u32) -> Result<(), AllocError>
+    ensures text { OnOk result (fronts.new.text.items ≡ fronts.old.text.items ++ (codes "Cons(" ++ (number item ++ codes ","))) }
+    ensures ends { OnOk result (fronts.new.ends.items ≡ fronts.old.ends.items ++ length fronts.new.text.items ∷ []) }
 {
-    let mut left = count;
-    let mut item = 1;
-    'items: while left > 0 {
-        push_head(out, item)?;
-        left -= 1;
-        item += 1;
-    }
+    push_head(&mut fronts.text, item)?;
+    fronts.ends.push(fronts.text.len())?;
     Ok(())
+}
+
+// The fronts of so many items.
+#[tactic(auto, using(crate::proofs::Fronts::no_fronts, crate::proofs::Fronts::all_fronts))]
+fn make_fronts(alloc: Global, count: u32) -> Result<Fronts, AllocError>
+    ensures { IfOk result (λ f. AreFronts count f.text.items f.ends.items) }
+{
+    let mut fronts = Fronts {
+        text: Vec::new(alloc),
+        ends: Vec::new(alloc),
+    };
+    fronts.ends.push(0)?;
+    let mut made = 0;
+    'items: while made < count {
+        made += 1;
+        add_front(&mut fronts, made)?;
+    }
+    Ok(fronts)
+}
+
+// The fronts of the first so many items, in a text with room for the rest of the list.
+#[tactic(auto, using(crate::proofs::Fronts::fewer, crate::proofs::Fronts::end_within))]
+fn copy_fronts(alloc: Global, fronts: &Fronts, count: u32) -> Result<Vec<u8>, AllocError>
+    requires few { count ≤ 999 }
+    requires fronts { AreFronts 999 fronts.now.text.items fronts.now.ends.items }
+    ensures { IfOk result (λ out. out.items ≡ heads count 1) }
+{
+    let end = fronts.ends[count as usize];
+    let mut out = Vec::with_capacity(alloc, end.saturating_add(3 + count as usize))?;
+    out.extend_from_slice(&fronts.text[..end])?;
+    Ok(out)
 }
 
 // Closes so many items.
@@ -57,12 +91,12 @@ fn push_ends(out: &mut Vec<u8>, count: u32) -> Result<(), AllocError>
 
 // The text of the list of the ints from 1 on, so many.
 #[tactic(auto, using(crate::proofs::Counted::list_written))]
-fn list_text(alloc: Global, count: u32) -> Result<Vec<u8>, AllocError>
+fn list_text(alloc: Global, fronts: &Fronts, count: u32) -> Result<Vec<u8>, AllocError>
     requires few { count ≤ 999 }
+    requires fronts { AreFronts 999 fronts.now.text.items fronts.now.ends.items }
     ensures { IfOk result (λ text. text.items ≡ list_text count) }
 {
-    let mut out = Vec::new(alloc);
-    push_heads(&mut out, count)?;
+    let mut out = copy_fronts(alloc, fronts, count)?;
     out.extend_from_slice(b"Nil")?;
     push_ends(&mut out, count)?;
     Ok(out)
@@ -93,14 +127,15 @@ fn job_fuel(number: u32) -> u64
 }
 
 // The job of a number.
-fn make_job(alloc: Global, number: u32) -> Result<Entry, AllocError>
+fn make_job(alloc: Global, fronts: &Fronts, number: u32) -> Result<Entry, AllocError>
     requires few { number ≤ 4096 }
+    requires fronts { AreFronts 999 fronts.now.text.items fronts.now.ends.items }
     ensures { IfOk result (λ entry. entry_of entry ≡ AJob (made_job number)) }
 {
     let name = job_name(alloc, number)?;
     let program = word(alloc, b"drill")?;
     let entry = word(alloc, b"dup")?;
-    let args = list_text(alloc, 37 * number % 1000)?;
+    let args = list_text(alloc, fronts, 37 * number % 1000)?;
     Ok(Entry::Job {
         name,
         program,
@@ -130,10 +165,11 @@ fn push_jobs(alloc: Global, items: &mut Vec<Entry>, count: u32) -> Result<(), Al
     requires few { count ≤ 4096 }
     ensures { OnOk result (map entry_of items.new.items ≡ map entry_of items.old.items ++ made_jobs count 1) }
 {
+    let fronts = make_fronts(alloc, 999)?;
     let mut left = count;
     let mut number = 1;
     'jobs: while left > 0 {
-        let job = make_job(alloc, number)?;
+        let job = make_job(alloc, &fronts, number)?;
         items.push(job)?;
         left -= 1;
         number += 1;

@@ -3,6 +3,7 @@ ghost use Rattle.camelot_values.specs.Lists.{Ascend};
 ghost use Rattle.lp_solution.specs.Taking.{value_of, others_of, vector_from, behind};
 
 use annotations::Vector;
+use smallvec::SmallVec;
 use std::alloc::{AllocError, Global};
 use std::marker::Model;
 
@@ -48,7 +49,7 @@ impl<'a> Values<'a> {
         ensures value { IfOk result (λ vector. vector ≡ vector_from cons.now self.old) }
         ensures left { IfOk result (λ vector. self.new ≡ behind cons.now self.old) }
     {
-        let mut pairs = Vec::new(alloc);
+        let mut pairs = SmallVec::new(alloc);
         let mut rest = cons;
         'cons: while let [con, others @ ..] = rest {
             let units = self.next();

@@ -6,6 +6,7 @@ ghost use Rattle.normal_form.specs.Parts.{args_and, before_tail, behind, closed_
 
 use crate::appending::appended;
 use grail_blocks::{CaseArm, CaseCell, Let, Op, PrimCode, Term};
+use smallvec::SmallVec;
 use std::alloc::{AllocError, Global};
 
 /// A let, or the end of a block.
@@ -35,7 +36,7 @@ pub(crate) struct Part {
 pub(crate) struct Args {
     pub(crate) lines: Vec<Line>,
     pub(crate) end: At,
-    pub(crate) locals: Vec<u32>,
+    pub(crate) locals: SmallVec<u32, 4>,
 }
 
 impl Args {
@@ -46,7 +47,7 @@ impl Args {
         Args {
             lines: Vec::new(alloc),
             end: at,
-            locals: Vec::new(alloc),
+            locals: SmallVec::new(alloc),
         }
     }
 

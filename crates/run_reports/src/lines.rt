@@ -1,5 +1,5 @@
 //! The lines of a report.
-ghost use Rattle.std.specs.Prelude.{◌≡◌, ◌++◌, ℕ, List, slice_get, codes, decimal, OnOk, IfOk};
+ghost use Rattle.std.specs.Prelude.{◌≡◌, ◌++◌, ℕ, List, slice_get, codes, decimal, OnOk};
 ghost use Rattle.lease_desk.specs.Journal.{job_of};
 ghost use Rattle.camelot_values.specs.Kinds.{DataType, constructor_name};
 ghost use Rattle.value_text.specs.Text.{value_text};
@@ -14,7 +14,7 @@ use lease_desk::Event;
 use licence::Licence;
 use script_outcomes::{JobCause, JobLine, ProgramLine};
 use std::alloc::{AllocError, Global};
-use value_text::print;
+use value_text::push_value;
 
 // A line of a name and a number, each behind its label.
 #[tactic(auto, using(crate::proofs::Joining::three))]
@@ -62,35 +62,59 @@ pub(crate) fn push_program(
     }
 }
 
-// The text of a value of these types, where there are any.
-fn text_of(
+// A value of these types, where there are any.
+fn push_value_of(
     alloc: Global,
+    out: &mut Vec<u8>,
+    room: &mut Vec<u8>,
     licences: &[Licence],
     licence: u32,
     value: &Flat,
-) -> Result<Vec<u8>, AllocError>
-    ensures { IfOk result (λ text. text.items ≡ value_text (constructor_name (licence_types (slice_get licences.now licence))) value.now) }
+) -> Result<(), AllocError>
+    ensures { OnOk result (out.new.items ≡ out.old.items ++
+        value_text (constructor_name (licence_types (slice_get licences.now licence))) value.now) }
 {
     match licences.get(licence as usize) {
-        Some(licence) => print(alloc, value, &licence.code().types),
-        None => print(alloc, value, &Types::new(Vec::new(alloc))),
+        Some(licence) => push_value(out, room, value, &licence.code().types),
+        None => push_value(out, room, value, &Types::new(Vec::new(alloc))),
     }
+}
+
+// A value of these types behind its label.
+#[tactic(auto, using(crate::proofs::Joining::two))]
+fn push_result(
+    alloc: Global,
+    out: &mut Vec<u8>,
+    room: &mut Vec<u8>,
+    licences: &[Licence],
+    licence: u32,
+    value: &Flat,
+) -> Result<(), AllocError>
+    ensures { OnOk result (out.new.items ≡ out.old.items ++
+        (codes " done " ++ value_text (constructor_name (licence_types (slice_get licences.now licence))) value.now)) }
+{
+    out.extend_from_slice(b" done ")?;
+    push_value_of(alloc, out, room, licences, licence, value)
 }
 
 // What a run came to that is done.
 #[tactic(auto, using(crate::proofs::Joining::four))]
 fn push_done(
+    alloc: Global,
     out: &mut Vec<u8>,
-    value: &[u8],
+    room: &mut Vec<u8>,
+    licences: &[Licence],
+    licence: u32,
+    value: &Flat,
     calls: u64,
     peak: u64,
     bound: u64,
 ) -> Result<(), AllocError>
     ensures { OnOk result (out.new.items ≡ out.old.items ++
-        ((codes " done " ++ value.now) ++ (codes " calls " ++ decimal calls) ++ (codes " peak " ++ decimal peak)
-        ++ (codes " bound " ++ decimal bound))) }
+        ((codes " done " ++ value_text (constructor_name (licence_types (slice_get licences.now licence))) value.now)
+        ++ (codes " calls " ++ decimal calls) ++ (codes " peak " ++ decimal peak) ++ (codes " bound " ++ decimal bound))) }
 {
-    push_text(out, b" done ", value)?;
+    push_result(alloc, out, room, licences, licence, value)?;
     push_number(out, b" calls ", calls)?;
     push_number(out, b" peak ", peak)?;
     push_number(out, b" bound ", bound)
@@ -128,6 +152,7 @@ fn push_two(
 fn push_ended(
     alloc: Global,
     out: &mut Vec<u8>,
+    room: &mut Vec<u8>,
     licences: &[Licence],
     licence: u32,
     ending: &Ending,
@@ -137,10 +162,9 @@ fn push_ended(
     ensures { OnOk result (out.new.items ≡ out.old.items ++ ended_text (licence_types (slice_get licences.now licence)) (outcome_of ending.now) fuel bound) }
 {
     match ending {
-        Ending::Done { value, calls, peak } => {
-            let text = text_of(alloc, licences, licence, value)?;
-            push_done(out, &text, *calls, *peak, bound)
-        }
+        Ending::Done { value, calls, peak } => push_done(
+            alloc, out, room, licences, licence, value, *calls, *peak, bound,
+        ),
         Ending::Fuel { peak } => push_fuel(out, fuel, *peak, bound),
         Ending::Deep { peak } => push_two(out, b" deep peak ", *peak, b" bound ", bound),
     }
@@ -173,6 +197,7 @@ fn push_unfit(out: &mut Vec<u8>, cause: &JobCause) -> Result<(), AllocError>
 fn push_told(
     alloc: Global,
     out: &mut Vec<u8>,
+    room: &mut Vec<u8>,
     licences: &[Licence],
     line: &JobLine,
 ) -> Result<(), AllocError>
@@ -184,7 +209,7 @@ fn push_told(
             fuel,
             bound,
             licence,
-        } => push_ended(alloc, out, licences, *licence, ending, *fuel, *bound),
+        } => push_ended(alloc, out, room, licences, *licence, ending, *fuel, *bound),
         JobLine::TooLarge { needs, arena } => push_two(
             out,
             b" too-large needs ",
@@ -196,11 +221,12 @@ fn push_told(
     }
 }
 
-/// Writes the line of a job.
+/// Writes the line of a job. `room` is memory that one line leaves to the next.
 #[tactic(auto, using(crate::proofs::Joining::three))]
 pub(crate) fn push_job(
     alloc: Global,
     out: &mut Vec<u8>,
+    room: &mut Vec<u8>,
     name: &[u8],
     licences: &[Licence],
     line: &JobLine,
@@ -208,7 +234,7 @@ pub(crate) fn push_job(
     ensures { OnOk result (out.new.items ≡ out.old.items ++ job_text name.now (line_of licences.now line.now)) }
 {
     push_text(out, b"job ", name)?;
-    push_told(alloc, out, licences, line)?;
+    push_told(alloc, out, room, licences, line)?;
     out.extend_from_slice(b"\n")
 }
 

@@ -58,6 +58,7 @@ fn push_programs(
 fn push_job_of<'a>(
     alloc: Global,
     out: &mut Vec<u8>,
+    room: &mut Vec<u8>,
     entry: &Entry,
     licences: &[Licence],
     lines: &'a [JobLine],
@@ -70,7 +71,7 @@ fn push_job_of<'a>(
         Entry::Program { .. } => Ok(lines),
         Entry::Job { name, .. } => match lines {
             [line, others @ ..] => {
-                push_job(alloc, out, name.bytes(), licences, line)?;
+                push_job(alloc, out, room, name.bytes(), licences, line)?;
                 Ok(others)
             }
             [] => Ok(lines),
@@ -89,9 +90,10 @@ fn push_jobs(
 ) -> Result<(), AllocError>
     ensures { OnOk result (out.new.items ≡ out.old.items ++ job_lines (map entry_of items.now) (map (line_of licences.now) lines.now)) }
 {
+    let mut room = Vec::new(alloc);
     let mut rest = lines;
     'items: for entry in items {
-        rest = push_job_of(alloc, out, entry, licences, rest)?;
+        rest = push_job_of(alloc, out, &mut room, entry, licences, rest)?;
     }
     Ok(())
 }

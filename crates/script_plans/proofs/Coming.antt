@@ -1,7 +1,6 @@
 -- One job: what was asked of the licence and planned is its fate.
 use Rattle.std.proofs.Common.{◌≡◌, ℕ, zero, suc, ◌<◌, ◌≤◌, Bool, true, false, List, [], ◌∷◌, ◌++◌, length, Some, None, refl, sym, ap, ◌∙◌, subst, append-nil, arith}
-use Rattle.std.specs.Prelude.{slice_get, if◌then◌else◌, nat_lt, Option, IsSomeAnd, Result, Ok, Err, IfOk}
-use Rattle.std.specs.declared.alloc.AllocError.{AllocError}
+use Rattle.std.specs.Prelude.{slice_get, if◌then◌else◌, nat_lt, Option, IsSomeAnd}
 use Rattle.std.proofs.lemmas.Bool.Decides.{nat_tests}
 use Rattle.std.proofs.lemmas.Option.{slice_get_within}
 use Rattle.std.specs.Option.{option_map}
@@ -30,11 +29,11 @@ use Rattle.script_plans.specs.declared.rows.Known.{Known}
 use Rattle.script_plans.specs.declared.types.JobPlan.{JobPlan}
 use Rattle.script_plans.specs.declared.types.JobPlan.TheVariants as plan
 use Rattle.script_plans.specs.Programs.{ProgramText, Meaning, value_types, run_by, IsLicenceOf}
-use Rattle.script_plans.specs.Fates.{Call, Unfit, Calls, IsRefused, OfEntry, IsCall, IsFate, outcome_of, bound_of, lease_of, left_by, cells_of}
+use Rattle.script_plans.specs.Fates.{Call, Unfit, Calls, OfEntry, IsCall, IsFate, outcome_of, bound_of, lease_of, left_by, cells_of}
 use Rattle.script_plans.specs.Lines.{types_at, fuel_at, planned_line, places_with}
-use Rattle.script_plans.specs.Rows.{Holds, IsKnown, Row, row_among, IsRow, AreRows}
-use Rattle.script_plans.specs.Turns.{IsBoundOf, IsBounded, IsOfArgs, IsOfEntry, IsAsked, CanBePlanned, IsAdded, IsPlanned, IsUsable, IsCalled, Comes, plan_for}
-use Rattle.script_plans.proofs.Naming.{MeansSame, Agrees, agrees, spelled, code_named, entry_found, no_entry}
+use Rattle.script_plans.specs.Rows.{Holds, Row, row_among, IsRow, AreRows}
+use Rattle.script_plans.specs.Turns.{IsBoundOf, IsBounded, IsOfArgs, IsOfEntry, IsAsked, CanBePlanned, IsAdded, IsPlanned, IsUsable, Comes, plan_for}
+use Rattle.script_plans.proofs.Naming.{Agrees, spelled, code_named, entry_found, no_entry}
 
 -- ---- what can be asked and planned
 
@@ -117,13 +116,6 @@ comes_refused p entry args fuel arena old new cause h e = record {
   places = λ place. refl;
   line = refl;
 }
-
-pub no_program : (entry args : List ℕ) (fuel arena : ℕ) (ps : Planned) → Comes None entry args fuel arena ps ps (plan.Refused job_cause.NoProgram)
-no_program entry args fuel arena ps = comes_refused None entry args fuel arena ps ps job_cause.NoProgram tt refl
-
-pub program_refused : (p : ProgramText) (entry args : List ℕ) (fuel arena : ℕ) (ps : Planned) → IsRefused p
-    → Comes (Some p) entry args fuel arena ps ps (plan.Refused job_cause.ProgramRefused)
-program_refused p entry args fuel arena ps h = comes_refused (Some p) entry args fuel arena ps ps job_cause.ProgramRefused h refl
 
 -- why it isn't called
 unfit_fate : (p : ProgramText) (name args : List ℕ) (m : Meaning) (l : Licensed) (cause : JobCause) → IsLicenceOf p l m → Agrees l m
@@ -225,7 +217,7 @@ comes_call p name args fuel arena n old new m l number values most (plan.Runs jo
           ∙ sym (ap (λ b. if b then TooLarge (lease_of call) arena else Ended (value_types m) (outcome_of call fuel) fuel (bound_of call)) fits);
     }
 
-comes_planned : (p : ProgramText) (name args : List ℕ) (fuel arena n : ℕ) (old new : Planned) (m : Meaning) (l : Licensed) (a : Asked) (q : JobPlan)
+pub comes_planned : (p : ProgramText) (name args : List ℕ) (fuel arena n : ℕ) (old new : Planned) (m : Meaning) (l : Licensed) (a : Asked) (q : JobPlan)
     → IsLicenceOf p l m → Agrees l m → slice_get old.licences n ≡ Some l
     → IsAsked l name args a → IsPlanned arena fuel n l a old new q → Comes (Some p) name args fuel arena old new q
 comes_planned p name args fuel arena n old new m l (asked.Unfit cause) q has agree at h k =
@@ -236,13 +228,6 @@ comes_planned p name args fuel arena n old new m l (asked.Fits entry values most
     let first : IsFirstNamed l.code entry name = subst (λ (x : ℕ). IsFirstNamed l.code x name) same h.first in
     let is : slice_get l.code.funcs entry ≡ Some h.func = subst (λ (x : ℕ). slice_get l.code.funcs x ≡ Some h.func) same h.is in
     comes_call p name args fuel arena n old new m l entry values.items most q at (call_fate p name args m l entry values.items h.func has agree first is h.of_args.1) b k
-
-pub comes_called : (p : ProgramText) (name args : List ℕ) (fuel arena : ℕ) (old new : Planned) (k : Known) (q : JobPlan) → MeansSame → Holds old.licences p k
-    → ((l : Licensed) → slice_get old.licences k.licence ≡ Some l → IsCalled arena fuel k.licence l name args old new q)
-    → Comes (Some p) name args fuel arena old new q
-comes_called p name args fuel arena old new k q means h each =
-    let c = each h.licence h.at in
-    comes_planned p name args fuel arena k.licence old new h.meaning h.licence c.a q h.is (agrees p h.licence h.meaning means h.is) h.at c.is c.planned
 
 -- ---- rows
 
@@ -312,11 +297,3 @@ row_found licences (q ∷ rows) name r h e = by_test (bytes_eq q.name name) (λ 
 
 pub row_fits : (licences : List Licensed) (rows : List Row) (name : List ℕ) (r : Row) → AreRows licences rows → Some r ≡ row_among rows name → IsRow licences r
 row_fits licences rows name r h e = row_found licences rows name r h (sym e)
-
--- ---- what is answered
-
-pub row_comes : (p : ProgramText) (name args : List ℕ) (fuel arena : ℕ) (old new : Planned) (o : Option Known) (k : Known) (r : Result JobPlan AllocError) → MeansSame → IsKnown old.licences p o → o ≡ Some k
-    → ((l : Licensed) → slice_get old.licences k.licence ≡ Some l → IfOk r (IsCalled arena fuel k.licence l name args old new))
-    → IfOk r (Comes (Some p) name args fuel arena old new)
-row_comes p name args fuel arena old new o k (Err x) means h e each = tt
-row_comes p name args fuel arena old new o k (Ok q) means h e each = comes_called p name args fuel arena old new k q means (subst (IsKnown old.licences p) e h) each

@@ -3,6 +3,9 @@ pub mod Walking
 pub mod Naming
 pub mod Coming
 pub mod Programs
+pub mod Parts
+pub mod AllAnswered
+pub mod AllWanted
 pub mod Behind
 pub mod Taking
 pub mod OneFate

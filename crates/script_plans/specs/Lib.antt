@@ -3,5 +3,7 @@ pub mod Programs
 pub mod Fates
 pub mod Lines
 pub mod Rows
+pub mod Answers
 pub mod Turns
+pub mod Wanted
 pub mod ScriptLaws

@@ -87,12 +87,6 @@ pub record IsUsable (licences : List Licensed) (k : Known) : Type 0 where
   pub knows : Knows licence.code.types k.inhabited
   pub named : AreNamed licence.code.types
 
--- what was asked of this licence is planned
-pub record IsCalled (arena fuel licence : ℕ) (l : Licensed) (name text : List ℕ) (old new : Planned) (p : JobPlan) : Type 0 where
-  pub a : Asked
-  pub is : IsAsked l name text a
-  pub planned : IsPlanned arena fuel licence l a old new p
-
 -- ---- what comes of a job
 
 -- the place of what runs

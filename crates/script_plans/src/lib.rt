@@ -1,13 +1,16 @@
 //! From a script to what runs: its programs become licences, and its jobs become plans of runs, or are refused.
 #![tactic(auto)]
 
+mod answering;
 mod asking;
 mod calling;
+mod cutting;
 pub mod laws;
 mod licensing;
 mod planning;
 mod rows;
 mod types;
+mod wanting;
 
 pub use planning::plan_script;
 pub use types::{JobPlan, Plans};

@@ -70,7 +70,7 @@ fn serve_read<R: Threads + Wait + Sync, G: Gate + Sync>(
     requires short { AllByRecursion (EntryIsShort 4294967295) (script_of script).items }
     ensures { IfOk result (IsOf (script_of script)) }
 {
-    let plans = plan_script(alloc, &script)?;
+    let plans = plan_script(rt, alloc, &script)?;
     let ServedJobs {
         span,
         journal,

@@ -39,19 +39,19 @@ int_node : (types : List DataType) (x : Item) (fields : List Kind) → IsNode ty
 int_node types (item.Int z) fields n = record { z = z; is = refl; small = n.1; none = n.2 }
 int_node types (item.Flag b) fields n = absurd (let e : kind.Int ≡ kind.Flag = n.0 in cc)
 int_node types item.Dia fields n = absurd (let e : kind.Int ≡ kind.Dia = n.0 in cc)
-int_node types (item.Con c k) fields n = let (con, is, of, f, count) = n in absurd (no_con (type_of types c) kind.Int (λ t e. absurd cc) of)
+int_node types (item.Con k c) fields n = let (con, is, of, f, count) = n in absurd (no_con (type_of types c) kind.Int (λ t e. absurd cc) of)
 
 flag_node : (types : List DataType) (x : Item) (fields : List Kind) → IsNode types kind.Flag x fields → (b : Bool) × (x ≡ item.Flag b) × (fields ≡ [])
 flag_node types (item.Int z) fields n = absurd (let e : kind.Flag ≡ kind.Int = n.0 in cc)
 flag_node types (item.Flag b) fields n = (b, refl, n.1)
 flag_node types item.Dia fields n = absurd (let e : kind.Flag ≡ kind.Dia = n.0 in cc)
-flag_node types (item.Con c k) fields n = let (con, is, of, f, count) = n in absurd (no_con (type_of types c) kind.Flag (λ t e. absurd cc) of)
+flag_node types (item.Con k c) fields n = let (con, is, of, f, count) = n in absurd (no_con (type_of types c) kind.Flag (λ t e. absurd cc) of)
 
 dia_node : (types : List DataType) (x : Item) (fields : List Kind) → IsNode types kind.Dia x fields → (x ≡ item.Dia) × (fields ≡ [])
 dia_node types (item.Int z) fields n = absurd (let e : kind.Dia ≡ kind.Int = n.0 in cc)
 dia_node types (item.Flag b) fields n = absurd (let e : kind.Dia ≡ kind.Flag = n.0 in cc)
 dia_node types item.Dia fields n = (refl, n.1)
-dia_node types (item.Con c k) fields n = let (con, is, of, f, count) = n in absurd (no_con (type_of types c) kind.Dia (λ t e. absurd cc) of)
+dia_node types (item.Con k c) fields n = let (con, is, of, f, count) = n in absurd (no_con (type_of types c) kind.Dia (λ t e. absurd cc) of)
 
 nothing_has : (types : List DataType) → HaveValues types []
 nothing_has types = record { values = value.End; fit = tt }

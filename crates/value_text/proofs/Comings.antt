@@ -11,8 +11,8 @@ use Rattle.camelot_values.specs.declared.value.Item.{Item}
 use Rattle.camelot_values.specs.declared.value.Item.TheVariants as item
 use Rattle.value_text.specs.Grammar as g
 use Rattle.value_text.specs.Grammar.{Piece, pieces, further_pieces, Spelled, Ends, IsNodeText, is_word}
-use Rattle.value_text.specs.declared.due.Due.{Due}
-use Rattle.value_text.specs.declared.due.Due.TheVariants as due
+use Rattle.value_text.specs.Dues.{Due}
+use Rattle.value_text.specs.Dues as due
 use Rattle.value_text.specs.Due.{Comes, Possible, IsNode, HaveValues, further_due, parts_due}
 
 pub fit_length : (types : List DataType) (qs : List Kind) (vs : Values) → FitAll types qs vs → length qs ≡ part_count vs
@@ -105,7 +105,7 @@ fold_node types ds q (item.Int z) fields ps xs n h =
     (value.Int z, ps, xs, (n.0, n.1), refl, refl, subst (λ f. Comes types (parts_due f ++ ds) ps xs) n.2 h)
 fold_node types ds q (item.Flag b) fields ps xs n h = (value.Flag b, ps, xs, n.0, refl, refl, subst (λ f. Comes types (parts_due f ++ ds) ps xs) n.1 h)
 fold_node types ds q item.Dia fields ps xs n h = (value.Dia, ps, xs, n.0, refl, refl, subst (λ f. Comes types (parts_due f ++ ds) ps xs) n.1 h)
-fold_node types ds q (item.Con c k) fields ps xs n h =
+fold_node types ds q (item.Con k c) fields ps xs n h =
     let (con, is, kind_is, fields_is, count) = n in
     let r = parts_come types ds fields ps xs h in
     let e : k ≡ part_count r.vs = count ∙ fit_length types fields r.vs r.fit in (
@@ -114,14 +114,14 @@ fold_node types ds q (item.Con c k) fields ps xs n h =
       r.ys,
       (kind_is, is_some (constructor types c) (λ con. FitAll types con.fields r.vs) con is (subst (λ f. FitAll types f r.vs) fields_is r.fit)),
       pieces_are c k r.vs ps r.more e r.ps_is,
-      ap (λ m. item.Con c m ∷ xs) e ∙ ap (λ l. item.Con c (part_count r.vs) ∷ l) r.xs_is,
+      ap (λ m. item.Con m c ∷ xs) e ∙ ap (λ l. item.Con (part_count r.vs) c ∷ l) r.xs_is,
       r.comes,
     )
   where
     pieces_are : (c k : ℕ) (vs : Values) (ps more : List Piece) → k ≡ part_count vs → ps ≡ part_pieces vs more
-        → g.Node (item.Con c k) ∷ ps ≡ pieces (value.Con c vs) more
-    pieces_are c k value.End ps more e p = ap (λ m. g.Node (item.Con c m) ∷ ps) e ∙ ap (λ l. g.Node (item.Con c 0) ∷ l) p
-    pieces_are c k (value.And v vs) ps more e p = ap (λ m. g.Node (item.Con c m) ∷ ps) e ∙ ap (λ l. g.Node (item.Con c (suc (part_count vs))) ∷ l) p
+        → g.Node (item.Con k c) ∷ ps ≡ pieces (value.Con c vs) more
+    pieces_are c k value.End ps more e p = ap (λ m. g.Node (item.Con m c) ∷ ps) e ∙ ap (λ l. g.Node (item.Con 0 c) ∷ l) p
+    pieces_are c k (value.And v vs) ps more e p = ap (λ m. g.Node (item.Con m c) ∷ ps) e ∙ ap (λ l. g.Node (item.Con (suc (part_count vs)) c) ∷ l) p
 
 pub record ByNode (types : List DataType) (ds : List Due) (q : Kind) (ps : List Piece) (xs : List Item) : Type 0 where
   pub x : Item
@@ -145,7 +145,7 @@ unfold_node types ds q ps xs h = let (v, more, ys, f, p, x, c) = h in by_value v
     by_value (value.Con c vs) more ys f p x k =
         let (con, is, fit) = some_is (constructor types c) (λ con. FitAll types con.fields vs) f.1 in
         record {
-          x = item.Con c (part_count vs);
+          x = item.Con (part_count vs) c;
           fields = con.fields;
           node = (con, is, f.0, refl, sym (fit_length types con.fields vs fit));
           more = part_pieces vs more;
@@ -155,7 +155,7 @@ unfold_node types ds q ps xs h = let (v, more, ys, f, p, x, c) = h in by_value v
           comes = comes_parts types ds con.fields vs more ys fit k;
         }
       where
-        pieces_by : (c : ℕ) (vs : Values) (more : List Piece) → pieces (value.Con c vs) more ≡ g.Node (item.Con c (part_count vs)) ∷ part_pieces vs more
+        pieces_by : (c : ℕ) (vs : Values) (more : List Piece) → pieces (value.Con c vs) more ≡ g.Node (item.Con (part_count vs) c) ∷ part_pieces vs more
         pieces_by c value.End more = refl
         pieces_by c (value.And v vs) more = refl
 

@@ -5,11 +5,14 @@ use Rattle.std.specs.List.{list_all}
 use Rattle.std.proofs.lemmas.Bool.{cases_lt}
 use Rattle.std.proofs.lemmas.Bool.Decides.{nat_tests}
 use Rattle.std.proofs.lemmas.Fmt.{decimal_digit, decimal_step, decimal_by_steps, signed_decimal_injective}
-use Rattle.std.proofs.lemmas.List.{length-take-le, take_all}
+use Rattle.std.proofs.lemmas.List.{length-take-le, take_all, take-append-drop, length-drop}
 use Rattle.std.proofs.Math.Seq.{take-suc}
 use Rattle.camelot_values.specs.Names.{is_digit}
 use Rattle.value_text.specs.Choosing.{DigitsRead, IntRead, IntRefused, NoDigit, NextDigit, IsPlain}
-use Rattle.value_text.proofs.Words.{and_parts, and_both, true_false, same_tail}
+use Rattle.value_text.specs.Grammar.{Ends}
+use Rattle.value_text.specs.Splitting.{FrontInt}
+use Rattle.value_text.proofs.Words.{and_parts, and_both, true_false, same_tail, word_all}
+use Rattle.value_text.proofs.Lives.{decimal_fine}
 
 -- what is written with one byte more ends with it, or with nothing
 last_byte : (xs p s : List ℕ) (c : ℕ) → xs ++ c ∷ [] ≡ p ++ s → (s ≡ []) ⊎ ((t : List ℕ) × (s ≡ t ++ c ∷ []) × (xs ≡ p ++ t))
@@ -303,3 +306,23 @@ minus_tail (x ∷ word) digits h is e = ap (λ l. 45 ∷ l) (e ∙ take_all (len
 
 pub plain_head : (word : List ℕ) → (get_or word 0 0 ≡ 45 → ⊥) → IsPlain word
 plain_head word n = record { head = λ rest e. n (ap (λ l. get_or l 0 0) e) }
+
+-- the digits in front of a text are a word, where it ends with them
+pub front_digits : (text rest : List ℕ) (value good : ℕ) (z : ℤ) → DigitsRead 2147483647 text value good → (good ≡ 0 → ⊥)
+    → rest ≡ take (length text - good) (drop good text) → Ends rest → z ≡ pos value → FrontInt text z rest
+front_digits text rest value good z d some is ends z_is =
+    let word : take good text ≡ decimal value = by_text d.text in
+    let r : rest ≡ drop good text = is ∙ take_all (length text - good) (drop good text) (omega (arith, length-drop good text)) in
+    record {
+      word = decimal value;
+      split = record {
+        parts = sym (ap (λ l. l ++ rest) (sym word) ∙ ap (λ l. take good text ++ l) r ∙ take-append-drop good text);
+        all = word_all (decimal value) (decimal_fine value (omega (arith, d.small)));
+        ends = ends;
+      };
+      read = record { size = value; is = inl (d.small, refl, z_is) };
+    }
+  where
+    by_text : (good ≡ 0) ⊎ (take good text ≡ decimal value) → take good text ≡ decimal value
+    by_text (inl e) = absurd (some e)
+    by_text (inr e) = e

@@ -1,8 +1,7 @@
 -- What the code has read of a text, step by step.
-use Rattle.std.proofs.Common.{◌≡◌, ℕ, suc, ◌+◌, ◌-◌, ◌<◌, ◌≤◌, Bool, true, false, List, [], ◌∷◌, ◌++◌, length, refl, sym, ap, ◌∙◌, subst, arith, length-append, reverse, inl, inr}
+use Rattle.std.proofs.Common.{◌≡◌, ℕ, suc, ◌+◌, ◌-◌, ◌<◌, ◌≤◌, Bool, true, false, List, [], ◌∷◌, ◌++◌, length, refl, sym, ap, ◌∙◌, subst, arith, length-append, inl, inr}
 use Rattle.std.specs.Prelude.{◌⊎◌, IsTrue, ◌==◌, if◌then◌else◌, decimal, ℤ, pos, neg_ℤ}
 use Rattle.std.proofs.lemmas.Bool.Decides.{nat_tests}
-use Rattle.std.proofs.lemmas.List.{reverse-append}
 use Rattle.camelot_values.specs.Kinds.{DataType}
 use Rattle.camelot_values.specs.Value.{IsInt32}
 use Rattle.value_text.proofs.Atoms.{pos_small, neg_small}
@@ -10,8 +9,8 @@ use Rattle.camelot_values.specs.declared.kinds.Kind.{Kind}
 use Rattle.camelot_values.specs.declared.value.Item.{Item}
 use Rattle.camelot_values.specs.declared.value.Item.TheVariants as item
 use Rattle.value_text.specs.Grammar.{AreNamed, is_word}
-use Rattle.value_text.specs.declared.due.Due.{Due}
-use Rattle.value_text.specs.declared.due.Due.TheVariants as due
+use Rattle.value_text.specs.Dues.{Due}
+use Rattle.value_text.specs.Dues as due
 use Rattle.value_text.specs.Due.{Reading, Named, Stops, Whole, Possible, first_due, parts_due}
 use Rattle.value_text.specs.Finite.{HasValue}
 use Rattle.value_text.specs.Splitting.{skip, before_mark, NotFirst, NodeRead, NodeRefused}
@@ -94,7 +93,7 @@ named_form types q w (item.Int z) fields names n = by_sign z n.node.1 n.text.siz
 named_form types q w (item.Flag true) fields names n = subst (λ v. IsTrue (is_word v)) (sym n.text) refl
 named_form types q w (item.Flag false) fields names n = subst (λ v. IsTrue (is_word v)) (sym n.text) refl
 named_form types q w item.Dia fields names n = subst (λ v. IsTrue (is_word v)) (sym n.text) refl
-named_form types q w (item.Con c k) fields names n = let (con, is, of, f, count) = n.node in subst (λ v. IsTrue (is_word v)) (sym n.text) (con_fine types c con names is)
+named_form types q w (item.Con k c) fields names n = let (con, is, of, f, count) = n.node in subst (λ v. IsTrue (is_word v)) (sym n.text) (con_fine types c con names is)
 
 pub node_step : (types : List DataType) (first : List Due) (text : List ℕ) (xs new : List Item) (q : Kind) (ds es : List Due) (rest after : List ℕ) (x : Item) (fields : List Kind) → AreNamed types
     → Reading types first text xs (due.Value q ∷ ds) rest → NodeRead types q rest x fields after → new ≡ xs ++ x ∷ [] → es ≡ parts_due fields ++ ds → Reading types first text new es after
@@ -134,17 +133,9 @@ end_stop types first text xs rest names r n = by_text (skip rest) n (read_spaces
     by_text [] n k w = absurd (n refl)
     by_text (b ∷ t) n k w = stops_at_byte types first text xs [] b t names k w
 
--- the last of the stack is the next that is due
-pub last_first : (qs rs : List Due) (q : Due) → qs ≡ rs ++ q ∷ [] → reverse qs ≡ q ∷ reverse rs
-last_first qs rs q e = ap reverse e ∙ reverse-append rs (q ∷ [])
-
 pub reading_first : (types : List DataType) (kinds : List Kind) (text : List ℕ) (dues : List Due) → Possible types (first_due kinds)
     → dues ≡ first_due kinds → Reading types (first_due kinds) text [] dues text
 reading_first types kinds text dues p e = subst (λ d. Reading types (first_due kinds) text [] d text) (sym e) (reading_starts types (first_due kinds) text p)
-
-pub popped : (types : List DataType) (first : List Due) (text : List ℕ) (xs : List Item) (qs rs : List Due) (q : Due) (rest : List ℕ)
-    → Reading types first text xs (reverse qs) rest → qs ≡ rs ++ q ∷ [] → Reading types first text xs (q ∷ reverse rs) rest
-popped types first text xs qs rs q rest r e = subst (λ d. Reading types first text xs d rest) (last_first qs rs q e) r
 
 skip_shorter : (t : List ℕ) → length (skip t) ≤ length t
 skip_shorter [] = omega arith
@@ -172,11 +163,6 @@ pub node_shorter : (types : List DataType) (q : Kind) (rest after : List ℕ) (x
     → NodeRead types q rest x fields after → length after < length rest
 node_shorter types q rest after x fields names n =
     omega (arith, skip_shorter rest, ap length n.split.parts, length-append n.word after, some_bytes n.word (named_form types q n.word x fields names n.named))
-
-pub nothing_due : (types : List DataType) (first : List Due) (text : List ℕ) (xs : List Item) (dues : List Due) (rest : List ℕ) → length dues ≡ 0
-    → Reading types first text xs (reverse dues) rest → Reading types first text xs [] rest
-nothing_due types first text xs [] rest h r = r
-nothing_due types first text xs (d ∷ dues) rest h r = absurd (omega (arith, h))
 
 pub end_here : (types : List DataType) (first : List Due) (text : List ℕ) (xs : List Item) (rest t : List ℕ) → Reading types first text xs [] rest
     → t ≡ skip rest → (length t == 0) ≡ true → Whole types first text xs

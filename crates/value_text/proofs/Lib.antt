@@ -1,3 +1,4 @@
+pub mod DigitSteps
 pub mod PrintLaws
 pub mod Words
 pub mod Comings
@@ -14,7 +15,7 @@ pub mod WordSteps
 pub mod NameSteps
 pub mod NodeSteps
 pub mod Following
-pub mod StackSteps
+pub mod LaterSteps
 pub mod ValueSteps
 pub mod Answering
 pub mod RoundTrip

@@ -15,8 +15,8 @@ use Rattle.camelot_values.specs.declared.value.Item.{Item}
 use Rattle.value_text.specs.Grammar as g
 use Rattle.value_text.specs.Grammar.{Piece, pieces, further_pieces, Spelled, Ends, IsNodeText, IsIntText, is_word, is_word_byte}
 use Rattle.value_text.specs.Printing.{node_text}
-use Rattle.value_text.specs.declared.due.Due.{Due}
-use Rattle.value_text.specs.declared.due.Due.TheVariants as due
+use Rattle.value_text.specs.Dues.{Due}
+use Rattle.value_text.specs.Dues as due
 use Rattle.value_text.specs.Due.{Comes}
 use Rattle.value_text.specs.Grammar.{AreNamed}
 use Rattle.value_text.proofs.Words.{and_parts, and_both, word_all}

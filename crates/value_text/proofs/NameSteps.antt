@@ -1,6 +1,6 @@
 -- Steps of the loops over the constructors of a type.
 use Rattle.std.proofs.Common.{◌≡◌, ℕ, zero, suc, ◌+◌, ◌<◌, ◌≤◌, Bool, true, false, List, [], ◌∷◌, length, drop, get_or, map, Option, Some, None, refl, sym, ap, ◌∙◌, arith, drop-cons, drop_of_length-le, add-one}
-use Rattle.std.specs.Prelude.{◌&&◌, if◌then◌else◌, max, vec_len}
+use Rattle.std.specs.Prelude.{◌&&◌, if◌then◌else◌, max, vec_len, slice_get}
 use Rattle.std.specs.List.{AllByRecursion}
 use Rattle.std.specs.Option.{option_map}
 use Rattle.std.specs.Str.{bytes_eq}
@@ -11,6 +11,7 @@ use Rattle.camelot_values.specs.declared.kinds.Con.{Con}
 use Rattle.camelot_values.specs.declared.kinds.TypeDef.{TypeDef}
 use Rattle.value_text.specs.Finite.{is_ready}
 use Rattle.value_text.specs.Choosing.{common, choose, best, first_con, Looked}
+use Rattle.value_text.specs.Splitting.{IsBehind, FrontCon}
 use Rattle.value_text.specs.declared.names.Look.TheVariants as look
 use Rattle.value_text.proofs.Words.{and_both}
 
@@ -113,3 +114,14 @@ first_zero (t ∷ ts) = refl
 
 pub few_list : (ts : List TypeDef) → AreTypes (map data_type_of ts) → length ts ≤ 64
 few_list ts a = let n : length (map data_type_of ts) ≡ length ts = length-map ts data_type_of in omega (arith, a.few_types, n)
+
+con_there : (cs : List Con) (i : ℕ) (c : Con) → i < length cs → slice_get (map constructor_of cs) i ≡ Some (constructor_of (get_or cs i c))
+con_there [] i c h = absurd (omega (arith, h))
+con_there (x ∷ cs) zero c h = refl
+con_there (x ∷ cs) (suc i) c h = con_there cs i c (omega (arith, h))
+
+-- the constructor at this place has its name in front
+pub front_there : (marks : List Bool) (text rest : List ℕ) (cs : List Con) (i : ℕ) (c : Con) → i < length cs → c ≡ get_or cs i c
+    → is_ready marks (constructor_of c) ≡ true → IsBehind (constructor_of c).name text rest → FrontCon marks (map constructor_of cs) text i rest
+front_there marks text rest cs i c h is ready front =
+    record { con = constructor_of c; is = con_there cs i c h ∙ ap (λ x. Some (constructor_of x)) (sym is); ready = ready; front = front }

@@ -15,7 +15,7 @@ use Rattle.camelot_values.specs.declared.kinds.Kind.TheVariants as kind
 use Rattle.camelot_values.specs.declared.value.Item.{Item}
 use Rattle.camelot_values.specs.declared.value.Item.TheVariants as item
 use Rattle.value_text.specs.Grammar as g
-use Rattle.value_text.specs.declared.due.Due.TheVariants as due
+use Rattle.value_text.specs.Dues as due
 use Rattle.value_text.specs.Grammar.{pieces, IsNodeText, IsIntText, is_word, is_word_byte}
 use Rattle.value_text.specs.Printing.{node_text}
 use Rattle.value_text.specs.Due.{Comes, IsNode, HaveValues, IsWordFront, Named, Unnamed}
@@ -224,7 +224,7 @@ pub record ConNode (types : List DataType) (t : ℕ) (x : Item) (fields : List K
   pub is : constructor types c ≡ Some con
   pub of : type_of types c ≡ Some t
   pub fields_is : fields ≡ con.fields
-  pub x_is : x ≡ item.Con c (length fields)
+  pub x_is : x ≡ item.Con (length fields) c
 
 pub of_type : (o : Option ℕ) (t : ℕ) → option_map kind.Of o ≡ Some (kind.Of t) → o ≡ Some t
 of_type None t e = absurd cc
@@ -234,8 +234,8 @@ pub con_node : (types : List DataType) (t : ℕ) (x : Item) (fields : List Kind)
 con_node types t (item.Int z) fields n = absurd (let e : kind.Of t ≡ kind.Int = n.0 in cc)
 con_node types t (item.Flag b) fields n = absurd (let e : kind.Of t ≡ kind.Flag = n.0 in cc)
 con_node types t item.Dia fields n = absurd (let e : kind.Of t ≡ kind.Dia = n.0 in cc)
-con_node types t (item.Con c k) fields n =
-    let (con, is, of, f, count) = n in record { c = c; con = con; is = is; of = of_type (type_of types c) t of; fields_is = f; x_is = ap (item.Con c) count }
+con_node types t (item.Con k c) fields n =
+    let (con, is, of, f, count) = n in record { c = c; con = con; is = is; of = of_type (type_of types c) t of; fields_is = f; x_is = ap (λ m. item.Con m c) count }
 
 pub con_text : (types : List DataType) (t : ℕ) (x : Item) (fields : List Kind) (w : List ℕ) (n : ConNode types t x fields)
     → IsNodeText (constructor_name types) x w → w ≡ n.con.name
@@ -253,11 +253,10 @@ con_ready : (types : List DataType) (marks : List Bool) (con : Constructor) (fie
     → HaveValues types fields → is_ready marks con ≡ true
 con_ready types marks con fields exact e h = kinds_of_values types marks exact.complete con.fields (subst (HaveValues types) e h)
 
-pub con_named : (types : List DataType) (marks : List Bool) (t : ℕ) (d : DataType) (w : List ℕ) (j : ℕ) (con : Constructor) → DistinctNames types
+pub name_named : (types : List DataType) (marks : List Bool) (t : ℕ) (d : DataType) (w : List ℕ) (j : ℕ) (con : Constructor) → DistinctNames types
     → Exact types marks → slice_get types t ≡ Some d
-    → choose marks w d.cons ≡ Some j → slice_get d.cons j ≡ Some con → Named types (kind.Of t) w (item.Con (first_con types t + j) (length con.fields)) con.fields
-con_named types marks t d w j con distinct exact e h at =
-    let r = choose_some marks w d.cons j con h at in
+    → (is_ready marks con ≡ true) × (con.name ≡ w) → slice_get d.cons j ≡ Some con → Named types (kind.Of t) w (item.Con (length con.fields) (first_con types t + j)) con.fields
+name_named types marks t d w j con distinct exact e r at =
     let c = first_con types t + j in
     let is = con_at types t j d con e at in
     record {
@@ -269,13 +268,18 @@ con_named types marks t d w j con distinct exact e h at =
   where
     other : (con : Constructor) (c : ℕ) → constructor types c ≡ Some con → con.name ≡ w
         → (y : Item) (others : List Kind) (n : ConNode types t y others) → IsNodeText (constructor_name types) y w
-        → (y ≡ item.Con c (length con.fields)) × (others ≡ con.fields)
+        → (y ≡ item.Con (length con.fields) c) × (others ≡ con.fields)
     other con c is name y others n k =
         let same : c ≡ n.c = same_con types c n.c con n.con distinct is n.is (name ∙ con_text types t y others w n k) in
         let u : Some con ≡ Some n.con = sym is ∙ ap (constructor types) same ∙ n.is in
         let v : con ≡ n.con = cc in
         let f : others ≡ con.fields = n.fields_is ∙ ap (λ x. x.fields) (sym v) in
-        (n.x_is ∙ ap (λ m. item.Con m (length others)) (sym same) ∙ ap (λ l. item.Con c (length l)) f, f)
+        (n.x_is ∙ ap (λ m. item.Con (length others) m) (sym same) ∙ ap (λ l. item.Con (length l) c) f, f)
+
+pub con_named : (types : List DataType) (marks : List Bool) (t : ℕ) (d : DataType) (w : List ℕ) (j : ℕ) (con : Constructor) → DistinctNames types
+    → Exact types marks → slice_get types t ≡ Some d
+    → choose marks w d.cons ≡ Some j → slice_get d.cons j ≡ Some con → Named types (kind.Of t) w (item.Con (length con.fields) (first_con types t + j)) con.fields
+con_named types marks t d w j con distinct exact e h at = name_named types marks t d w j con distinct exact e (choose_some marks w d.cons j con h at) at
 
 pub con_unnamed : (types : List DataType) (marks : List Bool) (t : ℕ) (d : DataType) (w : List ℕ) (good : ℕ) → AreNamed types → Exact types marks
     → HasValue types (kind.Of t) → slice_get types t ≡ Some d
@@ -289,7 +293,7 @@ con_unnamed types marks t d w good names exact have e h good_is =
         let c = first_con types t + j in
         let is = con_at types t j d con e at in
         inr (record {
-          x = item.Con c (length con.fields);
+          x = item.Con (length con.fields) c;
           fields = con.fields;
           word = con.name;
           node = (con, is, ap (option_map kind.Of) (type_at types t j d con e at), refl, refl);

@@ -1,10 +1,10 @@
 -- From constructors in the code's lists to nodes and their words.
 use Rattle.std.proofs.Common.{◌≡◌, ℕ, zero, suc, ◌+◌, ◌-◌, ◌<◌, ◌≤◌, Bool, List, [], ◌∷◌, length, take, drop, get_or, map, Some, None, refl, sym, ap, ◌∙◌, subst, arith, inl, inr, length-append, to_z, of_z, w32}
 use Rattle.std.proofs.lemmas.Int.{to_z-of_z}
-use Rattle.std.specs.Prelude.{◌⊎◌, slice_get, vec_len, ℤ, pos, neg_ℤ, decimal, codes}
+use Rattle.std.specs.Prelude.{◌⊎◌, IsTrue, true, slice_get, vec_len, ℤ, pos, neg_ℤ, decimal, codes}
 use Rattle.std.specs.List.{AllByRecursion}
 use Rattle.std.proofs.lemmas.List.{length-map, take_all}
-use Rattle.camelot_values.specs.Kinds.{DataType, IsConstructor, IsDataType, AreTypes, data_type_of, constructor_of, type_of}
+use Rattle.camelot_values.specs.Kinds.{DataType, constructor, IsConstructor, IsDataType, AreTypes, data_type_of, constructor_of, type_of}
 use Rattle.camelot_values.specs.KindLaws.{located}
 use Rattle.camelot_values.specs.Value as value
 use Rattle.camelot_values.specs.Value.{Value, IsInt32}
@@ -16,12 +16,15 @@ use Rattle.camelot_values.specs.declared.kinds.TypeDef.{TypeDef}
 use Rattle.camelot_values.specs.declared.value.Item.{Item}
 use Rattle.camelot_values.specs.declared.value.Item.TheVariants as item
 use Rattle.value_text.specs.Due.{Named, Unnamed}
-use Rattle.value_text.specs.Grammar.{AreNamed, DistinctNames}
-use Rattle.value_text.specs.Finite.{Exact, HasValue}
+use Rattle.value_text.specs.Grammar.{AreNamed, DistinctNames, is_word}
+use Rattle.value_text.specs.Finite.{is_ready, Exact, HasValue}
 use Rattle.value_text.specs.Choosing.{choose, best, first_con, HasPlace, IsConNode, IntRead, IntRefused, DigitsRead, IsPlain, common, IsFlag, NoFlag}
-use Rattle.value_text.specs.Splitting.{skip, IsSplit, NodeRead, NodeRefused, NotFirst}
+use Rattle.value_text.specs.Splitting.{skip, IsSplit, FrontCon, FrontInt, FrontRead, NodeRead, NodeRefused, NotFirst}
 use Rattle.value_text.proofs.Comings.{some_is}
-use Rattle.value_text.proofs.Naming.{con_named, con_unnamed, of_type}
+use Rattle.value_text.proofs.Naming.{name_named, con_named, con_unnamed, of_type}
+use Rattle.value_text.proofs.Finiteness.{con_at as con_there}
+use Rattle.value_text.proofs.Words.{word_all}
+use Rattle.value_text.proofs.Lives.{con_fine, named_con}
 use Rattle.value_text.proofs.Atoms.{small_pos, small_neg, plus_named, minus_named, plus_unnamed, minus_unnamed, flag_named, flag_unnamed, dia_named, dia_unnamed}
 
 def_at : (ds : List TypeDef) (i : ℕ) (d : TypeDef) → i < length ds → slice_get (map data_type_of ds) i ≡ Some (data_type_of (get_or ds i d))
@@ -72,7 +75,7 @@ few_fields ds i place d c a h is =
 
 pub node_here : (ds : List TypeDef) (i place first n m : ℕ) (d : TypeDef) (c : Con) (x : Item) (fields : List Kind)
     → HasPlace (map data_type_of ds) i place → c ≡ get_or (get_or ds i d).cons.items place c
-    → first ≡ first_con (map data_type_of ds) i → n ≡ first + place → m ≡ vec_len c.fields → x ≡ item.Con n m → fields ≡ c.fields.items → IsConNode (map data_type_of ds) i place x fields
+    → first ≡ first_con (map data_type_of ds) i → n ≡ first + place → m ≡ vec_len c.fields → x ≡ item.Con m n → fields ≡ c.fields.items → IsConNode (map data_type_of ds) i place x fields
 node_here ds i place first n m d c x fields h is f n_is m_is x_is fields_is =
     let w : place < length (get_or ds i d).cons.items = omega (arith, place_within ds i place d h, (get_or ds i d).cons.ok.0) in
     let e : m ≡ length c.fields.items = m_is ∙ c.fields.ok.0 in
@@ -81,7 +84,7 @@ node_here ds i place first n m d c x fields h is f n_is m_is x_is fields_is =
       con = constructor_of c;
       is = def_at ds i d (number_within ds i place h);
       at = con_at (get_or ds i d).cons.items place c w ∙ ap (λ x. Some (constructor_of x)) (sym is);
-      x_is = x_is ∙ ap (λ k. item.Con k m) (n_is ∙ ap (λ k. k + place) f) ∙ ap (item.Con (first_con (map data_type_of ds) i + place)) e;
+      x_is = x_is ∙ ap (λ k. item.Con m k) (n_is ∙ ap (λ k. k + place) f) ∙ ap (λ l. item.Con l (first_con (map data_type_of ds) i + place)) e;
       fields_is = fields_is;
     }
 
@@ -191,3 +194,33 @@ int_of_kind types q w z e r = subst (λ k. Named types k w (item.Int (to_z w32 (
 
 pub dia_of_kind : (types : List DataType) (q : Kind) (w : List ℕ) → q ≡ kind.Dia → w ≡ codes "<>" → Named types q w item.Dia []
 dia_of_kind types q w e h = subst (λ k. Named types k w item.Dia []) (sym e) (dia_is types w h)
+
+-- ---- nodes whose words stand in front
+
+pub front_named : (types : List DataType) (ds : List TypeDef) (marks : List Bool) (t place : ℕ) (d : TypeDef) (text rest : List ℕ) (x : Item) (fields : List Kind) → AreNamed types
+    → DistinctNames types → Exact types marks → map data_type_of ds ≡ types → t < length ds
+    → FrontCon marks (data_type_of (get_or ds t d)).cons text place rest → IsConNode (map data_type_of ds) t place x fields → FrontRead types (kind.Of t) text x fields rest
+front_named types ds marks t place d text rest x fields names distinct exact e h f n =
+    let m : IsConNode types t place x fields = subst (λ l. IsConNode l t place x fields) e n in
+    let a : Some (data_type_of (get_or ds t d)) ≡ Some m.def = sym (same_def ds types t d h e) ∙ m.is in
+    let s : data_type_of (get_or ds t d) ≡ m.def = cc in
+    let at : slice_get m.def.cons place ≡ Some f.con = ap (λ (y : DataType). slice_get y.cons place) (sym s) ∙ f.is in
+    let b : Some m.con ≡ Some f.con = sym m.at ∙ at in
+    let same : m.con ≡ f.con = cc in
+    let named = name_named types marks t m.def f.con.name place m.con distinct exact m.is (subst (λ y. is_ready marks y ≡ true) (sym same) f.ready, ap (λ y. y.name) same) m.at in
+    let c = first_con types t + place in
+    let is : constructor types c ≡ Some m.con = con_there types t place m.def m.con m.is m.at in
+    let fine : IsTrue (is_word f.con.name) = subst (λ w. IsTrue (is_word w)) (named_con types c m.con is ∙ ap (λ y. y.name) same) (con_fine types c m.con names is) in
+    record {
+      word = f.con.name;
+      split = record { parts = f.front.parts; all = word_all f.con.name fine; ends = f.front.ends };
+      named = subst (λ g. Named types (kind.Of t) f.con.name x g) (sym m.fields_is) (subst (λ y. Named types (kind.Of t) f.con.name y m.con.fields) (sym m.x_is) named);
+    }
+
+pub front_int_named : (types : List DataType) (q : Kind) (text rest : List ℕ) (z : ℤ) → q ≡ kind.Int → FrontInt text z rest
+    → FrontRead types q text (item.Int (to_z w32 (of_z w32 z))) [] rest
+front_int_named types q text rest z e f = record { word = f.word; split = f.split; named = int_of_kind types q f.word z e f.read }
+
+pub front_is_read : (types : List DataType) (q : Kind) (text behind rest : List ℕ) (x : Item) (fields : List Kind) → behind ≡ skip text
+    → FrontRead types q behind x fields rest → NodeRead types q text x fields rest
+front_is_read types q text behind rest x fields e f = record { word = f.word; split = subst (λ t. IsSplit t f.word rest) e f.split; named = f.named }

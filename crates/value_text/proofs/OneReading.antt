@@ -11,8 +11,8 @@ use Rattle.camelot_values.specs.declared.kinds.Kind.TheVariants as kind
 use Rattle.camelot_values.specs.declared.value.Item.{Item}
 use Rattle.camelot_values.specs.declared.value.Item.TheVariants as item
 use Rattle.value_text.specs.Grammar.{AreNamed, DistinctNames, AfterSpaces, WordThen, IsNodeText, IsTextOf, IsRead, IsTooLong, IsBadShape, Spelled, is_word, is_word_byte}
-use Rattle.value_text.specs.declared.due.Due.{Due}
-use Rattle.value_text.specs.declared.due.Due.TheVariants as due
+use Rattle.value_text.specs.Dues.{Due}
+use Rattle.value_text.specs.Dues as due
 use Rattle.value_text.specs.Due.{Accepts, Rest, Reading, Whole, IsNode, HaveValues, Named, first_due, parts_due}
 use Rattle.value_text.specs.Splitting.{skip, before_mark, NotFirst, NodeRead}
 use Rattle.value_text.proofs.Words.{and_parts, word_all, same_tail}
@@ -33,7 +33,7 @@ same_node types t w x y fields others d a k b l =
     let u : Some a.con ≡ Some b.con = sym a.is ∙ ap (constructor types) same ∙ b.is in
     let v : a.con ≡ b.con = cc in
     let f : others ≡ fields = b.fields_is ∙ ap (λ c. c.fields) (sym v) ∙ sym a.fields_is in
-    (b.x_is ∙ ap (λ m. item.Con m (length others)) (sym same) ∙ ap (λ l. item.Con a.c (length l)) f ∙ sym a.x_is, f)
+    (b.x_is ∙ ap (λ m. item.Con (length others) m) (sym same) ∙ ap (λ l. item.Con (length l) a.c) f ∙ sym a.x_is, f)
 
 named_con : (types : List DataType) (q : Kind) (w : List ℕ) (x : Item) (fields : List Kind) (o : Option ℕ) → DistinctNames types
     → HaveValues types fields → IsNode types q x fields
@@ -62,7 +62,7 @@ named_node types q w (item.Flag b) fields d h n k =
     subst (λ p. Named types p w (item.Flag b) fields) (sym n.0) (subst (λ f. Named types kind.Flag w (item.Flag b) f) (sym n.1) (flag_named types w b k))
 named_node types q w item.Dia fields d h n k =
     subst (λ p. Named types p w item.Dia fields) (sym n.0) (subst (λ f. Named types kind.Dia w item.Dia f) (sym n.1) (dia_named types w k))
-named_node types q w (item.Con c m) fields d h n k = let (con, is, of, f, count) = n in named_con types q w (item.Con c m) fields (type_of types c) d h n k of
+named_node types q w (item.Con m c) fields d h n k = let (con, is, of, f, count) = n in named_con types q w (item.Con m c) fields (type_of types c) d h n k of
 
 -- ---- the word that stands behind spaces
 

@@ -79,7 +79,8 @@ node_written names xs i x due new out mid end all parts h is e first p second ne
     ∙ ap (λ l. out ++ (node_text names x ++ (opening_text (reverse due) (parts_of x) ++ l))) tail
     ∙ ap (λ ys. out ++ nodes_text names (reverse due) ys) (sym (drop-cons xs i x h ∙ ap (λ y. y ∷ drop (suc i) xs) (sym is))) ∙ e
 
-pub all_written : (names : ℕ → List ℕ) (v : Value) (xs : List Item) (i : ℕ) (due out : List ℕ) → xs ≡ items_of v → length xs ≤ i
-    → out ++ nodes_text names (reverse due) (drop i xs) ≡ nodes_text names [] xs → out ≡ value_text names v
-all_written names v xs i due out is h e =
-    sym (append-nil out) ∙ ap (λ ys. out ++ nodes_text names (reverse due) ys) (sym (drop_of_length-le xs {i = i} h)) ∙ e ∙ ap (nodes_text names []) is ∙ nodes_text_is names v [] [] ∙ append-nil (value_text names v)
+pub all_written : (names : ℕ → List ℕ) (v : Value) (xs : List Item) (i : ℕ) (due old out : List ℕ) → xs ≡ items_of v → length xs ≤ i
+    → out ++ nodes_text names (reverse due) (drop i xs) ≡ old ++ nodes_text names [] xs → out ≡ old ++ value_text names v
+all_written names v xs i due old out is h e =
+    sym (append-nil out) ∙ ap (λ ys. out ++ nodes_text names (reverse due) ys) (sym (drop_of_length-le xs {i = i} h)) ∙ e
+    ∙ ap (λ l. old ++ l) (ap (nodes_text names []) is ∙ nodes_text_is names v [] [] ∙ append-nil (value_text names v))

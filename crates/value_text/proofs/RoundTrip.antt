@@ -43,13 +43,13 @@ mutual
   spelled_value types names value.Dia q ps rest f e h = one_word (constructor_name types) item.Dia ps (codes "<>") rest refl refl e h
   spelled_value types names (value.Con c value.End) q ps rest f e h =
       let (con, is, fit) = some_is (constructor types c) (λ con. FitAll types con.fields value.End) f.1 in
-      one_word (constructor_name types) (item.Con c 0) ps (constructor_name types c) rest refl (con_fine types c con names is) e h
+      one_word (constructor_name types) (item.Con 0 c) ps (constructor_name types c) rest refl (con_fine types c con names is) e h
   spelled_value types names (value.Con c (value.And v vs)) q ps rest f e h =
       let (con, is, fit) = some_is (constructor types c) (λ con. FitAll types con.fields (value.And v vs)) f.1 in
       let (p, others, first, more) = first_part types con.fields v vs fit in
       let text = value_text (constructor_name types) v ++ (further_text (constructor_name types) vs ++ (codes ")" ++ rest)) in
       let inner = spelled_value types names v p (further_pieces vs ps) (further_text (constructor_name types) vs ++ (codes ")" ++ rest)) first (further_ends (constructor_name types) vs rest) (spelled_further types names vs others ps rest more h) in
-      let all = one_word (constructor_name types) (item.Con c (suc (part_count vs))) (g.Mark 40 ∷ pieces v (further_pieces vs ps)) (constructor_name types c) (codes "(" ++ text) refl (con_fine types c con names is) refl
+      let all = one_word (constructor_name types) (item.Con (suc (part_count vs)) c) (g.Mark 40 ∷ pieces v (further_pieces vs ps)) (constructor_name types c) (codes "(" ++ text) refl (con_fine types c con names is) refl
       (inl (record { rest = text; parts = refl; next = inner })) in
       subst (Spelled (constructor_name types) (pieces (value.Con c (value.And v vs)) ps)) (con_text_is (constructor_name types) c v vs rest) all
 

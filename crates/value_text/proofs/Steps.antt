@@ -6,8 +6,8 @@ use Rattle.camelot_values.specs.declared.kinds.Kind.{Kind}
 use Rattle.camelot_values.specs.declared.value.Item.{Item}
 use Rattle.value_text.specs.Grammar as g
 use Rattle.value_text.specs.Grammar.{Piece, Spelled, AfterSpaces, MarkThen, WordThen, Ends, IsNodeText, is_word, is_word_byte}
-use Rattle.value_text.specs.declared.due.Due.{Due}
-use Rattle.value_text.specs.declared.due.Due.TheVariants as due
+use Rattle.value_text.specs.Dues.{Due}
+use Rattle.value_text.specs.Dues as due
 use Rattle.value_text.specs.Due.{Comes, Accepts, Rest, After, Leads, Possible, Reading, IsNode, Named, parts_due}
 use Rattle.value_text.proofs.Words.{and_parts, word_all, same_tail, word_split}
 use Rattle.value_text.proofs.Comings.{fold_node, unfold_node, possible_parts}

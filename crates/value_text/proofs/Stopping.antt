@@ -11,8 +11,8 @@ use Rattle.camelot_values.specs.declared.kinds.Kind.{Kind}
 use Rattle.camelot_values.specs.declared.value.Item.{Item}
 use Rattle.value_text.specs.Grammar as g
 use Rattle.value_text.specs.Grammar.{Piece, Spelled, AfterSpaces, MarkThen, WordThen, Ends, IsNodeText, is_word, is_word_byte}
-use Rattle.value_text.specs.declared.due.Due.{Due}
-use Rattle.value_text.specs.declared.due.Due.TheVariants as due
+use Rattle.value_text.specs.Dues.{Due}
+use Rattle.value_text.specs.Dues as due
 use Rattle.value_text.specs.Due.{Accepts, Rest, After, Possible, Reading, IsNode, HaveValues, Unnamed, IsWordFront, Stops, parts_due}
 use Rattle.value_text.specs.Grammar.{AreNamed}
 use Rattle.value_text.proofs.Words.{word_all, all_front, same_tail, word_split, word_front, front_cases, Longer, Beyond}

@@ -13,12 +13,12 @@ use Rattle.camelot_values.specs.declared.value.Item.{Item}
 use Rattle.camelot_values.specs.declared.value.Item.TheVariants as item
 use Rattle.value_text.specs.Grammar as g
 use Rattle.value_text.specs.Grammar.{Piece, pieces, other_pieces, list_pieces, Spelled, IsTextOf, Begins, IsRead, IsTooLong, IsBadShape}
-use Rattle.value_text.specs.declared.due.Due.{Due}
+use Rattle.value_text.specs.Dues.{Due}
 use Rattle.value_text.specs.Due.{Comes, Accepts, Rest, Possible, Reading, Stops, Whole, HaveValues, first_due, others_due}
 
 -- ---- nodes give their values back
 
-con_parts : (c d m n : ℕ) (xs ys : List Item) → item.Con c m ∷ xs ≡ item.Con d n ∷ ys → (c ≡ d) × (m ≡ n) × (xs ≡ ys)
+con_parts : (c d m n : ℕ) (xs ys : List Item) → item.Con m c ∷ xs ≡ item.Con n d ∷ ys → (c ≡ d) × (m ≡ n) × (xs ≡ ys)
 con_parts c d m n xs ys e = (cc, cc, cc)
 
 mutual

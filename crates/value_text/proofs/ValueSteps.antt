@@ -28,7 +28,7 @@ mutual
   nodes_front (value.Int z) rest = refl
   nodes_front (value.Flag b) rest = refl
   nodes_front value.Dia rest = refl
-  nodes_front (value.Con c vs) rest = ap (λ l. item.Con c (part_count vs) ∷ l) (nodes_all_front vs rest)
+  nodes_front (value.Con c vs) rest = ap (λ l. item.Con (part_count vs) c ∷ l) (nodes_all_front vs rest)
 
   nodes_all_front : (vs : Values) (rest : List Item) → nodes_all vs rest ≡ nodes_all vs [] ++ rest
   nodes_all_front value.End rest = refl

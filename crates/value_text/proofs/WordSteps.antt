@@ -1,5 +1,5 @@
 -- Steps of the loops over spaces, words and common fronts.
-use Rattle.std.proofs.Common.{◌≡◌, ℕ, suc, ◌+◌, ◌-◌, ◌<◌, ◌≤◌, true, false, List, [], ◌∷◌, ◌++◌, length, take, drop, get_or, refl, sym, ap, ◌∙◌, subst, arith, drop-cons, drop_of_length-le, add-one, inl, inr}
+use Rattle.std.proofs.Common.{◌≡◌, ℕ, suc, ◌+◌, ◌-◌, ◌<◌, ◌≤◌, true, false, List, [], ◌∷◌, ◌++◌, length, take, drop, get_or, refl, sym, ap, ◌∙◌, subst, arith, drop-cons, drop_of_length-le, add-one, inl, inr, Bool}
 use Rattle.std.specs.Prelude.{◌⊎◌, IsTrue, ◌==◌, if◌then◌else◌}
 use Rattle.std.specs.List.{list_all}
 use Rattle.std.proofs.Math.Seq.{take-suc}
@@ -7,7 +7,7 @@ use Rattle.std.proofs.lemmas.List.{take-append-drop, take_all, length-drop}
 use Rattle.std.proofs.lemmas.Bool.Decides.{nat_tests}
 use Rattle.value_text.specs.Grammar.{is_word_byte, Ends}
 use Rattle.value_text.specs.Choosing.{common}
-use Rattle.value_text.specs.Splitting.{skip, IsSplit, IsWordLength}
+use Rattle.value_text.specs.Splitting.{skip, IsSplit, IsWordLength, IsBehind}
 use Rattle.value_text.proofs.Words.{and_parts, and_both}
 
 pub skip_here : (text all : List ℕ) (at : ℕ) → at < length text → get_or text at 0 ≡ 32 → skip (drop at text) ≡ all → skip (drop (at + 1) text) ≡ all
@@ -71,3 +71,47 @@ common_none (x ∷ xs) = refl
 pub common_end : (xs ys : List ℕ) (at all : ℕ) → (length xs ≤ at) ⊎ (length ys ≤ at) → at + common (drop at xs) (drop at ys) ≡ all → at ≡ all
 common_end xs ys at all (inl h) e = let s : common (drop at xs) (drop at ys) ≡ 0 = ap (λ l. common l (drop at ys)) (drop_of_length-le xs {i = at} h) in omega (arith, e, s)
 common_end xs ys at all (inr h) e = let s : common (drop at xs) (drop at ys) ≡ 0 = ap (common (drop at xs)) (drop_of_length-le ys {i = at} h) ∙ common_none (drop at xs) in omega (arith, e, s)
+
+-- ---- names in front
+
+pub ends_none : (rest : List ℕ) → length rest ≡ 0 → Ends rest
+ends_none [] h = tt
+ends_none (b ∷ rest) h = absurd (omega (arith, h))
+
+pub ends_byte : (rest : List ℕ) (d : ℕ) → (length rest ≡ 0 → ⊥) → is_word_byte (get_or rest 0 d) ≡ false → Ends rest
+ends_byte [] d n h = tt
+ends_byte (b ∷ rest) d n h = h
+
+common_some : (x y : ℕ) (xs ys : List ℕ) (P : ℕ → Type 0) → ((x ≡ y) → P (suc (common xs ys))) → P 0 → P (common (x ∷ xs) (y ∷ ys))
+common_some x y xs ys P f z = by_test (x == y) refl
+  where
+    by_test : (t : Bool) → (x == y) ≡ t → P (if t then suc (common xs ys) else 0)
+    by_test true e = f (grind (arith, nat_tests, e))
+    by_test false e = z
+
+within_word : (xs ys : List ℕ) → common xs ys ≤ length ys
+within_word [] ys = omega arith
+within_word (x ∷ xs) [] = omega arith
+within_word (x ∷ xs) (y ∷ ys) = common_some x y xs ys (λ n. n ≤ suc (length ys)) (λ e. omega (arith, within_word xs ys)) (omega arith)
+
+pub common_within : (xs ys : List ℕ) (at : ℕ) → at ≡ common xs ys → at ≤ length ys
+common_within xs ys at e = omega (arith, e, within_word xs ys)
+
+whole_name : (xs ys : List ℕ) → length xs ≤ common xs ys → ys ≡ xs ++ drop (length xs) ys
+whole_name [] ys h = refl
+whole_name (x ∷ xs) [] h = absurd (omega (arith, h))
+whole_name (x ∷ xs) (y ∷ ys) h =
+    common_some x y xs ys (λ n. suc (length xs) ≤ n → y ∷ ys ≡ x ∷ (xs ++ drop (length xs) ys))
+    (λ e k. ap (λ b. b ∷ ys) (sym e) ∙ ap (λ l. x ∷ l) (whole_name xs ys (omega (arith, k)))) (λ k. absurd (omega (arith, k))) h
+
+within_name : (xs ys : List ℕ) → common xs ys ≤ length xs
+within_name [] ys = omega arith
+within_name (x ∷ xs) [] = omega arith
+within_name (x ∷ xs) (y ∷ ys) = common_some x y xs ys (λ n. n ≤ suc (length xs)) (λ e. omega (arith, within_name xs ys)) (omega arith)
+
+pub behind_here : (name text rest : List ℕ) (count : ℕ) → count ≡ common name text → length name ≤ count
+    → rest ≡ take (length text - count) (drop count text) → Ends rest → IsBehind name text rest
+behind_here name text rest count e all is ends =
+    let size : count ≡ length name = omega (arith, e, all, within_name name text) in
+    let r : rest ≡ drop (length name) text = is ∙ take_all (length text - count) (drop count text) (omega (arith, length-drop count text)) ∙ ap (λ n. drop n text) size in
+    record { parts = whole_name name text (omega (arith, e, all)) ∙ ap (λ l. name ++ l) (sym r); ends = ends }

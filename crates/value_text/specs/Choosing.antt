@@ -88,7 +88,7 @@ pub record IsConNode (types : List DataType) (t place : ℕ) (x : Item) (fields 
   pub con : Constructor
   pub is : slice_get types t ≡ Some def
   pub at : slice_get def.cons place ≡ Some con
-  pub x_is : x ≡ item.Con (first_con types t + place) (length con.fields)
+  pub x_is : x ≡ item.Con (length con.fields) (first_con types t + place)
   pub fields_is : fields ≡ con.fields
 
 -- the word is this truth value's

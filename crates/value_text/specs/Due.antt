@@ -14,8 +14,8 @@ use Rattle.value_text.specs.Grammar as g
 use Rattle.value_text.specs.Grammar.{Piece, pieces, Spelled, Ends, IsNodeText, is_word}
 use Rattle.value_text.specs.declared.reading.TextStop.{TextStop}
 use Rattle.value_text.specs.declared.reading.TextStop.TheVariants as stop
-use Rattle.value_text.specs.declared.due.Due.{Due}
-use Rattle.value_text.specs.declared.due.Due.TheVariants as due
+use Rattle.value_text.specs.Dues.{Due}
+use Rattle.value_text.specs.Dues as due
 
 -- what is due comes to these pieces and nodes
 abbrev pub Comes : List DataType → List Due → List Piece → List Item → Type 0
@@ -65,7 +65,7 @@ abbrev pub IsNode : List DataType → Kind → Item → List Kind → Type 0
 IsNode types q (item.Int z) fields = (q ≡ kind.Int) × IsInt32 z × (fields ≡ [])
 IsNode types q (item.Flag b) fields = (q ≡ kind.Flag) × (fields ≡ [])
 IsNode types q item.Dia fields = (q ≡ kind.Dia) × (fields ≡ [])
-IsNode types q (item.Con c n) fields =
+IsNode types q (item.Con n c) fields =
     (con : Constructor) × (constructor types c ≡ Some con) × (option_map kind.Of (type_of types c) ≡ Some q) × (fields ≡ con.fields) × (n ≡ length fields)
 
 -- what is due behind the word of a node with such parts
@@ -135,11 +135,6 @@ pub record Stops (types : List DataType) (first : List Due) (text : List ℕ) (a
 pub record Whole (types : List DataType) (first : List Due) (text : List ℕ) (xs : List Item) : Type 0 where
   pub accepts : Accepts types first text xs
   pub only : (zs : List Item) → Accepts types first text zs → zs ≡ xs
-
--- a value of each of these kinds behind the mark
-abbrev pub each_due : ℕ → List Kind → List Due
-each_due mark [] = []
-each_due mark (q ∷ qs) = due.Mark mark ∷ due.Value q ∷ each_due mark qs
 
 -- memory ran out, or reading stops there
 abbrev pub IsStop : List DataType → List Kind → List ℕ → TextStop → Type 0

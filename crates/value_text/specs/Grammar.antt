@@ -49,7 +49,7 @@ abbrev pub IsNodeText : (ℕ → List ℕ) → Item → List ℕ → Type 0
 IsNodeText names (item.Int z) word = IsIntText word z
 IsNodeText names (item.Flag b) word = word ≡ cond b (codes "true") (codes "false")
 IsNodeText names item.Dia word = word ≡ codes "<>"
-IsNodeText names (item.Con c n) word = word ≡ names c
+IsNodeText names (item.Con n c) word = word ≡ names c
 
 -- ---- words and marks in order
 
@@ -64,8 +64,8 @@ abbrev mutual
   pieces (value.Int z) rest = Node (item.Int z) ∷ rest
   pieces (value.Flag b) rest = Node (item.Flag b) ∷ rest
   pieces value.Dia rest = Node item.Dia ∷ rest
-  pieces (value.Con c value.End) rest = Node (item.Con c 0) ∷ rest
-  pieces (value.Con c (value.And v vs)) rest = Node (item.Con c (suc (part_count vs))) ∷ Mark 40 ∷ pieces v (further_pieces vs rest)
+  pieces (value.Con c value.End) rest = Node (item.Con 0 c) ∷ rest
+  pieces (value.Con c (value.And v vs)) rest = Node (item.Con (suc (part_count vs)) c) ∷ Mark 40 ∷ pieces v (further_pieces vs rest)
 
   -- the second part and those that follow it, each after a comma, and what closes them
   pub further_pieces : Values → List Piece → List Piece

@@ -2,7 +2,9 @@
 pub mod Text
 pub mod Printing
 pub mod Grammar
+pub mod Dues
 pub mod Due
+pub mod Later
 pub mod Finite
 pub mod Choosing
 pub mod Splitting

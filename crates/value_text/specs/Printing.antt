@@ -11,7 +11,7 @@ abbrev pub node_text : (ℕ → List ℕ) → Item → List ℕ
 node_text names (item.Int z) = signed_decimal z
 node_text names (item.Flag b) = cond b (codes "true") (codes "false")
 node_text names item.Dia = codes "<>"
-node_text names (item.Con c n) = names c
+node_text names (item.Con n c) = names c
 
 -- what stands behind a part that is complete: a comma before the next one, or what closes its constructor and those
 -- that it completes
@@ -35,7 +35,7 @@ opening_due due zero = closing_due due
 opening_due due (suc n) = n ∷ due
 
 abbrev pub parts_of : Item → ℕ
-parts_of (item.Con c n) = n
+parts_of (item.Con n c) = n
 parts_of x = 0
 
 -- the text of nodes

@@ -1,7 +1,7 @@
-ghost use Rattle.std.specs.Prelude.{◌≡◌};
-ghost use Rattle.value_text.specs.Grammar.{is_word_byte};
+ghost use Rattle.std.specs.Prelude.{◌≡◌, ◌≤◌, length, IsTrue, IfSome};
+ghost use Rattle.value_text.specs.Grammar.{is_word_byte, Ends};
 ghost use Rattle.value_text.specs.Choosing.{common};
-ghost use Rattle.value_text.specs.Splitting.{skip, IsSplit, IsWordLength};
+ghost use Rattle.value_text.specs.Splitting.{skip, IsSplit, IsWordLength, IsBehind};
 
 // The text without the spaces in front.
 #[tactic(auto, using(crate::proofs::WordSteps::skip_here, crate::proofs::WordSteps::skip_done, crate::proofs::WordSteps::skip_end))]
@@ -50,9 +50,10 @@ pub(crate) fn split_word(text: &[u8]) -> (&[u8], &[u8])
 }
 
 // How many bytes two words have in common at their fronts.
-#[tactic(auto, using(crate::proofs::WordSteps::common_here, crate::proofs::WordSteps::common_done, crate::proofs::WordSteps::common_end))]
+#[tactic(auto, using(crate::proofs::WordSteps::common_here, crate::proofs::WordSteps::common_done, crate::proofs::WordSteps::common_end, crate::proofs::WordSteps::common_within))]
 pub(crate) fn common(name: &[u8], word: &[u8]) -> usize
-    ensures { result ≡ common name.now word.now }
+    ensures common { result ≡ common name.now word.now }
+    ensures within { result ≤ length word.now }
 {
     let mut at = 0;
     'bytes: while at < name.len() && at < word.len() {
@@ -62,4 +63,31 @@ pub(crate) fn common(name: &[u8], word: &[u8]) -> usize
         at += 1;
     }
     at
+}
+
+// Whether a word ends in front of this text.
+#[tactic(auto, using(crate::proofs::WordSteps::ends_byte, crate::proofs::WordSteps::ends_none))]
+pub(crate) fn ends(rest: &[u8]) -> bool
+    ensures { IsTrue result → Ends rest.now }
+{
+    if rest.is_empty() {
+        return true;
+    }
+    if is_word_byte(rest[0]) {
+        return false;
+    }
+    true
+}
+
+// The text behind the name, where the name stands in front and ends there.
+#[tactic(auto, using(crate::proofs::WordSteps::behind_here))]
+pub(crate) fn behind_name<'a>(name: &[u8], text: &'a [u8]) -> Option<&'a [u8]>
+    ensures { IfSome result (λ rest. IsBehind name.now text.now rest.now) }
+{
+    let count = common(name, text);
+    if count < name.len() {
+        return None;
+    }
+    let rest = &text[count..];
+    if ends(rest) { Some(rest) } else { None }
 }

@@ -1,6 +1,9 @@
-ghost use Rattle.std.specs.Prelude.{◌≡◌, ◌+◌, ◌≤◌, ◌<◌, ◌∷◌, neg_ℤ, pos, MatchResult, MatchOption};
+ghost use Rattle.std.specs.Prelude.{◌≡◌, ◌+◌, ◌≤◌, ◌<◌, ◌∷◌, neg_ℤ, pos, IfSome, MatchResult, MatchOption};
 ghost use Rattle.camelot_values.specs.Names.{is_digit};
 ghost use Rattle.value_text.specs.Choosing.{DigitsRead, IntRead, IntRefused, NoDigit, NextDigit, IsPlain};
+ghost use Rattle.value_text.specs.Splitting.{FrontInt};
+
+use super::cutting::ends;
 
 // Whether the byte is a digit.
 fn is_digit(byte: u8) -> bool
@@ -102,5 +105,22 @@ pub(crate) fn read_int(word: &[u8]) -> Result<i32, usize>
         read_minus(&word[1..])
     } else {
         read_plus(word)
+    }
+}
+
+// The int without a sign that stands in front, and the text behind it, where its word ends with its digits.
+#[tactic(auto, using(crate::proofs::Digits::front_digits))]
+pub(crate) fn front_int(text: &[u8]) -> Option<(i32, &[u8])>
+    ensures { IfSome result (λ found. FrontInt text.now found.0 found.1.now) }
+{
+    let (value, good) = read_digits(text, 2147483647);
+    if good == 0 {
+        return None;
+    }
+    let rest = &text[good..];
+    if ends(rest) {
+        Some((value as i32, rest))
+    } else {
+        None
     }
 }

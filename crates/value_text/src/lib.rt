@@ -2,8 +2,8 @@
 #![tactic(auto)]
 
 mod asking;
+mod behind;
 mod cutting;
-mod due;
 mod finite;
 mod inhabited;
 mod ints;
@@ -12,9 +12,8 @@ mod names;
 mod nodes;
 mod reading;
 mod splitting;
-mod stack;
 mod writing;
 
 pub use asking::{ValueFault, read, read_known};
 pub use inhabited::Inhabited;
-pub use writing::print;
+pub use writing::{print, push_small, push_value};

@@ -1,8 +1,9 @@
-ghost use Rattle.std.specs.Prelude.{◌≡◌, ◌+◌, ◌≤◌, ◌<◌, Some, None, map, length, vec_len, MatchResult, IfOk};
+ghost use Rattle.std.specs.Prelude.{◌≡◌, ◌+◌, ◌≤◌, ◌<◌, Some, None, map, length, vec_len, MatchResult, IfOk, IfSome};
 ghost use Rattle.camelot_values.specs.Kinds.{data_type_of, constructor_of, AreTypes};
 ghost use Rattle.value_text.specs.Choosing.{choose, best, first_con, Looked};
+ghost use Rattle.value_text.specs.Splitting.{FrontCon};
 
-use super::cutting::common;
+use super::cutting::{behind_name, common};
 use super::finite::is_ready;
 use camelot_values::{Con, TypeDef};
 
@@ -44,6 +45,28 @@ pub(crate) fn choose(marks: &[bool], word: &[u8], def: &TypeDef) -> Result<usize
         }
     }
     Err(good)
+}
+
+// The place of the type's constructor whose name stands in front, where its fields all have values, and the text behind
+// the name.
+#[tactic(auto, using(crate::proofs::NameSteps::front_there))]
+pub(crate) fn front_con<'a>(
+    marks: &[bool],
+    text: &'a [u8],
+    def: &TypeDef,
+) -> Option<(usize, &'a [u8])>
+    ensures within { IfSome result (λ found. found.0 < vec_len def.now.cons) }
+    ensures front { IfSome result (λ found. FrontCon marks.now (data_type_of def.now).cons text.now found.0 found.1.now) }
+{
+    for (place, con) in def.cons.iter().enumerate() {
+        if let Some(rest) = behind_name(con.name.bytes(), text) {
+            if is_ready(marks, con) {
+                return Some((place, rest));
+            }
+            return None;
+        }
+    }
+    None
 }
 
 // The number of the type's first constructor.

@@ -1,15 +1,15 @@
-ghost use Rattle.std.specs.Prelude.{◌≡◌, ◌∷◌, map, length, MatchResult};
+ghost use Rattle.std.specs.Prelude.{◌≡◌, ◌∷◌, map, length, IfSome, MatchResult};
 ghost use Rattle.camelot_values.specs.Kinds.{data_type_of, AreTypes};
 ghost use Rattle.camelot_values.specs.declared.kinds.Kind.TheVariants.{Of};
 ghost use Rattle.value_text.specs.Due.{Named, Unnamed};
 ghost use Rattle.value_text.specs.Grammar.{AreNamed, DistinctNames};
 ghost use Rattle.value_text.specs.Finite.{Exact, HasValue};
 ghost use Rattle.value_text.specs.Choosing.{HasPlace, IsConNode, IsFlag, NoFlag};
-ghost use Rattle.value_text.specs.Splitting.{NodeRead, NodeRefused, NotFirst, before_mark};
+ghost use Rattle.value_text.specs.Splitting.{FrontRead, NodeRead, NodeRefused, NotFirst, before_mark};
 
 use super::cutting::{common, skip_spaces, split_word};
-use super::ints::read_int;
-use super::names::{choose, first_con};
+use super::ints::{front_int, read_int};
+use super::names::{choose, first_con, front_con};
 use camelot_values::{Item, Kind, TypeDef, Types};
 
 // The node of the constructor at this place of the type, and the kinds of its fields.
@@ -110,8 +110,63 @@ pub(crate) struct Read<'a, 'b> {
     pub rest: &'b [u8],
 }
 
-/// Reads the word of a node of this kind, behind spaces. Else how many bytes are left from the first bad one on.
-#[tactic(auto, using(crate::proofs::NodeSteps::node_read, crate::proofs::NodeSteps::node_refused, crate::proofs::NodeSteps::good_within))]
+// The node of the type's constructor whose name stands in front, where its fields all have values.
+#[tactic(auto, using(crate::proofs::NodeSteps::has_place))]
+fn front_con_node<'a, 'b>(
+    types: &'a Types,
+    marks: &[bool],
+    number: u32,
+    text: &'b [u8],
+) -> Option<Read<'a, 'b>>
+    requires named { AreNamed types.now }
+    requires distinct { DistinctNames types.now }
+    requires exact { Exact types.now marks.now }
+    ensures { IfSome result (λ node. FrontRead types.now (Of number) text.now node.item node.fields.now node.rest.now) }
+{
+    types.limits();
+    let defs = types.defs();
+    let place = number as usize;
+    if place >= defs.len() {
+        return None;
+    }
+    match front_con(marks, text, &defs[place]) {
+        Some((chosen, rest)) => {
+            let (item, fields) = con_node(defs, place, chosen);
+            Some(Read { item, fields, rest })
+        }
+        None => None,
+    }
+}
+
+// The node of this kind whose word stands in front, where it is an int without a sign or a constructor.
+fn front_node<'a, 'b>(
+    types: &'a Types,
+    marks: &[bool],
+    kind: Kind,
+    text: &'b [u8],
+) -> Option<Read<'a, 'b>>
+    requires named { AreNamed types.now }
+    requires distinct { DistinctNames types.now }
+    requires exact { Exact types.now marks.now }
+    ensures { IfSome result (λ node. FrontRead types.now kind text.now node.item node.fields.now node.rest.now) }
+{
+    match kind {
+        Kind::Int => match front_int(text) {
+            Some((number, rest)) => Some(Read {
+                item: Item::Int(number),
+                fields: &[],
+                rest,
+            }),
+            None => None,
+        },
+        Kind::Of(number) => front_con_node(types, marks, number, text),
+        Kind::Flag | Kind::Dia => None,
+    }
+}
+
+/// Reads the word of a node of this kind, behind spaces. Else how many bytes are left from the first bad one on. Words
+/// that stand in front as they are printed are read at once.
+#[tactic(auto, using(crate::proofs::NodeSteps::front_is_read, crate::proofs::NodeSteps::node_read, crate::proofs::NodeSteps::node_refused, crate::proofs::NodeSteps::good_within))]
 pub(crate) fn read_node<'a, 'b>(
     types: &'a Types,
     marks: &[bool],
@@ -126,6 +181,9 @@ pub(crate) fn read_node<'a, 'b>(
         (λ left. NodeRefused types.now kind text.now left) }
 {
     let text = skip_spaces(text);
+    if let Some(node) = front_node(types, marks, kind, text) {
+        return Ok(node);
+    }
     let (word, rest) = split_word(text);
     match find_node(types, marks, kind, word) {
         Ok((item, fields)) => Ok(Read { item, fields, rest }),

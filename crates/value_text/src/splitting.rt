@@ -47,7 +47,7 @@ pub(crate) fn split_values(
     ensures nodes { IfOk result (λ values. items.now ≡ nodes_all (parts values.items) []) }
     ensures count { IfOk result (λ values. length values.items ≡ count) }
 {
-    let mut values = Vec::new(alloc);
+    let mut values = Vec::with_capacity(alloc, count)?;
     let mut rest = items;
     for _value in 0..count {
         let (value, after) = cut_value(alloc, rest)?;

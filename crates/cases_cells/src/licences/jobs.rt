@@ -32,6 +32,8 @@ pub(crate) fn licence_of(rt: &HostRuntime, code: &[u8], cert: &[u8]) -> io::Resu
         print!(rt; " too long")?;
         return Ok(None);
     }
+    let code = Vec::from_slice(rt.alloc(), code)?;
+    let cert = Vec::from_slice(rt.alloc(), cert)?;
     match verify(rt.alloc(), code, cert) {
         Ok(licence) => {
             licence.kept();

@@ -65,6 +65,7 @@ fn tail_call(alloc: Global, bytes: &[u8]) -> Result<(Term, &[u8]), Halt>
 {
     let (func, rest) = number(4, 0, 63, bytes)?;
     let (args, rest) = list(alloc, 0, 16, rest)?;
+    let args = SmallVec::from_vec(args);
     Ok((Term::Tail { func, args }, rest))
 }
 

@@ -6,6 +6,7 @@ ghost use Rattle.grail_code.specs.CodeReader.{local_at, operator_at, place_at, l
 
 use super::reader::{Decode, Halt, list, number};
 use grail_blocks::{Let, Op, Place, PrimCode};
+use smallvec::SmallVec;
 use std::alloc::Global;
 
 /// A local, or a block.
@@ -109,6 +110,7 @@ fn make(alloc: Global, bytes: &[u8]) -> Result<(Op, &[u8]), Halt>
     let (con, rest) = number(4, 0, 4095, bytes)?;
     let (args, rest) = list(alloc, 0, 4, rest)?;
     let (place, rest) = place(rest)?;
+    let args = SmallVec::from_vec(args);
     Ok((Op::Make { con, args, place }, rest))
 }
 
@@ -118,6 +120,7 @@ fn call(alloc: Global, bytes: &[u8]) -> Result<(Op, &[u8]), Halt>
 {
     let (func, rest) = number(4, 0, 63, bytes)?;
     let (args, rest) = list(alloc, 0, 16, rest)?;
+    let args = SmallVec::from_vec(args);
     Ok((Op::Call { func, args }, rest))
 }
 

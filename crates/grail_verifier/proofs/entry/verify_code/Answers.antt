@@ -7,4 +7,4 @@ use Rattle.grail_verifier.proofs.entry.verify_code.Goals as goal
 pub returns-in-Ok-Ok-clause-exact : goal.returns-in-Ok-Ok-clause-exact
 returns-in-Ok-Ok-clause-exact c =
     let well : IsWellFormed (code_of c.args.code) = search rules in
-    checked_exact (code_of c.args.code) c.args.cert.now c.verify_cert.result well c.law_of_walk.ensures.apart c.verify_cert.ensures.exact
+    checked_exact (code_of c.args.code) c.args.cert.items c.verify_cert.result well c.law_of_walk.ensures.apart c.verify_cert.ensures.exact

@@ -8,4 +8,4 @@ pub returns : goal.returns
 returns c =
     let facts = c.binary_search_by_key.ensures in
     let by_con = facts.position (λ p. p.0) (answers_always _ _ _ (λ f a r g called. search rules)) in
-    rw (← c.self.view_is, ← c.deref.ensures.value) (found _ (rw c.deref.ensures.value c.self.invariant.ascending) c.args.con _ facts.bound by_con)
+    rw (← c.self.view_is, ← c.deref.ensures) (found _ (rw c.deref.ensures c.self.invariant.ascending) c.args.con _ facts.bound by_con)

@@ -1,0 +1,152 @@
+-- What jobs ask for: one by one, in two parts, and as it is planned.
+use Rattle.std.proofs.Common.{◌≡◌, ℕ, ◌+◌, ◌<◌, ◌≤◌, List, [], ◌∷◌, ◌++◌, length, map, drop, Some, None, sym, ap, subst, append_assoc, append-nil, arith}
+use Rattle.std.proofs.lemmas.List.{drop_all}
+use Rattle.std.specs.Prelude.{slice_get, Option, Result, Ok, Err, IfOk}
+use Rattle.std.specs.declared.alloc.AllocError.{AllocError}
+use Rattle.std.specs.List.{AllByRecursion}
+use Rattle.licence.specs.Licensed.{Licensed}
+use Rattle.job_script.specs.Scripts.{Entry, AProgram, AJob, EntryIsWithin}
+use Rattle.job_script.specs.Words.{entry_of}
+use Rattle.job_script.specs.declared.types.Entry.{Entry as DeclaredEntry}
+use Rattle.job_world.specs.Plans.{Planned}
+use Rattle.script_plans.specs.declared.asking.Asked.{Asked}
+use Rattle.script_plans.specs.declared.types.JobPlan.{JobPlan}
+use Rattle.script_plans.specs.declared.wanting.Wanted.{Wanted}
+use Rattle.script_plans.specs.declared.wanting.Wanted.TheVariants as wanted
+use Rattle.script_plans.specs.Programs.{ProgramText, program_named}
+use Rattle.script_plans.specs.Lines.{ArePlanned}
+use Rattle.script_plans.specs.Rows.{Row, AreRows, row_among, row_program}
+use Rattle.script_plans.specs.Turns.{Planning, IsPlanned, IsEntryTaken, Comes}
+use Rattle.script_plans.specs.Wanted.{IsWanted, IsWantedBy, AreWanted, CanAllBeTaken}
+use Rattle.script_plans.proofs.Naming.{MeansSame, agrees}
+use Rattle.script_plans.proofs.Coming.{can_be_planned, comes_planned}
+use Rattle.script_plans.proofs.Parts.{of_both}
+use Rattle.script_plans.proofs.Taking.{Going, going_first, going_on, going_done}
+
+-- ---- one by one
+
+-- The front entries want these, whatever the rest want.
+pub record AreSoFar (licences : List Licensed) (rows : List Row) (entries rest : List Entry) (all : List (Option Wanted)) : Type 0 where
+  pub are : (more : List (Option Wanted)) → AreWanted licences rows rest more → AreWanted licences rows entries (all ++ more)
+
+pub none_wanted : (licences : List Licensed) (rows : List Row) (entries : List Entry) → AreSoFar licences rows entries entries []
+none_wanted licences rows entries = record { are = λ more h. h }
+
+pub wanted_more : (licences : List Licensed) (rows : List Row) (entries rest : List Entry) (e : Entry) (all : List (Option Wanted)) (o : Option Wanted) → AreSoFar licences rows entries (e ∷ rest) all
+    → IsWantedBy licences rows e o → AreSoFar licences rows entries rest (all ++ o ∷ [])
+wanted_more licences rows entries rest e all o u is = record {
+  are = λ more h. subst (AreWanted licences rows entries) (sym (append_assoc all (o ∷ []) more)) (u.are (o ∷ more) (is, h));
+}
+
+pub wanted_end : (licences : List Licensed) (rows : List Row) (entries : List DeclaredEntry) (n : ℕ) (all : List (Option Wanted)) → length entries ≤ n
+    → AreSoFar licences rows (map entry_of entries) (map entry_of (drop n entries)) all → AreWanted licences rows (map entry_of entries) all
+wanted_end licences rows entries n all h u =
+    let whole = map entry_of entries in
+    let none : AreSoFar licences rows whole [] all = subst (λ (l : List DeclaredEntry). AreSoFar licences rows whole (map entry_of l) all) (drop_all n entries h) u in
+    subst (AreWanted licences rows whole) (append-nil all) (none.are [] tt)
+
+-- ---- in two parts
+
+pub both_wanted : (licences : List Licensed) (rows : List Row) (es fs : List Entry) (xs ys : List (Option Wanted)) → AreWanted licences rows es xs → AreWanted licences rows fs ys
+    → AreWanted licences rows (es ++ fs) (xs ++ ys)
+both_wanted licences rows [] fs [] ys a b = b
+both_wanted licences rows [] fs (x ∷ xs) ys a b = absurd a
+both_wanted licences rows (e ∷ es) fs [] ys a b = absurd a
+both_wanted licences rows (e ∷ es) fs (x ∷ xs) ys a b = (a.0, both_wanted licences rows es fs xs ys a.1 b)
+
+pub all_wanted : (licences : List Licensed) (rows : List Row) (all xs ys : List DeclaredEntry) (ws : List (Option Wanted)) → all ≡ xs ++ ys
+    → AreWanted licences rows (map entry_of xs ++ map entry_of ys) ws
+    → AreWanted licences rows (map entry_of all) ws
+all_wanted licences rows all xs ys ws e a = of_both (λ es. AreWanted licences rows es ws) all xs ys e a
+
+-- ---- as it is planned
+
+-- what is planned of what was asked is what comes of the job
+pub call_comes : (p : Option ProgramText) (name text : List ℕ) (fuel given arena number : ℕ) (old new : Planned) (a : Asked) (r : Result JobPlan AllocError) → MeansSame
+    → ((l : Licensed) → slice_get old.licences number ≡ Some l → IfOk r (IsPlanned arena given number l a old new))
+    → IsWanted old.licences p name text fuel (wanted.Call number a given) → IfOk r (Comes p name text fuel arena old new)
+call_comes p name text fuel given arena number old new a (Err x) means each h = tt
+call_comes p name text fuel given arena number old new a (Ok q) means each h =
+    let w = h.1 in
+    let there : IsPlanned arena fuel number w.licence a old new q = subst (λ (n : ℕ). IsPlanned arena n number w.licence a old new q) h.0 (each w.licence w.at) in
+    let comes : Comes (Some w.program) name text fuel arena old new q =
+    comes_planned w.program name text fuel arena number old new w.meaning w.licence a q w.has (agrees w.program w.licence w.meaning means w.has) w.at w.is there in
+    subst (λ (o : Option ProgramText). Comes o name text fuel arena old new q) (sym w.there) comes
+
+-- What the loop over the entries keeps: those in front are planned, and the rest want these.
+pub record Taking (arena : ℕ) (script : List Entry) (rows : List Row) (place : ℕ) (t : Planning) (left : List (Option Wanted)) : Type 0 where
+  pub rest : List Entry
+  pub going : Going arena script rest rows place t
+  pub are : AreWanted t.jobs.licences rows rest left
+  pub within : AllByRecursion EntryIsWithin rest
+  pub count : place + length rest ≡ length script
+
+pub taking_first : (arena : ℕ) (script : List Entry) (rows : List Row) (ps : Planned) (licences : List Licensed) (left : List (Option Wanted)) → AreRows licences rows
+    → ps ≡ record { licences = licences; plans = [] } → AreWanted licences rows script left → AllByRecursion EntryIsWithin script
+    → Taking arena script rows 0 (record { jobs = ps; plans = []; asked = [] }) left
+taking_first arena script rows ps licences left h e are within = record {
+  rest = script;
+  going = going_first arena script rows ps licences h e;
+  are = subst (λ (q : Planned). AreWanted q.licences rows script left) (sym e) are;
+  within = within;
+  count = omega arith;
+}
+
+wanted_can : (licences : List Licensed) (rows : List Row) (e : Entry) (o : Option Wanted) → EntryIsWithin e → IsWantedBy licences rows e o → CanAllBeTaken licences o
+wanted_can licences rows e None within h = tt
+wanted_can licences rows (AProgram p) (Some w) within h = absurd h
+wanted_can licences rows (AJob j) (Some (wanted.Nothing cause)) within h = tt
+wanted_can licences rows (AJob j) (Some (wanted.Call number a given)) within h =
+    let w = h.1 in
+    can_be_planned licences number given w.licence j.entry j.args a w.at (omega (arith, h.0, within.least)) w.is
+
+pub taking_can : (arena : ℕ) (script : List Entry) (rows : List Row) (place : ℕ) (t : Planning) (o : Option Wanted) (left : List (Option Wanted))
+    → Taking arena script rows place t (o ∷ left) → CanAllBeTaken t.jobs.licences o
+taking_can arena script rows place t o left h = go h.rest h.are h.within
+  where
+    go : (rest : List Entry) → AreWanted t.jobs.licences rows rest (o ∷ left) → AllByRecursion EntryIsWithin rest → CanAllBeTaken t.jobs.licences o
+    go [] are within = absurd are
+    go (e ∷ rest) are within = wanted_can t.jobs.licences rows e o within.0 are.0
+
+-- there is one entry more
+pub taking_short : (arena : ℕ) (script : List Entry) (rows : List Row) (place : ℕ) (t : Planning) (o : Option Wanted) (left : List (Option Wanted))
+    → length script ≤ 4160 → Taking arena script rows place t (o ∷ left) → place < 4160
+taking_short arena script rows place t o left few h = go h.rest h.are h.count
+  where
+    go : (rest : List Entry) → AreWanted t.jobs.licences rows rest (o ∷ left) → place + length rest ≡ length script → place < 4160
+    go [] are e = absurd are
+    go (x ∷ rest) are e = omega (arith, e, few)
+
+pub taking_few : (arena : ℕ) (script : List Entry) (rows : List Row) (place : ℕ) (t : Planning) (o : Option Wanted) (left : List (Option Wanted))
+    → length script ≤ 4160 → Taking arena script rows place t (o ∷ left) → length t.jobs.plans < 4294967295
+taking_few arena script rows place t o left few h = let short = taking_short arena script rows place t o left few h in omega (arith, short, h.going.few)
+
+licences_stay : (rows : List Row) (arena place : ℕ) (e : Entry) (old new : Planning) → IsEntryTaken rows arena place e old new → new.jobs.licences ≡ old.jobs.licences
+licences_stay rows arena place (AProgram p) old new t = ap (λ (q : Planning). q.jobs.licences) t
+licences_stay rows arena place (AJob j) old new t = t.comes.licences
+
+pub taking_more : (arena : ℕ) (script : List Entry) (rows : List Row) (place : ℕ) (old new : Planning) (o : Option Wanted) (left : List (Option Wanted))
+    → ((name : List ℕ) → program_named script name ≡ row_program (row_among rows name)) → Taking arena script rows place old (o ∷ left)
+    → ((rows : List Row) (e : Entry) → IsWantedBy old.jobs.licences rows e o → IsEntryTaken rows arena place e old new)
+    → Taking arena script rows (place + 1) new left
+taking_more arena script rows place old new o left programs h each = go h.rest h.going h.are h.within h.count
+  where
+    go : (rest : List Entry) → Going arena script rest rows place old → AreWanted old.jobs.licences rows rest (o ∷ left) → AllByRecursion EntryIsWithin rest → place + length rest ≡ length script
+        → Taking arena script rows (place + 1) new left
+    go [] going are within e = absurd are
+    go (x ∷ rest) going are within e =
+        let t : IsEntryTaken rows arena place x old new = each rows x are.0 in
+        record {
+          rest = rest;
+          going = going_on arena script rest rows x place old new programs going t;
+          are = subst (λ ls. AreWanted ls rows rest left) (sym (licences_stay rows arena place x old new t)) are.1;
+          within = within.1;
+          count = omega (arith, e);
+        }
+
+pub taking_end : (arena : ℕ) (script : List Entry) (rows : List Row) (place : ℕ) (t : Planning) → Taking arena script rows place t [] → ArePlanned arena script t.jobs t.plans t.asked
+taking_end arena script rows place t h = go h.rest h.going h.are
+  where
+    go : (rest : List Entry) → Going arena script rest rows place t → AreWanted t.jobs.licences rows rest [] → ArePlanned arena script t.jobs t.plans t.asked
+    go [] going are = going_done arena script rows place t going
+    go (x ∷ rest) going are = absurd are
