@@ -56,6 +56,8 @@ pub enum PrimOp {
     Add,
     Sub,
     Mul,
+    Div,
+    Mod,
     Eq,
     Ne,
     Lt,

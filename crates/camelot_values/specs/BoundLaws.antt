@@ -1,7 +1,7 @@
 -- Laws, for the proofs of this crate and of those above it.
 -- One run after another: what holds of both parts holds of the whole.
 use Rattle.std.proofs.Common.{◌≡◌, ℕ, ◌+◌, ◌-◌, ◌*◌, ◌≤◌, refl, arith}
-use Rattle.camelot_values.specs.Outcome.{Outcome, Done, Fuel, Deep, Stuck, after, first_then}
+use Rattle.camelot_values.specs.Outcome.{Outcome, Done, Fuel, Deep, Trap, Stuck, after, first_then}
 use Rattle.std.specs.Prelude.{List}
 use Rattle.camelot_values.specs.Value.{Value}
 use Rattle.camelot_values.specs.Kinds.{DataType}
@@ -13,6 +13,7 @@ pub yields_after : {A : Type 0} (P : A → Type 0) (c p l : ℕ) (o : Outcome A)
 yields_after P c p l (Done v d q m) h = h
 yields_after P c p l (Fuel d q) h = tt
 yields_after P c p l (Deep q) h = tt
+yields_after P c p l (Trap q) h = tt
 yields_after P c p l Stuck h = absurd h
 
 pub yields_then : {A B : Type 0} (P : A → Type 0) (Q : B → Type 0) (k : ℕ) (o : Outcome A) (next : ℕ → A → Outcome B)
@@ -20,6 +21,7 @@ pub yields_then : {A B : Type 0} (P : A → Type 0) (Q : B → Type 0) (k : ℕ)
 yields_then P Q k (Done v c p l) next h go = yields_after Q c p l (next (k - c) v) (go (k - c) v h)
 yields_then P Q k (Fuel c p) next h go = tt
 yields_then P Q k (Deep p) next h go = tt
+yields_then P Q k (Trap p) next h go = tt
 yields_then P Q k Stuck next h go = absurd h
 
 pub sound_then : (types : List DataType) (q r : Kind) (k : ℕ) (o : Outcome Value) (next : ℕ → Value → Outcome Value)
@@ -37,6 +39,7 @@ pub paid_after : {A : Type 0} (u top mid : ℕ) (left : A → ℕ) (c p l : ℕ)
 paid_after u top mid left c p l (Done v d q m) a b h = (peaks u top mid p l q a b h.0, nets u top mid p l q m (left v) b h.1)
 paid_after u top mid left c p l (Fuel d q) a b h = peaks u top mid p l q a b h
 paid_after u top mid left c p l (Deep q) a b h = peaks u top mid p l q a b h
+paid_after u top mid left c p l (Trap q) a b h = peaks u top mid p l q a b h
 paid_after u top mid left c p l Stuck a b h = tt
 
 pub paid_then : {A B : Type 0} (u top : ℕ) (between : A → ℕ) (left : B → ℕ) (k : ℕ) (o : Outcome A) (next : ℕ → A → Outcome B)
@@ -44,6 +47,7 @@ pub paid_then : {A B : Type 0} (u top : ℕ) (between : A → ℕ) (left : B →
 paid_then u top between left k (Done v c p l) next h go = paid_after u top (between v) left c p l (next (k - c) v) h.0 h.1 (go (k - c) v)
 paid_then u top between left k (Fuel c p) next h go = h
 paid_then u top between left k (Deep p) next h go = h
+paid_then u top between left k (Trap p) next h go = h
 paid_then u top between left k Stuck next h go = tt
 
 -- A stop stays the same stop, whatever was to follow.
@@ -51,4 +55,5 @@ pub stop_then : {A B : Type 0} (k : ℕ) (o : Outcome A) (next : ℕ → A → O
 stop_then k (Done v c p l) next h = absurd h
 stop_then k (Fuel c p) next h = refl
 stop_then k (Deep p) next h = refl
+stop_then k (Trap p) next h = refl
 stop_then k Stuck next h = refl

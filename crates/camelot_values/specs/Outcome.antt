@@ -13,6 +13,8 @@ pub data Outcome (A : Type 0) : Type 0 where
   Fuel : (calls peak : ℕ) → Outcome A
   -- a call found as many calls waiting as may wait
   Deep : (peak : ℕ) → Outcome A
+  -- an operator has no value for its operands
+  Trap : (peak : ℕ) → Outcome A
   -- the run has no meaning here, as where an unknown name is read or a form isn't given a meaning yet
   Stuck : Outcome A
 
@@ -25,18 +27,21 @@ abbrev pub peak_of : {A : Type 0} → Outcome A → ℕ
 peak_of (Done v calls peak low) = peak
 peak_of (Fuel calls peak) = peak
 peak_of (Deep peak) = peak
+peak_of (Trap peak) = peak
 peak_of Stuck = 0
 
 abbrev pub calls_of : {A : Type 0} → Outcome A → ℕ
 calls_of (Done v calls peak low) = calls
 calls_of (Fuel calls peak) = 0
 calls_of (Deep peak) = 0
+calls_of (Trap peak) = 0
 calls_of Stuck = 0
 
 abbrev pub net_of : {A : Type 0} → Outcome A → ℤ
 net_of (Done v calls peak low) = net peak low
 net_of (Fuel calls peak) = pos 0
 net_of (Deep peak) = pos 0
+net_of (Trap peak) = pos 0
 net_of Stuck = pos 0
 
 -- an outcome that comes after one of so many calls, this peak and this distance below it
@@ -44,6 +49,7 @@ abbrev pub after : {A : Type 0} → ℕ → ℕ → ℕ → Outcome A → Outcom
 after calls peak low (Done v calls' peak' low') = Done v (calls + calls') (peak + (peak' - low)) (low' + (low - peak'))
 after calls peak low (Fuel calls' peak') = Fuel (calls + calls') (peak + (peak' - low))
 after calls peak low (Deep peak') = Deep (peak + (peak' - low))
+after calls peak low (Trap peak') = Trap (peak + (peak' - low))
 after calls peak low Stuck = Stuck
 
 -- first this, with so much fuel, then that, with the fuel that is left: where the first stops, the whole stops
@@ -51,6 +57,7 @@ abbrev pub first_then : {A B : Type 0} → ℕ → Outcome A → (ℕ → A → 
 first_then fuel (Done v calls peak low) next = after calls peak low (next (fuel - calls) v)
 first_then fuel (Fuel calls peak) next = Fuel calls peak
 first_then fuel (Deep peak) next = Deep peak
+first_then fuel (Trap peak) next = Trap peak
 first_then fuel Stuck next = Stuck
 
 -- a value at no cost

@@ -3,13 +3,14 @@
 -- relation between outcomes that holds of each basic step, and is kept by one run after another, holds of whole runs,
 -- of the source language and of code alike: what the bodies of functions mean only has to respect such relations.
 use Rattle.std.proofs.Common.{◌≡◌, ℕ, zero, suc, ◌+◌, ◌-◌, ◌<◌, ◌≤◌, Bool, true, false, List, Option, Some, None, refl, sym, ap, ◌∙◌, subst, arith, inl, inr}
-use Rattle.std.specs.Prelude.{⊤, ◌⊎◌, ℤ, cond, if◌then◌else◌}
+use Rattle.std.specs.Prelude.{⊤, ◌⊎◌, ℤ, pos, cond, if◌then◌else◌}
+use Rattle.std.specs.Ordering.{int_eq}
 use Rattle.std.proofs.lemmas.Bool.{cases_lt}
 use Rattle.camelot_values.specs.Value as value
 use Rattle.camelot_values.specs.Value.{Value}
 use Rattle.camelot_values.specs.Operator as operator
-use Rattle.camelot_values.specs.Operator.{Operator, on_ints, operate}
-use Rattle.camelot_values.specs.Outcome.{Outcome, Done, Fuel, Deep, Stuck, after, first_then, known, given, entered}
+use Rattle.camelot_values.specs.Operator.{Operator, dividing_by, on_ints, operate}
+use Rattle.camelot_values.specs.Outcome.{Outcome, Done, Fuel, Deep, Trap, Stuck, after, first_then, known, given, entered}
 use Rattle.camelot_values.specs.Runs.{Enter, Bodies, chosen, on_diamond, is_too_deep, calls, entering, run_from}
 use Rattle.camelot_values.specs.Fuel.{StopsOnFuel}
 
@@ -21,6 +22,7 @@ Relation = (A : Type 0) → ℕ → ℕ → Outcome A → Outcome A → Type 0
 pub record Closed (Fine : ℕ → ℕ → Type 0) (R : Relation) : Type 1 where
   pub less : (j k c : ℕ) → Fine j k → Fine (j - c) (k - c)
   pub free : (A : Type 0) (j k : ℕ) (v : A) (p l : ℕ) → R A j k (Done v 0 p l) (Done v 0 p l)
+  pub trapped : (A : Type 0) (j k : ℕ) → R A j k (Trap 0) (Trap 0)
   pub stuck : (A : Type 0) (j k : ℕ) → R A j k Stuck Stuck
   pub sequence : (A B : Type 0) (j k : ℕ) (o o' : Outcome A) (next next' : ℕ → A → Outcome B) → Fine j k → R A j k o o'
       → ((c : ℕ) (v : A) → R B (j - c) (k - c) (next (j - c) v) (next' (k - c) v)) → R B j k (first_then j o next) (first_then k o' next')
@@ -61,10 +63,19 @@ chosen_related Fine R closed (value.Int z) j k a b a' b' h g = closed.stuck Valu
 chosen_related Fine R closed value.Dia j k a b a' b' h g = closed.stuck Value j k
 chosen_related Fine R closed (value.Con c vs) j k a b a' b' h g = closed.stuck Value j k
 
+dividing_related : (Fine : ℕ → ℕ → Type 0) (R : Relation) → Closed Fine R → (y z : ℤ) (j k : ℕ) → R Value j k (dividing_by y z) (dividing_by y z)
+dividing_related Fine R closed y z j k = by_test (int_eq y (pos 0))
+  where
+    by_test : (b : Bool) → R Value j k (if b then Trap 0 else Done (value.Int z) 0 0 0) (if b then Trap 0 else Done (value.Int z) 0 0 0)
+    by_test true = closed.trapped Value j k
+    by_test false = closed.free Value j k (value.Int z) 0 0
+
 on_ints_related : (Fine : ℕ → ℕ → Type 0) (R : Relation) → Closed Fine R → (op : Operator) (x y : ℤ) (j k : ℕ) → R Value j k (on_ints op x y) (on_ints op x y)
 on_ints_related Fine R closed operator.Add x y j k = closed.free Value j k _ 0 0
 on_ints_related Fine R closed operator.Sub x y j k = closed.free Value j k _ 0 0
 on_ints_related Fine R closed operator.Mul x y j k = closed.free Value j k _ 0 0
+on_ints_related Fine R closed operator.Div x y j k = dividing_related Fine R closed y _ j k
+on_ints_related Fine R closed operator.Mod x y j k = dividing_related Fine R closed y _ j k
 on_ints_related Fine R closed operator.Eq x y j k = closed.free Value j k _ 0 0
 on_ints_related Fine R closed operator.Ne x y j k = closed.free Value j k _ 0 0
 on_ints_related Fine R closed operator.Lt x y j k = closed.free Value j k _ 0 0
@@ -94,6 +105,7 @@ abbrev pub Exceeds : {A : Type 0} → ℕ → ℕ → Outcome A → Type 0
 Exceeds k p (Done v c q l) = (k < c) × (p ≤ q)
 Exceeds k p (Fuel c q) = (k ≤ c) × (p ≤ q)
 Exceeds k p (Deep q) = p ≤ q
+Exceeds k p (Trap q) = p ≤ q
 Exceeds k p Stuck = ⊤
 
 -- what a run with fuel j says of the same run with fuel k, at least j
@@ -101,6 +113,7 @@ abbrev pub Goes : {A : Type 0} → ℕ → Outcome A → Outcome A → Type 0
 Goes j (Done v c p l) o' = (c ≤ j) × (o' ≡ Done v c p l)
 Goes j (Fuel c p) o' = (c ≡ j) × Exceeds j p o'
 Goes j (Deep p) o' = o' ≡ Deep p
+Goes j (Trap p) o' = o' ≡ Trap p
 Goes j Stuck o' = o' ≡ Stuck
 
 abbrev pub More : Relation
@@ -110,12 +123,14 @@ exceeds_after : {A : Type 0} (j c p l q : ℕ) (o : Outcome A) → c ≤ j → E
 exceeds_after j c p l q (Done v d r m) h e = (omega (arith, e.0), grind (arith, e.1))
 exceeds_after j c p l q (Fuel d r) h e = (omega (arith, e.0), grind (arith, e.1))
 exceeds_after j c p l q (Deep r) h e = grind (arith, e)
+exceeds_after j c p l q (Trap r) h e = grind (arith, e)
 exceeds_after j c p l q Stuck h e = tt
 
 more_after : {A : Type 0} (j c p l : ℕ) (o o' : Outcome A) → c ≤ j → Goes (j - c) o o' → Goes j (after c p l o) (after c p l o')
 more_after j c p l (Done v d q m) o' h g = (omega (arith, g.0), ap (after c p l) g.1)
 more_after j c p l (Fuel d q) o' h g = (omega (arith, g.0), exceeds_after j c p l q o' h g.1)
 more_after j c p l (Deep q) o' h g = ap (after c p l) g
+more_after j c p l (Trap q) o' h g = ap (after c p l) g
 more_after j c p l Stuck o' h g = ap (after c p l) g
 
 -- what comes behind can only add calls and raise the peak
@@ -123,12 +138,14 @@ exceeds_done : {A : Type 0} (j p c q l : ℕ) (o : Outcome A) → j < c → p �
 exceeds_done j p c q l (Done v d r m) h e = (omega arith, omega arith)
 exceeds_done j p c q l (Fuel d r) h e = (omega arith, omega arith)
 exceeds_done j p c q l (Deep r) h e = omega arith
+exceeds_done j p c q l (Trap r) h e = omega arith
 exceeds_done j p c q l Stuck h e = tt
 
 exceeds_then : {A B : Type 0} (j p k : ℕ) (o : Outcome A) (next : ℕ → A → Outcome B) → Exceeds j p o → Exceeds j p (first_then k o next)
 exceeds_then j p k (Done v c q l) next e = exceeds_done j p c q l (next (k - c) v) e.0 e.1
 exceeds_then j p k (Fuel c q) next e = e
 exceeds_then j p k (Deep q) next e = e
+exceeds_then j p k (Trap q) next e = e
 exceeds_then j p k Stuck next e = tt
 
 more_then : {A B : Type 0} (j k : ℕ) (o o' : Outcome A) (next next' : ℕ → A → Outcome B) → Goes j o o'
@@ -137,6 +154,7 @@ more_then j k (Done v c p l) o' next next' g h =
     subst (λ x. Goes j (after c p l (next (j - c) v)) (first_then k x next')) (sym g.1) (more_after j c p l (next (j - c) v) (next' (k - c) v) g.0 (h c v))
 more_then j k (Fuel c p) o' next next' g h = (g.0, exceeds_then j p k o' next' g.1)
 more_then j k (Deep p) o' next next' g h = ap (λ x. first_then k x next') g
+more_then j k (Trap p) o' next next' g h = ap (λ x. first_then k x next') g
 more_then j k Stuck o' next next' g h = ap (λ x. first_then k x next') g
 
 more_entered : (j : ℕ) (o o' : Outcome Value) → Goes j o o' → Goes (suc j) (entered o) (entered o')
@@ -146,6 +164,7 @@ exceeds_entered : (o : Outcome Value) → Exceeds 0 0 (entered o)
 exceeds_entered (Done v c p l) = (omega arith, omega arith)
 exceeds_entered (Fuel c p) = (omega arith, omega arith)
 exceeds_entered (Deep p) = omega arith
+exceeds_entered (Trap p) = omega arith
 exceeds_entered Stuck = tt
 
 -- equal amounts of at most n
@@ -161,12 +180,14 @@ same_then : {A B : Type 0} (j k : ℕ) (o o' : Outcome A) (next next' : ℕ → 
 same_then j k (Done v c p l) o' next next' e g h = ap (after c p l) (h c v) ∙ ap (λ x. first_then k x next') g
 same_then j k (Fuel c p) o' next next' e g h = ap (λ x. first_then k x next') g
 same_then j k (Deep p) o' next next' e g h = ap (λ x. first_then k x next') g
+same_then j k (Trap p) o' next next' e g h = ap (λ x. first_then k x next') g
 same_then j k Stuck o' next next' e g h = ap (λ x. first_then k x next') g
 
 pub same_is_closed : (n : ℕ) → Closed (Equal n) Same
 same_is_closed n = record {
   less = λ j k c f. (ap (λ x. x - c) f.0, omega (arith, f.1));
   free = λ A j k v p l. refl;
+  trapped = λ A j k. refl;
   stuck = λ A j k. refl;
   sequence = λ A B j k o o' next next' f g h. same_then j k o o' next next' f.0 g h;
   moved = λ A j k p l o o' g. ap (after 0 p l) g;
@@ -176,6 +197,7 @@ pub more_is_closed : (n m : ℕ) → Closed (Within n m) More
 more_is_closed n m = record {
   less = λ j k c f. (omega (arith, f.0), omega (arith, f.1), omega (arith, f.2));
   free = λ A j k v p l. (omega arith, refl);
+  trapped = λ A j k. refl;
   stuck = λ A j k. refl;
   sequence = λ A B j k o o' next next' f g h. more_then j k o o' next next' g h;
   moved = λ A j k p l o o' g. more_after j 0 p l o o' (omega arith) (subst (λ x. Goes x o o') (omega arith) g);
@@ -257,6 +279,7 @@ enough_below : (j c q l : ℕ) (v : Value) (o : Outcome Value) → Goes j o (Don
 enough_below j c q l v (Done u d r m) g h = sym g.1
 enough_below j c q l v (Fuel d r) g h = absurd (omega (arith, g.1.0))
 enough_below j c q l v (Deep r) g h = sym g
+enough_below j c q l v (Trap r) g h = sym g
 enough_below j c q l v Stuck g h = sym g
 
 -- It comes to the same value with every fuel from its calls on.
@@ -274,6 +297,7 @@ short_below : (j c q l : ℕ) (v : Value) (o : Outcome Value) → Goes j o (Done
 short_below j c q l v (Done u d r m) g h = let e : Done v c q l ≡ Done u d r m = g.1 in let same : c ≡ d = cc in absurd (omega (arith, g.0))
 short_below j c q l v (Fuel d r) g h = (g.0, g.1.1)
 short_below j c q l v (Deep r) g h = let e : Done v c q l ≡ Deep r = g in absurd cc
+short_below j c q l v (Trap r) g h = let e : Done v c q l ≡ Trap r = g in absurd cc
 short_below j c q l v Stuck g h = let e : Done v c q l ≡ Stuck = g in absurd cc
 
 -- With less it stops on fuel, at no higher a peak.

@@ -31,6 +31,8 @@ abbrev pub operator_kind : Operator → Kind
 operator_kind operator.Add = kind.Int
 operator_kind operator.Sub = kind.Int
 operator_kind operator.Mul = kind.Int
+operator_kind operator.Div = kind.Int
+operator_kind operator.Mod = kind.Int
 operator_kind operator.Eq = kind.Flag
 operator_kind operator.Ne = kind.Flag
 operator_kind operator.Lt = kind.Flag

@@ -1,10 +1,10 @@
 //! Laws of runs and of kinds, as the contracts of functions that do nothing.
-ghost use Rattle.std.specs.Prelude.{◌≡◌, ◌↔◌, ℕ, ◌+◌, pos, ◌+ℤ◌, ◌≤◌, List, ◌++◌, length, IsTrue};
+ghost use Rattle.std.specs.Prelude.{◌≡◌, ◌↔◌, ℕ, ◌+◌, ℤ, pos, ◌+ℤ◌, ◌*ℤ◌, int_div, int_rem, ◌≤◌, List, ◌++◌, length, IsTrue};
 ghost use Rattle.std.specs.Int.{int_max};
 ghost use Rattle.camelot_values.specs.Value.{Value};
-ghost use Rattle.camelot_values.specs.Outcome.{Outcome, Done, Stuck, calls_of, net, peak_of, net_of, after, first_then};
+ghost use Rattle.camelot_values.specs.Outcome.{Outcome, Done, Trap, Stuck, calls_of, net, peak_of, net_of, after, first_then};
 ghost use Rattle.camelot_values.specs.Bounds.{IsPaidBy, IsStop, same_stop};
-ghost use Rattle.camelot_values.specs.Operator.{Operator, operate};
+ghost use Rattle.camelot_values.specs.Operator.{Operator, Div, Mod, on_ints, operate};
 ghost use Rattle.camelot_values.specs.Kinds.{DataType};
 ghost use Rattle.camelot_values.specs.Items.{items_of};
 ghost use Rattle.camelot_values.specs.Counts.{count, count_among, cells, cells_among, size};
@@ -48,10 +48,18 @@ pub fn law_of_bounds()
     ensures stop { (fuel : ℕ) (first : Outcome Value) (next : ℕ → Value → Outcome Value) → IsStop first → first_then fuel first next ≡ same_stop first }
 {}
 
-/// An operator on two ints of 32 bits comes to a value of its kind, and an int of it has 32 bits.
-#[tactic(auto, using(crate::specs::IntLaws::operate_sound))]
+/// An operator on two ints of 32 bits comes to a value of its kind, and an int of it has 32 bits. Only a division by 0
+/// comes to none: it is trapped, with a peak of 0. Remainders are what quotients leave.
+#[tactic(auto, using(crate::specs::IntLaws::operate_sound, crate::specs::IntLaws::trapped_by_zero, crate::specs::IntLaws::remainder_is))]
 pub fn law_of_operators()
-    ensures { (types : List DataType) (op : Operator) (u v : Value) → Fits types Int u → Fits types Int v → IsSafe types (operator_kind op) (operate op u v) }
+    // What an operator comes to is of its kind, and an int of it has 32 bits.
+    ensures sound { (types : List DataType) (op : Operator) (u v : Value) → Fits types Int u → Fits types Int v → IsSafe types (operator_kind op) (operate op u v) }
+    // A quotient by 0 is trapped, and a remainder too.
+    ensures by_zero { (x : ℤ) → (on_ints Div x (pos 0) ≡ Trap 0) × (on_ints Mod x (pos 0) ≡ Trap 0) }
+    // Nothing else is.
+    ensures trapped { (op : Operator) (x y : ℤ) (peak : ℕ) → on_ints op x y ≡ Trap peak → y ≡ pos 0 }
+    // A remainder is what the quotient before wrapping leaves.
+    ensures remainder { (x y : ℤ) → (int_div x y *ℤ y +ℤ int_rem x y) ≡ x }
 {}
 
 /// The list of the constructors that a kind reaches has just these, ascending.

@@ -1,12 +1,15 @@
 use smallvec::SmallVec;
 
-/// An operator on two ints. `Add`, `Sub` and `Mul` wrap to 32 bits in two's complement and give an int; the others
-/// compare and give a truth value.
+/// An operator on two ints. `Add`, `Sub` and `Mul` wrap to 32 bits in two's complement and give an int. `Div` gives the
+/// quotient, rounded toward zero and wrapped, and `Mod` the remainder, with the left operand's sign: both trap where the
+/// right operand is 0. The others compare and give a truth value.
 #[derive(Clone, Copy, Debug, PartialEq, Eq)]
 pub enum PrimCode {
     Add,
     Sub,
     Mul,
+    Div,
+    Mod,
     Eq,
     Ne,
     Lt,

@@ -7,7 +7,7 @@ use Rattle.camelot_values.specs.Value.{Value}
 use Rattle.camelot_values.specs.Kinds.{AreTypes}
 use Rattle.camelot_values.specs.Counts.{cells_among}
 use Rattle.camelot_values.specs.Typing.{ArgumentsFit}
-use Rattle.camelot_values.specs.Outcome.{Outcome, Done, Fuel, Deep, Stuck, peak_of}
+use Rattle.camelot_values.specs.Outcome.{Outcome, Done, Fuel, Deep, Trap, Stuck, peak_of}
 use Rattle.camelot_values.specs.Bounds.{IsPaidBy}
 use Rattle.camelot_values.specs.Runs.{entering}
 use Rattle.grail_code.specs.Code.{Block, Func, Code}
@@ -41,6 +41,7 @@ peak_paid : (u top : ℕ) (left : Value → ℕ) (o : Outcome Value) → IsPaidB
 peak_paid u top left (Done v c p l) h = h.0
 peak_paid u top left (Fuel c p) h = h
 peak_paid u top left (Deep p) h = h
+peak_paid u top left (Trap p) h = h
 peak_paid u top left Stuck h = omega arith
 
 -- The peak of every run is within the bound.
