@@ -1,6 +1,5 @@
 -- What the machine does behind the last token of a tree, and where a tree may begin.
 use Rattle.std.proofs.Common.{◌≡◌, ℕ, suc, Bool, true, false, if◌then◌else◌, List, [], ◌∷◌, ◌++◌, Option, Some, None, refl, ap, ◌∙◌}
-use Rattle.camelot_values.specs.Operator as operator
 use Rattle.camelot_tree.specs.declared.tree.Name.{Name}
 use Rattle.camelot_grammar.specs.declared.lexeme.Mark.TheVariants as mark
 use Rattle.camelot_grammar.specs.declared.lexeme.Lexeme.{Lexeme}
@@ -98,8 +97,8 @@ reach_pre (gr.Alone u) c nots k = reach_firm u (alone (slot c nots k))
 
 abbrev pub reach_prod : gr.Prod → ℕ → (ors ands cmp sum : Option Left) → ExprState
 reach_prod (gr.OnePre x) k o a c s = reach_pre x (mc.lefts k o a c s None) [] (mc.sum_level k o a c s)
-reach_prod (gr.Times y gr.Star l x) k o a c s =
-    reach_pre x (mc.lefts k o a c s (mc.left (pr.prod_operand y) (pr.Prim operator.Mul) l (lv.in_prod y (mc.sum_level k o a c s)))) [] (suc (lv.in_prod y (mc.sum_level k o a c s)))
+reach_prod (gr.Times y w l x) k o a c s =
+    reach_pre x (mc.lefts k o a c s (mc.left (pr.prod_operand y) (pr.product_joint w) l (lv.in_prod y (mc.sum_level k o a c s)))) [] (suc (lv.in_prod y (mc.sum_level k o a c s)))
 
 abbrev pub sum_left : gr.Sum → ℕ → Option Left
 sum_left (gr.OneProd y) k = None
@@ -140,9 +139,11 @@ abbrev pub NotOpen : Lexeme → Type 0
 NotOpen (Mark mark.Open l) = ⊥
 NotOpen t = Unit {0}
 
-abbrev pub NotStar : Lexeme → Type 0
-NotStar (Mark mark.Star l) = ⊥
-NotStar t = Unit {0}
+abbrev pub NotProduct : Lexeme → Type 0
+NotProduct (Mark mark.Star l) = ⊥
+NotProduct (Mark mark.Slash l) = ⊥
+NotProduct (Mark mark.Mod l) = ⊥
+NotProduct t = Unit {0}
 
 abbrev pub NotSign : Lexeme → Type 0
 NotSign (Mark mark.Plus l) = ⊥
@@ -172,7 +173,7 @@ pub record EndsPre (t : Lexeme) : Type 0 where
 
 pub record EndsProd (t : Lexeme) : Type 0 where
   pub ends : EndsPre t
-  pub no_star : NotStar t
+  pub no_product : NotProduct t
 
 pub record EndsSum (t : Lexeme) : Type 0 where
   pub ends : EndsProd t
@@ -265,18 +266,20 @@ pre_then (gr.ApplyBare f bs) c nots k t st h =
 pre_then (gr.Con n) c nots k t st h = con_then (alone (slot c nots k)) n t st h.no_at (open_then t h.no_unit)
 pre_then (gr.Alone u) c nots k t st h = firm_then u (alone (slot c nots k)) t st h.no_at
 
-pub star_past : (c : Lefts) (x : Operand) (t : Lexeme) (st : List Frame) → NotStar t
+pub product_past : (c : Lefts) (x : Operand) (t : Lexeme) (st : List Frame) → NotProduct t
     → mc.after_pre c x t st ≡ mc.after_prod c.around c.ors c.ands c.cmp c.sum (mc.finished c.prod x) t st
 unfolding mc.after_pre
-star_past c x (Mark mark.Star l) st h = absurd h
-star_past c x t st h = refl
+product_past c x (Mark mark.Star l) st h = absurd h
+product_past c x (Mark mark.Slash l) st h = absurd h
+product_past c x (Mark mark.Mod l) st h = absurd h
+product_past c x t st h = refl
 
 pub prod_then : (y : gr.Prod) (k : ℕ) (o a c s : Option Left) (t : Lexeme) (st : List Frame) → EndsProd t
     → mc.expr_step (reach_prod y k o a c s) t st ≡ mc.after_prod k o a c s (pr.prod_operand y) t st
-prod_then (gr.OnePre x) k o a c s t st h = pre_then x _ [] _ t st h.ends ∙ star_past (mc.lefts k o a c s None) (pr.pre_operand x) t st h.no_star
-prod_then (gr.Times y gr.Star l x) k o a c s t st h =
+prod_then (gr.OnePre x) k o a c s t st h = pre_then x _ [] _ t st h.ends ∙ product_past (mc.lefts k o a c s None) (pr.pre_operand x) t st h.no_product
+prod_then (gr.Times y w l x) k o a c s t st h =
     pre_then x _ [] _ t st h.ends
-    ∙ star_past (mc.lefts k o a c s (mc.left (pr.prod_operand y) (pr.Prim operator.Mul) l (lv.in_prod y (mc.sum_level k o a c s)))) (pr.pre_operand x) t st h.no_star
+    ∙ product_past (mc.lefts k o a c s (mc.left (pr.prod_operand y) (pr.product_joint w) l (lv.in_prod y (mc.sum_level k o a c s)))) (pr.pre_operand x) t st h.no_product
 
 pub sign_past : (k : ℕ) (o a c s : Option Left) (x : Operand) (t : Lexeme) (st : List Frame) → NotSign t
     → mc.after_prod k o a c s x t st ≡ mc.after_sum k o a c (mc.finished s x) t st
@@ -345,20 +348,24 @@ expr_then (gr.If l c m a n b) k st t h = expr_then b (suc k) (mc.IfElse l (pr.ex
 expr_then (gr.Match l e m bar as' n) k st t h = refl
 expr_then (gr.Chain o) k st t h = or_then o (suc k) t st h
 
-pub ends_or : (t : Lexeme) → mc.begins_argument t ≡ false → NotAt t → NotStar t → NotSign t → NotComparison t → NotAndAnd t → NotOrOr t → EndsOr t
-ends_or t a b c d e f g = record { ends = record { ends = record { ends = record { ends = record { ends = record { no_unit = a; no_at = b }; no_star = c }; no_sign = d }; no_comparison = e }; no_and = f }; no_or = g }
+pub ends_or : (t : Lexeme) → mc.begins_argument t ≡ false → NotAt t → NotProduct t → NotSign t → NotComparison t → NotAndAnd t → NotOrOr t → EndsOr t
+ends_or t a b c d e f g = record { ends = record { ends = record { ends = record { ends = record { ends = record { no_unit = a; no_at = b }; no_product = c }; no_sign = d }; no_comparison = e }; no_and = f }; no_or = g }
 
 -- ---- operators behind a tree
 
-pub prod_joins : (y : gr.Prod) (k : ℕ) (o a c s : Option Left) (l : ℕ) (st : List Frame)
-    → mc.expr_step (reach_prod y k o a c s) (Mark mark.Star l) st
-    ≡ mc.operator_read (lv.in_prod y (mc.sum_level k o a c s)) (mc.lefts k o a c s (mc.left (pr.prod_operand y) (pr.Prim operator.Mul) l (lv.in_prod y (mc.sum_level k o a c s)))) st
-unfolding mc.after_pre
-prod_joins (gr.OnePre x) k o a c s l st = pre_then x _ [] _ (Mark mark.Star l) st (record { no_unit = refl; no_at = tt })
-prod_joins (gr.Times y gr.Star i x) k o a c s l st = pre_then x _ [] _ (Mark mark.Star l) st (record { no_unit = refl; no_at = tt })
+pub prod_joins : (y : gr.Prod) (w : gr.ProductSign) (k : ℕ) (o a c s : Option Left) (l : ℕ) (st : List Frame)
+    → advance (InExpr (reach_prod y k o a c s)) (gr.product_mark w l) st
+    ≡ mc.operator_read (lv.in_prod y (mc.sum_level k o a c s)) (mc.lefts k o a c s (mc.left (pr.prod_operand y) (pr.product_joint w) l (lv.in_prod y (mc.sum_level k o a c s)))) st
+unfolding mc.after_pre advance step
+prod_joins (gr.OnePre x) gr.Star k o a c s l st = pre_then x _ [] _ (Mark mark.Star l) st (record { no_unit = refl; no_at = tt })
+prod_joins (gr.OnePre x) gr.Slash k o a c s l st = pre_then x _ [] _ (Mark mark.Slash l) st (record { no_unit = refl; no_at = tt })
+prod_joins (gr.OnePre x) gr.Mod k o a c s l st = pre_then x _ [] _ (Mark mark.Mod l) st (record { no_unit = refl; no_at = tt })
+prod_joins (gr.Times y v i x) gr.Star k o a c s l st = pre_then x _ [] _ (Mark mark.Star l) st (record { no_unit = refl; no_at = tt })
+prod_joins (gr.Times y v i x) gr.Slash k o a c s l st = pre_then x _ [] _ (Mark mark.Slash l) st (record { no_unit = refl; no_at = tt })
+prod_joins (gr.Times y v i x) gr.Mod k o a c s l st = pre_then x _ [] _ (Mark mark.Mod l) st (record { no_unit = refl; no_at = tt })
 
-ends_prod : (t : Lexeme) → mc.begins_argument t ≡ false → NotAt t → NotStar t → EndsProd t
-ends_prod t a b c = record { ends = record { no_unit = a; no_at = b }; no_star = c }
+ends_prod : (t : Lexeme) → mc.begins_argument t ≡ false → NotAt t → NotProduct t → EndsProd t
+ends_prod t a b c = record { ends = record { no_unit = a; no_at = b }; no_product = c }
 
 pub sum_joins : (y : gr.Sum) (x : gr.Sign) (k : ℕ) (o a c : Option Left) (l : ℕ) (st : List Frame)
     → advance (InExpr (reach_sum y k o a c)) (gr.sign_mark x l) st
@@ -369,7 +376,7 @@ sum_joins (gr.OneProd y) gr.Minus k o a c l st = prod_then y k o a c None (Mark 
 sum_joins (gr.Adds s i j y) gr.Plus k o a c l st = prod_then y k o a c _ (Mark mark.Plus l) st (ends_prod (Mark mark.Plus l) refl tt tt)
 sum_joins (gr.Adds s i j y) gr.Minus k o a c l st = prod_then y k o a c _ (Mark mark.Minus l) st (ends_prod (Mark mark.Minus l) refl tt tt)
 
-ends_sum : (t : Lexeme) → mc.begins_argument t ≡ false → NotAt t → NotStar t → NotSign t → EndsSum t
+ends_sum : (t : Lexeme) → mc.begins_argument t ≡ false → NotAt t → NotProduct t → NotSign t → EndsSum t
 ends_sum t a b c d = record { ends = ends_prod t a b c; no_sign = d }
 
 pub sum_compares : (y : gr.Sum) (x : gr.Comparison) (k : ℕ) (o a : Option Left) (l : ℕ) (st : List Frame)
@@ -383,7 +390,7 @@ sum_compares y gr.Le k o a l st = sum_then y k o a None (Mark mark.LessEqual l) 
 sum_compares y gr.Gt k o a l st = sum_then y k o a None (Mark mark.Greater l) st (ends_sum (Mark mark.Greater l) refl tt tt tt)
 sum_compares y gr.Ge k o a l st = sum_then y k o a None (Mark mark.GreaterEqual l) st (ends_sum (Mark mark.GreaterEqual l) refl tt tt tt)
 
-ends_cmp : (t : Lexeme) → mc.begins_argument t ≡ false → NotAt t → NotStar t → NotSign t → NotComparison t → EndsCmp t
+ends_cmp : (t : Lexeme) → mc.begins_argument t ≡ false → NotAt t → NotProduct t → NotSign t → NotComparison t → EndsCmp t
 ends_cmp t a b c d e = record { ends = ends_sum t a b c d; no_comparison = e }
 
 pub and_joins : (y : gr.And) (k : ℕ) (o : Option Left) (l : ℕ) (st : List Frame)

@@ -12,7 +12,7 @@ use Rattle.camelot_tree.specs.Tree.{Expression, Source}
 use Rattle.camelot_grammar.specs.Program.{Operand}
 use Rattle.camelot_grammar.specs.Machine as mc
 use Rattle.camelot_grammar.specs.Machine.{State, InDecl, InExpr, InArm, Finished, ExprState, Frame, Step, Goes, Slot, Spot, Callee, step, advance}
-use Rattle.camelot_grammar.proofs.Behind.{Over, ran, raw, EndsPre, EndsOr, ends_or, done_then, full_then, con_then, open_then, applied_then, star_past, sign_past, comparison_past, and_past, or_past}
+use Rattle.camelot_grammar.proofs.Behind.{Over, ran, raw, EndsPre, EndsOr, ends_or, done_then, full_then, con_then, open_then, applied_then, product_past, sign_past, comparison_past, and_past, or_past}
 use Rattle.camelot_grammar.proofs.Concrete as co
 
 abbrev x : Name
@@ -77,7 +77,7 @@ whole s y = (mc.finished s.lefts.ors (mc.finished s.lefts.ands (mc.finished s.le
 operand_past : (s : Slot) (y : Operand) (t : Lexeme) (st : List Frame) → EndsOr t → mc.after_operand s y t st ≡ mc.close st (whole s y) t
 unfolding mc.after_operand
 operand_past s y t st h =
-    star_past s.lefts (mc.negated_all s.nots y) t st h.ends.ends.ends.ends.no_star
+    product_past s.lefts (mc.negated_all s.nots y) t st h.ends.ends.ends.ends.no_product
     ∙ sign_past _ _ _ _ _ _ t st h.ends.ends.ends.no_sign
     ∙ comparison_past _ _ _ _ _ t st h.ends.ends.no_comparison
     ∙ and_past _ _ _ _ t st h.ends.no_and

@@ -118,8 +118,8 @@ mutual
       → AsPre q st (slot (mc.lefts k o a c s None) [] (mc.sum_level k o a c s))
       → Gives (at (reach_prod y k o a c s) st) ts ls z → Gives (at q st) (gr.spell_prod y ts) (lv.levels_prod y (mc.sum_level k o a c s) ls) z
   prod_gives (gr.OnePre x) q k o a c s st ts ls z as' h = pre_gives x q _ [] _ st ts ls z as' h
-  prod_gives (gr.Times y gr.Star l x) q k o a c s st ts ls z as' h =
-      prod_gives y q k o a c s st _ _ z as' (go (prod_joins y k o a c s l st) (pre_gives x _ _ [] _ st ts ls z (want_pre_as _ [] _ st) h))
+  prod_gives (gr.Times y w l x) q k o a c s st ts ls z as' h =
+      prod_gives y q k o a c s st _ _ z as' (go (prod_joins y w k o a c s l st) (pre_gives x _ _ [] _ st ts ls z (want_pre_as _ [] _ st) h))
 
   pub sum_gives : (y : gr.Sum) (q : ExprState) (k : ℕ) (o a c : Option Left) (st : List Frame) (ts : List Lexeme) (ls : List ℕ) (z : End)
       → AsPre q st (slot (mc.lefts k o a c None None) [] (mc.within c (mc.within a (mc.within o k))))

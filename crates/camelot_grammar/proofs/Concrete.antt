@@ -1,6 +1,5 @@
 -- The machine's states with trees of the grammar in them: what each stands for, and what was read up to it.
 use Rattle.std.proofs.Common.{ℕ, suc, true, List, [], ◌∷◌, ◌++◌, Option, Some, None}
-use Rattle.camelot_values.specs.Operator as operator
 use Rattle.camelot_tree.specs.declared.tree.Name.{Name}
 use Rattle.camelot_tree.specs.declared.tree.Atom.{Atom}
 use Rattle.camelot_tree.specs.declared.tree.Param.{Param}
@@ -18,7 +17,7 @@ use Rattle.camelot_grammar.specs.Machine.{State, InDecl, InExpr, InArm, Finished
 
 pub data ProdLeft : Type 0 where
   NoProd : ProdLeft
-  ProdStar : gr.Prod → ℕ → ProdLeft
+  ProdSign : gr.Prod → gr.ProductSign → ℕ → ProdLeft
 
 pub data SumLeft : Type 0 where
   NoSum : SumLeft
@@ -38,7 +37,7 @@ pub data OrLeft : Type 0 where
 
 abbrev pub prod_left : ProdLeft → ℕ → Option Left
 prod_left NoProd k = None
-prod_left (ProdStar y l) k = mc.left (pr.prod_operand y) (pr.Prim operator.Mul) l (lv.in_prod y k)
+prod_left (ProdSign y x l) k = mc.left (pr.prod_operand y) (pr.product_joint x) l (lv.in_prod y k)
 
 abbrev pub sum_left : SumLeft → ℕ → Option Left
 sum_left NoSum k = None
@@ -58,7 +57,7 @@ or_left (OrSign y l) k = mc.left (pr.or_operand y) pr.OrElse l (lv.in_or y k)
 
 abbrev pub prod_before : ProdLeft → List Lexeme → List Lexeme
 prod_before NoProd r = r
-prod_before (ProdStar y l) r = gr.spell_prod y (Mark mark.Star l ∷ r)
+prod_before (ProdSign y x l) r = gr.spell_prod y (gr.product_mark x l ∷ r)
 
 abbrev pub sum_before : SumLeft → List Lexeme → List Lexeme
 sum_before NoSum r = r

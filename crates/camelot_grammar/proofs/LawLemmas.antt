@@ -2,9 +2,8 @@
 use Rattle.std.proofs.Common.{◌≡◌, ℕ, suc, ◌⊎◌, inl, inr, List, [], ◌∷◌, ◌++◌, length, take, get_or, Option, Some, refl, sym, ap, ◌∙◌, subst}
 use Rattle.std.proofs.Math.Seq.{take-append_seam}
 use Rattle.camelot_grammar.specs.declared.fault.ParseFault.{ParseFault}
-use Rattle.camelot_grammar.specs.declared.lexeme.Mark.TheVariants as mark
 use Rattle.camelot_grammar.specs.declared.lexeme.Lexeme.{Lexeme}
-use Rattle.camelot_grammar.specs.declared.lexeme.Lexeme.TheVariants.{Variable, Mark}
+use Rattle.camelot_grammar.specs.declared.lexeme.Lexeme.TheVariants.{Variable}
 use Rattle.camelot_tree.specs.Tree.{Source}
 use Rattle.camelot_grammar.specs.Grammar.{Decls, spell_decls}
 use Rattle.camelot_grammar.specs.Levels.{levels_decls}
@@ -45,8 +44,6 @@ each_has_one tokens last = some_of tokens last (runs start [] tokens) refl
 stop_place : (rest : List Lexeme) (n l : ℕ) → place_of (stop_fault rest n l) ≡ n
 stop_place [] n l = refl
 stop_place (Variable i ∷ rest) n l = refl
-stop_place (Mark mark.Slash i ∷ rest) n l = refl
-stop_place (Mark mark.Mod i ∷ rest) n l = refl
 stop_place (t ∷ rest) n l = refl
 
 front_begins : (before rest tokens : List Lexeme) (n : ℕ) → before ++ rest ≡ tokens → n ≡ length before → BeginsProgram before → BeginsProgram (take n tokens)

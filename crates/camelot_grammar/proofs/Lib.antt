@@ -10,3 +10,4 @@ pub mod AnswerLemmas
 pub mod LexemeLemmas
 pub mod TokenLemmas
 pub mod Place
+mod Rows

@@ -1,7 +1,6 @@
 -- The program that a tree of the grammar stands for is whole.
 use Rattle.std.proofs.Common.{◌≡◌, ℕ, Bool, true, false, not, ◌&&◌, List, [], ◌∷◌, ◌++◌, refl, ap, subst}
 use Rattle.std.specs.List.{list_all}
-use Rattle.camelot_values.specs.Operator as operator
 use Rattle.camelot_tree.specs.declared.tree.Name.{Name}
 use Rattle.camelot_tree.specs.Tree as tree
 use Rattle.camelot_tree.specs.Tree.{Expression, Branch, Source}
@@ -93,7 +92,7 @@ mutual
 
   prod_has : (y : gr.Prod) → has_arms (pr.prod_operand y).expression ≡ true
   prod_has (gr.OnePre x) = pre_has x
-  prod_has (gr.Times y gr.Star l x) = join_has (pr.Prim operator.Mul) l (pr.prod_operand y) (pr.pre_operand x) (prod_has y) (pre_has x)
+  prod_has (gr.Times y o l x) = join_has (pr.product_joint o) l (pr.prod_operand y) (pr.pre_operand x) (prod_has y) (pre_has x)
 
   sum_has : (y : gr.Sum) → has_arms (pr.sum_operand y).expression ≡ true
   sum_has (gr.OneProd x) = prod_has x

@@ -263,13 +263,19 @@ prod_keeps k o a c s y st (Mark mark.Minus l) = adds_keeps k o a c s y gr.Minus 
 prod_keeps k o a c co.NoSum y st t = sum_keeps k o a c (gr.OneProd y) st t
 prod_keeps k o a c (co.SumSign w x i) y st t = sum_keeps k o a c (gr.Adds w x i y) st t
 
+multiplies_keeps : (c : Chains) (x : gr.Pre) (w : gr.ProductSign) (l : ℕ) (st : Stack)
+    → Keeps (λ r. stack_before st (co.chains_before c (gr.spell_pre x r))) (gr.product_mark w l) (mc.multiplies (co.chains_lefts c) (pr.pre_operand x) (pr.product_joint w) l (frames st))
+multiplies_keeps (MkChains k o a c s co.NoProd) x w l st = keep (InExprs (co.WantPre (MkChains k o a c s (co.ProdSign (gr.OnePre x) w l)) []) st) (λ r. refl)
+multiplies_keeps (MkChains k o a c s (co.ProdSign y v i)) x w l st = keep (InExprs (co.WantPre (MkChains k o a c s (co.ProdSign (gr.Times y v i x) w l)) []) st) (λ r. refl)
+
 pre_keeps : (c : Chains) (x : gr.Pre) (st : Stack) (t : Lexeme)
     → Keeps (λ r. stack_before st (co.chains_before c (gr.spell_pre x r))) t (mc.after_pre (co.chains_lefts c) (pr.pre_operand x) t (frames st))
 unfolding mc.after_pre
-pre_keeps (MkChains k o a c s co.NoProd) x st (Mark mark.Star l) = keep (InExprs (co.WantPre (MkChains k o a c s (co.ProdStar (gr.OnePre x) l)) []) st) (λ r. refl)
-pre_keeps (MkChains k o a c s (co.ProdStar y i)) x st (Mark mark.Star l) = keep (InExprs (co.WantPre (MkChains k o a c s (co.ProdStar (gr.Times y gr.Star i x) l)) []) st) (λ r. refl)
+pre_keeps c x st (Mark mark.Star l) = multiplies_keeps c x gr.Star l st
+pre_keeps c x st (Mark mark.Slash l) = multiplies_keeps c x gr.Slash l st
+pre_keeps c x st (Mark mark.Mod l) = multiplies_keeps c x gr.Mod l st
 pre_keeps (MkChains k o a c s co.NoProd) x st t = prod_keeps k o a c s (gr.OnePre x) st t
-pre_keeps (MkChains k o a c s (co.ProdStar y i)) x st t = prod_keeps k o a c s (gr.Times y gr.Star i x) st t
+pre_keeps (MkChains k o a c s (co.ProdSign y w i)) x st t = prod_keeps k o a c s (gr.Times y w i x) st t
 
 -- the `not`s before it are read too
 operand_keeps : (c : Chains) (nots : List ℕ) (x : gr.Pre) (st : Stack) (t : Lexeme)

@@ -5,7 +5,6 @@ use Rattle.std.proofs.Common.{◌≡◌, ℕ, zero, suc, pos, ◌-ℤ◌, ◌<�
 use Rattle.std.specs.List.{list_all, AllByRecursion}
 use Rattle.std.specs.Char.{is_ascii_lowercase, is_ascii_uppercase, is_ascii_digit}
 use Rattle.text_scan.specs.Forms as form
-use Rattle.camelot_values.specs.Operator as operator
 use Rattle.camelot_values.specs.Value.{is_int32}
 use Rattle.camelot_values.specs.Names as names
 use Rattle.camelot_tree.specs.declared.tree.Name.{Name}
@@ -221,10 +220,10 @@ mutual
 
   prod_real : (y : gr.Prod) (r : List Lexeme) → Real (gr.spell_prod y r) → Good (pr.prod_operand y).expression × Real r
   prod_real (gr.OnePre x) r h = pre_real x r h
-  prod_real (gr.Times y gr.Star l x) r h =
+  prod_real (gr.Times y o l x) r h =
       let i = prod_real y _ h in
       let j = pre_real x r i.1.1 in
-      (good_join (pr.Prim operator.Mul) l (pr.prod_operand y) (pr.pre_operand x) i.0 j.0, j.1)
+      (good_join (pr.product_joint o) l (pr.prod_operand y) (pr.pre_operand x) i.0 j.0, j.1)
 
   sum_real : (y : gr.Sum) (r : List Lexeme) → Real (gr.spell_sum y r) → Good (pr.sum_operand y).expression × Real r
   sum_real (gr.OneProd x) r h = prod_real x r h

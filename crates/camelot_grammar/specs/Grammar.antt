@@ -40,9 +40,11 @@ pub data Cell : Type 0 where
   NoCell : Cell
   AtField : ℕ → Field → Cell
 
--- "*"
+-- "*" | "/" | "mod"
 pub data ProductSign : Type 0 where
   Star : ProductSign
+  Slash : ProductSign
+  Mod : ProductSign
 
 -- "+" | "-"
 pub data Sign : Type 0 where
@@ -96,7 +98,7 @@ mutual
     Con : Name → Pre
     Alone : Firm → Pre
 
-  -- pre { "*" pre }
+  -- pre { ( "*" | "/" | "mod" ) pre }
   pub data Prod : Type 0 where
     OnePre : Pre → Prod
     Times : Prod → ProductSign → ℕ → Pre → Prod
@@ -196,6 +198,8 @@ pub data Decls : Type 0 where
 
 abbrev pub product_mark : ProductSign → ℕ → Lexeme
 product_mark Star l = Mark mark.Star l
+product_mark Slash l = Mark mark.Slash l
+product_mark Mod l = Mark mark.Mod l
 
 abbrev pub sign_mark : Sign → ℕ → Lexeme
 sign_mark Plus l = Mark mark.Plus l

@@ -365,15 +365,17 @@ after_prod k o a c s x (Mark mark.Plus l) st = adds k o a c s x (Prim operator.A
 after_prod k o a c s x (Mark mark.Minus l) st = adds k o a c s x (Prim operator.Sub) l st
 after_prod k o a c s x t st = after_sum k o a c (finished s x) t st
 
--- the level of the next `*` in a product
+-- the level of the next operator in a product
 abbrev pub prod_level : Lefts → ℕ
 prod_level c = within c.prod (sum_level c.around c.ors c.ands c.cmp c.sum)
 
-abbrev pub multiplies : Lefts → Operand → ℕ → List Frame → Step
-multiplies c x l st = operator_read (prod_level c) (lefts c.around c.ors c.ands c.cmp c.sum (left (finished c.prod x) (Prim operator.Mul) l (prod_level c))) st
+abbrev pub multiplies : Lefts → Operand → Joint → ℕ → List Frame → Step
+multiplies c x j l st = operator_read (prod_level c) (lefts c.around c.ors c.ands c.cmp c.sum (left (finished c.prod x) j l (prod_level c))) st
 
 unfoldable pub after_pre : Lefts → Operand → Lexeme → List Frame → Step
-after_pre c x (Mark mark.Star l) st = multiplies c x l st
+after_pre c x (Mark mark.Star l) st = multiplies c x (Prim operator.Mul) l st
+after_pre c x (Mark mark.Slash l) st = multiplies c x (Prim operator.Div) l st
+after_pre c x (Mark mark.Mod l) st = multiplies c x (Prim operator.Mod) l st
 after_pre c x t st = after_prod c.around c.ors c.ands c.cmp c.sum (finished c.prod x) t st
 
 unfoldable pub after_operand : Slot → Operand → Lexeme → List Frame → Step

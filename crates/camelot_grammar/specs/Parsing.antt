@@ -5,11 +5,10 @@ use Rattle.std.specs.Prelude.{◌≡◌, ℕ, ◌-◌, ◌<◌, ◌≤◌, ◌�
 use Rattle.std.specs.List.{AllByRecursion}
 use Rattle.text_scan.specs.declared.tokens.Token.{Token}
 use Rattle.text_scan.specs.Reading.{AreTokensOf, IsFaultOf, line_at}
-use Rattle.camelot_grammar.specs.declared.lexeme.Mark.TheVariants as mark
 use Rattle.camelot_grammar.specs.declared.lexeme.Lexeme.{Lexeme}
 use Rattle.camelot_grammar.specs.declared.lexeme.Lexeme.TheVariants as lexeme
 use Rattle.camelot_grammar.specs.declared.fault.ParseFault.{ParseFault}
-use Rattle.camelot_grammar.specs.declared.fault.ParseFault.TheVariants.{Scan, Unexpected, TooDeep, TypeParameter, Division}
+use Rattle.camelot_grammar.specs.declared.fault.ParseFault.TheVariants.{Scan, Unexpected, TooDeep, TypeParameter}
 use Rattle.camelot_grammar.specs.Lexemes.{lexemes, IsReal}
 use Rattle.camelot_tree.specs.Tree.{Source}
 use Rattle.camelot_grammar.specs.Grammar.{Decls, spell_decls}
@@ -67,8 +66,6 @@ first_line (token ∷ rest) last = line_of token
 -- the fault at the first of these tokens, with which no program goes on
 abbrev pub stop_fault : List Lexeme → (token line : ℕ) → ParseFault
 stop_fault (lexeme.Variable l ∷ rest) token line = TypeParameter token line
-stop_fault (lexeme.Mark mark.Slash l ∷ rest) token line = Division token line
-stop_fault (lexeme.Mark mark.Mod l ∷ rest) token line = Division token line
 stop_fault rest token line = Unexpected token line
 
 -- no program goes on here
@@ -121,4 +118,3 @@ place_of (Scan fault) = 0
 place_of (Unexpected token line) = token
 place_of (TooDeep token line) = token
 place_of (TypeParameter token line) = token
-place_of (Division token line) = token

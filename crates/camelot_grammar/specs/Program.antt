@@ -11,7 +11,7 @@ use Rattle.camelot_tree.specs.declared.tree.ArmCell.{ArmCell}
 use Rattle.camelot_tree.specs.declared.tree.ArmCell.TheVariants as cell
 use Rattle.camelot_tree.specs.Tree as tree
 use Rattle.camelot_tree.specs.Tree.{Expression, Branch, Constructor, DataType, Function, Source, expressions}
-use Rattle.camelot_grammar.specs.Grammar.{Place, NoPlace, At, Field, Named, Blank, FieldList, OneField, MoreFields, Fields, NoFields, InParens, Cell, NoCell, AtField, ProductSign, Star, Sign, Plus, Minus, Comparison, Eq, Ne, Lt, Le, Gt, Ge, Solid, Literal, True, False, Full, Placed, Firm, Is, Paren, Units, NoUnits, AndLower, AndFirm, BareLower, BareSolid, Bare, AndUpper, BareUpper, Pre, Not, Negative, Least, Apply, ApplyBare, Con, Alone, Prod, OnePre, Times, Sum, OneProd, Adds, Cmp, OneSum, Compares, And, OneCmp, Both, Or, OneAnd, Either, Expr, Let, If, Match, Chain, Exprs, OneExpr, MoreExprs, Arms, OneArm, MoreArms, Arm, Case, WrittenAtom, Int, Bool', Dia, Of, AtomList, OneAtom, MoreAtoms, ConDecl, Inline, NoFields', WithFields, Cons, OneCon, MoreCons, Kind, NoKind, OfKind, ReadMark, NoRead, Read, WrittenParam, Simple, Marked, Params, OneParam, MoreParams, Decls, NoDecls, AndType, AndFun}
+use Rattle.camelot_grammar.specs.Grammar.{Place, NoPlace, At, Field, Named, Blank, FieldList, OneField, MoreFields, Fields, NoFields, InParens, Cell, NoCell, AtField, ProductSign, Star, Slash, Mod, Sign, Plus, Minus, Comparison, Eq, Ne, Lt, Le, Gt, Ge, Solid, Literal, True, False, Full, Placed, Firm, Is, Paren, Units, NoUnits, AndLower, AndFirm, BareLower, BareSolid, Bare, AndUpper, BareUpper, Pre, Not, Negative, Least, Apply, ApplyBare, Con, Alone, Prod, OnePre, Times, Sum, OneProd, Adds, Cmp, OneSum, Compares, And, OneCmp, Both, Or, OneAnd, Either, Expr, Let, If, Match, Chain, Exprs, OneExpr, MoreExprs, Arms, OneArm, MoreArms, Arm, Case, WrittenAtom, Int, Bool', Dia, Of, AtomList, OneAtom, MoreAtoms, ConDecl, Inline, NoFields', WithFields, Cons, OneCon, MoreCons, Kind, NoKind, OfKind, ReadMark, NoRead, Read, WrittenParam, Simple, Marked, Params, OneParam, MoreParams, Decls, NoDecls, AndType, AndFun}
 
 -- what an operator does with its operands
 pub data Joint : Type 0 where
@@ -42,6 +42,8 @@ applied f (e ∷ es) = tree.Call f (expressions (e ∷ es))
 
 abbrev pub product_joint : ProductSign → Joint
 product_joint Star = Prim operator.Mul
+product_joint Slash = Prim operator.Div
+product_joint Mod = Prim operator.Mod
 
 abbrev pub sign_joint : Sign → Joint
 sign_joint Plus = Prim operator.Add

@@ -17,7 +17,4 @@ pub enum ParseFault {
     /// No program goes on with this type variable.
     #[error("type-parameter token {token} line {line}")]
     TypeParameter { token: u64, line: u64 },
-    /// No program goes on with this `/` or `mod`.
-    #[error("division token {token} line {line}")]
-    Division { token: u64, line: u64 },
 }
