@@ -74,6 +74,8 @@ operator_within : (types : List DataType) (n : ℕ) (op : Operator) → IsWithin
 operator_within types n operator.Add = tt
 operator_within types n operator.Sub = tt
 operator_within types n operator.Mul = tt
+operator_within types n operator.Div = tt
+operator_within types n operator.Mod = tt
 operator_within types n operator.Eq = tt
 operator_within types n operator.Ne = tt
 operator_within types n operator.Lt = tt
