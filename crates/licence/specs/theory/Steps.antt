@@ -1,18 +1,19 @@
 -- Laws, for the proofs of this crate and of those above it.
 -- Each let and each end of a block is paid for, where its rule holds.
 use Rattle.std.proofs.Common.{◌≡◌, ℕ, zero, suc, ◌+◌, ◌-◌, ◌≤◌, Bool, true, false, List, [], ◌∷◌, ◌++◌, map, Option, Some, None, refl, sym, ap, ◌∙◌, subst, arith}
-use Rattle.std.specs.Prelude.{◌||◌, not, slice_get, IsSomeAnd, IfSome, cond}
+use Rattle.std.specs.Prelude.{◌||◌, ◌*◌, ℤ, pos, not, slice_get, IsSomeAnd, IfSome, cond, if◌then◌else◌}
+use Rattle.std.specs.Ordering.{int_eq}
 use Rattle.std.specs.List.{list_any}
 use Rattle.std.specs.Option.{option_map, option_map_or}
 use Rattle.camelot_values.specs.Value as value
 use Rattle.camelot_values.specs.Value.{Value, Values, parts}
-use Rattle.camelot_values.specs.Operator.{Operator, operate, on_ints}
+use Rattle.camelot_values.specs.Operator.{Operator, operate, on_ints, dividing_by}
 use Rattle.camelot_values.specs.Operator as operator
 use Rattle.camelot_values.specs.Kinds.{Constructor, DataType, AreTypes, constructor, type_of}
 use Rattle.camelot_values.specs.Heap.{has_boxed, is_heap, is_heap_type}
 use Rattle.camelot_values.specs.KindLaws.{located}
 use Rattle.camelot_values.specs.Typing.{Fits, FitAll, ArgumentsFit, IsSafe, operator_kind}
-use Rattle.camelot_values.specs.Outcome.{known, given, at_once}
+use Rattle.camelot_values.specs.Outcome.{Outcome, Trap, known, given, at_once}
 use Rattle.camelot_values.specs.Bounds.{IsPaidBy}
 use Rattle.camelot_values.specs.Runs.{Enter, on_diamond}
 use Rattle.camelot_values.specs.declared.kinds.Kind.{Kind}
@@ -49,12 +50,26 @@ map_append f (x ∷ xs) ys = ap (λ l. f x ∷ l) (map_append f xs ys)
 
 -- ---- lets that leave the account as it was
 
+-- a stop with no cell costs nothing
+nothing_paid : (u top : ℕ) → u * 0 ≤ top
+nothing_paid u top = omega arith
+
+-- a division that is trapped costs nothing either
+division_free : (u top : ℕ) (left : Value → ℕ) (y z : ℤ) → ((v : Value) → dividing_by y z ≡ at_once v → left v ≤ top) → IsPaidBy u top left (dividing_by y z)
+division_free u top left y z h = by_test (int_eq y (pos 0)) h
+  where
+    by_test : (b : Bool) → ((v : Value) → (if b then Trap 0 else at_once (value.Int z)) ≡ at_once v → left v ≤ top) → IsPaidBy u top left (if b then Trap 0 else at_once (value.Int z))
+    by_test true h = nothing_paid u top
+    by_test false h = paid_at_once u top left _ 0 (h _ refl)
+
 -- an operator costs nothing
 operator_free : (u top : ℕ) (left : Value → ℕ) (op : Operator) (x y : Value) → ((v : Value) → operate op x y ≡ at_once v → left v ≤ top)
     → IsPaidBy u top left (operate op x y)
 operator_free u top left operator.Add (value.Int x) (value.Int y) h = paid_at_once u top left _ 0 (h _ refl)
 operator_free u top left operator.Sub (value.Int x) (value.Int y) h = paid_at_once u top left _ 0 (h _ refl)
 operator_free u top left operator.Mul (value.Int x) (value.Int y) h = paid_at_once u top left _ 0 (h _ refl)
+operator_free u top left operator.Div (value.Int x) (value.Int y) h = division_free u top left y _ h
+operator_free u top left operator.Mod (value.Int x) (value.Int y) h = division_free u top left y _ h
 operator_free u top left operator.Eq (value.Int x) (value.Int y) h = paid_at_once u top left _ 0 (h _ refl)
 operator_free u top left operator.Ne (value.Int x) (value.Int y) h = paid_at_once u top left _ 0 (h _ refl)
 operator_free u top left operator.Lt (value.Int x) (value.Int y) h = paid_at_once u top left _ 0 (h _ refl)
@@ -73,6 +88,8 @@ operator_plain : (types : List DataType) (op : Operator) → is_heap types (oper
 operator_plain types operator.Add = refl
 operator_plain types operator.Sub = refl
 operator_plain types operator.Mul = refl
+operator_plain types operator.Div = refl
+operator_plain types operator.Mod = refl
 operator_plain types operator.Eq = refl
 operator_plain types operator.Ne = refl
 operator_plain types operator.Lt = refl
