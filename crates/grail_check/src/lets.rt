@@ -22,7 +22,7 @@ fn operator_kind(op: PrimCode) -> Kind
     ensures { result ≡ operator_kind (operator_of op) }
 {
     match op {
-        PrimCode::Add | PrimCode::Sub | PrimCode::Mul => Kind::Int,
+        PrimCode::Add | PrimCode::Sub | PrimCode::Mul | PrimCode::Div | PrimCode::Mod => Kind::Int,
         PrimCode::Eq | PrimCode::Ne | PrimCode::Lt | PrimCode::Le | PrimCode::Gt | PrimCode::Ge =>
             Kind::Flag,
     }

@@ -9,7 +9,7 @@ use Rattle.std.proofs.lemmas.Bool.Decides.{nat_tests}
 use Rattle.camelot_values.specs.Value as value
 use Rattle.camelot_values.specs.Value.{Value, parts}
 use Rattle.camelot_values.specs.Kinds.{DataType, place_of}
-use Rattle.camelot_values.specs.Outcome.{Outcome, Done, Fuel, Deep, Stuck, after, first_then, given, entered}
+use Rattle.camelot_values.specs.Outcome.{Outcome, Done, Fuel, Deep, Trap, Stuck, after, first_then, given, entered}
 use Rattle.camelot_values.specs.OutcomeLaws.{after_both, after_nothing}
 use Rattle.camelot_values.specs.Runs.{Enter, is_too_deep}
 use Rattle.camelot_values.specs.RunLaws.{unfolds}
@@ -48,6 +48,7 @@ onto_then s t fuel v (Done u c p g) next e =
     ∙ ap (λ n. onto t (next n u)) (omega (arith, calls)) ∙ ap (λ x. onto t (next (fuel - t.calls) x)) (sym same)
 onto_then s t fuel v (Fuel c p) next e = absurd cc
 onto_then s t fuel v (Deep p) next e = absurd cc
+onto_then s t fuel v (Trap p) next e = absurd cc
 onto_then s t fuel v Stuck next e = absurd cc
 
 -- the run ends here
@@ -60,18 +61,21 @@ pub is_over : (r : Reached) → ((v : Tree) (s : Counts) → r ≡ reached.Done 
 is_over (reached.Done v s) other = absurd (other v s refl)
 is_over (reached.Fuel s) other = tt
 is_over (reached.Deep s) other = tt
+is_over (reached.Trap s) other = tt
 is_over reached.Stuck other = tt
 
 pub over_uses : (P : Counts → Type 0) (r : Reached) → ((v : Tree) (s : Counts) → r ≡ reached.Done v s → ⊥) → OnReached P r
 over_uses P (reached.Done v s) other = absurd (other v s refl)
 over_uses P (reached.Fuel s) other = tt
 over_uses P (reached.Deep s) other = tt
+over_uses P (reached.Trap s) other = tt
 over_uses P reached.Stuck other = tt
 
 onto_over : (s : Counts) (k : ℕ) (q o : Outcome Value) (next : ℕ → Value → Outcome Value) → IsOver q → q ≡ onto s o → q ≡ onto s (first_then k o next)
 onto_over s k q (Done v c p g) next over e = absurd (subst IsOver e over)
 onto_over s k q (Fuel c p) next over e = e
 onto_over s k q (Deep p) next over e = e
+onto_over s k q (Trap p) next over e = e
 onto_over s k q Stuck next over e = e
 
 -- ---- lets

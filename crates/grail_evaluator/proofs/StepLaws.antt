@@ -4,7 +4,7 @@ use Rattle.std.specs.Prelude.{ℤ}
 use Rattle.camelot_values.specs.Value as value
 use Rattle.camelot_values.specs.Value.{Value, parts}
 use Rattle.camelot_values.specs.Operator.{Operator, on_ints}
-use Rattle.camelot_values.specs.Outcome.{Outcome, Done, Stuck, at_once, given}
+use Rattle.camelot_values.specs.Outcome.{Outcome, Done, Trap, Stuck, at_once, given}
 use Rattle.camelot_values.specs.OutcomeLaws.{done_is}
 use Rattle.camelot_values.specs.Runs.{on_diamond}
 use Rattle.grail_code.specs.Meaning.{Locals, operands, built}
@@ -29,6 +29,21 @@ both s op (Some (value.Int z)) (Some (value.Con c vs)) a b t o e f h g = absurd 
 both s op (Some (value.Flag z)) v a b t o e f h g = absurd cc
 both s op (Some value.Dia) v a b t o e f h g = absurd cc
 both s op (Some (value.Con c vs)) v a b t o e f h g = absurd cc
+
+pub both_trapped : (s : Counts) (op : Operator) (u v : Option Value) (a b : ℤ) → Some a ≡ int_at u → Some b ≡ int_at v
+    → Trap 0 ≡ on_ints op a b → Trap s.peak ≡ onto s (operands op u v)
+both_trapped s op None v a b e f h = absurd cc
+both_trapped s op (Some (value.Int z)) None a b e f h = absurd cc
+both_trapped s op (Some (value.Int z)) (Some (value.Int y)) a b e f h =
+    let p : a ≡ z = cc in let q : b ≡ y = cc in
+    let n : s.peak ≡ s.peak + (0 - s.low) = omega arith in
+    ap Trap n ∙ ap (onto s) (h ∙ ap (λ x. on_ints op x b) p ∙ ap (λ x. on_ints op z x) q)
+both_trapped s op (Some (value.Int z)) (Some (value.Flag y)) a b e f h = absurd cc
+both_trapped s op (Some (value.Int z)) (Some value.Dia) a b e f h = absurd cc
+both_trapped s op (Some (value.Int z)) (Some (value.Con c vs)) a b e f h = absurd cc
+both_trapped s op (Some (value.Flag z)) v a b e f h = absurd cc
+both_trapped s op (Some value.Dia) v a b e f h = absurd cc
+both_trapped s op (Some (value.Con c vs)) v a b e f h = absurd cc
 
 pub no_left : (s : Counts) (op : Operator) (u v : Option Value) → None ≡ int_at u → Stuck ≡ onto s (operands op u v)
 no_left s op None v e = refl

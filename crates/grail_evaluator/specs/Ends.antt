@@ -1,6 +1,6 @@
 -- Private: words for functions of this crate.
 -- What parts of a run come to and how they go on, with all that was used until then.
-use Rattle.std.specs.Prelude.{◌≡◌, ℕ, ◌+◌, ◌*◌, ◌-◌, ◌≤◌, true, List, map, ⊤}
+use Rattle.std.specs.Prelude.{◌≡◌, ℕ, ◌+◌, ◌*◌, ◌-◌, ◌≤◌, true, List, map, Option, Some, None, ⊤}
 use Rattle.camelot_values.specs.Value.{Value}
 use Rattle.camelot_values.specs.Kinds.{DataType}
 use Rattle.camelot_values.specs.Outcome as meaning
@@ -12,6 +12,7 @@ use Rattle.grail_code.specs.declared.code.Code.{Code}
 use Rattle.grail_code.specs.declared.code.Block.{Block}
 use Rattle.grail_evaluator.specs.Trees.{plain, plain_all}
 use Rattle.grail_evaluator.specs.Locals.{env_of}
+use Rattle.grail_evaluator.specs.declared.tree.Tree.{Tree}
 use Rattle.grail_evaluator.specs.declared.counts.Counts.{Counts}
 use Rattle.grail_evaluator.specs.declared.outcome.Reached.{Reached}
 use Rattle.grail_evaluator.specs.declared.outcome.Reached.TheVariants as reached
@@ -24,7 +25,13 @@ abbrev pub reached_of : Reached → meaning.Outcome Value
 reached_of (reached.Done v s) = meaning.Done (plain v) s.calls s.peak s.low
 reached_of (reached.Fuel s) = meaning.Fuel s.calls s.peak
 reached_of (reached.Deep s) = meaning.Deep s.peak
+reached_of (reached.Trap s) = meaning.Trap s.peak
 reached_of reached.Stuck = meaning.Stuck
+
+-- what an operator comes to: a value at no cost, or a trap
+abbrev pub computed : Option Tree → meaning.Outcome Value
+computed (Some t) = meaning.at_once (plain t)
+computed None = meaning.Trap 0
 
 -- what comes behind all that was used so far
 abbrev pub onto : Counts → meaning.Outcome Value → meaning.Outcome Value

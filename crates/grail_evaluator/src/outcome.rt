@@ -28,6 +28,10 @@ pub enum Outcome {
     Deep {
         peak: u64,
     },
+    /// An operator divided by 0.
+    Trap {
+        peak: u64,
+    },
     /// The code has no meaning on these arguments.
     Stuck,
 }
@@ -68,6 +72,8 @@ pub(crate) enum Reached {
     Fuel(Counts),
     /// A call found as many calls waiting as may wait.
     Deep(Counts),
+    /// An operator divided by 0.
+    Trap(Counts),
     /// The code has no meaning here.
     Stuck,
 }
@@ -111,6 +117,10 @@ pub(crate) fn told(reached: Reached) -> Result<Outcome, RunError>
         },
         Reached::Deep(counts) => match word(counts.peak) {
             Some(peak) => Ok(Outcome::Deep { peak }),
+            None => Err(RunError::Large),
+        },
+        Reached::Trap(counts) => match word(counts.peak) {
+            Some(peak) => Ok(Outcome::Trap { peak }),
             None => Err(RunError::Large),
         },
         Reached::Stuck => Ok(Outcome::Stuck),

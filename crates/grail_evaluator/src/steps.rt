@@ -2,13 +2,13 @@ ghost use Rattle.std.specs.Prelude.{◌≡◌, ℕ, ◌-◌, ◌≤◌, IfOk, Ma
 ghost use Rattle.std.specs.Option.{option_map};
 ghost use Rattle.camelot_values.specs.Kinds.{place_of};
 ghost use Rattle.camelot_values.specs.Value.{Con, Dia, parts};
-ghost use Rattle.camelot_values.specs.Operator.{on_ints};
+ghost use Rattle.camelot_values.specs.Operator.{Div, Mod, on_ints};
 ghost use Rattle.camelot_values.specs.Outcome.{at_once, known};
 ghost use Rattle.grail_code.specs.Code.{arm_of, operator_of};
 ghost use Rattle.grail_code.specs.Meaning.{arm_at, built, operands};
 ghost use Rattle.grail_evaluator.specs.Trees.{plain, plain_all};
 ghost use Rattle.grail_evaluator.specs.Locals.{env_of, int_at, flag_at, IsDiamond, IsNoCon};
-ghost use Rattle.grail_evaluator.specs.Ends.{reached_of, onto, most_cells, Stepped, OnReached};
+ghost use Rattle.grail_evaluator.specs.Ends.{reached_of, computed, onto, most_cells, Stepped, OnReached};
 
 use super::counts::Counts;
 use super::locals::{Bound, value_of};
@@ -34,20 +34,42 @@ pub(crate) fn at_once(counts: Counts, value: Tree) -> Reached
     Reached::Done { value, counts }
 }
 
-// What the operator makes of two ints.
-fn on_ints(op: PrimCode, left: i32, right: i32) -> Tree
-    ensures { at_once (plain result) ≡ on_ints (operator_of op) left right }
+// What division makes of two ints; nothing, where it is by 0.
+fn divided(left: i32, right: i32) -> Option<Tree>
+    ensures { computed result ≡ on_ints Div left right }
+{
+    if right == 0 {
+        return None;
+    }
+    Some(Tree::Int(left.wrapping_div(right)))
+}
+
+// What is left by division; nothing, where it is by 0.
+fn left_over(left: i32, right: i32) -> Option<Tree>
+    ensures { computed result ≡ on_ints Mod left right }
+{
+    if right == 0 {
+        return None;
+    }
+    Some(Tree::Int(left.wrapping_rem(right)))
+}
+
+// What the operator makes of two ints; nothing, where it is trapped.
+fn on_ints(op: PrimCode, left: i32, right: i32) -> Option<Tree>
+    ensures { computed result ≡ on_ints (operator_of op) left right }
 {
     match op {
-        PrimCode::Add => Tree::Int(left.wrapping_add(right)),
-        PrimCode::Sub => Tree::Int(left.wrapping_sub(right)),
-        PrimCode::Mul => Tree::Int(left.wrapping_mul(right)),
-        PrimCode::Eq => Tree::Flag(left == right),
-        PrimCode::Ne => Tree::Flag(left != right),
-        PrimCode::Lt => Tree::Flag(left < right),
-        PrimCode::Le => Tree::Flag(left <= right),
-        PrimCode::Gt => Tree::Flag(left > right),
-        PrimCode::Ge => Tree::Flag(left >= right),
+        PrimCode::Add => Some(Tree::Int(left.wrapping_add(right))),
+        PrimCode::Sub => Some(Tree::Int(left.wrapping_sub(right))),
+        PrimCode::Mul => Some(Tree::Int(left.wrapping_mul(right))),
+        PrimCode::Div => divided(left, right),
+        PrimCode::Mod => left_over(left, right),
+        PrimCode::Eq => Some(Tree::Flag(left == right)),
+        PrimCode::Ne => Some(Tree::Flag(left != right)),
+        PrimCode::Lt => Some(Tree::Flag(left < right)),
+        PrimCode::Le => Some(Tree::Flag(left <= right)),
+        PrimCode::Gt => Some(Tree::Flag(left > right)),
+        PrimCode::Ge => Some(Tree::Flag(left >= right)),
     }
 }
 
@@ -82,14 +104,17 @@ fn is_diamond(env: &[Bound], local: u32) -> bool
 }
 
 /// An operator on two locals.
-#[tactic(auto, using(crate::proofs::StepLaws::no_left, crate::proofs::StepLaws::no_right, crate::proofs::StepLaws::both))]
+#[tactic(auto, using(crate::proofs::StepLaws::no_left, crate::proofs::StepLaws::no_right, crate::proofs::StepLaws::both, crate::proofs::StepLaws::both_trapped))]
 pub(crate) fn operate(counts: Counts, env: &[Bound], op: PrimCode, left: u32, right: u32) -> Reached
     ensures means { reached_of result ≡ onto counts (operands (operator_of op) (env_of env.now left) (env_of env.now right)) }
     ensures used { OnReached (Stepped 0 counts) result }
 {
     match int_of(env, left) {
         Some(left) => match int_of(env, right) {
-            Some(right) => at_once(counts, on_ints(op, left, right)),
+            Some(right) => match on_ints(op, left, right) {
+                Some(value) => at_once(counts, value),
+                None => Reached::Trap(counts),
+            },
             None => Reached::Stuck,
         },
         None => Reached::Stuck,
