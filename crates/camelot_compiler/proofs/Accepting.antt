@@ -8,7 +8,7 @@ use Rattle.camelot_grammar.specs.Parsing.{HasProgram}
 use Rattle.camelot_typing.specs.Typed.{Typing, IsTyping}
 use Rattle.camelot_typing.specs.Settled.{IsSettled}
 use Rattle.code_gen.specs.Generated.{compiled}
-use Rattle.grail_code.specs.Spelling.{FitsCode, spelling}
+use Rattle.grail_code.specs.Spelling.{Second, FitsCode, spelling}
 use Rattle.certificate.specs.Text.{text_of}
 use Rattle.licence.specs.Licensed.{Licensed}
 use Rattle.grail_verifier.specs.declared.refusal.Refusal.{Refusal}
@@ -54,7 +54,7 @@ of_bundle text code cert is certified =
     let of : HasCertificate code cert (compiled t) = certified t has is.says.typed is.says.settled in
     let l : Licensed = record { code = compiled t; cert = of.certificate } in
     let said : IsAccepted code cert l = of.is.accepted in
-    let shown : IsAccepted (spelling (compiled t)) (text_of of.certificate) l = record { spelled = record { fits = of.is.spelled.fits; is = refl }; well = said.well; formed = said.formed; text = refl; granted = said.granted } in
+    let shown : IsAccepted (spelling Second (compiled t)) (text_of of.certificate) l = record { spelled = record { format = Second; fits = of.is.spelled.fits; is = refl }; well = said.well; formed = said.formed; text = refl; granted = said.granted } in
     record {
       licence = l;
       is = record { typing = t; accepted = shown; has = record { program = has; typed = is.says.typed; settled = is.says.settled; rule = is.says.says.0; fits = is.says.says.1.0; code = refl; spelled = of.is.spelled.fits; inferred = of.is.inferred } };
@@ -85,7 +85,7 @@ found_refuses text code cert cause A exact h = let e : Bundled code cert ≡ Ref
 
 -- ---- a source without a licence
 
-compiled_from : (text : List ℕ) (t : Typing) (l : Licensed) → HasLicence text t l → IsCompiled text (Bundled (spelling l.code) (text_of l.cert))
+compiled_from : (text : List ℕ) (t : Typing) (l : Licensed) → HasLicence text t l → IsCompiled text (Bundled (spelling Second l.code) (text_of l.cert))
 compiled_from text t l has = record {
   source = t.source;
   program = has.program;
@@ -99,7 +99,7 @@ compiled_from text t l has = record {
       (
         has.fits,
         record {
-          spelled = record { fits = subst FitsCode has.code has.spelled; is = ap spelling has.code };
+          spelled = record { fits = subst (FitsCode Second) has.code has.spelled; is = ap (spelling Second) has.code };
           certificate = l.cert;
           inferred = subst (λ p. Infers p (inference.Found l.cert)) has.code has.inferred;
           text = refl;
@@ -111,7 +111,7 @@ compiled_from text t l has = record {
 
 pub refused_accepts : (text : List ℕ) (x : Stop Cause) → ((answer : Compiled) → IsCompiled text answer → Answers (compiled_of (Err x)) answer)
     → (t : Typing) (l : Licensed) → HasLicence text t l → x ≡ Memory
-refused_accepts text (Fault x) exact t l has = let e : Refused x ≡ Bundled (spelling l.code) (text_of l.cert) = exact (Bundled (spelling l.code) (text_of l.cert)) (compiled_from text t l has) in cc
+refused_accepts text (Fault x) exact t l has = let e : Refused x ≡ Bundled (spelling Second l.code) (text_of l.cert) = exact (Bundled (spelling Second l.code) (text_of l.cert)) (compiled_from text t l has) in cc
 refused_accepts text Memory exact t l has = refl
 
 pub refused_refuses : (text : List ℕ) (x : Stop Cause) (cause : Cause)

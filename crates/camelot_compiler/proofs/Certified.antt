@@ -14,7 +14,8 @@ use Rattle.normal_form.specs.Answers.{program_fault}
 use Rattle.code_gen.specs.Generated.{compiled}
 use Rattle.grail_code.specs.Code.{Code}
 use Rattle.grail_code.specs.Limits.{IsWithinLimits, IsNamed}
-use Rattle.grail_code.specs.Spelling.{spelling}
+use Rattle.grail_code.specs.Spelling.{Second, spelling}
+use Rattle.grail_code.specs.RangeLaws.{fits_second}
 use Rattle.grail_code.specs.WellFormed.{IsWellFormed}
 use Rattle.certificate.specs.Certificates.{Cert, IsFormed}
 use Rattle.certificate.specs.Text.{text_of}
@@ -76,7 +77,7 @@ formed_of laws p c coded named small s =
 
 accepted_of : Laws → (p : Code) (code cert : List ℕ) → Coded p → (b : IsBundle p code cert) → IsAccepted code cert (record { code = p; cert = b.certificate })
 accepted_of laws p code cert coded b = record {
-  spelled = b.spelled;
+  spelled = record { format = Second; fits = b.spelled.fits; is = b.spelled.is };
   well = coded.well;
   formed = record { formed = formed_of laws p b.certificate coded (fits_named p b.spelled.fits) b.inferred.0 b.inferred.1; within = b.inferred.2 };
   text = b.text;
@@ -84,8 +85,8 @@ accepted_of laws p code cert coded b = record {
 }
 
 -- the same of the texts that `compile` writes for the licence
-as_written : (code cert : List ℕ) (l : Licensed) → IsAccepted code cert l → IsAccepted (spelling l.code) (text_of l.cert) l
-as_written code cert l said = record { spelled = record { fits = said.spelled.fits; is = refl }; well = said.well; formed = said.formed; text = refl; granted = said.granted }
+as_written : (code cert : List ℕ) (l : Licensed) → IsAccepted code cert l → IsAccepted (spelling Second l.code) (text_of l.cert) l
+as_written code cert l said = record { spelled = record { format = Second; fits = fits_second said.spelled.format l.code said.spelled.fits; is = refl }; well = said.well; formed = said.formed; text = refl; granted = said.granted }
 
 pub certified_for : Laws → (text code cert : List ℕ) → IsCompiled text (Bundled code cert) → IsCertifiedFor text code cert
 certified_for laws text code cert h =

@@ -15,7 +15,7 @@ use Rattle.normal_form.specs.Answers as normal_answers
 use Rattle.normal_form.specs.Answers.{program_fault}
 use Rattle.code_gen.specs.Generated.{compiled}
 use Rattle.grail_code.specs.Code.{Code}
-use Rattle.grail_code.specs.Spelling.{FitsCode, spelling}
+use Rattle.grail_code.specs.Spelling.{Second, FitsCode, spelling}
 use Rattle.grail_code.specs.WellFormed.{IsWellFormed}
 use Rattle.certificate.specs.Certificates.{Cert, IsCert}
 use Rattle.certificate.specs.Text.{text_of}
@@ -32,20 +32,20 @@ use Rattle.camelot_compiler.specs.Stages.{use_fault, normal_fault, inference_fau
 -- ---- certificates
 
 -- what a bundle is made of, unless memory ran out
-module _ (p : Code) (c : Cert) (r : Result Bundle (Stop Cause)) (code : IfOk r (λ b. b.code ≡ spelling p)) (cert : IfOk r (λ b. b.cert ≡ text_of c)) (memory : IfErr r (λ fault. fault ≡ Memory)) where
-  pub certified_found : FitsCode p → Infers p (inference.Found c) → IsSo (IsCertified p) (compiled_of r)
+module _ (p : Code) (c : Cert) (r : Result Bundle (Stop Cause)) (code : IfOk r (λ b. b.code ≡ spelling Second p)) (cert : IfOk r (λ b. b.cert ≡ text_of c)) (memory : IfErr r (λ fault. fault ≡ Memory)) where
+  pub certified_found : FitsCode Second p → Infers p (inference.Found c) → IsSo (IsCertified p) (compiled_of r)
   certified_found fits inferred = by_result r code cert memory
     where
-      by_result : (r : Result Bundle (Stop Cause)) → IfOk r (λ b. b.code ≡ spelling p) → IfOk r (λ b. b.cert ≡ text_of c)
+      by_result : (r : Result Bundle (Stop Cause)) → IfOk r (λ b. b.code ≡ spelling Second p) → IfOk r (λ b. b.cert ≡ text_of c)
           → IfErr r (λ fault. fault ≡ Memory) → IsSo (IsCertified p) (compiled_of r)
       by_result (Ok b) e f m = record { spelled = record { fits = fits; is = e }; certificate = c; inferred = inferred; text = sym f }
       by_result (Err (Fault x)) e f m = cc
       by_result (Err Memory) e f m = tt
 
-  pub certified_stands : IsWellFormed p → FitsCode p → IsCert c → IsLeastCertificate p c → Infers p (inference.Found c) → Stands (compiled_of r) p
+  pub certified_stands : IsWellFormed p → FitsCode Second p → IsCert c → IsLeastCertificate p c → Infers p (inference.Found c) → Stands (compiled_of r) p
   certified_stands well fits right least inferred = by_result r code cert memory
     where
-      by_result : (r : Result Bundle (Stop Cause)) → IfOk r (λ b. b.code ≡ spelling p) → IfOk r (λ b. b.cert ≡ text_of c)
+      by_result : (r : Result Bundle (Stop Cause)) → IfOk r (λ b. b.code ≡ spelling Second p) → IfOk r (λ b. b.cert ≡ text_of c)
           → IfErr r (λ fault. fault ≡ Memory) → Stands (compiled_of r) p
       by_result (Ok b) e f m = record {
         certificate = c;
@@ -53,7 +53,7 @@ module _ (p : Code) (c : Cert) (r : Result Bundle (Stop Cause)) (code : IfOk r (
           spelled = record { fits = fits; is = e };
           text = sym f;
           inferred = inferred;
-          accepted = record { spelled = record { fits = fits; is = e }; well = well; formed = right; text = sym f; granted = least.grants };
+          accepted = record { spelled = record { format = Second; fits = fits; is = e }; well = well; formed = right; text = sym f; granted = least.grants };
           least = least;
         };
       }
@@ -70,7 +70,7 @@ module _ (p : Code) (c : Cert) (r : Result Bundle (Stop Cause)) (code : IfOk r (
       never no_cert.Wide h = let e : inference.Found c ≡ inference.Wide = exact inference.Wide h in cc
       never no_cert.Spent h = let e : inference.Found c ≡ inference.Spent = exact inference.Spent h in cc
 
-      by_answer : (b : Bundle) → b.code ≡ spelling p → b.cert ≡ text_of c → (answer : Compiled) → IsCertified p answer → Bundled b.code b.cert ≡ answer
+      by_answer : (b : Bundle) → b.code ≡ spelling Second p → b.cert ≡ text_of c → (answer : Compiled) → IsCertified p answer → Bundled b.code b.cert ≡ answer
       by_answer b e f (Bundled code cert) h =
           let is : inference.Found c ≡ inference.Found h.certificate = exact (inference.Found h.certificate) h.inferred in
           let same : c ≡ h.certificate = cc in
@@ -85,7 +85,7 @@ module _ (p : Code) (c : Cert) (r : Result Bundle (Stop Cause)) (code : IfOk r (
       by_answer b e f (Refused (cause.Bundle x)) h = absurd h
       by_answer b e f (Refused (cause.Verify x)) h = absurd h
 
-      by_result : (r : Result Bundle (Stop Cause)) → IfOk r (λ b. b.code ≡ spelling p) → IfOk r (λ b. b.cert ≡ text_of c)
+      by_result : (r : Result Bundle (Stop Cause)) → IfOk r (λ b. b.code ≡ spelling Second p) → IfOk r (λ b. b.cert ≡ text_of c)
           → IfErr r (λ fault. fault ≡ Memory) → (answer : Compiled) → IsCertified p answer → Answers (compiled_of r) answer
       by_result (Ok b) e f m answer h = by_answer b e f answer h
       by_result (Err (Fault x)) e f m answer h = cc

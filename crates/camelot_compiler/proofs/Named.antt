@@ -5,7 +5,7 @@ use Rattle.camelot_values.specs.Kinds.{Constructor, DataType}
 use Rattle.camelot_values.specs.Names.{IsLowerName, IsUpperName}
 use Rattle.grail_code.specs.Code.{Func, Code}
 use Rattle.grail_code.specs.Limits.{TypeIsNamed, IsNamed}
-use Rattle.grail_code.specs.Spelling.{FitsCon, FitsType, FitsFunc, FitsCode}
+use Rattle.grail_code.specs.Spelling.{Second, FitsCon, FitsType, FitsFunc, FitsCode}
 
 cons_named : (cs : List Constructor) → AllByRecursion FitsCon cs → AllByRecursion (λ c. IsUpperName c.name) cs
 cons_named [] h = tt
@@ -15,9 +15,9 @@ types_named : (ts : List DataType) → AllByRecursion FitsType ts → AllByRecur
 types_named [] h = tt
 types_named (t ∷ ts) h = (record { name = h.0.name; cons = cons_named t.cons h.0.cons.each }, types_named ts h.1)
 
-funcs_named : (fs : List Func) → AllByRecursion FitsFunc fs → AllByRecursion (λ f. IsLowerName f.name) fs
+funcs_named : (fs : List Func) → AllByRecursion (FitsFunc Second) fs → AllByRecursion (λ f. IsLowerName f.name) fs
 funcs_named [] h = tt
 funcs_named (f ∷ fs) h = (h.0.name, funcs_named fs h.1)
 
-pub fits_named : (p : Code) → FitsCode p → IsNamed p
+pub fits_named : (p : Code) → FitsCode Second p → IsNamed p
 fits_named p h = record { types = types_named p.types h.types.each; funcs = funcs_named p.funcs h.funcs.each }

@@ -26,7 +26,7 @@ use Rattle.code_gen.specs.Generated.{compiled}
 use Rattle.grail_code.specs.Code.{Code}
 use Rattle.grail_code.specs.Limits as limits
 use Rattle.grail_code.specs.WellFormed.{IsWellFormed}
-use Rattle.grail_code.specs.Spelling.{spelling}
+use Rattle.grail_code.specs.Spelling.{Second, spelling}
 use Rattle.certificate.specs.Certificates.{Cert}
 use Rattle.certificate.specs.Text.{text_of}
 use Rattle.licence.specs.Licensed.{Licensed}
@@ -89,7 +89,7 @@ not_both o x h k = cc
 
 -- what is answered of code, of which this is inferred
 abbrev answer_of : Code → Inferred → Compiled
-answer_of p (inference.Found c) = Bundled (spelling p) (text_of c)
+answer_of p (inference.Found c) = Bundled (spelling Second p) (text_of c)
 answer_of p (inference.TooMany unknowns rows) = Refused (cause.NoCert (no_cert.TooMany unknowns rows))
 answer_of p inference.NoBound = Refused (cause.NoCert no_cert.NoBound)
 answer_of p inference.Wide = Refused (cause.NoCert no_cert.Wide)
@@ -102,7 +102,7 @@ record OfInference (p : Code) (a : Compiled) : Type 0 where
 
 of_inference : (p : Code) (a : Compiled) → IsCertified p a → OfInference p a
 of_inference p (Bundled code cert) h =
-    record { inferred = inference.Found h.certificate; infers = h.inferred; is = ap (λ x. Bundled x cert) h.spelled.is ∙ ap (Bundled (spelling p)) (sym h.text) }
+    record { inferred = inference.Found h.certificate; infers = h.inferred; is = ap (λ x. Bundled x cert) h.spelled.is ∙ ap (Bundled (spelling Second p)) (sym h.text) }
 of_inference p (Refused (cause.NoCert (no_cert.TooMany unknowns rows))) h = record { inferred = inference.TooMany unknowns rows; infers = h; is = refl }
 of_inference p (Refused (cause.NoCert no_cert.NoBound)) h = record { inferred = inference.NoBound; infers = h; is = refl }
 of_inference p (Refused (cause.NoCert no_cert.Wide)) h = record { inferred = inference.Wide; infers = h; is = refl }

@@ -1,7 +1,7 @@
 -- Cited by contracts.
 -- What compiling answers of a source, and when: the first of these that is so. The text is no program; the program has
 -- no types; it breaks the rule of use; a function is too large for code; no certificate is found for its code. Else the
--- answer is a bundle, of the code's spelling and the certificate's text.
+-- answer is a bundle, of the code's spelling in the second format and the certificate's text.
 use Rattle.std.specs.Prelude.{◌≡◌, ℕ, List, Option, Some, None, Result, Ok, Err}
 use Rattle.stops.specs.declared.stop.Stop.{Stop}
 use Rattle.stops.specs.declared.stop.Stop.TheVariants.{Fault, Memory}
@@ -15,7 +15,7 @@ use Rattle.linear_use.specs.Answers.{KeepsRule, faults_of, first}
 use Rattle.normal_form.specs.Answers.{program_fault}
 use Rattle.code_gen.specs.Generated.{compiled}
 use Rattle.grail_code.specs.Code.{Code}
-use Rattle.grail_code.specs.Spelling.{IsSpelling}
+use Rattle.grail_code.specs.Spelling.{Second, FitsCode, spelling}
 use Rattle.certificate.specs.Certificates.{Cert}
 use Rattle.certificate.specs.Text.{text_of}
 use Rattle.licence.specs.Fitting.{Grants}
@@ -48,9 +48,14 @@ IsNoCert p no_cert.NoBound = Infers p inference.NoBound
 IsNoCert p no_cert.Wide = Infers p inference.Wide
 IsNoCert p no_cert.Spent = Infers p inference.Spent
 
--- the code's spelling, and the text of the certificate that is inferred
+-- the bytes are the code's spelling in the second format
+pub record IsWritten (p : Code) (bytes : List ℕ) : Type 0 where
+  pub fits : FitsCode Second p
+  pub is : bytes ≡ spelling Second p
+
+-- the code's spelling in the second format, and the text of the certificate that is inferred
 pub record IsBundle (p : Code) (code cert : List ℕ) : Type 0 where
-  pub spelled : IsSpelling p code
+  pub spelled : IsWritten p code
   pub certificate : Cert
   pub inferred : Infers p (inference.Found certificate)
   pub text : text_of certificate ≡ cert
@@ -117,7 +122,7 @@ OfCode text Says = (typing : Typing) → HasProgram text typing.source → IsTyp
 -- The bytes are the text of this certificate, the one that is inferred for this code. The verifier accepts both texts,
 -- and its licence is of these two. No other certificate that grants the code, with numbers of any size, costs less.
 pub record IsCertifiedBy (code cert : List ℕ) (p : Code) (certificate : Cert) : Type 0 where
-  pub spelled : IsSpelling p code
+  pub spelled : IsWritten p code
   pub text : text_of certificate ≡ cert
   pub inferred : Infers p (inference.Found certificate)
   pub accepted : IsAccepted code cert (record { code = p; cert = certificate })

@@ -10,7 +10,7 @@ use Rattle.camelot_typing.specs.Settled.{IsSettled}
 use Rattle.linear_use.specs.Answers.{KeepsRule}
 use Rattle.normal_form.specs.Answers.{program_fault}
 use Rattle.code_gen.specs.Generated.{compiled}
-use Rattle.grail_code.specs.Spelling.{FitsCode, spelling}
+use Rattle.grail_code.specs.Spelling.{Second, FitsCode, spelling}
 use Rattle.certificate.specs.Text.{text_of}
 use Rattle.licence.specs.Licensed.{Licensed}
 use Rattle.grail_verifier.specs.Accepted.{IsAccepted}
@@ -29,14 +29,14 @@ pub record HasLicence (text : List ℕ) (t : Typing) (l : Licensed) : Type 0 whe
   pub rule : KeepsRule t
   pub fits : program_fault t ≡ None
   pub code : l.code ≡ compiled t
-  pub spelled : FitsCode l.code
+  pub spelled : FitsCode Second l.code
   pub inferred : Infers l.code (inference.Found l.cert)
 
 -- The verifier accepts the spelling of its code and the text of its certificate, as `compile` writes them.
 pub record IsLicence (text : List ℕ) (l : Licensed) : Type 0 where
   pub typing : Typing
   pub has : HasLicence text typing l
-  pub accepted : IsAccepted (spelling l.code) (text_of l.cert) l
+  pub accepted : IsAccepted (spelling Second l.code) (text_of l.cert) l
 
 -- What stands behind two texts that a source is compiled to: the verifier accepts them, and its licence is that of the
 -- source; no certificate that grants the licence's code, with numbers of any size, costs less than the licence's.

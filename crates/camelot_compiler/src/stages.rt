@@ -8,7 +8,7 @@ ghost use Rattle.camelot_typing.specs.Settled.{IsSettled};
 ghost use Rattle.linear_use.specs.Answers.{KeepsRule};
 ghost use Rattle.code_gen.specs.Generated.{compiled};
 ghost use Rattle.grail_code.specs.Code.{code_of};
-ghost use Rattle.grail_code.specs.Spelling.{FitsCode, spelling};
+ghost use Rattle.grail_code.specs.Spelling.{Second, FitsCode, spelling};
 ghost use Rattle.grail_code.specs.WellFormed.{IsWellFormed};
 ghost use Rattle.certificate.specs.Text.{text_of};
 ghost use Rattle.stops.specs.declared.stop.Stop.TheVariants.{Memory};
@@ -76,8 +76,8 @@ fn inference_fault(stop: Stop<NoCert>) -> Stop<Cause>
 
 // Code with its certificate, as bytes.
 fn bundle(alloc: Global, code: &Code, cert: &Cert) -> Result<Bundle, Stop<Cause>>
-    requires { FitsCode (code_of code.now) }
-    ensures code { IfOk result (λ b. b.code ≡ spelling (code_of code.now)) }
+    requires { FitsCode Second (code_of code.now) }
+    ensures code { IfOk result (λ b. b.code ≡ spelling Second (code_of code.now)) }
     ensures cert { IfOk result (λ b. b.cert ≡ text_of cert.now) }
     ensures memory { IfErr result (λ fault. fault ≡ Memory) }
 {
@@ -90,7 +90,7 @@ fn bundle(alloc: Global, code: &Code, cert: &Cert) -> Result<Bundle, Stop<Cause>
 #[tactic(auto, using(crate::proofs::Named::fits_named))]
 fn certify(alloc: Global, code: &Code) -> Result<Bundle, Stop<Cause>>
     requires well { IsWellFormed (code_of code.now) }
-    requires fits { FitsCode (code_of code.now) }
+    requires fits { FitsCode Second (code_of code.now) }
     ensures found { IsSo (IsCertified (code_of code.now)) (compiled_of result) }
     ensures exact { (answer : Compiled) → IsCertified (code_of code.now) answer → Answers (compiled_of result) answer }
     ensures stands { Stands (compiled_of result) (code_of code.now) }

@@ -9,7 +9,7 @@ use Rattle.camelot_values.specs.Typing.{ArgumentsFit}
 use Rattle.grail_code.specs.Code.{Func, Code}
 use Rattle.grail_code.specs.Meaning.{run_of}
 use Rattle.grail_code.specs.Soundness.{HaveBlocks}
-use Rattle.grail_code.specs.Spelling.{FitsCon, FitsType, FitsFunc, FitsCode}
+use Rattle.grail_code.specs.Spelling.{Format, FitsCon, FitsType, FitsFunc, FitsCode}
 use Rattle.licence.specs.Bound.{bound}
 use Rattle.licence.specs.Licensed.{Licensed, FitsEntry}
 use Rattle.licence.specs.PotentialLaws.{peak_bound}
@@ -27,15 +27,15 @@ are_data_types : (ts : List DataType) → AllByRecursion FitsType ts → AllByRe
 are_data_types [] h = tt
 are_data_types (t ∷ ts) h = (record { some_cons = h.0.cons.enough; few_cons = h.0.cons.few; each = are_constructors t.cons h.0.cons.each }, are_data_types ts h.1)
 
-are_types : (p : Code) → FitsCode p → AreTypes p.types
+are_types : {f : Format} (p : Code) → FitsCode f p → AreTypes p.types
 are_types p h = record { few_types = h.types.few; each = are_data_types p.types h.types.each }
 
-have_blocks : (p : Code) → FitsCode p → HaveBlocks p
-have_blocks p h = all p.funcs h.funcs.each
+have_blocks : {f : Format} (p : Code) → FitsCode f p → HaveBlocks p
+have_blocks {f} p h = all p.funcs h.funcs.each
   where
-    all : (fs : List Func) → AllByRecursion FitsFunc fs → AllByRecursion (λ f. 1 ≤ length f.blocks) fs
+    all : (gs : List Func) → AllByRecursion (FitsFunc f) gs → AllByRecursion (λ g. 1 ≤ length g.blocks) gs
     all [] h = tt
-    all (f ∷ fs) h = (h.0.blocks.enough, all fs h.1)
+    all (g ∷ gs) h = (h.0.blocks.enough, all gs h.1)
 
 -- ---- bounds
 

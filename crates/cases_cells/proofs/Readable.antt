@@ -4,7 +4,7 @@ use Rattle.std.specs.List.{AllByRecursion}
 use Rattle.camelot_values.specs.Kinds.{DataType, Constructor}
 use Rattle.camelot_values.specs.Names.{IsUpperName}
 use Rattle.grail_code.specs.Code.{Code}
-use Rattle.grail_code.specs.Spelling.{FitsCode, FitsType, FitsCon}
+use Rattle.grail_code.specs.Spelling.{Format, FitsCode, FitsType, FitsCon}
 use Rattle.grail_code.specs.WellFormed.{IsWellFormed}
 use Rattle.licence.specs.Licensed.{Licensed}
 use Rattle.grail_verifier.specs.Verdicts.{IsVerdict}
@@ -20,7 +20,7 @@ all_named : (types : List DataType) → AllByRecursion FitsType types → AreNam
 all_named [] a = tt
 all_named (t ∷ types) a = both t.cons _ a.0.cons.each (all_named types a.1)
 
-readable : (p : Code) → IsWellFormed p → FitsCode p → IsReadable p
+readable : {f : Format} (p : Code) → IsWellFormed p → FitsCode f p → IsReadable p
 readable p well fits = record { named = all_named p.types fits.types.each; distinct = well.con_names }
 
 pub verified_readable : (code cert : List ℕ) (l : Licensed) → IsVerdict code cert (Ok l) → IsReadable l.code

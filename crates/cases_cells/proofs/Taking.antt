@@ -6,7 +6,7 @@ use Rattle.camelot_values.specs.Value.{Value, Values, parts}
 use Rattle.camelot_values.specs.Kinds.{DataType, place_of}
 use Rattle.camelot_values.specs.Operator.{Operator, operate, on_ints}
 use Rattle.camelot_values.specs.Operator as operator
-use Rattle.camelot_values.specs.Outcome.{Outcome, Done, Fuel, Deep, Stuck, peak_of, after, first_then, at_once, known, given, entered}
+use Rattle.camelot_values.specs.Outcome.{Outcome, Done, Fuel, Deep, Trap, Stuck, peak_of, after, first_then, at_once, known, given, entered}
 use Rattle.camelot_values.specs.Runs.{Enter, chosen, on_diamond, is_too_deep, calls}
 use Rattle.grail_blocks.specs.declared.blocks.Place.{Place}
 use Rattle.grail_blocks.specs.declared.blocks.Place.TheVariants as place
@@ -30,12 +30,14 @@ takes_more : (a b e f : ℕ) (o : Outcome Value) → a ≤ b → Takes a e f o �
 takes_more a b e f (Done v c p l) h t = (t.0, grind (arith, h, t.1))
 takes_more a b e f (Fuel c p) h t = grind (arith, h, t)
 takes_more a b e f (Deep p) h t = grind (arith, h, t)
+takes_more a b e f (Trap p) h t = grind (arith, h, t)
 takes_more a b e f Stuck h t = tt
 
 takes_after : (a b e c p l f : ℕ) (o : Outcome Value) → c ≤ f → p ≤ a + c * e → Takes b e (f - c) o → Takes (a + b) e f (after c p l o)
 takes_after a b e c p l f (Done v d q m) within first t = (grind (arith, within, t.0), sums a b p q l (c * e) (d * e) ((c + d) * e) first t.1 (more_calls c d e))
 takes_after a b e c p l f (Fuel d q) within first t = sums a b p q l (c * e) ((f - c) * e) (f * e) first t (rest_calls c f e within)
 takes_after a b e c p l f (Deep q) within first t = sums a b p q l (c * e) ((f - c) * e) (f * e) first t (rest_calls c f e within)
+takes_after a b e c p l f (Trap q) within first t = sums a b p q l (c * e) ((f - c) * e) (f * e) first t (rest_calls c f e within)
 takes_after a b e c p l f Stuck within first t = tt
 
 stop_takes : (a b e f p : ℕ) → p ≤ a + f * e → p ≤ a + b + f * e
@@ -47,6 +49,7 @@ takes_then : (a b e f : ℕ) (o : Outcome Value) (next : ℕ → Value → Outco
 takes_then a b e f (Done v c p l) next t k = takes_after a b e c p l f (next (f - c) v) t.0 t.1 (k (f - c) v)
 takes_then a b e f (Fuel c p) next t k = stop_takes a b e f p t
 takes_then a b e f (Deep p) next t k = stop_takes a b e f p t
+takes_then a b e f (Trap p) next t k = stop_takes a b e f p t
 takes_then a b e f Stuck next t k = tt
 
 -- ---- lets
@@ -198,6 +201,7 @@ entered_takes : (e f : ℕ) (o : Outcome Value) → Takes e e f o → Takes 0 e 
 entered_takes e f (Done v c p l) t = (grind (arith, t.0), grind (arith, t.1, more_calls 1 c e))
 entered_takes e f (Fuel c p) t = grind (arith, t, more_calls 1 f e)
 entered_takes e f (Deep p) t = grind (arith, t, more_calls 1 f e)
+entered_takes e f (Trap p) t = grind (arith, t, more_calls 1 f e)
 entered_takes e f Stuck t = tt
 
 calls_take : (p : Code) (limit clock : ℕ) → (k w : ℕ) (tail : Bool) (func : ℕ) (args : List Value)
@@ -221,6 +225,7 @@ peak_within : (e f : ℕ) (o : Outcome Value) → Takes 0 e f o → peak_of o �
 peak_within e f (Done v c p l) t = calls_within c f e p t.0 t.1
 peak_within e f (Fuel c p) t = grind (arith, t)
 peak_within e f (Deep p) t = grind (arith, t)
+peak_within e f (Trap p) t = grind (arith, t)
 peak_within e f Stuck t = grind (arith)
 
 -- A run takes at most as many cells as its fuel has units, times the lets of the code that build in new cells.

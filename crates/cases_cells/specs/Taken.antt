@@ -3,7 +3,7 @@
 -- such lets.
 use Rattle.std.specs.Prelude.{ℕ, ◌+◌, ◌*◌, ◌≤◌, List, [], ◌∷◌}
 use Rattle.camelot_values.specs.Value.{Value}
-use Rattle.camelot_values.specs.Outcome.{Outcome, Done, Fuel, Deep, Stuck, peak_of}
+use Rattle.camelot_values.specs.Outcome.{Outcome, Done, Fuel, Deep, Trap, Stuck, peak_of}
 use Rattle.grail_blocks.specs.declared.blocks.Place.{Place}
 use Rattle.grail_blocks.specs.declared.blocks.Place.TheVariants as place
 use Rattle.grail_code.specs.Meaning.{run_of}
@@ -36,6 +36,7 @@ abbrev pub Takes : (once each fuel : ℕ) → Outcome Value → Type 0
 Takes once each fuel (Done v calls peak low) = (calls ≤ fuel) × (peak ≤ once + calls * each)
 Takes once each fuel (Fuel calls peak) = peak ≤ once + fuel * each
 Takes once each fuel (Deep peak) = peak ≤ once + fuel * each
+Takes once each fuel (Trap peak) = peak ≤ once + fuel * each
 Takes once each fuel Stuck = Unit {0}
 
 -- any run of this code with so much fuel takes at most so many cells

@@ -4,7 +4,7 @@
 use Rattle.std.specs.Prelude.{ℕ, List, [], ◌∷◌, ◌++◌, slice_get, Option, Some, None, codes, decimal}
 use Rattle.camelot_values.specs.Value.{Value}
 use Rattle.camelot_values.specs.Kinds.{DataType, constructor_name}
-use Rattle.camelot_values.specs.Outcome.{Outcome, Done, Fuel, Deep, Stuck}
+use Rattle.camelot_values.specs.Outcome.{Outcome, Done, Fuel, Deep, Trap, Stuck}
 use Rattle.value_text.specs.Text.{value_text}
 use Rattle.cause_texts.specs.Texts.{cause_text}
 use Rattle.lease_desk.specs.declared.event.Event.{Event}
@@ -28,6 +28,7 @@ ended_text types (Done v calls peak low) fuel bound =
     (codes " done " ++ value_text (constructor_name types) v) ++ (codes " calls " ++ decimal calls) ++ (codes " peak " ++ decimal peak) ++ (codes " bound " ++ decimal bound)
 ended_text types (Fuel calls peak) fuel bound = (codes " fuel " ++ decimal fuel) ++ (codes " peak " ++ decimal peak) ++ (codes " bound " ++ decimal bound)
 ended_text types (Deep peak) fuel bound = (codes " deep peak " ++ decimal peak) ++ (codes " bound " ++ decimal bound)
+ended_text types (Trap peak) fuel bound = (codes " trap peak " ++ decimal peak) ++ (codes " bound " ++ decimal bound)
 ended_text types Stuck fuel bound = []
 
 -- why a job doesn't run

@@ -2,7 +2,7 @@
 -- The summary of a script in one line: how many of its jobs ended how, and the sums of their calls and peaks.
 use Rattle.std.specs.Prelude.{ℕ, ◌+◌, List, [], ◌∷◌, ◌++◌, length, codes, decimal}
 use Rattle.camelot_values.specs.Value.{Value}
-use Rattle.camelot_values.specs.Outcome.{Outcome, Done, Fuel, Deep, Stuck}
+use Rattle.camelot_values.specs.Outcome.{Outcome, Done, Fuel, Deep, Trap, Stuck}
 use Rattle.run_reports.specs.declared.summing.Tally.{Tally}
 use Rattle.script_outcomes.specs.Told.{JobLine, Ended, TooLarge, Refused, Told}
 
@@ -10,11 +10,13 @@ use Rattle.script_outcomes.specs.Told.{JobLine, Ended, TooLarge, Refused, Told}
 abbrev pub none : Tally
 none = record { done = 0; fuel = 0; deep = 0; too_large = 0; refused = 0; calls = 0; peaks = 0 }
 
--- What a run counts for: the calls of one that came to a value, and each run's peak. Well-formed code is never stuck.
+-- What a run counts for: the calls of one that came to a value, and each run's peak, which is all that one counts for
+-- that was trapped. Well-formed code is never stuck.
 abbrev pub tally_of_run : Outcome Value → Tally
 tally_of_run (Done v calls peak low) = record { done = 1; fuel = 0; deep = 0; too_large = 0; refused = 0; calls = calls; peaks = peak }
 tally_of_run (Fuel calls peak) = record { done = 0; fuel = 1; deep = 0; too_large = 0; refused = 0; calls = 0; peaks = peak }
 tally_of_run (Deep peak) = record { done = 0; fuel = 0; deep = 1; too_large = 0; refused = 0; calls = 0; peaks = peak }
+tally_of_run (Trap peak) = record { done = 0; fuel = 0; deep = 0; too_large = 0; refused = 0; calls = 0; peaks = peak }
 tally_of_run Stuck = none
 
 -- what the line of a job counts for

@@ -167,6 +167,7 @@ fn push_ended(
         ),
         Ending::Fuel { peak } => push_fuel(out, fuel, *peak, bound),
         Ending::Deep { peak } => push_two(out, b" deep peak ", *peak, b" bound ", bound),
+        Ending::Trap { peak } => push_two(out, b" trap peak ", *peak, b" bound ", bound),
     }
 }
 

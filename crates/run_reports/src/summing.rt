@@ -62,6 +62,10 @@ fn tally_run(ending: &Ending) -> Tally
             peaks: u128::from(*peak),
             ..NONE
         },
+        Ending::Trap { peak } => Tally {
+            peaks: u128::from(*peak),
+            ..NONE
+        },
     }
 }
 

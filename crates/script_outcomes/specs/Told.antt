@@ -37,6 +37,7 @@ abbrev pub outcome_of : Ending → plain.Outcome Value
 outcome_of (ending.Done v calls peak) = plain.Done v calls peak 0
 outcome_of (ending.Fuel peak) = plain.Fuel 0 peak
 outcome_of (ending.Deep peak) = plain.Deep peak
+outcome_of (ending.Trap peak) = plain.Trap peak
 
 -- the types of the licence of this number; none where there is no such licence
 abbrev pub licence_types : Option Licensed → List DataType

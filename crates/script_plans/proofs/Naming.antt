@@ -22,7 +22,8 @@ use Rattle.linear_use.specs.Answers.{KeepsRule}
 use Rattle.grail_code.specs.Code.{Code, Func}
 use Rattle.grail_code.specs.Meaning.{run_of}
 use Rattle.grail_code.specs.ByName.{HasName, IsFirstNamed}
-use Rattle.grail_code.specs.Spelling.{FitsCode, FitsType, FitsCon}
+use Rattle.grail_code.specs.Spelling.{Format, Second, FitsCode, FitsType, FitsCon}
+use Rattle.grail_code.specs.RangeLaws.{fits_second}
 use Rattle.value_text.specs.Grammar.{AreNamed}
 use Rattle.normal_form.specs.Normal.{normal_functions}
 use Rattle.normal_form.specs.Coded.{BlockParams, coded}
@@ -44,7 +45,7 @@ all_named : (types : List DataType) → AllByRecursion FitsType types → AreNam
 all_named [] a = tt
 all_named (t ∷ types) a = both t.cons _ a.0.cons.each (all_named types a.1)
 
-pub code_named : (p : Code) → FitsCode p → AreNamed p.types
+pub code_named : {f : Format} (p : Code) → FitsCode f p → AreNamed p.types
 code_named p f = all_named p.types f.types.each
 
 -- ---- the first of a name
@@ -156,9 +157,9 @@ agrees (CamelotText text) l m means h = subst (Agrees l) (sym h.means) (source_a
 agrees (GrailText text) l m means h = subst (Agrees l) (sym h.means) (code_agrees l)
 
 -- the code of a licence has a spelling
-pub spelled : (p : ProgramText) (l : Licensed) (m : Meaning) → IsLicenceOf p l m → FitsCode l.code
+pub spelled : (p : ProgramText) (l : Licensed) (m : Meaning) → IsLicenceOf p l m → FitsCode Second l.code
 spelled (CamelotText text) l m h = h.is.has.spelled
-spelled (GrailText text) l m h = h.has.accepted.spelled.fits
+spelled (GrailText text) l m h = fits_second h.has.accepted.spelled.format l.code h.has.accepted.spelled.fits
 
 -- ---- entries
 

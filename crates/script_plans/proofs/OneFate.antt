@@ -10,7 +10,7 @@ use Rattle.camelot_typing.specs.Kinds.{types_of}
 use Rattle.camelot_typing.specs.Typed.{IsTyping, Typing}
 use Rattle.linear_use.specs.Answers.{KeepsRule}
 use Rattle.grail_code.specs.Code.{Code}
-use Rattle.grail_code.specs.Spelling.{FitsCode}
+use Rattle.grail_code.specs.Spelling.{Second, FitsCode}
 use Rattle.grail_code.specs.WellFormed.{IsWellFormed}
 use Rattle.value_text.specs.Grammar.{AreNamed, DistinctNames, IsTextOf, IsRead, IsTooLong, IsBadShape}
 use Rattle.code_gen.specs.Generated.{compiled}
@@ -68,7 +68,7 @@ of_source S text = record {
   distinct = λ l m a. subst (λ (m : Meaning). DistinctNames (value_types m)) (sym a.means) (S.well_formed a.is.typing a.is.has.typed a.is.has.rule).con_names;
 }
   where
-    names_of : (t : Typing) (l : Licensed) → l.code ≡ compiled t → FitsCode l.code → AreNamed (types_of t.source)
+    names_of : (t : Typing) (l : Licensed) → l.code ≡ compiled t → FitsCode Second l.code → AreNamed (types_of t.source)
     names_of t l e fits = subst AreNamed (ap (λ (p : Code). p.types) e) (code_named l.code fits)
 
 -- the laws of licences of bundles

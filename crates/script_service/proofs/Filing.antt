@@ -31,29 +31,45 @@ same_ended types (plain.Done v calls peak low) (ending.Done w c p) fuel bound h 
     λ i. (codes " done " ++ value_text (constructor_name types) (h.0 i)) ++ (codes " calls " ++ decimal (h.1 i)) ++ (codes " peak " ++ decimal (h.2 i)) ++ (codes " bound " ++ decimal bound)
 same_ended types (plain.Done v calls peak low) (ending.Fuel p) fuel bound h = absurd h
 same_ended types (plain.Done v calls peak low) (ending.Deep p) fuel bound h = absurd h
+same_ended types (plain.Done v calls peak low) (ending.Trap p) fuel bound h = absurd h
 same_ended types (plain.Fuel calls peak) (ending.Done w c p) fuel bound h = absurd h
 same_ended types (plain.Fuel calls peak) (ending.Fuel p) fuel bound h = λ i. (codes " fuel " ++ decimal fuel) ++ (codes " peak " ++ decimal (h i)) ++ (codes " bound " ++ decimal bound)
 same_ended types (plain.Fuel calls peak) (ending.Deep p) fuel bound h = absurd h
+same_ended types (plain.Fuel calls peak) (ending.Trap p) fuel bound h = absurd h
 same_ended types (plain.Deep peak) (ending.Done w c p) fuel bound h = absurd h
 same_ended types (plain.Deep peak) (ending.Fuel p) fuel bound h = absurd h
 same_ended types (plain.Deep peak) (ending.Deep p) fuel bound h = λ i. (codes " deep peak " ++ decimal (h i)) ++ (codes " bound " ++ decimal bound)
+same_ended types (plain.Deep peak) (ending.Trap p) fuel bound h = absurd h
+same_ended types (plain.Trap peak) (ending.Done w c p) fuel bound h = absurd h
+same_ended types (plain.Trap peak) (ending.Fuel p) fuel bound h = absurd h
+same_ended types (plain.Trap peak) (ending.Deep p) fuel bound h = absurd h
+same_ended types (plain.Trap peak) (ending.Trap p) fuel bound h = λ i. (codes " trap peak " ++ decimal (h i)) ++ (codes " bound " ++ decimal bound)
 same_ended types plain.Stuck (ending.Done w c p) fuel bound h = absurd h
 same_ended types plain.Stuck (ending.Fuel p) fuel bound h = absurd h
 same_ended types plain.Stuck (ending.Deep p) fuel bound h = absurd h
+same_ended types plain.Stuck (ending.Trap p) fuel bound h = absurd h
 
 same_tally : (o : Outcome Value) (e : Ending) → EndsWith o e → tally_of_run (outcome_of e) ≡ tally_of_run o
 same_tally (plain.Done v calls peak low) (ending.Done w c p) h = λ i. record { done = 1; fuel = 0; deep = 0; too_large = 0; refused = 0; calls = h.1 i; peaks = h.2 i }
 same_tally (plain.Done v calls peak low) (ending.Fuel p) h = absurd h
 same_tally (plain.Done v calls peak low) (ending.Deep p) h = absurd h
+same_tally (plain.Done v calls peak low) (ending.Trap p) h = absurd h
 same_tally (plain.Fuel calls peak) (ending.Done w c p) h = absurd h
 same_tally (plain.Fuel calls peak) (ending.Fuel p) h = λ i. record { done = 0; fuel = 1; deep = 0; too_large = 0; refused = 0; calls = 0; peaks = h i }
 same_tally (plain.Fuel calls peak) (ending.Deep p) h = absurd h
+same_tally (plain.Fuel calls peak) (ending.Trap p) h = absurd h
 same_tally (plain.Deep peak) (ending.Done w c p) h = absurd h
 same_tally (plain.Deep peak) (ending.Fuel p) h = absurd h
 same_tally (plain.Deep peak) (ending.Deep p) h = λ i. record { done = 0; fuel = 0; deep = 1; too_large = 0; refused = 0; calls = 0; peaks = h i }
+same_tally (plain.Deep peak) (ending.Trap p) h = absurd h
+same_tally (plain.Trap peak) (ending.Done w c p) h = absurd h
+same_tally (plain.Trap peak) (ending.Fuel p) h = absurd h
+same_tally (plain.Trap peak) (ending.Deep p) h = absurd h
+same_tally (plain.Trap peak) (ending.Trap p) h = λ i. record { done = 0; fuel = 0; deep = 0; too_large = 0; refused = 0; calls = 0; peaks = h i }
 same_tally plain.Stuck (ending.Done w c p) h = absurd h
 same_tally plain.Stuck (ending.Fuel p) h = absurd h
 same_tally plain.Stuck (ending.Deep p) h = absurd h
+same_tally plain.Stuck (ending.Trap p) h = absurd h
 
 -- ---- endings
 
@@ -97,6 +113,7 @@ never_stuck : (e : Ending) → EndsWith plain.Stuck e → ⊥
 never_stuck (ending.Done v calls peak) h = h
 never_stuck (ending.Fuel peak) h = h
 never_stuck (ending.Deep peak) h = h
+never_stuck (ending.Trap peak) h = h
 
 planned_there : (ps : Planned) (job : ℕ) (e : Ending) (o : Option Plan) → slice_get ps.plans job ≡ o
     → EndsWith (run_at ps.licences (slice_get ps.plans job)) e → job < length ps.plans
@@ -155,9 +172,11 @@ ended_meant : (o : Outcome Value) (e : Ending) → EndsWith o e → IsMeant o
 ended_meant (plain.Done v calls peak low) e h = tt
 ended_meant (plain.Fuel calls peak) e h = tt
 ended_meant (plain.Deep peak) e h = tt
+ended_meant (plain.Trap peak) e h = tt
 ended_meant plain.Stuck (ending.Done w c p) h = absurd h
 ended_meant plain.Stuck (ending.Fuel p) h = absurd h
 ended_meant plain.Stuck (ending.Deep p) h = absurd h
+ended_meant plain.Stuck (ending.Trap p) h = absurd h
 
 pub all_meant : (ps : Planned) (arena : ℕ) (endings : List (Option Ending)) → AllEnded ps endings → (plans : List JobPlan)
     → AllByRecursion (λ n. n < length ps.plans) (run_numbers plans)

@@ -3,7 +3,7 @@
 use Rattle.std.specs.Prelude.{◌≡◌, ℕ, ◌++◌, List, slice_get, codes, decimal}
 use Rattle.std.specs.List.{AllByRecursion}
 use Rattle.camelot_values.specs.Value.{Value}
-use Rattle.camelot_values.specs.Outcome.{Outcome, Done, Fuel, Deep, Stuck}
+use Rattle.camelot_values.specs.Outcome.{Outcome, Done, Fuel, Deep, Trap, Stuck}
 use Rattle.job_script.specs.Scripts.{Script}
 use Rattle.job_script.specs.Text.{IsScriptText}
 use Rattle.job_script.specs.Made.{made_script}
@@ -37,6 +37,7 @@ abbrev pub IsMeant : Outcome Value → Type 0
 IsMeant (Done v calls peak low) = Unit {0}
 IsMeant (Fuel calls peak) = Unit {0}
 IsMeant (Deep peak) = Unit {0}
+IsMeant (Trap peak) = Unit {0}
 IsMeant Stuck = ⊥
 
 -- a line tells what has a meaning

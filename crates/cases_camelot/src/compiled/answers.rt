@@ -1,6 +1,6 @@
 ghost use Rattle.std.specs.Prelude.{◌<◌, ◌^◌, length};
 ghost use Rattle.grail_code.specs.Code.{code_of};
-ghost use Rattle.grail_code.specs.Spelling.{FitsCode};
+ghost use Rattle.grail_code.specs.Spelling.{Second, FitsCode};
 
 use crate::compiled::code_text::{show_block, show_head};
 use camelot_syntax::parse;
@@ -114,7 +114,7 @@ fn print_sizes(rt: &HostRuntime, code: &Code) -> io::Result<()> {
 
 // The spelling of the code.
 fn print_bytes(rt: &HostRuntime, code: &Code) -> io::Result<()>
-    requires { FitsCode (code_of code.now) }
+    requires { FitsCode Second (code_of code.now) }
 {
     let bytes = encode(rt.alloc(), code)?;
     println!(rt; " {}", hex::encode(rt.alloc(), bytes)?)
@@ -184,6 +184,7 @@ fn print_outcome(rt: &HostRuntime, outcome: &Outcome) -> io::Result<()> {
         }
         Outcome::Fuel { calls, peak } => println!(rt; " fuel calls {calls} peak {peak}"),
         Outcome::Deep { peak } => println!(rt; " deep peak {peak}"),
+        Outcome::Trap { peak } => println!(rt; " trap peak {peak}"),
         Outcome::Stuck => println!(rt; " stuck"),
     }
 }

@@ -58,6 +58,7 @@ fn print_ending(rt: &HostRuntime, types: &Types, ending: &Ending) -> io::Result<
         }
         Ending::Fuel { peak } => print!(rt; " fuel peak {peak}"),
         Ending::Deep { peak } => print!(rt; " deep peak {peak}"),
+        Ending::Trap { peak } => print!(rt; " trap peak {peak}"),
     }
 }
 

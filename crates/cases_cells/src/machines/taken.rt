@@ -112,6 +112,7 @@ pub(crate) fn just_taken(
         ) => Ok(Some(peak)),
         Ok(Outcome::Fuel { calls: _, peak }) => Ok(Some(peak)),
         Ok(Outcome::Deep { peak }) => Ok(Some(peak)),
+        Ok(Outcome::Trap { peak }) => Ok(Some(peak)),
         Ok(Outcome::Stuck) => Ok(Some(0)),
         Err(_) => Ok(None),
     }

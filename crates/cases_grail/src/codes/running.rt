@@ -94,6 +94,7 @@ fn print_outcome(rt: &HostRuntime, types: &Types, outcome: &Outcome) -> io::Resu
         }
         Outcome::Fuel { calls, peak } => println!(rt; " fuel calls {calls} peak {peak}"),
         Outcome::Deep { peak } => println!(rt; " deep peak {peak}"),
+        Outcome::Trap { peak } => println!(rt; " trap peak {peak}"),
         Outcome::Stuck => println!(rt; " stuck"),
     }
 }
