@@ -15,6 +15,8 @@ ghost use Rattle.camelot_host.specs.Due.{Done, Refused, IsDue};
 
 use bundle_licence::laws::law_of_licences;
 use camelot_compiler::laws::{law_of_bundles, law_of_compiling};
+use grail_bundle::laws as texts_of_bundles;
+use grail_code::laws::one_meaning;
 use job_script::laws::law_of_scripts;
 
 /// Words spell at most one command.
@@ -24,14 +26,17 @@ pub fn one_command()
         → IsCommand words first → IsCommand words second → first ≡ second }
 {}
 
-/// No output is due with one verdict for an input for which another is due with the other: an input is served, compiled
-/// or accepted, or it is refused.
+/// No output is due with one verdict for an input for which another is due with the other: an input is served, compiled,
+/// accepted or migrated, or it is refused.
 pub fn one_verdict()
     ensures { (command : Command) (input output other : List ℕ) → IsDue command input Done output → IsDue command input Refused other → ⊥ }
 {
     law_of_scripts();
     law_of_compiling();
     law_of_licences();
+    texts_of_bundles::law_of_bundles();
+    texts_of_bundles::law_of_faults();
+    one_meaning();
 }
 
 /// What `compile` tells of a source, done or refused, in the words of the verifier and of certificates.

@@ -4,7 +4,7 @@ use Rattle.std.specs.Prelude.{cond, ◌==◌, if◌then◌else◌, slice_get}
 use Rattle.camelot_values.specs.Value as value
 use Rattle.camelot_values.specs.Value.{Value, Values, parts}
 use Rattle.camelot_values.specs.Kinds.{DataType, place_of}
-use Rattle.camelot_values.specs.Operator.{Operator, operate, on_ints}
+use Rattle.camelot_values.specs.Operator.{Operator, operate, on_ints, dividing_by}
 use Rattle.camelot_values.specs.Operator as operator
 use Rattle.camelot_values.specs.Outcome.{Outcome, Done, Fuel, Deep, Trap, Stuck, peak_of, after, first_then, at_once, known, given, entered}
 use Rattle.camelot_values.specs.Runs.{Enter, chosen, on_diamond, is_too_deep, calls}
@@ -77,10 +77,19 @@ built_takes e f con vs place.Inline env = (grind (arith), grind (arith))
 built_takes e f con vs place.New env = (grind (arith), grind (arith))
 built_takes e f con vs (place.Reuse d) env = given_takes 0 e f (env d) (λ v. on_diamond v (at_once (value.Con con (parts vs)))) (λ v. diamond_takes e f v (value.Con con (parts vs)))
 
+dividing_takes : (e f : ℕ) (y z : ℤ) → Takes 0 e f (dividing_by y z)
+dividing_takes e f y z = by_test (int_eq y (pos 0))
+  where
+    by_test : (b : Bool) → Takes 0 e f (if b then Trap 0 else at_once (value.Int z))
+    by_test true = grind (arith)
+    by_test false = (grind (arith), grind (arith))
+
 one_int : (op : Operator) (e f : ℕ) (x y : ℤ) → Takes 0 e f (on_ints op x y)
 one_int operator.Add e f x y = (grind (arith), grind (arith))
 one_int operator.Sub e f x y = (grind (arith), grind (arith))
 one_int operator.Mul e f x y = (grind (arith), grind (arith))
+one_int operator.Div e f x y = dividing_takes e f y _
+one_int operator.Mod e f x y = dividing_takes e f y _
 one_int operator.Eq e f x y = (grind (arith), grind (arith))
 one_int operator.Ne e f x y = (grind (arith), grind (arith))
 one_int operator.Lt e f x y = (grind (arith), grind (arith))
