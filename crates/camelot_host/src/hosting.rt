@@ -10,7 +10,7 @@ ghost use Rattle.camelot_host.specs.Served.{ArenaBy};
 
 use super::command::{Command, command_of, reads};
 use super::drill::drill_jobs;
-use super::migrate::migrate_bundle;
+use super::migration::migrate_bundle;
 use super::reply::Reply;
 use super::serve::serve;
 use super::served::Served;

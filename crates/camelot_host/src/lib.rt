@@ -5,7 +5,7 @@ mod command;
 mod drill;
 mod hosting;
 pub mod laws;
-mod migrate;
+mod migration;
 mod refusal;
 mod reply;
 mod serve;
