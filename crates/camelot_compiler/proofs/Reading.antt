@@ -156,7 +156,6 @@ module _ (text : List ℕ) (p : Source) where
       no_fault (parse.Unexpected a b) h = refuses h.tokens (parse.Unexpected a b) h.are h.among
       no_fault (parse.TooDeep a b) h = refuses h.tokens (parse.TooDeep a b) h.are h.among
       no_fault (parse.TypeParameter a b) h = refuses h.tokens (parse.TypeParameter a b) h.are h.among
-      no_fault (parse.Division a b) h = refuses h.tokens (parse.Division a b) h.are h.among
 
       pub parsed_exact : (o : Option Compiled) → ((answer : Compiled) → IsTyped p answer → Answers o answer) → (answer : Compiled)
           → IsCompiled text answer → Answers o answer
@@ -189,7 +188,6 @@ module _ (text : List ℕ) (fault : ParseFault) (takes : (tokens : List Token) (
   one_fault (parse.Unexpected a b) h = refuses h.tokens (parse.Unexpected a b) h.are h.among
   one_fault (parse.TooDeep a b) h = refuses h.tokens (parse.TooDeep a b) h.are h.among
   one_fault (parse.TypeParameter a b) h = refuses h.tokens (parse.TypeParameter a b) h.are h.among
-  one_fault (parse.Division a b) h = refuses h.tokens (parse.Division a b) h.are h.among
 
   pub one_parse : (answer : Compiled) → IsCompiled text answer → Refused (cause.Parse fault) ≡ answer
   one_parse (Bundled code cert) h = no_program h

@@ -31,7 +31,6 @@ bound_told (cause.Parse (parse.Scan (scan.LongName at))) h = let e : 108 ≡ 110
 bound_told (cause.Parse (parse.Unexpected token line)) h = let e : 117 ≡ 110 = ap first h in absurd (omega (arith, e))
 bound_told (cause.Parse (parse.TooDeep token line)) h = let e : 116 ≡ 110 = ap first h in absurd (omega (arith, e))
 bound_told (cause.Parse (parse.TypeParameter token line)) h = let e : 116 ≡ 110 = ap first h in absurd (omega (arith, e))
-bound_told (cause.Parse (parse.Division token line)) h = let e : 100 ≡ 110 = ap first h in absurd (omega (arith, e))
 bound_told (cause.Types (types.UnknownName name line)) h = let e : 117 ≡ 110 = ap first h in absurd (omega (arith, e))
 bound_told (cause.Types (types.UnknownType name line)) h = let e : 117 ≡ 110 = ap first h in absurd (omega (arith, e))
 bound_told (cause.Types (types.Duplicate name line)) h = let e : 100 ≡ 110 = ap first h in absurd (omega (arith, e))

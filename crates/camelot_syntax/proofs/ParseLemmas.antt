@@ -10,9 +10,8 @@ use Rattle.camelot_grammar.specs.declared.fault.ParseFault.TheVariants as fault
 use Rattle.stops.specs.declared.stop.Stop.{Stop}
 use Rattle.stops.specs.declared.stop.Stop.TheVariants as stop
 use Rattle.stops.specs.Stopping.{FaultIs}
-use Rattle.camelot_grammar.specs.declared.lexeme.Mark.TheVariants as mark
 use Rattle.camelot_grammar.specs.declared.lexeme.Lexeme.{Lexeme}
-use Rattle.camelot_grammar.specs.declared.lexeme.Lexeme.TheVariants.{Variable, Mark}
+use Rattle.camelot_grammar.specs.declared.lexeme.Lexeme.TheVariants.{Variable}
 use Rattle.camelot_grammar.specs.Lexemes.{lexemes, lexeme_at, IsReal}
 use Rattle.camelot_tree.specs.Tree.{Source}
 use Rattle.camelot_tree.specs.Programs.{program_of}
@@ -43,8 +42,6 @@ stop_ordinary : (rest : List Lexeme) (k l : ℕ) → IsOrdinary (stop_fault rest
 unfolding IsOrdinary
 stop_ordinary [] k l = tt
 stop_ordinary (Variable i ∷ rest) k l = tt
-stop_ordinary (Mark mark.Slash i ∷ rest) k l = tt
-stop_ordinary (Mark mark.Mod i ∷ rest) k l = tt
 stop_ordinary (t ∷ rest) k l = tt
 
 among_ordinary : (ts : List Lexeme) (last : ℕ) (f : ParseFault) → IsFaultAmong ts last f → IsOrdinary f
@@ -59,7 +56,6 @@ cause_of text tokens (fault.Scan g) a h i = absurd i
 cause_of text tokens (fault.Unexpected k l) a h i = record { tokens = tokens; are = a; among = h }
 cause_of text tokens (fault.TooDeep k l) a h i = record { tokens = tokens; are = a; among = h }
 cause_of text tokens (fault.TypeParameter k l) a h i = record { tokens = tokens; are = a; among = h }
-cause_of text tokens (fault.Division k l) a h i = record { tokens = tokens; are = a; among = h }
 
 told : (text : List ℕ) (tokens : List Token) (f : ParseFault) → AreTokensOf text tokens → IsFaultAmong (lexemes text tokens) (last_line text) f
     → HasCause text f

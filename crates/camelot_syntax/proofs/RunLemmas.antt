@@ -33,8 +33,6 @@ advance_real s t st h = refl
 -- no fault of a token that may not stand here is one of the level
 stop_not_deep : (t : Lexeme) (rest : List Lexeme) (at l token line : ℕ) → fault.TooDeep token line ≡ stop_fault (t ∷ rest) at l → ⊥
 stop_not_deep (Variable i) rest at l token line e = absurd cc
-stop_not_deep (Mark mark.Slash i) rest at l token line e = absurd cc
-stop_not_deep (Mark mark.Mod i) rest at l token line e = absurd cc
 stop_not_deep t rest at l token line e = absurd cc
 
 pub fails_stop : (t : Lexeme) (at : ℕ) (f : ParseFault) (m : Move) → m ≡ Stops → ((rest : List Lexeme) → f ≡ stop_fault (t ∷ rest) at (line_of t))
@@ -42,7 +40,6 @@ pub fails_stop : (t : Lexeme) (at : ℕ) (f : ParseFault) (m : Move) → m ≡ S
 fails_stop t at (fault.Scan g) m e h = (e, h)
 fails_stop t at (fault.Unexpected k l) m e h = (e, h)
 fails_stop t at (fault.TypeParameter k l) m e h = (e, h)
-fails_stop t at (fault.Division k l) m e h = (e, h)
 fails_stop t at (fault.TooDeep k l) m e h = absurd (stop_not_deep t [] at (line_of t) k l (h []))
 
 nothing_left : (count last : ℕ) → fault_of count last (Stopped []) ≡ Some (fault.Unexpected count last)
@@ -106,8 +103,6 @@ fails_whole count last at t rest next (stop.Fault (fault.Scan g)) m e h =
 fails_whole count last at t rest next (stop.Fault (fault.Unexpected k l)) m e h =
     ap (λ n. fault_of count last (onward n next (t ∷ rest))) h.0 ∙ ap (λ n. Some (stop_fault (t ∷ rest) n (line_of t))) e ∙ ap Some (sym (h.1 rest))
 fails_whole count last at t rest next (stop.Fault (fault.TypeParameter k l)) m e h =
-    ap (λ n. fault_of count last (onward n next (t ∷ rest))) h.0 ∙ ap (λ n. Some (stop_fault (t ∷ rest) n (line_of t))) e ∙ ap Some (sym (h.1 rest))
-fails_whole count last at t rest next (stop.Fault (fault.Division k l)) m e h =
     ap (λ n. fault_of count last (onward n next (t ∷ rest))) h.0 ∙ ap (λ n. Some (stop_fault (t ∷ rest) n (line_of t))) e ∙ ap Some (sym (h.1 rest))
 
 pub run_fails : (whole : Result) (last : ℕ) (text : List ℕ) (tokens : List Token) (i : ℕ) (d : Token) (p q : Parser) (f : Stop ParseFault) → i < length tokens

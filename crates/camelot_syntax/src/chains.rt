@@ -230,16 +230,23 @@ impl Parser {
         }
     }
 
-    // At a `*`, behind its first operand.
-    fn multiply(&mut self, mut spot: Box<Spot>, operand: Operand, line: u32) -> Result<(), Halt>
-        ensures { Does (multiplies (lefts_of spot.value.lefts) (operand_of operand) line (stack_of self.old.stack.items)) self.new result }
+    // At an operator of a product, behind its first operand.
+    fn multiply(
+        &mut self,
+        mut spot: Box<Spot>,
+        operand: Operand,
+        op: PrimOp,
+        line: u32,
+    ) -> Result<(), Halt>
+        ensures { Does (multiplies (lefts_of spot.value.lefts) (operand_of operand) (Prim (operator_of op)) line
+            (stack_of self.old.stack.items)) self.new result }
     {
         let level = within(&spot.lefts.prod, sum_level(&spot.lefts));
         let operand = finish(self.alloc, spot.lefts.prod.take(), operand)?;
         let within = behind(level)?;
         spot.lefts.prod = Some(Left {
             operand,
-            joint: Joint::Prim(PrimOp::Mul),
+            joint: Joint::Prim(op),
             line,
             within,
         });
@@ -260,7 +267,15 @@ impl Parser {
             TokenView::Mark {
                 mark: Mark::Star,
                 line,
-            } => self.multiply(spot, operand, line),
+            } => self.multiply(spot, operand, PrimOp::Mul, line),
+            TokenView::Mark {
+                mark: Mark::Slash,
+                line,
+            } => self.multiply(spot, operand, PrimOp::Div, line),
+            TokenView::Mark {
+                mark: Mark::Mod,
+                line,
+            } => self.multiply(spot, operand, PrimOp::Mod, line),
             _ => {
                 let whole = finish(self.alloc, spot.lefts.prod.take(), operand)?;
                 self.after_prod(spot, whole, lexeme)

@@ -49,20 +49,6 @@ fn stop_fault(lexeme: &TokenView<'_>, token: u64) -> ParseFault
             token,
             line: u64::from(line),
         },
-        TokenView::Mark {
-            mark: Mark::Slash,
-            line,
-        } => ParseFault::Division {
-            token,
-            line: u64::from(line),
-        },
-        TokenView::Mark {
-            mark: Mark::Mod,
-            line,
-        } => ParseFault::Division {
-            token,
-            line: u64::from(line),
-        },
         _ => ParseFault::Unexpected {
             token,
             line: u64::from(line_of(lexeme)),

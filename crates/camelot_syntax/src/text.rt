@@ -55,8 +55,8 @@ fn parse_text(alloc: Global, text: &[u8]) -> Result<Program, Stop<ParseFault>>
 ///
 /// [`ParseFault::Scan`] where the text can't be read as tokens. Otherwise the fault stands at the first token with
 /// which no program goes on, or whose level is above 200: [`ParseFault::TooDeep`] where a program goes on with it; else
-/// [`ParseFault::Division`] at a `/` or `mod`, [`ParseFault::TypeParameter`] at a type variable, and
-/// [`ParseFault::Unexpected`] at any other token and at the end of the text. [`Stop::Memory`] where memory runs out.
+/// [`ParseFault::TypeParameter`] at a type variable, and [`ParseFault::Unexpected`] at any other token and at the end
+/// of the text. [`Stop::Memory`] where memory runs out.
 pub fn parse(alloc: Global, text: &[u8]) -> Result<Program, Stop<ParseFault>>
     requires { length text.now < 2 ^ 32 }
 

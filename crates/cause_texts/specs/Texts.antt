@@ -39,7 +39,6 @@ parse_text (parse.Scan fault) = scan_text fault
 parse_text (parse.Unexpected token line) = codes "unexpected token " ++ decimal token ++ codes " line " ++ decimal line
 parse_text (parse.TooDeep token line) = codes "too-deep token " ++ decimal token ++ codes " line " ++ decimal line
 parse_text (parse.TypeParameter token line) = codes "type-parameter token " ++ decimal token ++ codes " line " ++ decimal line
-parse_text (parse.Division token line) = codes "division token " ++ decimal token ++ codes " line " ++ decimal line
 
 unfoldable pub type_text : TypeFault → List ℕ
 type_text (types.UnknownName name line) = codes "unknown-name " ++ name ++ codes " line " ++ decimal line

@@ -48,9 +48,6 @@ pub(crate) fn parse_text(alloc: Global, fault: &ParseFault) -> Result<Vec<u8>, A
         ParseFault::TypeParameter { token, line } => {
             token_text(alloc, b"type-parameter token ", *token, *line)
         }
-        ParseFault::Division { token, line } => {
-            token_text(alloc, b"division token ", *token, *line)
-        }
     }
 }
 

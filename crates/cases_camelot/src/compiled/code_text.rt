@@ -40,6 +40,8 @@ fn word(op: PrimCode) -> &'static str {
         PrimCode::Add => "add",
         PrimCode::Sub => "sub",
         PrimCode::Mul => "mul",
+        PrimCode::Div => "div",
+        PrimCode::Mod => "mod",
         PrimCode::Eq => "eq",
         PrimCode::Ne => "ne",
         PrimCode::Lt => "lt",

@@ -13,6 +13,8 @@ fn symbol(op: PrimOp) -> &'static str {
         PrimOp::Add => "+",
         PrimOp::Sub => "-",
         PrimOp::Mul => "*",
+        PrimOp::Div => "/",
+        PrimOp::Mod => "mod",
         PrimOp::Eq => "=",
         PrimOp::Ne => "<>",
         PrimOp::Lt => "<",
