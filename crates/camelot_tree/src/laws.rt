@@ -2,7 +2,7 @@
 //! code, from the same theorem on calls.
 ghost use Rattle.std.specs.Prelude.{◌≡◌, ℕ, suc, ◌≤◌, ◌<◌, Bool, cond, if◌then◌else◌, List};
 ghost use Rattle.camelot_values.specs.Value.{Value};
-ghost use Rattle.camelot_values.specs.Outcome.{Done, Fuel, Deep, entered};
+ghost use Rattle.camelot_values.specs.Outcome.{Done, Fuel, Deep, Trap, entered};
 ghost use Rattle.camelot_values.specs.Fuel.{StopsOnFuel};
 ghost use Rattle.camelot_values.specs.Runs.{is_too_deep, calls, entering};
 ghost use Rattle.camelot_tree.specs.Tree.{Source};
@@ -25,7 +25,7 @@ pub fn law_of_clock()
 
 /// A run that stops on fuel has entered as many functions as it had fuel, and one that comes to a value at most as
 /// many. A run that comes to a value does so with just the fuel of its calls, and with any more; with less it stops on
-/// fuel, at no higher a peak. More fuel doesn't help a run that went too deep.
+/// fuel, at no higher a peak. More fuel doesn't help a run that went too deep or trapped.
 pub fn law_of_fuel()
     // A run that stops on fuel has entered as many functions as it had fuel.
     ensures used { (p : Source) (limit func fuel calls peak : ℕ) (args : List Value) → run_of p limit func fuel args ≡ Fuel calls peak → calls ≡ fuel }
@@ -41,4 +41,7 @@ pub fn law_of_fuel()
     // A run that goes too deep does so with any more fuel.
     ensures deep { (p : Source) (limit func fuel other : ℕ) (args : List Value) (peak : ℕ)
         → run_of p limit func fuel args ≡ Deep peak → fuel ≤ other → run_of p limit func other args ≡ Deep peak }
+    // A run that traps does so with any more fuel.
+    ensures trap { (p : Source) (limit func fuel other : ℕ) (args : List Value) (peak : ℕ)
+        → run_of p limit func fuel args ≡ Trap peak → fuel ≤ other → run_of p limit func other args ≡ Trap peak }
 {}

@@ -312,6 +312,11 @@ pub deep_is : (bodies : Bodies) → Respect bodies → (limit f k j : ℕ) (args
     → run_from bodies limit f j args ≡ Deep q
 deep_is bodies r limit f k j args q e h = let g : Goes k (Deep q) (run_from bodies limit f j args) = subst (λ o. Goes k o (run_from bodies limit f j args)) e (more_fuel bodies r limit f k j args h) in g
 
+-- Nor does it help a run that trapped.
+pub trap_is : (bodies : Bodies) → Respect bodies → (limit f k j : ℕ) (args : List Value) (q : ℕ) → run_from bodies limit f k args ≡ Trap q → k ≤ j
+    → run_from bodies limit f j args ≡ Trap q
+trap_is bodies r limit f k j args q e h = let g : Goes k (Trap q) (run_from bodies limit f j args) = subst (λ o. Goes k o (run_from bodies limit f j args)) e (more_fuel bodies r limit f k j args h) in g
+
 -- ---- one run
 
 -- What holds where a call finds no fuel and where it is too deep, and of each body whose calls have it, holds of all

@@ -1,12 +1,13 @@
 -- The meaning of code on small codes: what no law guards. Tail position, the depth of calls that wait, order of
--- evaluation, wrap-around, diamonds as arguments, the peak of cells.
-use Rattle.std.proofs.Common.{◌≡◌, ℕ, List, [], ◌∷◌, false, true, refl}
+-- evaluation, wrap-around, division, diamonds as arguments, the peak of cells. Then what bytes are that tell the
+-- formats apart.
+use Rattle.std.proofs.Common.{◌≡◌, ℕ, List, [], ◌∷◌, false, true, refl, subst}
 use Rattle.std.specs.Prelude.{codes, pos, negsuc}
 use Rattle.camelot_values.specs.Value as value
 use Rattle.camelot_values.specs.Value.{Value, parts}
 use Rattle.camelot_values.specs.Operator as operator
 use Rattle.camelot_values.specs.Operator.{Operator}
-use Rattle.camelot_values.specs.Outcome.{Done, Fuel, Deep, Stuck}
+use Rattle.camelot_values.specs.Outcome.{Done, Fuel, Deep, Trap, Stuck}
 use Rattle.camelot_values.specs.Kinds.{DataType}
 use Rattle.camelot_values.specs.declared.kinds.Kind.{Kind}
 use Rattle.camelot_values.specs.declared.kinds.Kind.TheVariants as kind
@@ -14,6 +15,10 @@ use Rattle.grail_blocks.specs.declared.blocks.Place.TheVariants as place
 use Rattle.grail_blocks.specs.declared.blocks.CaseCell.TheVariants as cell
 use Rattle.grail_code.specs.Code.{Lit, Prim, Make, Call, Let, Term, Ret, Tail, Goto, If, Case, Block, Func, Code, Op}
 use Rattle.grail_code.specs.Meaning.{run_of}
+use Rattle.grail_code.specs.Spelling.{Decoded, Spelled, Front, Broken, Means}
+use Rattle.grail_code.specs.Reader.{byte_at, tag_at, leb_at, times_at, counted_at}
+use Rattle.grail_code.specs.CodeReader.{whole, headed_at, digit_at, format_at, code_at, tables_at, type_at, func_at, name_at, word_at, tail_at, header_at, kind_at, block_at, local_at, let_at, op_at, op_rest, prim_at, operator_at, exit_at, exit_rest, ret_at}
+use Rattle.grail_code.proofs.SpellingMeans.{means_whole}
 
 abbrev bound : ℕ → Op → Let
 bound x op = record { target = x; op = op }
@@ -83,6 +88,31 @@ mul_wraps = refl
 pub mul_to_the_least : run_of (on_two operator.Mul kind.Int) 0 0 1 (int 65536 ∷ int 32768 ∷ []) ≡ Done (value.Int (negsuc 2147483647)) 1 0 0
 mul_to_the_least = refl
 
+-- a quotient is rounded toward zero, and wraps
+pub div_of_signs : run_of (on_two operator.Div kind.Int) 0 0 1 (value.Int (negsuc 6) ∷ int 2 ∷ []) ≡ Done (value.Int (negsuc 2)) 1 0 0
+div_of_signs = refl
+
+pub div_wraps : run_of (on_two operator.Div kind.Int) 0 0 1 (value.Int (negsuc 2147483647) ∷ value.Int (negsuc 0) ∷ [])
+    ≡ Done (value.Int (negsuc 2147483647)) 1 0 0
+div_wraps = refl
+
+-- a remainder has the sign of the left operand
+pub mod_of_signs : run_of (on_two operator.Mod kind.Int) 0 0 1 (value.Int (negsuc 6) ∷ int 2 ∷ []) ≡ Done (value.Int (negsuc 0)) 1 0 0
+mod_of_signs = refl
+
+pub mod_by_less : run_of (on_two operator.Mod kind.Int) 0 0 1 (int 7 ∷ value.Int (negsuc 1) ∷ []) ≡ Done (int 1) 1 0 0
+mod_by_less = refl
+
+pub mod_where_div_wraps : run_of (on_two operator.Mod kind.Int) 0 0 1 (value.Int (negsuc 2147483647) ∷ value.Int (negsuc 0) ∷ []) ≡ Done (int 0) 1 0 0
+mod_where_div_wraps = refl
+
+-- division by 0 stops the run
+pub div_by_none : run_of (on_two operator.Div kind.Int) 0 0 1 (int 7 ∷ int 0 ∷ []) ≡ Trap 0
+div_by_none = refl
+
+pub mod_by_none : run_of (on_two operator.Mod kind.Int) 0 0 1 (int 7 ∷ int 0 ∷ []) ≡ Trap 0
+mod_by_none = refl
+
 pub less_of_signs : run_of (on_two operator.Lt kind.Flag) 0 0 1 (value.Int (negsuc 0) ∷ int 0 ∷ []) ≡ Done (value.Flag true) 1 0 0
 less_of_signs = refl
 
@@ -145,3 +175,58 @@ unbound_parameter = refl
 
 pub unbound_read : run_of (code [] (func (kind.Int ∷ []) kind.Int (kind.Int ∷ []) (block (0 ∷ []) [] (Goto 1) ∷ block (0 ∷ 1 ∷ []) [] (Ret 1) ∷ []) ∷ [])) 0 0 1 (int 3 ∷ []) ≡ Stuck
 unbound_read = refl
+
+-- ---- formats
+
+-- what bytes are, by reading them
+abbrev read_as : List ℕ → Decoded
+read_as bytes = whole bytes (code_at bytes)
+
+is_so : (bytes : List ℕ) (o : Decoded) → read_as bytes ≡ o → Means bytes o
+is_so bytes o e = subst (Means bytes) e (means_whole bytes)
+
+-- `GRL3` is bad at its last byte, and `GRL` the beginning of a spelling
+pub third_format : Means (71 ∷ 82 ∷ 76 ∷ 51 ∷ []) (Broken 3)
+unfolding code_at format_at headed_at digit_at byte_at
+third_format = is_so _ (Broken 3) refl
+
+pub format_front : Means (71 ∷ 82 ∷ 76 ∷ []) Front
+unfolding code_at format_at headed_at digit_at byte_at
+format_front = is_so _ Front refl
+
+-- let add a b = a OP b, in 28 bytes: the last byte that tells the format, and the operator's
+abbrev add_bytes : (digit number : ℕ) → List ℕ
+add_bytes digit number = 71 ∷ 82 ∷ 76 ∷ digit ∷ 0 ∷ 1 ∷ 3 ∷ 97 ∷ 100 ∷ 100 ∷ 2 ∷ 0 ∷ 0 ∷ 0 ∷ 1 ∷ 0 ∷ 1 ∷ 2 ∷ 0 ∷ 1 ∷ 1 ∷ 2 ∷ 3 ∷ number ∷ 0 ∷ 1 ∷ 0 ∷ 2 ∷ []
+
+abbrev add_code : Operator → Code
+add_code op = code [] (record {
+  name = codes "add";
+  params = kind.Int ∷ kind.Int ∷ [];
+  result = kind.Int;
+  locals = kind.Int ∷ [];
+  blocks = block (0 ∷ 1 ∷ []) (bound 2 (Prim op 0 1) ∷ []) (Ret 2) ∷ [];
+} ∷ [])
+
+pub record OfFormats : Type 0 where
+  -- Code without division has both spellings.
+  pub add_in_first : Means (add_bytes 49 0) (Spelled (add_code operator.Add))
+  pub add_in_second : Means (add_bytes 50 0) (Spelled (add_code operator.Add))
+  -- The first format has no division: its operator is the first bad byte.
+  pub div_in_first : Means (add_bytes 49 9) (Broken 23)
+  pub mod_in_first : Means (add_bytes 49 10) (Broken 23)
+  pub div_in_second : Means (add_bytes 50 9) (Spelled (add_code operator.Div))
+  pub mod_in_second : Means (add_bytes 50 10) (Spelled (add_code operator.Mod))
+  -- No operator has a further number.
+  pub none_in_second : Means (add_bytes 50 11) (Broken 23)
+
+pub of_formats : OfFormats
+unfolding code_at format_at headed_at digit_at tables_at counted_at times_at byte_at tag_at leb_at type_at func_at name_at word_at tail_at header_at kind_at block_at local_at let_at op_at op_rest prim_at operator_at exit_at exit_rest ret_at
+of_formats = record {
+  add_in_first = is_so _ (Spelled (add_code operator.Add)) refl;
+  add_in_second = is_so _ (Spelled (add_code operator.Add)) refl;
+  div_in_first = is_so _ (Broken 23) refl;
+  mod_in_first = is_so _ (Broken 23) refl;
+  div_in_second = is_so _ (Spelled (add_code operator.Div)) refl;
+  mod_in_second = is_so _ (Spelled (add_code operator.Mod)) refl;
+  none_in_second = is_so _ (Broken 23) refl;
+}

@@ -1,5 +1,7 @@
 -- The readers of blocks' ends, blocks, functions and code read their spellings.
-use Rattle.std.proofs.Common.{◌≡◌, ℕ, zero, suc, ◌<◌, List, [], ◌∷◌, ◌++◌, refl, sym, append_assoc, lit<, lit≤, arith}
+use Rattle.std.proofs.Common.{◌≡◌, ℕ, zero, suc, ◌<◌, Bool, true, false, List, [], ◌∷◌, ◌++◌, refl, sym, ap, append_assoc, lit<, lit≤, arith}
+use Rattle.std.specs.Prelude.{◌==◌, ◌||◌, if◌then◌else◌}
+use Rattle.std.proofs.lemmas.Bool.{eqb-true}
 use Rattle.camelot_values.specs.Names.{is_lower, IsName}
 use Rattle.camelot_values.specs.Kinds.{DataType}
 use Rattle.camelot_values.specs.declared.kinds.Kind.{Kind}
@@ -7,10 +9,10 @@ use Rattle.grail_blocks.specs.declared.blocks.CaseCell.{CaseCell}
 use Rattle.grail_blocks.specs.declared.blocks.CaseCell.TheVariants as cell
 use Rattle.grail_code.specs.Code.{Prim, Let, CaseArm, Term, Ret, Tail, Goto, If, Case, Block, Func, Code}
 use Rattle.grail_code.specs.Spelling as s
-use Rattle.grail_code.specs.Spelling.{number, counted, name, AreCounted, IsLocal, FitsKind, FitsCon, FitsType, FitsPlace, FitsOp, FitsLet, FitsCell, FitsArm, FitsTerm, FitsBlock, FitsFunc, FitsCode}
-use Rattle.grail_code.specs.Reader.{Read, pair_at, leb_at, counted_at}
-use Rattle.grail_code.specs.CodeReader.{name_at, kind_at, type_at, local_at, let_at, cell_rest, cell_at, arm_at, ret_at, tail_call_at, goto_at, if_at, case_at, exit_rest, exit_at, block_at, header_at, func_at, headed_at, tables_at, code_at}
-use Rattle.grail_code.proofs.SpellingParts.{Lawful, Made, retold, made, pair, constant, headed, tagged, counted_law}
+use Rattle.grail_code.specs.Spelling.{Format, First, Second, number, counted, name, AreCounted, IsLocal, FitsKind, FitsCon, FitsType, FitsPlace, FitsOp, FitsLet, FitsCell, FitsArm, FitsTerm, FitsBlock, FitsFunc, FitsCode}
+use Rattle.grail_code.specs.Reader.{Read, map_read, pair_at, byte_at, leb_at, counted_at}
+use Rattle.grail_code.specs.CodeReader.{is_digit, numbered_format, digit_at, format_at, name_at, kind_at, type_at, local_at, let_at, cell_rest, cell_at, arm_at, ret_at, tail_call_at, goto_at, if_at, case_at, exit_rest, exit_at, block_at, header_at, func_at, headed_at, tables_at, code_at}
+use Rattle.grail_code.proofs.SpellingParts.{Lawful, Made, retold, made, bind, byte_law, pair, constant, headed, tagged, counted_law}
 use Rattle.grail_code.proofs.SpellingTypes.{lower_law, kind_law, kinds_law, type_law}
 use Rattle.grail_code.proofs.SpellingLets.{local_law, locals_law, CallFits, call_parts, two_locals, let_law}
 
@@ -163,18 +165,18 @@ exit_law = tagged FitsTerm s.term_bytes exit_tail exit_tag 5 exit_rest (lit< tt)
 
 -- ---- blocks, functions and code
 
-abbrev BlockParts : List ℕ × (List Let × Term) → Type 0
-BlockParts p = AreCounted IsLocal 0 256 p.0 × (AreCounted FitsLet 0 256 p.1.0 × FitsTerm p.1.1)
+abbrev BlockParts : Format → List ℕ × (List Let × Term) → Type 0
+BlockParts f p = AreCounted IsLocal 0 256 p.0 × (AreCounted (FitsLet f) 0 256 p.1.0 × FitsTerm p.1.1)
 
-block_law : Lawful FitsBlock s.block_bytes block_at
+block_law : (f : Format) → Lawful (FitsBlock f) s.block_bytes (block_at f)
 unfolding block_at
-block_law = made BlockParts (λ p. counted number p.0 ++ (counted s.let_bytes p.1.0 ++ s.term_bytes p.1.1)) (pair_at (counted_at local_at 0 256) (pair_at (counted_at let_at 0 256) exit_at)) FitsBlock s.block_bytes
+block_law f = made (BlockParts f) (λ p. counted number p.0 ++ (counted s.let_bytes p.1.0 ++ s.term_bytes p.1.1)) (pair_at (counted_at local_at 0 256) (pair_at (counted_at (let_at f) 0 256) exit_at)) (FitsBlock f) s.block_bytes
     (λ p. record { params = p.0; lets = p.1.0; term = p.1.1 })
     (λ p h. record { params = h.0; lets = h.1.0; term = h.1.1 })
     (λ b h. record { value = (b.params, (b.lets, b.term)); fits = (h.params, (h.lets, h.term)); is = refl })
     (λ p h. sym (append_assoc (counted number p.0) (counted s.let_bytes p.1.0) (s.term_bytes p.1.1)))
-    (pair (AreCounted IsLocal 0 256) (counted number) (counted_at local_at 0 256) (λ (p : List Let × Term). AreCounted FitsLet 0 256 p.0 × FitsTerm p.1) (λ p. counted s.let_bytes p.0 ++ s.term_bytes p.1) (pair_at (counted_at let_at 0 256) exit_at) (locals_law 256)
-    (pair (AreCounted FitsLet 0 256) (counted s.let_bytes) (counted_at let_at 0 256) FitsTerm s.term_bytes exit_at (counted_law FitsLet s.let_bytes let_at 0 256 (lit≤ tt) (lit≤ tt) let_law) exit_law))
+    (pair (AreCounted IsLocal 0 256) (counted number) (counted_at local_at 0 256) (λ (p : List Let × Term). AreCounted (FitsLet f) 0 256 p.0 × FitsTerm p.1) (λ p. counted s.let_bytes p.0 ++ s.term_bytes p.1) (pair_at (counted_at (let_at f) 0 256) exit_at) (locals_law 256)
+    (pair (AreCounted (FitsLet f) 0 256) (counted s.let_bytes) (counted_at (let_at f) 0 256) FitsTerm s.term_bytes exit_at (counted_law (FitsLet f) s.let_bytes (let_at f) 0 256 (lit≤ tt) (lit≤ tt) (let_law f)) exit_law))
 
 abbrev Header : Type 0
 Header = List Kind × (Kind × List Kind)
@@ -190,38 +192,90 @@ unfolding header_at
 header_law = pair (AreCounted FitsKind 1 16) (counted s.kind_bytes) (counted_at kind_at 1 16) (λ (p : Kind × List Kind). FitsKind p.0 × AreCounted FitsKind 0 240 p.1) (λ p. s.kind_bytes p.0 ++ counted s.kind_bytes p.1) (pair_at kind_at (counted_at kind_at 0 240)) (kinds_law 1 16 (lit≤ tt) (lit≤ tt))
     (pair FitsKind s.kind_bytes kind_at (AreCounted FitsKind 0 240) (counted s.kind_bytes) (counted_at kind_at 0 240) kind_law (kinds_law 0 240 (lit≤ tt) (lit≤ tt)))
 
-abbrev FuncParts : List ℕ × (Header × List Block) → Type 0
-FuncParts p = IsName is_lower p.0 × (HeaderFits p.1.0 × AreCounted FitsBlock 1 256 p.1.1)
+abbrev FuncParts : Format → List ℕ × (Header × List Block) → Type 0
+FuncParts f p = IsName is_lower p.0 × (HeaderFits p.1.0 × AreCounted (FitsBlock f) 1 256 p.1.1)
 
 five : (a b c d e : List ℕ) → a ++ ((b ++ (c ++ d)) ++ e) ≡ a ++ b ++ c ++ d ++ e
 five a b c d e = simp append_assoc
 
-func_law : Lawful FitsFunc s.func_bytes func_at
+func_law : (f : Format) → Lawful (FitsFunc f) s.func_bytes (func_at f)
 unfolding func_at
-func_law = made FuncParts (λ p. name p.0 ++ (header_bytes p.1.0 ++ counted s.block_bytes p.1.1)) (pair_at (name_at is_lower) (pair_at header_at (counted_at block_at 1 256))) FitsFunc s.func_bytes
+func_law f = made (FuncParts f) (λ p. name p.0 ++ (header_bytes p.1.0 ++ counted s.block_bytes p.1.1)) (pair_at (name_at is_lower) (pair_at header_at (counted_at (block_at f) 1 256))) (FitsFunc f) s.func_bytes
     (λ p. record { name = p.0; params = p.1.0.0; result = p.1.0.1.0; locals = p.1.0.1.1; blocks = p.1.1 })
     (λ p h. record { name = h.0; params = h.1.0.0; result = h.1.0.1.0; locals = h.1.0.1.1; blocks = h.1.1 })
-    (λ f h. record { value = (f.name, ((f.params, (f.result, f.locals)), f.blocks)); fits = (h.name, ((h.params, (h.result, h.locals)), h.blocks)); is = refl })
+    (λ g h. record { value = (g.name, ((g.params, (g.result, g.locals)), g.blocks)); fits = (h.name, ((h.params, (h.result, h.locals)), h.blocks)); is = refl })
     (λ p h. five (name p.0) (counted s.kind_bytes p.1.0.0) (s.kind_bytes p.1.0.1.0) (counted s.kind_bytes p.1.0.1.1) (counted s.block_bytes p.1.1))
-    (pair (IsName is_lower) name (name_at is_lower) (λ (p : Header × List Block). HeaderFits p.0 × AreCounted FitsBlock 1 256 p.1) (λ p. header_bytes p.0 ++ counted s.block_bytes p.1) (pair_at header_at (counted_at block_at 1 256)) lower_law
-    (pair HeaderFits header_bytes header_at (AreCounted FitsBlock 1 256) (counted s.block_bytes) (counted_at block_at 1 256) header_law (counted_law FitsBlock s.block_bytes block_at 1 256 (lit≤ tt) (lit≤ tt) block_law)))
+    (pair (IsName is_lower) name (name_at is_lower) (λ (p : Header × List Block). HeaderFits p.0 × AreCounted (FitsBlock f) 1 256 p.1) (λ p. header_bytes p.0 ++ counted s.block_bytes p.1) (pair_at header_at (counted_at (block_at f) 1 256)) lower_law
+    (pair HeaderFits header_bytes header_at (AreCounted (FitsBlock f) 1 256) (counted s.block_bytes) (counted_at (block_at f) 1 256) header_law (counted_law (FitsBlock f) s.block_bytes (block_at f) 1 256 (lit≤ tt) (lit≤ tt) (block_law f))))
 
 tables_bytes : Code → List ℕ
 tables_bytes p = counted s.type_bytes p.types ++ counted s.func_bytes p.funcs
 
-tables_law : Lawful FitsCode tables_bytes tables_at
+tables_law : (f : Format) → Lawful (FitsCode f) tables_bytes (tables_at f)
 unfolding tables_at tables_bytes
-tables_law = made (λ (p : List DataType × List Func). AreCounted FitsType 0 64 p.0 × AreCounted FitsFunc 0 64 p.1) (λ p. counted s.type_bytes p.0 ++ counted s.func_bytes p.1) (pair_at (counted_at type_at 0 64) (counted_at func_at 0 64)) FitsCode tables_bytes
+tables_law f = made (λ (p : List DataType × List Func). AreCounted FitsType 0 64 p.0 × AreCounted (FitsFunc f) 0 64 p.1) (λ p. counted s.type_bytes p.0 ++ counted s.func_bytes p.1) (pair_at (counted_at type_at 0 64) (counted_at (func_at f) 0 64)) (FitsCode f) tables_bytes
     (λ p. record { types = p.0; funcs = p.1 }) (λ p h. record { types = h.0; funcs = h.1 }) (λ c h. record { value = (c.types, c.funcs); fits = (h.types, h.funcs); is = refl }) (λ p h. refl)
-    (pair (AreCounted FitsType 0 64) (counted s.type_bytes) (counted_at type_at 0 64) (AreCounted FitsFunc 0 64) (counted s.func_bytes) (counted_at func_at 0 64)
-    (counted_law FitsType s.type_bytes type_at 0 64 (lit≤ tt) (lit≤ tt) type_law) (counted_law FitsFunc s.func_bytes func_at 0 64 (lit≤ tt) (lit≤ tt) func_law))
+    (pair (AreCounted FitsType 0 64) (counted s.type_bytes) (counted_at type_at 0 64) (AreCounted (FitsFunc f) 0 64) (counted s.func_bytes) (counted_at (func_at f) 0 64)
+    (counted_law FitsType s.type_bytes type_at 0 64 (lit≤ tt) (lit≤ tt) type_law) (counted_law (FitsFunc f) s.func_bytes (func_at f) 0 64 (lit≤ tt) (lit≤ tt) (func_law f)))
 
 headed_law : {A : Type 0} (F : A → Type 0) (spell : A → List ℕ) (r : List ℕ → Read A) (b : ℕ) → Lawful F spell r → Lawful F (λ x. b ∷ spell x) (headed_at b r)
 unfolding headed_at
 headed_law F spell r b law = headed F spell r b law
 
+-- ---- formats
+
+abbrev digit : Format → ℕ
+digit First = 49
+digit Second = 50
+
+digit_is : (f : Format) → is_digit (digit f) ≡ true
+digit_is First = refl
+digit_is Second = refl
+
+format_back : (f : Format) → numbered_format (digit f) ≡ f
+format_back First = refl
+format_back Second = refl
+
+digit_back : (b : ℕ) → is_digit b ≡ true → b ≡ digit (numbered_format b)
+digit_back b h = by_tests (b == 49) (b == 50) refl refl h
+  where
+    by_tests : (v w : Bool) → (b == 49) ≡ v → (b == 50) ≡ w → (v || w) ≡ true → b ≡ digit (if v then First else Second)
+    by_tests true w e k t = eqb-true b 49 e
+    by_tests false true e k t = eqb-true b 50 k
+    by_tests false false e k t = absurd cc
+
+digit_law : Lawful (λ (f : Format). Unit {0}) (λ f. digit f ∷ []) digit_at
+unfolding digit_at
+digit_law = made (λ b. is_digit b ≡ true) (λ b. b ∷ []) (byte_at is_digit) (λ (f : Format). Unit {0}) (λ f. digit f ∷ []) numbered_format (λ b h. tt)
+    (λ f h. record { value = digit f; fits = digit_is f; is = format_back f }) (λ b h. ap (λ c. c ∷ []) (digit_back b h)) (byte_law is_digit 49 refl)
+
+format_spelled : (f : Format) → 71 ∷ 82 ∷ 76 ∷ digit f ∷ [] ≡ s.format_bytes f
+format_spelled First = refl
+format_spelled Second = refl
+
+format_law : Lawful (λ (f : Format). Unit {0}) s.format_bytes format_at
+unfolding format_at
+format_law = retold _ _ _ (λ (f : Format). Unit {0}) s.format_bytes (λ f h. h) (λ f h. h) (λ f h. format_spelled f)
+    (headed_law (λ (f : Format). Unit {0}) _ _ 71 (headed_law (λ (f : Format). Unit {0}) _ _ 82 (headed_law (λ (f : Format). Unit {0}) (λ f. digit f ∷ []) digit_at 76 digit_law)))
+
+-- ---- code and its format
+
+abbrev pub FitsFormat : Format × Code → Type 0
+FitsFormat c = FitsCode c.0 c.1
+
+abbrev pub format_spelling : Format × Code → List ℕ
+format_spelling c = s.spelling c.0 c.1
+
+-- the code behind the bytes that tell its format
+behind_law : (f : Format)
+    → Lawful (λ (c : Format × Code). FitsCode f c.1 × (c.0 ≡ f)) (λ c. tables_bytes c.1) (λ rest. map_read (λ p. (f, p)) (tables_at f rest))
+behind_law f = made (FitsCode f) tables_bytes (tables_at f) (λ (c : Format × Code). FitsCode f c.1 × (c.0 ≡ f)) (λ c. tables_bytes c.1) (λ p. (f, p)) (λ p h. (h, refl))
+    (λ c h. record { value = c.1; fits = h.0; is = ap (λ (g : Format). (g, c.1)) (sym h.1) }) (λ p h. refl) (tables_law f)
+
 -- what is read is spelled so, and what is spelled so is read
-pub code_law : Lawful FitsCode s.spelling code_at
+pub code_law : Lawful FitsFormat format_spelling code_at
 unfolding code_at tables_bytes
-code_law = retold _ _ _ FitsCode s.spelling (λ p h. h) (λ p h. h) (λ p h. refl)
-    (headed_law FitsCode _ _ 71 (headed_law FitsCode _ _ 82 (headed_law FitsCode _ _ 76 (headed_law FitsCode tables_bytes tables_at 49 tables_law))))
+code_law = retold _ _ _ FitsFormat format_spelling (λ c h. h.1.0) (λ c h. (tt, (h, refl)))
+    (λ c h. sym (append_assoc (s.format_bytes c.0) (counted s.type_bytes c.1.types) (counted s.func_bytes c.1.funcs)))
+    (bind (λ (f : Format). Unit {0}) s.format_bytes format_at (λ f c. FitsCode f c.1 × (c.0 ≡ f)) (λ f c. tables_bytes c.1) (λ f rest. map_read (λ p. (f, p)) (tables_at f rest)) (λ c. c.0)
+    format_law (λ f c h. h.1) (λ f h. behind_law f))

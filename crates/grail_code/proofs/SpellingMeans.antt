@@ -1,5 +1,6 @@
 -- What bytes are, and that they are only one thing.
 use Rattle.std.proofs.Common.{◌≡◌, ℕ, suc, ◌+◌, ◌-◌, ◌<◌, List, [], ◌∷◌, ◌++◌, length, take, Result, Ok, Err, refl, sym, ap, subst, ◌∙◌, append_assoc, append-nil, length-append, inl, inr, arith}
+use Rattle.std.specs.Prelude.{◌⊎◌}
 use Rattle.std.proofs.lemmas.List.{take_at, take_all}
 use Rattle.std.proofs.Math.Seq.{take-append-add}
 use Rattle.std.proofs.lemmas.Bool.{cases_lt}
@@ -11,29 +12,34 @@ use Rattle.grail_code.specs.declared.fault.DecodeFault.TheVariants as fault
 use Rattle.grail_code.specs.Code.{Code}
 use Rattle.grail_code.specs.Reader.{Read, Done, More, Stop}
 use Rattle.grail_code.specs.CodeReader.{code_at, whole, Sees}
-use Rattle.grail_code.specs.Decoding.{IsSo, Says}
-use Rattle.grail_code.specs.Spelling.{spelling, FitsCode, Decoded, Spelled, Front, Broken, IsSpelling, BeginsCode, IsFront, IsLongestBegin, Means}
+use Rattle.grail_code.specs.Decoding.{IsSo, Says, IsMigration}
+use Rattle.grail_code.specs.RangeLaws.{fits_second, fits_first, first_undivided}
+use Rattle.grail_code.specs.Spelling.{Format, First, Second, spelling, FitsCode, IsUndivided, Decoded, Spelled, Front, Broken, IsSpelling, BeginsCode, IsFront, IsLongestBegin, Means}
 use Rattle.grail_code.proofs.SpellingParts.{Begins, Stops, Tells, one_way}
-use Rattle.grail_code.proofs.SpellingCode.{code_law}
+use Rattle.grail_code.proofs.SpellingCode.{FitsFormat, format_spelling, code_law}
 
 -- ---- the laws of spellings
 
-pub one_way_only : (p q : Code) (xs ys : List ℕ) → FitsCode p → FitsCode q → spelling p ++ xs ≡ spelling q ++ ys → (p ≡ q) × (xs ≡ ys)
-one_way_only p q xs ys fp fq e = let one = one_way FitsCode spelling code_at code_law p q xs ys fp fq e in (one.value, one.rest)
+pub one_way_only : (f g : Format) (p q : Code) (xs ys : List ℕ)
+    → FitsCode f p → FitsCode g q → spelling f p ++ xs ≡ spelling g q ++ ys → (f ≡ g) × (p ≡ q) × (xs ≡ ys)
+one_way_only f g p q xs ys fp fq e =
+    let one = one_way FitsFormat format_spelling code_at code_law (f, p) (g, q) xs ys fp fq e in
+    (ap (λ (c : Format × Code). c.0) one.value, ap (λ (c : Format × Code). c.1) one.value, one.rest)
 
-pub no_front : (p q : Code) (b : ℕ) (rest : List ℕ) → FitsCode p → FitsCode q → spelling p ++ (b ∷ rest) ≡ spelling q → ⊥
-no_front p q b rest fp fq e =
-    let one = one_way FitsCode spelling code_at code_law p q (b ∷ rest) [] fp fq (e ∙ sym (append-nil (spelling q))) in
-    absurd (omega (arith, ap length one.rest))
+pub no_front : (f g : Format) (p q : Code) (b : ℕ) (rest : List ℕ) → FitsCode f p → FitsCode g q → spelling f p ++ (b ∷ rest) ≡ spelling g q → ⊥
+no_front f g p q b rest fp fq e =
+    let one = one_way_only f g p q (b ∷ rest) [] fp fq (e ∙ sym (append-nil (spelling g q))) in
+    absurd (omega (arith, ap length one.2))
 
 -- ---- what the bytes are
 
-front_is : (bytes : List ℕ) → code_at bytes ≡ More → (p : Code) → FitsCode p → (rest : List ℕ) → spelling p ≡ bytes ++ rest → IsFront bytes
-front_is bytes e p fits [] is =
-    let again : code_at (spelling p) ≡ Done p [] = ap code_at (sym (append-nil (spelling p))) ∙ code_law.again p [] fits in
-    let clash : Done p [] ≡ More = sym again ∙ ap code_at (is ∙ append-nil bytes) ∙ e in
+front_is : (bytes : List ℕ) → code_at bytes ≡ More → (f : Format) (p : Code) → FitsCode f p → (rest : List ℕ) → spelling f p ≡ bytes ++ rest → IsFront bytes
+front_is bytes e f p fits [] is =
+    let c : Format × Code = (f, p) in
+    let again : code_at (spelling f p) ≡ Done c [] = ap code_at (sym (append-nil (spelling f p))) ∙ code_law.again c [] fits in
+    let clash : Done c [] ≡ More = sym again ∙ ap code_at (is ∙ append-nil bytes) ∙ e in
     absurd cc
-front_is bytes e p fits (next ∷ rest) is = record { program = p; fits = fits; next = next; rest = rest; is = is }
+front_is bytes e f p fits (next ∷ rest) is = record { format = f; program = p; fits = fits; next = next; rest = rest; is = is }
 
 further : (good after : List ℕ) (bad n : ℕ) → length good < n → take n (good ++ (bad ∷ after)) ≡ good ++ (bad ∷ take (n - suc (length good)) after)
 further good after bad n lt =
@@ -43,7 +49,7 @@ further good after bad n lt =
 
 -- the good bytes are the longest part from the left that begins code
 longest_is : (bytes good after : List ℕ) (bad : ℕ) → bytes ≡ good ++ (bad ∷ after) → BeginsCode good
-    → ((q : Code) (rest : List ℕ) → FitsCode q → spelling q ≡ good ++ (bad ∷ rest) → ⊥)
+    → ((g : Format) (q : Code) (rest : List ℕ) → FitsCode g q → spelling g q ≡ good ++ (bad ∷ rest) → ⊥)
     → IsLongestBegin bytes (length bytes - suc (length after))
 longest_is bytes good after bad parts begins never =
     let long : length bytes ≡ length good + suc (length after) = ap length parts ∙ length-append good (bad ∷ after) in
@@ -55,25 +61,26 @@ longest_is bytes good after bad parts begins never =
       longest = λ n le k. elim (cases_lt (length good) n) [
         | inl lt ↦
             let taken : take n bytes ≡ good ++ (bad ∷ take (n - suc (length good)) after) = ap (take n) parts ∙ further good after bad n lt in
-            absurd (never k.program (take (n - suc (length good)) after ++ k.rest) k.fits (k.is ∙ ap (λ w. w ++ k.rest) taken ∙ append_assoc good (bad ∷ take (n - suc (length good)) after) k.rest))
+            absurd (never k.format k.program (take (n - suc (length good)) after ++ k.rest) k.fits (k.is ∙ ap (λ w. w ++ k.rest) taken ∙ append_assoc good (bad ∷ take (n - suc (length good)) after) k.rest))
         | inr ge ↦ ge
       ];
     } in
     subst (IsLongestBegin bytes) (sym at) found
 
-begins_code : (bytes : List ℕ) → Begins FitsCode spelling bytes → BeginsCode bytes
-begins_code bytes h = record { program = h.value; fits = h.fits; rest = h.rest; is = h.is }
+begins_code : (bytes : List ℕ) → Begins FitsFormat format_spelling bytes → BeginsCode bytes
+begins_code bytes h = record { format = h.value.0; program = h.value.1; fits = h.fits; rest = h.rest; is = h.is }
 
-stops_there : (bytes : List ℕ) (left : ℕ) → Stops FitsCode spelling bytes left → IsLongestBegin bytes (length bytes - left)
+stops_there : (bytes : List ℕ) (left : ℕ) → Stops FitsFormat format_spelling bytes left → IsLongestBegin bytes (length bytes - left)
 stops_there bytes left h =
     subst (λ k. IsLongestBegin bytes (length bytes - k)) (sym h.left_is)
-    (longest_is bytes h.good h.after h.bad h.parts (begins_code h.good h.begins) (λ q rest fits e. h.never q [] rest fits (append-nil (spelling q) ∙ e)))
+    (longest_is bytes h.good h.after h.bad h.parts (begins_code h.good h.begins) (λ g q rest fits e. h.never (g, q) [] rest fits (append-nil (spelling g q) ∙ e)))
 
-means_read : (bytes : List ℕ) (o : Read Code) → code_at bytes ≡ o → Tells FitsCode spelling bytes o → Means bytes (whole bytes o)
-means_read bytes (Done p []) e h = record { fits = h.0; is = h.1 ∙ append-nil (spelling p) }
-means_read bytes (Done p (b ∷ rest)) e h =
-    longest_is bytes (spelling p) rest b h.1 (record { program = p; fits = h.0; rest = []; is = sym (append-nil (spelling p)) }) (λ q x fits d. no_front p q b x h.0 fits (sym d))
-means_read bytes More e h = front_is bytes e h.value h.fits h.rest h.is
+means_read : (bytes : List ℕ) (o : Read (Format × Code)) → code_at bytes ≡ o → Tells FitsFormat format_spelling bytes o → Means bytes (whole bytes o)
+means_read bytes (Done (f, p) []) e h = record { format = f; fits = h.0; is = h.1 ∙ append-nil (spelling f p) }
+means_read bytes (Done (f, p) (b ∷ rest)) e h =
+    longest_is bytes (spelling f p) rest b h.1 (record { format = f; program = p; fits = h.0; rest = []; is = sym (append-nil (spelling f p)) })
+    (λ g q x fits d. no_front f g p q b x h.0 fits (sym d))
+means_read bytes More e h = front_is bytes e h.value.0 h.value.1 h.fits h.rest h.is
 means_read bytes (Stop left) e h = stops_there bytes left h
 
 -- each list of bytes means what was read
@@ -83,10 +90,12 @@ means_whole bytes = means_read bytes (code_at bytes) refl (code_law.tells bytes)
 -- ---- only one thing
 
 spelled_once : (p q : Code) (bytes : List ℕ) → IsSpelling p bytes → IsSpelling q bytes → p ≡ q
-spelled_once p q bytes hp hq = let one = one_way FitsCode spelling code_at code_law p q [] [] hp.fits hq.fits (append-nil (spelling p) ∙ sym hp.is ∙ hq.is ∙ sym (append-nil (spelling q))) in one.value
+spelled_once p q bytes hp hq =
+    let one = one_way_only hp.format hq.format p q [] [] hp.fits hq.fits (append-nil (spelling hp.format p) ∙ sym hp.is ∙ hq.is ∙ sym (append-nil (spelling hq.format q))) in
+    one.1
 
 no_spelled_front : (p : Code) (bytes : List ℕ) → IsSpelling p bytes → IsFront bytes → ⊥
-no_spelled_front p bytes hp h = no_front p h.program h.next h.rest hp.fits h.fits (ap (λ w. w ++ (h.next ∷ h.rest)) (sym hp.is) ∙ sym h.is)
+no_spelled_front p bytes hp h = no_front hp.format h.format p h.program h.next h.rest hp.fits h.fits (ap (λ w. w ++ (h.next ∷ h.rest)) (sym hp.is) ∙ sym h.is)
 
 no_whole_begin : (bytes : List ℕ) (at : ℕ) → IsLongestBegin bytes at → BeginsCode bytes → ⊥
 no_whole_begin bytes at h k =
@@ -96,10 +105,10 @@ no_whole_begin bytes at h k =
     absurd (omega arith)
 
 spelled_begins : (p : Code) (bytes : List ℕ) → IsSpelling p bytes → BeginsCode bytes
-spelled_begins p bytes h = record { program = p; fits = h.fits; rest = []; is = sym h.is ∙ sym (append-nil bytes) }
+spelled_begins p bytes h = record { format = h.format; program = p; fits = h.fits; rest = []; is = sym h.is ∙ sym (append-nil bytes) }
 
 front_begins : (bytes : List ℕ) → IsFront bytes → BeginsCode bytes
-front_begins bytes h = record { program = h.program; fits = h.fits; rest = h.next ∷ h.rest; is = h.is }
+front_begins bytes h = record { format = h.format; program = h.program; fits = h.fits; rest = h.next ∷ h.rest; is = h.is }
 
 longest_once : (bytes : List ℕ) (m n : ℕ) → IsLongestBegin bytes m → IsLongestBegin bytes n → m ≡ n
 longest_once bytes m n hm hn =
@@ -145,3 +154,37 @@ means_said bytes r o e h = subst (Says r) (means_one bytes (whole bytes (code_at
 
 pub means_some : (bytes : List ℕ) → (o : Decoded) × Means bytes o
 means_some bytes = (whole bytes (code_at bytes), means_whole bytes)
+
+-- ---- which spellings a code has
+
+pub spelled_within : (p : Code) (bytes : List ℕ) → IsSpelling p bytes → FitsCode Second p
+spelled_within p bytes h = fits_second h.format p h.fits
+
+pub spelled_second : (p : Code) → FitsCode Second p → IsSpelling p (spelling Second p)
+spelled_second p fits = record { format = Second; fits = fits; is = refl }
+
+pub spelled_first : (p : Code) → FitsCode Second p → IsUndivided p → IsSpelling p (spelling First p)
+spelled_first p fits undivided = record { format = First; fits = fits_first p fits undivided; is = refl }
+
+by_format : (f : Format) (p : Code) (bytes : List ℕ) → FitsCode f p → bytes ≡ spelling f p
+    → (bytes ≡ spelling Second p) ⊎ ((bytes ≡ spelling First p) × IsUndivided p)
+by_format First p bytes fits is = inr (is, first_undivided p fits)
+by_format Second p bytes fits is = inl is
+
+pub spelled_only : (p : Code) (bytes : List ℕ) → IsSpelling p bytes → (bytes ≡ spelling Second p) ⊎ ((bytes ≡ spelling First p) × IsUndivided p)
+spelled_only p bytes h = by_format h.format p bytes h.fits h.is
+
+-- ---- migrating
+
+-- what was migrated spells the code that was there
+migrated_is : (p : Code) (bytes migrated : List ℕ) → IsSpelling p bytes → IsMigration bytes migrated → migrated ≡ spelling Second p
+migrated_is p bytes migrated h m = m.is ∙ ap (spelling Second) (spelled_once m.program p bytes m.means h)
+
+pub migration_keeps : (p : Code) (bytes migrated : List ℕ) → IsSpelling p bytes → IsMigration bytes migrated → IsSpelling p migrated
+migration_keeps p bytes migrated h m = subst (IsSpelling p) (sym (migrated_is p bytes migrated h m)) (spelled_second p (spelled_within p bytes h))
+
+pub migration_again : (bytes migrated further : List ℕ) → IsMigration bytes migrated → IsMigration migrated further → further ≡ migrated
+migration_again bytes migrated further m n = migrated_is m.program migrated further (migration_keeps m.program bytes migrated m.means m) n ∙ sym m.is
+
+pub migration_of_second : (p : Code) (migrated : List ℕ) → FitsCode Second p → IsMigration (spelling Second p) migrated → migrated ≡ spelling Second p
+migration_of_second p migrated fits m = migrated_is p (spelling Second p) migrated (spelled_second p fits) m

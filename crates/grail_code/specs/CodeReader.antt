@@ -1,6 +1,7 @@
 -- Private: words for functions of this crate.
--- Reading the spelling of code from the left, part by part in the order of the spelling.
-use Rattle.std.specs.Prelude.{◌≡◌, ℕ, zero, suc, ◌-◌, ◌==◌, Bool, true, false, List, [], ◌∷◌, length, Result, Ok, Err}
+-- Reading the spelling of code from the left, part by part in the order of the spelling. The format, which the first
+-- four bytes tell, says which operators there are.
+use Rattle.std.specs.Prelude.{◌≡◌, ℕ, zero, suc, ◌-◌, ◌==◌, ◌||◌, if◌then◌else◌, Bool, true, false, List, [], ◌∷◌, length, Result, Ok, Err}
 use Rattle.std.specs.Int.{w32, cast_signed}
 use Rattle.camelot_values.specs.Names.{is_lower, is_upper, is_tail}
 use Rattle.camelot_values.specs.Kinds.{Constructor, DataType}
@@ -13,6 +14,8 @@ use Rattle.stops.specs.declared.stop.Stop.{Stop as WhyStop}
 use Rattle.stops.specs.declared.stop.Stop.TheVariants as stop
 use Rattle.grail_code.specs.declared.fault.DecodeFault.{DecodeFault}
 use Rattle.grail_code.specs.declared.fault.DecodeFault.TheVariants as fault
+use Rattle.grail_code.specs.declared.decoder.reader.Version.{Version}
+use Rattle.grail_code.specs.declared.decoder.reader.Version.TheVariants as version
 use Rattle.grail_code.specs.declared.decoder.names.Letter.{Letter}
 use Rattle.grail_code.specs.declared.decoder.names.Letter.TheVariants as letter
 use Rattle.grail_blocks.specs.declared.blocks.Place.{Place}
@@ -20,8 +23,32 @@ use Rattle.grail_blocks.specs.declared.blocks.Place.TheVariants as place
 use Rattle.grail_blocks.specs.declared.blocks.CaseCell.{CaseCell}
 use Rattle.grail_blocks.specs.declared.blocks.CaseCell.TheVariants as cell
 use Rattle.grail_code.specs.Code.{Op, Lit, Flag, Copy, Prim, Make, Call, Let, CaseArm, Term, Ret, Tail, Goto, If, Case, Block, Func, Code, code_of}
-use Rattle.grail_code.specs.Spelling.{Decoded, Spelled, Front, Broken}
+use Rattle.grail_code.specs.Spelling.{Format, First, Second, Decoded, Spelled, Front, Broken}
 use Rattle.grail_code.specs.Reader.{Read, Done, More, Stop, then_read, map_read, pair_at, byte_at, tag_at, leb_at, times_at, counted_at}
+
+-- ---- formats
+
+-- the format of a version as the reader has it
+abbrev pub format_of : Version → Format
+format_of version.First = First
+format_of version.Second = Second
+
+-- the bytes `1` and `2`
+abbrev pub is_digit : ℕ → Bool
+is_digit b = (b == 49) || (b == 50)
+
+abbrev pub numbered_format : ℕ → Format
+numbered_format b = if b == 49 then First else Second
+
+unfoldable pub digit_at : List ℕ → Read Format
+digit_at bytes = map_read numbered_format (byte_at is_digit bytes)
+
+-- a byte that always stands here, and what follows it
+unfoldable pub headed_at : {A : Type 0} → ℕ → (List ℕ → Read A) → List ℕ → Read A
+headed_at b read bytes = then_read (byte_at (λ c. c == b) bytes) (λ c rest. read rest)
+
+unfoldable pub format_at : List ℕ → Read Format
+format_at bytes = headed_at 71 (headed_at 82 (headed_at 76 digit_at)) bytes
 
 -- ---- names
 
@@ -81,10 +108,21 @@ numbered_operator (suc (suc (suc (suc zero)))) = operator.Ne
 numbered_operator (suc (suc (suc (suc (suc zero))))) = operator.Lt
 numbered_operator (suc (suc (suc (suc (suc (suc zero)))))) = operator.Le
 numbered_operator (suc (suc (suc (suc (suc (suc (suc zero))))))) = operator.Gt
-numbered_operator (suc (suc (suc (suc (suc (suc (suc (suc tag)))))))) = operator.Ge
+numbered_operator (suc (suc (suc (suc (suc (suc (suc (suc zero)))))))) = operator.Ge
+numbered_operator (suc (suc (suc (suc (suc (suc (suc (suc (suc zero))))))))) = operator.Div
+numbered_operator (suc (suc (suc (suc (suc (suc (suc (suc (suc (suc tag)))))))))) = operator.Mod
 
-unfoldable pub operator_at : List ℕ → Read Operator
-operator_at bytes = map_read numbered_operator (tag_at 9 bytes)
+-- whether code of the format may divide
+abbrev pub divides : Format → Bool
+divides First = false
+divides Second = true
+
+-- how many operators a format has
+abbrev pub operators : Format → ℕ
+operators f = if divides f then 11 else 9
+
+unfoldable pub operator_at : Format → List ℕ → Read Operator
+operator_at f bytes = map_read numbered_operator (tag_at (operators f) bytes)
 
 unfoldable pub place_rest : ℕ → List ℕ → Read Place
 place_rest zero bytes = Done place.Inline bytes
@@ -103,8 +141,8 @@ flag_at bytes = map_read (λ b. Flag (b == 1)) (tag_at 2 bytes)
 unfoldable pub copy_at : List ℕ → Read Op
 copy_at bytes = map_read Copy (local_at bytes)
 
-unfoldable pub prim_at : List ℕ → Read Op
-prim_at bytes = map_read (λ p. Prim p.0 p.1.0 p.1.1) (pair_at operator_at (pair_at local_at local_at) bytes)
+unfoldable pub prim_at : Format → List ℕ → Read Op
+prim_at f bytes = map_read (λ p. Prim p.0 p.1.0 p.1.1) (pair_at (operator_at f) (pair_at local_at local_at) bytes)
 
 unfoldable pub make_at : List ℕ → Read Op
 make_at bytes = map_read (λ p. Make p.0 p.1.0 p.1.1) (pair_at (leb_at 4 0 4095) (pair_at (counted_at local_at 0 4) place_at) bytes)
@@ -112,19 +150,19 @@ make_at bytes = map_read (λ p. Make p.0 p.1.0 p.1.1) (pair_at (leb_at 4 0 4095)
 unfoldable pub call_at : List ℕ → Read Op
 call_at bytes = map_read (λ p. Call p.0 p.1) (pair_at (leb_at 4 0 63) (counted_at local_at 0 16) bytes)
 
-unfoldable pub op_rest : ℕ → List ℕ → Read Op
-op_rest zero bytes = lit_at bytes
-op_rest (suc zero) bytes = flag_at bytes
-op_rest (suc (suc zero)) bytes = copy_at bytes
-op_rest (suc (suc (suc zero))) bytes = prim_at bytes
-op_rest (suc (suc (suc (suc zero)))) bytes = make_at bytes
-op_rest (suc (suc (suc (suc (suc tag))))) bytes = call_at bytes
+unfoldable pub op_rest : Format → ℕ → List ℕ → Read Op
+op_rest f zero bytes = lit_at bytes
+op_rest f (suc zero) bytes = flag_at bytes
+op_rest f (suc (suc zero)) bytes = copy_at bytes
+op_rest f (suc (suc (suc zero))) bytes = prim_at f bytes
+op_rest f (suc (suc (suc (suc zero)))) bytes = make_at bytes
+op_rest f (suc (suc (suc (suc (suc tag))))) bytes = call_at bytes
 
-unfoldable pub op_at : List ℕ → Read Op
-op_at bytes = then_read (tag_at 6 bytes) op_rest
+unfoldable pub op_at : Format → List ℕ → Read Op
+op_at f bytes = then_read (tag_at 6 bytes) (op_rest f)
 
-unfoldable pub let_at : List ℕ → Read Let
-let_at bytes = map_read (λ p. record { target = p.0; op = p.1 }) (pair_at local_at op_at bytes)
+unfoldable pub let_at : Format → List ℕ → Read Let
+let_at f bytes = map_read (λ p. record { target = p.0; op = p.1 }) (pair_at local_at (op_at f) bytes)
 
 -- ---- the ends of blocks
 
@@ -166,32 +204,29 @@ exit_at bytes = then_read (tag_at 5 bytes) exit_rest
 
 -- ---- blocks, functions and code
 
-unfoldable pub block_at : List ℕ → Read Block
-block_at bytes = map_read (λ p. record { params = p.0; lets = p.1.0; term = p.1.1 }) (pair_at (counted_at local_at 0 256) (pair_at (counted_at let_at 0 256) exit_at) bytes)
+unfoldable pub block_at : Format → List ℕ → Read Block
+block_at f bytes = map_read (λ p. record { params = p.0; lets = p.1.0; term = p.1.1 }) (pair_at (counted_at local_at 0 256) (pair_at (counted_at (let_at f) 0 256) exit_at) bytes)
 
 -- the kinds of the parameters, of the result and of the further locals
 unfoldable pub header_at : List ℕ → Read (List Kind × (Kind × List Kind))
 header_at bytes = pair_at (counted_at kind_at 1 16) (pair_at kind_at (counted_at kind_at 0 240)) bytes
 
-unfoldable pub func_at : List ℕ → Read Func
-func_at bytes = map_read (λ p. record { name = p.0; params = p.1.0.0; result = p.1.0.1.0; locals = p.1.0.1.1; blocks = p.1.1 })
-    (pair_at (name_at is_lower) (pair_at header_at (counted_at block_at 1 256)) bytes)
+unfoldable pub func_at : Format → List ℕ → Read Func
+func_at f bytes = map_read (λ p. record { name = p.0; params = p.1.0.0; result = p.1.0.1.0; locals = p.1.0.1.1; blocks = p.1.1 })
+    (pair_at (name_at is_lower) (pair_at header_at (counted_at (block_at f) 1 256)) bytes)
 
--- a byte that always stands here, and what follows it
-unfoldable pub headed_at : {A : Type 0} → ℕ → (List ℕ → Read A) → List ℕ → Read A
-headed_at b read bytes = then_read (byte_at (λ c. c == b) bytes) (λ c rest. read rest)
+unfoldable pub tables_at : Format → List ℕ → Read Code
+tables_at f bytes = map_read (λ p. record { types = p.0; funcs = p.1 }) (pair_at (counted_at type_at 0 64) (counted_at (func_at f) 0 64) bytes)
 
-unfoldable pub tables_at : List ℕ → Read Code
-tables_at bytes = map_read (λ p. record { types = p.0; funcs = p.1 }) (pair_at (counted_at type_at 0 64) (counted_at func_at 0 64) bytes)
-
-unfoldable pub code_at : List ℕ → Read Code
-code_at bytes = headed_at 71 (headed_at 82 (headed_at 76 (headed_at 49 tables_at))) bytes
+-- the code and its format
+unfoldable pub code_at : List ℕ → Read (Format × Code)
+code_at bytes = then_read (format_at bytes) (λ f rest. map_read (λ p. (f, p)) (tables_at f rest))
 
 -- ---- decoding
 
 -- what was read, where nothing may follow
-abbrev pub whole : List ℕ → Read Code → Decoded
-whole bytes (Done p []) = Spelled p
+abbrev pub whole : List ℕ → Read (Format × Code) → Decoded
+whole bytes (Done p []) = Spelled p.1
 whole bytes (Done p (b ∷ rest)) = Broken (length bytes - length (b ∷ rest))
 whole bytes More = Front
 whole bytes (Stop left) = Broken (length bytes - left)

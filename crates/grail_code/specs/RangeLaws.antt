@@ -1,5 +1,6 @@
 -- Laws, for the proofs of this crate and of those above it.
--- Well-formed code within the limits whose names have their forms is within the ranges of the spelling.
+-- Well-formed code within the limits whose names have their forms is within the ranges of the spelling. Which code is
+-- within those of which format.
 use Rattle.std.proofs.Common.{◌≡◌, ℕ, zero, suc, ◌*◌, ◌-◌, ◌<◌, ◌≤◌, Bool, List, [], ◌∷◌, ◌++◌, length, Option, Some, None, refl, sym, ap, ◌∙◌, subst, arith, length-append}
 use Rattle.std.specs.Prelude.{slice_get, IsSomeAnd}
 use Rattle.std.specs.List.{AllByRecursion}
@@ -17,7 +18,7 @@ use Rattle.grail_blocks.specs.declared.blocks.CaseCell.TheVariants as cell
 use Rattle.grail_code.specs.Code.{Op, Lit, Flag, Copy, Prim, Make, Call, Let, CaseArm, Term, Ret, Tail, Goto, If, Case, Block, Func, Code}
 use Rattle.grail_code.specs.WellFormed.{IsKnownKind, local_kinds, kind_of, HaveKinds, PlaceFits, Gives, LetFits, JumpFits, CellFits, ArmsFit, data_type, TermFits, BlockFits, BlocksFit, FuncFits, IsWellFormed}
 use Rattle.grail_code.specs.Limits.{FuncIsWithin, IsWithinLimits, HaveParams, TypeIsNamed, IsNamed}
-use Rattle.grail_code.specs.Spelling.{AreCounted, IsLocal, IsBlockNumber, FitsKind, FitsCon, FitsType, FitsPlace, FitsOp, FitsLet, FitsCell, FitsArm, FitsTerm, FitsBlock, FitsFunc, FitsCode}
+use Rattle.grail_code.specs.Spelling.{AreCounted, IsLocal, IsBlockNumber, FitsKind, FitsCon, FitsType, FitsPlace, FitsOp, FitsLet, FitsCell, FitsArm, FitsTerm, FitsBlock, FitsFunc, FitsCode, Format, First, Second, OpIsUndivided, BlockIsUndivided, FuncIsUndivided, IsUndivided}
 
 -- ---- lists
 
@@ -87,29 +88,29 @@ place_fits f w inline place.Inline h = tt
 place_fits f w inline place.New h = tt
 place_fits f w inline (place.Reuse d) h = local_below f w d kind.Dia h.1
 
-op_fits : (p : Code) → IsWithinLimits p → (f : Func) → FuncIsWithin f → (op : Op) (q : Kind) → Gives p f op q → FitsOp op
+op_fits : (p : Code) → IsWithinLimits p → (f : Func) → FuncIsWithin f → (op : Op) (q : Kind) → Gives p f op q → FitsOp Second op
 op_fits p l f w (Lit z) q g = g.1
 op_fits p l f w (Flag b) q g = tt
 op_fits p l f w (Copy x) q g = local_below f w x q g
-op_fits p l f w (Prim op x y) q g = (local_below f w x kind.Int cc, local_below f w y kind.Int cc)
+op_fits p l f w (Prim op x y) q g = (tt, local_below f w x kind.Int cc, local_below f w y kind.Int cc)
 op_fits p l f w (Make con args at) q g = by_con (constructor p.types con) refl g
   where
     by_con : (o : Option Constructor) → constructor p.types con ≡ o
         → IsSomeAnd o (λ c. HaveKinds f args c.fields × PlaceFits f c.inline at × (option_map kind.Of (type_of p.types con) ≡ Some q))
-        → FitsOp (Make con args at)
+        → FitsOp Second (Make con args at)
     by_con None e m = absurd m
     by_con (Some c) e m = (con_below p l con c e, counted_locals f w 4 args c.fields m.0 (all_got IsConstructor (constructors p.types) con c (con_is p.types l.types.each) e).few_fields, place_fits f w c.inline at m.1)
 op_fits p l f w (Call func args) q g = by_func (slice_get p.funcs func) refl g
   where
     by_func : (o : Option Func) → slice_get p.funcs func ≡ o → IsSomeAnd o (λ callee. HaveKinds f args callee.params × (q ≡ callee.result))
-        → FitsOp (Call func args)
+        → FitsOp Second (Call func args)
     by_func None e m = absurd m
     by_func (Some callee) e m = (let k = got_below p.funcs func callee e in omega (arith, k, l.few_funcs), counted_locals f w 16 args callee.params m.0 (all_got FuncIsWithin p.funcs func callee l.funcs e).few_params)
 
-let_fits : (p : Code) → IsWithinLimits p → (f : Func) → FuncIsWithin f → (b : Let) → LetFits p f b → FitsLet b
+let_fits : (p : Code) → IsWithinLimits p → (f : Func) → FuncIsWithin f → (b : Let) → LetFits p f b → FitsLet Second b
 let_fits p l f w b fit = by_target (kind_of f b.target) refl fit
   where
-    by_target : (o : Option Kind) → kind_of f b.target ≡ o → IsSomeAnd o (Gives p f b.op) → FitsLet b
+    by_target : (o : Option Kind) → kind_of f b.target ≡ o → IsSomeAnd o (Gives p f b.op) → FitsLet Second b
     by_target None e g = absurd g
     by_target (Some q) e g = record { target = local_below f w b.target q e; op = op_fits p l f w b.op q g }
 
@@ -180,23 +181,23 @@ from_none : (xs : List ℕ) → From 0 xs
 from_none [] = tt
 from_none (x ∷ xs) = omega arith
 
-block_fits : (p : Code) → IsWithinLimits p → (f : Func) → FuncIsWithin f → (number : ℕ) (b : Block) → length b.lets ≤ 256 → BlockFits p f number b → FitsBlock b
+block_fits : (p : Code) → IsWithinLimits p → (f : Func) → FuncIsWithin f → (number : ℕ) (b : Block) → length b.lets ≤ 256 → BlockFits p f number b → FitsBlock Second b
 block_fits p l f w number b few h = record {
   params = record {
     enough = omega arith;
     few = omega (arith, ascend_count 0 (length (local_kinds f)) b.params h.ascending h.params (from_none b.params), length-append f.params f.locals, w.few_params, w.few_locals);
     each = all_of (λ x. x < length (local_kinds f)) IsLocal b.params (λ x k. omega (arith, k, length-append f.params f.locals, w.few_params, w.few_locals)) h.params;
   };
-  lets = record { enough = omega arith; few = few; each = all_of (LetFits p f) FitsLet b.lets (λ x k. let_fits p l f w x k) h.lets };
+  lets = record { enough = omega arith; few = few; each = all_of (LetFits p f) (FitsLet Second) b.lets (λ x k. let_fits p l f w x k) h.lets };
   term = term_fits p l f w number b.term h.term;
 }
 
 blocks_fit : (p : Code) → IsWithinLimits p → (f : Func) → FuncIsWithin f → (number : ℕ) (bs : List Block)
-    → AllByRecursion (λ b. length b.lets ≤ 256) bs → BlocksFit p f number bs → AllByRecursion FitsBlock bs
+    → AllByRecursion (λ b. length b.lets ≤ 256) bs → BlocksFit p f number bs → AllByRecursion (FitsBlock Second) bs
 blocks_fit p l f w number [] few h = tt
 blocks_fit p l f w number (b ∷ bs) few h = (block_fits p l f w number b few.0 h.0, blocks_fit p l f w (suc number) bs few.1 h.1)
 
-func_fits : (p : Code) → IsWithinLimits p → (f : Func) → FuncIsWithin f → FuncFits p f → 1 ≤ length f.params → IsLowerName f.name → FitsFunc f
+func_fits : (p : Code) → IsWithinLimits p → (f : Func) → FuncIsWithin f → FuncFits p f → 1 ≤ length f.params → IsLowerName f.name → FitsFunc Second f
 func_fits p l f w h some named = let kinds = all_front (IsKnownKind p.types) f.params f.locals h.kinds in record {
   name = named;
   params = record { enough = some; few = w.few_params; each = known_all p.types f.params l.types.few_types kinds.0 };
@@ -227,12 +228,98 @@ types_fit types few (t ∷ ts) is named known =
 
 funcs_fit : (p : Code) → IsWithinLimits p → (fs : List Func) → AllByRecursion FuncIsWithin fs → AllByRecursion (FuncFits p) fs
     → AllByRecursion (λ f. 1 ≤ length f.params) fs → AllByRecursion (λ f. IsLowerName f.name) fs
-    → AllByRecursion FitsFunc fs
+    → AllByRecursion (FitsFunc Second) fs
 funcs_fit p l [] w h some named = tt
 funcs_fit p l (f ∷ fs) w h some named = (func_fits p l f w.0 h.0 some.0 named.0, funcs_fit p l fs w.1 h.1 some.1 named.1)
 
-pub within_ranges : (p : Code) → IsWellFormed p → IsWithinLimits p → HaveParams p → IsNamed p → FitsCode p
+pub within_ranges : (p : Code) → IsWellFormed p → IsWithinLimits p → HaveParams p → IsNamed p → FitsCode Second p
 within_ranges p well l some named = record {
   types = record { enough = omega arith; few = l.types.few_types; each = types_fit p.types l.types.few_types p.types l.types.each named.types well.fields };
   funcs = record { enough = omega arith; few = l.few_funcs; each = funcs_fit p l p.funcs l.funcs well.funcs some named.funcs };
 }
+
+-- ---- the ranges of the two formats
+
+fit_all : {A : Type 0} (P Q : A → Type 0) (least most : ℕ) (xs : List A) → ((x : A) → P x → Q x) → AreCounted P least most xs → AreCounted Q least most xs
+fit_all P Q least most xs f h = record { enough = h.enough; few = h.few; each = all_of P Q xs f h.each }
+
+op_second : (f : Format) (op : Op) → FitsOp f op → FitsOp Second op
+op_second f (Lit z) h = h
+op_second f (Flag b) h = tt
+op_second f (Copy x) h = h
+op_second f (Prim op x y) h = (tt, h.1, h.2)
+op_second f (Make c args at) h = h
+op_second f (Call func args) h = h
+
+let_second : (f : Format) (l : Let) → FitsLet f l → FitsLet Second l
+let_second f l h = record { target = h.target; op = op_second f l.op h.op }
+
+block_second : (f : Format) (b : Block) → FitsBlock f b → FitsBlock Second b
+block_second f b h = record { params = h.params; lets = fit_all (FitsLet f) (FitsLet Second) 0 256 b.lets (let_second f) h.lets; term = h.term }
+
+func_second : (f : Format) (g : Func) → FitsFunc f g → FitsFunc Second g
+func_second f g h = record {
+  name = h.name;
+  params = h.params;
+  result = h.result;
+  locals = h.locals;
+  blocks = fit_all (FitsBlock f) (FitsBlock Second) 1 256 g.blocks (block_second f) h.blocks;
+}
+
+-- Code within the ranges of a format is within those of the second.
+pub fits_second : (f : Format) (p : Code) → FitsCode f p → FitsCode Second p
+fits_second f p h = record { types = h.types; funcs = fit_all (FitsFunc f) (FitsFunc Second) 0 64 p.funcs (func_second f) h.funcs }
+
+-- ---- code without division is within the ranges of the first
+
+both_all : {A : Type 0} (P Q R : A → Type 0) (xs : List A) → ((x : A) → P x → Q x → R x) → AllByRecursion P xs → AllByRecursion Q xs → AllByRecursion R xs
+both_all P Q R [] f h g = tt
+both_all P Q R (x ∷ xs) f h g = (f x h.0 g.0, both_all P Q R xs f h.1 g.1)
+
+fit_both : {A : Type 0} (P Q R : A → Type 0) (least most : ℕ) (xs : List A) → ((x : A) → P x → Q x → R x) → AreCounted P least most xs → AllByRecursion Q xs
+    → AreCounted R least most xs
+fit_both P Q R least most xs f h g = record { enough = h.enough; few = h.few; each = both_all P Q R xs f h.each g }
+
+op_first : (op : Op) → FitsOp Second op → OpIsUndivided op → FitsOp First op
+op_first (Lit z) h u = h
+op_first (Flag b) h u = tt
+op_first (Copy x) h u = h
+op_first (Prim op x y) h u = (u, h.1, h.2)
+op_first (Make c args at) h u = h
+op_first (Call func args) h u = h
+
+let_first : (l : Let) → FitsLet Second l → OpIsUndivided l.op → FitsLet First l
+let_first l h u = record { target = h.target; op = op_first l.op h.op u }
+
+block_first : (b : Block) → FitsBlock Second b → BlockIsUndivided b → FitsBlock First b
+block_first b h u = record { params = h.params; lets = fit_both (FitsLet Second) (λ l. OpIsUndivided l.op) (FitsLet First) 0 256 b.lets let_first h.lets u; term = h.term }
+
+func_first : (g : Func) → FitsFunc Second g → FuncIsUndivided g → FitsFunc First g
+func_first g h u = record {
+  name = h.name;
+  params = h.params;
+  result = h.result;
+  locals = h.locals;
+  blocks = fit_both (FitsBlock Second) BlockIsUndivided (FitsBlock First) 1 256 g.blocks block_first h.blocks u;
+}
+
+pub fits_first : (p : Code) → FitsCode Second p → IsUndivided p → FitsCode First p
+fits_first p h u = record { types = h.types; funcs = fit_both (FitsFunc Second) FuncIsUndivided (FitsFunc First) 0 64 p.funcs func_first h.funcs u }
+
+op_undivided : (op : Op) → FitsOp First op → OpIsUndivided op
+op_undivided (Lit z) h = tt
+op_undivided (Flag b) h = tt
+op_undivided (Copy x) h = tt
+op_undivided (Prim op x y) h = h.0
+op_undivided (Make c args at) h = tt
+op_undivided (Call func args) h = tt
+
+block_undivided : (b : Block) → FitsBlock First b → BlockIsUndivided b
+block_undivided b h = all_of (FitsLet First) (λ l. OpIsUndivided l.op) b.lets (λ l k. op_undivided l.op k.op) h.lets.each
+
+func_undivided : (g : Func) → FitsFunc First g → FuncIsUndivided g
+func_undivided g h = all_of (FitsBlock First) BlockIsUndivided g.blocks block_undivided h.blocks.each
+
+-- Code within the ranges of the first has no division.
+pub first_undivided : (p : Code) → FitsCode First p → IsUndivided p
+first_undivided p h = all_of (FitsFunc First) FuncIsUndivided p.funcs func_undivided h.funcs.each

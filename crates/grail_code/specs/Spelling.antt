@@ -1,7 +1,8 @@
 -- Cited by contracts.
--- The spelling of Grail code in bytes, format `GRL1`: four bytes that name the format, then the types and the
--- functions. It is a function of the code, and each count is followed by exactly so many things. `docs/GRAIL.md` tells
--- it in words.
+-- The spelling of Grail code in bytes, in each of two formats: four bytes that name the format, then the types and the
+-- functions. It is a function of the format and the code, and each count is followed by exactly so many things. What
+-- stands behind the four bytes is the same in both formats, but the first has no division. `docs/GRAIL.md` tells it in
+-- words.
 use Rattle.std.specs.Prelude.{◌≡◌, ℕ, zero, suc, ◌+◌, ◌/◌, ◌%◌, ◌≤◌, ◌<◌, nat_lt, if◌then◌else◌, true, List, [], ◌∷◌, ◌++◌, length, take, flat_map, FitsSigned}
 use Rattle.std.specs.List.{AllByRecursion}
 use Rattle.std.specs.Int.{w32, cast_unsigned}
@@ -16,6 +17,13 @@ use Rattle.grail_blocks.specs.declared.blocks.Place.TheVariants as place
 use Rattle.grail_blocks.specs.declared.blocks.CaseCell.{CaseCell}
 use Rattle.grail_blocks.specs.declared.blocks.CaseCell.TheVariants as cell
 use Rattle.grail_code.specs.Code.{Op, Lit, Flag, Copy, Prim, Make, Call, Let, CaseArm, Term, Ret, Tail, Goto, If, Case, Block, Func, Code}
+
+-- the formats of code
+pub data Format : Type 0 where
+  -- `GRL1`, without division
+  First : Format
+  -- `GRL2`, with all operators
+  Second : Format
 
 -- A whole number below 2 ^ 35 in LEB128, in as few bytes as it takes (DWARF Debugging Information Format, section 7.6):
 -- seven bits a byte, the low ones first, with the high bit set on all bytes but the last. The first argument is how
@@ -61,6 +69,8 @@ operator_code operator.Lt = 5
 operator_code operator.Le = 6
 operator_code operator.Gt = 7
 operator_code operator.Ge = 8
+operator_code operator.Div = 9
+operator_code operator.Mod = 10
 
 abbrev pub place_bytes : Place → List ℕ
 place_bytes place.Inline = 0 ∷ []
@@ -96,17 +106,43 @@ term_bytes (Case x arms) = 4 ∷ (number x ++ counted arm_bytes arms)
 abbrev pub block_bytes : Block → List ℕ
 block_bytes b = counted number b.params ++ counted let_bytes b.lets ++ term_bytes b.term
 
+-- a function's parameter
+abbrev pub param_bytes : Kind → List ℕ
+param_bytes = kind_bytes
+
 abbrev pub func_bytes : Func → List ℕ
-func_bytes f = name f.name ++ counted kind_bytes f.params ++ kind_bytes f.result ++ counted kind_bytes f.locals ++ counted block_bytes f.blocks
+func_bytes f = name f.name ++ counted param_bytes f.params ++ kind_bytes f.result ++ counted kind_bytes f.locals ++ counted block_bytes f.blocks
 
--- the bytes `GRL1`
-abbrev pub format : List ℕ
-format = 71 ∷ 82 ∷ 76 ∷ 49 ∷ []
+-- the bytes `GRL1` or `GRL2`
+abbrev pub format_bytes : Format → List ℕ
+format_bytes First = 71 ∷ 82 ∷ 76 ∷ 49 ∷ []
+format_bytes Second = 71 ∷ 82 ∷ 76 ∷ 50 ∷ []
 
-abbrev pub spelling : Code → List ℕ
-spelling p = format ++ counted type_bytes p.types ++ counted func_bytes p.funcs
+abbrev pub spelling : Format → Code → List ℕ
+spelling f p = format_bytes f ++ counted type_bytes p.types ++ counted func_bytes p.funcs
 
--- ---- what has a spelling: each number and each count is within its own limit
+-- ---- code without division
+
+abbrev pub IsNoDivision : Operator → Type 0
+IsNoDivision operator.Div = ⊥
+IsNoDivision operator.Mod = ⊥
+IsNoDivision op = Unit {0}
+
+abbrev pub OpIsUndivided : Op → Type 0
+OpIsUndivided (Prim op x y) = IsNoDivision op
+OpIsUndivided op = Unit {0}
+
+abbrev pub BlockIsUndivided : Block → Type 0
+BlockIsUndivided b = AllByRecursion (λ l. OpIsUndivided l.op) b.lets
+
+abbrev pub FuncIsUndivided : Func → Type 0
+FuncIsUndivided f = AllByRecursion BlockIsUndivided f.blocks
+
+-- no Div and no Mod stands in the code
+abbrev pub IsUndivided : Code → Type 0
+IsUndivided p = AllByRecursion FuncIsUndivided p.funcs
+
+-- ---- what has a spelling: each number and each count is within its own limit, and each operator is of the format
 
 -- from `least` to `most` things, each of which has a spelling
 pub record AreCounted {A : Type 0} (Fits : A → Type 0) (least most : ℕ) (xs : List A) : Type 0 where
@@ -136,17 +172,22 @@ abbrev pub FitsPlace : Place → Type 0
 FitsPlace (place.Reuse x) = IsLocal x
 FitsPlace p = Unit {0}
 
-abbrev pub FitsOp : Op → Type 0
-FitsOp (Lit z) = FitsSigned w32 z
-FitsOp (Flag b) = Unit {0}
-FitsOp (Copy x) = IsLocal x
-FitsOp (Prim op x y) = IsLocal x × IsLocal y
-FitsOp (Make c args p) = (c ≤ 4095) × AreCounted IsLocal 0 4 args × FitsPlace p
-FitsOp (Call f args) = (f ≤ 63) × AreCounted IsLocal 0 16 args
+-- the operators of a format
+abbrev pub IsOfFormat : Format → Operator → Type 0
+IsOfFormat First op = IsNoDivision op
+IsOfFormat Second op = Unit {0}
 
-pub record FitsLet (l : Let) : Type 0 where
+abbrev pub FitsOp : Format → Op → Type 0
+FitsOp f (Lit z) = FitsSigned w32 z
+FitsOp f (Flag b) = Unit {0}
+FitsOp f (Copy x) = IsLocal x
+FitsOp f (Prim op x y) = IsOfFormat f op × IsLocal x × IsLocal y
+FitsOp f (Make c args p) = (c ≤ 4095) × AreCounted IsLocal 0 4 args × FitsPlace p
+FitsOp f (Call func args) = (func ≤ 63) × AreCounted IsLocal 0 16 args
+
+pub record FitsLet (f : Format) (l : Let) : Type 0 where
   pub target : IsLocal l.target
-  pub op : FitsOp l.op
+  pub op : FitsOp f l.op
 
 abbrev pub FitsCell : CaseCell → Type 0
 FitsCell (cell.Keep x) = IsLocal x
@@ -164,54 +205,58 @@ FitsTerm (Goto b) = IsBlockNumber b
 FitsTerm (If x first second) = IsLocal x × IsBlockNumber first × IsBlockNumber second
 FitsTerm (Case x arms) = IsLocal x × AreCounted FitsArm 0 64 arms
 
-pub record FitsBlock (b : Block) : Type 0 where
+pub record FitsBlock (f : Format) (b : Block) : Type 0 where
   pub params : AreCounted IsLocal 0 256 b.params
-  pub lets : AreCounted FitsLet 0 256 b.lets
+  pub lets : AreCounted (FitsLet f) 0 256 b.lets
   pub term : FitsTerm b.term
 
-pub record FitsFunc (f : Func) : Type 0 where
-  pub name : IsLowerName f.name
-  pub params : AreCounted FitsKind 1 16 f.params
-  pub result : FitsKind f.result
-  pub locals : AreCounted FitsKind 0 240 f.locals
-  pub blocks : AreCounted FitsBlock 1 256 f.blocks
+pub record FitsFunc (f : Format) (g : Func) : Type 0 where
+  pub name : IsLowerName g.name
+  pub params : AreCounted FitsKind 1 16 g.params
+  pub result : FitsKind g.result
+  pub locals : AreCounted FitsKind 0 240 g.locals
+  pub blocks : AreCounted (FitsBlock f) 1 256 g.blocks
 
--- the code that has a spelling
-pub record FitsCode (p : Code) : Type 0 where
+-- the code that has a spelling in a format
+pub record FitsCode (f : Format) (p : Code) : Type 0 where
   pub types : AreCounted FitsType 0 64 p.types
-  pub funcs : AreCounted FitsFunc 0 64 p.funcs
+  pub funcs : AreCounted (FitsFunc f) 0 64 p.funcs
 
 -- ---- what bytes are
 
 -- what a text of bytes may be
 pub data Decoded : Type 0 where
-  -- the spelling of this code
+  -- a spelling of this code
   Spelled : Code → Decoded
   -- the beginning of a spelling that goes on
   Front : Decoded
   -- neither; the longest part from the left that begins a spelling has so many bytes
   Broken : (at : ℕ) → Decoded
 
+-- one of the code's spellings
 pub record IsSpelling (program : Code) (bytes : List ℕ) : Type 0 where
-  pub fits : FitsCode program
-  pub is : bytes ≡ spelling program
+  pub format : Format
+  pub fits : FitsCode format program
+  pub is : bytes ≡ spelling format program
 
--- some code's spelling begins with these bytes
+-- a spelling of some code begins with these bytes
 pub record BeginsCode (bytes : List ℕ) : Type 0 where
+  pub format : Format
   pub program : Code
-  pub fits : FitsCode program
+  pub fits : FitsCode format program
   pub rest : List ℕ
-  pub is : spelling program ≡ bytes ++ rest
+  pub is : spelling format program ≡ bytes ++ rest
 
--- some code's spelling begins with these bytes and goes on
+-- a spelling of some code begins with these bytes and goes on
 pub record IsFront (bytes : List ℕ) : Type 0 where
+  pub format : Format
   pub program : Code
-  pub fits : FitsCode program
+  pub fits : FitsCode format program
   pub next : ℕ
   pub rest : List ℕ
-  pub is : spelling program ≡ bytes ++ (next ∷ rest)
+  pub is : spelling format program ≡ bytes ++ (next ∷ rest)
 
--- the longest part from the left that begins some code's spelling has so many bytes, and isn't the whole
+-- the longest part from the left that begins a spelling of some code has so many bytes, and isn't the whole
 pub record IsLongestBegin (bytes : List ℕ) (at : ℕ) : Type 0 where
   pub less : at < length bytes
   pub begins : BeginsCode (take at bytes)

@@ -1,7 +1,7 @@
 //! Grail code: a bytecode of lets and jumps that can be read as a functional program (Beringer, MacKenzie and
-//! Stark, "Grail: a functional form for imperative mobile code", 2003), with what it means and its spelling in bytes.
+//! Stark, "Grail: a functional form for imperative mobile code", 2003), with what it means and its spellings in bytes.
 //!
-//! The spelling is `specs/Spelling.antt`, and its laws are the contracts of [`laws`].
+//! The spellings are in `specs/Spelling.antt`, and their laws are the contracts of [`laws`].
 #![tactic(auto)]
 
 mod by_name;
@@ -12,6 +12,7 @@ mod fault;
 pub mod laws;
 mod limits;
 pub mod meaning;
+mod migration;
 mod of_func;
 
 pub use code::{Block, Code, Func};
@@ -19,3 +20,4 @@ pub use decoder::decode;
 pub use encoder::encode;
 pub use fault::DecodeFault;
 pub use grail_blocks::{CaseArm, CaseCell, Let, Op, Place, PrimCode, Term};
+pub use migration::migrate;

@@ -3,7 +3,7 @@ ghost use Rattle.std.specs.Prelude.{◌≡◌, ℕ, suc, ◌+◌, ◌≤◌, ◌
 ghost use Rattle.std.specs.List.{AllByRecursion};
 ghost use Rattle.camelot_values.specs.Value.{Value};
 ghost use Rattle.camelot_values.specs.Typing.{ArgumentsFit, Fits, IsSafe};
-ghost use Rattle.camelot_values.specs.Outcome.{Done, Fuel, Deep, entered};
+ghost use Rattle.camelot_values.specs.Outcome.{Done, Fuel, Deep, Trap, entered};
 ghost use Rattle.camelot_values.specs.Fuel.{StopsOnFuel};
 ghost use Rattle.camelot_values.specs.Runs.{Enter, is_too_deep, calls, entering};
 ghost use Rattle.camelot_values.specs.declared.kinds.Kind.{Kind};
@@ -32,7 +32,7 @@ pub fn law_of_clock()
 
 /// A run that stops on fuel has entered as many functions as it had fuel, and one that comes to a value at most as
 /// many. A run that comes to a value does so with just the fuel of its calls, and with any more; with less it stops on
-/// fuel, at no higher a peak. More fuel doesn't help a run that went too deep.
+/// fuel, at no higher a peak. More fuel doesn't help a run that went too deep or trapped.
 pub fn law_of_fuel()
     // A run that stops on fuel has entered as many functions as it had fuel.
     ensures used { (program : Code) (limit func fuel calls peak : ℕ) (args : List Value)
@@ -49,13 +49,17 @@ pub fn law_of_fuel()
     // A run that goes too deep does so with any more fuel.
     ensures deep { (program : Code) (limit func fuel other : ℕ) (args : List Value) (peak : ℕ)
         → run_of program limit func fuel args ≡ Deep peak → fuel ≤ other → run_of program limit func other args ≡ Deep peak }
+    // A run that traps does so with any more fuel.
+    ensures trap { (program : Code) (limit func fuel other : ℕ) (args : List Value) (peak : ℕ)
+        → run_of program limit func fuel args ≡ Trap peak → fuel ≤ other → run_of program limit func other args ≡ Trap peak }
 {}
 
-/// Well-formed code on fitting arguments is never stuck, whatever the fuel and the limit of waiting calls: a run comes
-/// to a value of the function's result kind, or stops on fuel or depth. So every local that is read has a value of its
-/// kind, each jump has a block, and each value that is taken apart an arm.
+/// Well-formed code on fitting arguments is never stuck, whatever the fuel and the limit of waiting calls. A run comes to
+/// a value of the function's result kind, or stops on fuel, on depth, or where it divides by 0. So every local that is
+/// read has a value of its kind, each jump has a block, and each value that is taken apart an arm.
 pub fn law_of_soundness()
-    // A run on fitting arguments comes to a value of the function's result kind, or stops on fuel or depth.
+    // A run on fitting arguments comes to a value of the function's result kind, or stops on fuel, on depth,
+    // or where it divides by 0.
     ensures run { (program : Code) (limit func fuel : ℕ) (args : List Value) (f : Func) → IsWellFormed program → HaveBlocks program
         → slice_get program.funcs func ≡ Some f → ArgumentsFit program.types f.params args
         → IsSafe program.types f.result (run_of program limit func fuel args) }

@@ -6,7 +6,7 @@ ghost use Rattle.grail_code.specs.CodeReader.{cell_at, arm_at, ret_at, tail_call
 
 use super::lets::local;
 use super::names::{Letter, name};
-use super::reader::{Decode, Halt, list, number};
+use super::reader::{Decode, Halt, Version, list, number};
 use super::types::kind;
 use crate::code::{Block, Func};
 use camelot_values::Kind;
@@ -35,11 +35,15 @@ impl Decode for CaseArm {
 
     ghost plain = { arm_of };
 
-    ghost read_at = { arm_at };
+    ghost read_at = { λ _. arm_at };
 
     #[tactic(auto, unfolding(crate::specs::CodeReader::arm_at))]
-    fn decode<'a>(alloc: Global, bytes: &'a [u8]) -> Result<(CaseArm, &'a [u8]), Halt> {
-        let (fields, rest) = list(alloc, 0, 4, bytes)?;
+    fn decode<'a>(
+        alloc: Global,
+        version: Version,
+        bytes: &'a [u8],
+    ) -> Result<(CaseArm, &'a [u8]), Halt> {
+        let (fields, rest) = list(alloc, version, 0, 4, bytes)?;
         let (cell, rest) = cell(rest)?;
         let (target, rest) = local(rest)?;
         let arm = CaseArm {
@@ -60,11 +64,11 @@ fn ret(bytes: &[u8]) -> Result<(Term, &[u8]), Halt>
 }
 
 #[tactic(auto, unfolding(crate::specs::CodeReader::tail_call_at))]
-fn tail_call(alloc: Global, bytes: &[u8]) -> Result<(Term, &[u8]), Halt>
+fn tail_call(alloc: Global, version: Version, bytes: &[u8]) -> Result<(Term, &[u8]), Halt>
     ensures { Gives (λ x. (term_of x.0, x.1.now)) result (tail_call_at bytes.now) }
 {
     let (func, rest) = number(4, 0, 63, bytes)?;
-    let (args, rest) = list(alloc, 0, 16, rest)?;
+    let (args, rest) = list(alloc, version, 0, 16, rest)?;
     let args = SmallVec::from_vec(args);
     Ok((Term::Tail { func, args }, rest))
 }
@@ -88,25 +92,25 @@ fn branch(bytes: &[u8]) -> Result<(Term, &[u8]), Halt>
 }
 
 #[tactic(auto, unfolding(crate::specs::CodeReader::case_at))]
-fn case(alloc: Global, bytes: &[u8]) -> Result<(Term, &[u8]), Halt>
+fn case(alloc: Global, version: Version, bytes: &[u8]) -> Result<(Term, &[u8]), Halt>
     ensures { Gives (λ x. (term_of x.0, x.1.now)) result (case_at bytes.now) }
 {
     let (on, rest) = local(bytes)?;
-    let (arms, rest) = list(alloc, 0, 64, rest)?;
+    let (arms, rest) = list(alloc, version, 0, 64, rest)?;
     Ok((Term::Case { on, arms }, rest))
 }
 
 #[tactic(auto, unfolding(crate::specs::CodeReader::exit_at, crate::specs::CodeReader::exit_rest, crate::specs::Reader::tag_at, crate::specs::Reader::byte_at))]
-fn term(alloc: Global, bytes: &[u8]) -> Result<(Term, &[u8]), Halt>
+fn term(alloc: Global, version: Version, bytes: &[u8]) -> Result<(Term, &[u8]), Halt>
     ensures { Gives (λ x. (term_of x.0, x.1.now)) result (exit_at bytes.now) }
 {
     match bytes {
         [] => Err(Halt::Short),
         [0, rest @ ..] => ret(rest),
-        [1, rest @ ..] => tail_call(alloc, rest),
+        [1, rest @ ..] => tail_call(alloc, version, rest),
         [2, rest @ ..] => goto(rest),
         [3, rest @ ..] => branch(rest),
-        [4, rest @ ..] => case(alloc, rest),
+        [4, rest @ ..] => case(alloc, version, rest),
         [_, ..] => Err(Halt::Bad { left: bytes.len() }),
     }
 }
@@ -119,10 +123,14 @@ impl Decode for Block {
     ghost read_at = { block_at };
 
     #[tactic(auto, unfolding(crate::specs::CodeReader::block_at))]
-    fn decode<'a>(alloc: Global, bytes: &'a [u8]) -> Result<(Block, &'a [u8]), Halt> {
-        let (params, rest) = list(alloc, 0, 256, bytes)?;
-        let (lets, rest) = list(alloc, 0, 256, rest)?;
-        let (term, rest) = term(alloc, rest)?;
+    fn decode<'a>(
+        alloc: Global,
+        version: Version,
+        bytes: &'a [u8],
+    ) -> Result<(Block, &'a [u8]), Halt> {
+        let (params, rest) = list(alloc, version, 0, 256, bytes)?;
+        let (lets, rest) = list(alloc, version, 0, 256, rest)?;
+        let (term, rest) = term(alloc, version, rest)?;
         let block = Block {
             params: SmallVec::from_vec(params),
             lets,
@@ -134,14 +142,18 @@ impl Decode for Block {
 
 // The kinds of a function's parameters, its result and its further locals.
 #[tactic(auto, unfolding(crate::specs::CodeReader::header_at))]
-fn header(alloc: Global, bytes: &[u8]) -> Result<((Vec<Kind>, Kind, Vec<Kind>), &[u8]), Halt>
+fn header(
+    alloc: Global,
+    version: Version,
+    bytes: &[u8],
+) -> Result<((Vec<Kind>, Kind, Vec<Kind>), &[u8]), Halt>
     ensures reads { Gives (λ x. ((x.0.0.items, (x.0.1, x.0.2.items)), x.1.now)) result (header_at bytes.now) }
     ensures few_params { IfOk result (λ x. vec_len x.0.0 ≤ 16) }
     ensures few_locals { IfOk result (λ x. vec_len x.0.2 ≤ 240) }
 {
-    let (params, rest) = list(alloc, 1, 16, bytes)?;
+    let (params, rest) = list(alloc, version, 1, 16, bytes)?;
     let (result, rest) = kind(rest)?;
-    let (locals, rest) = list(alloc, 0, 240, rest)?;
+    let (locals, rest) = list(alloc, version, 0, 240, rest)?;
     Ok(((params, result, locals), rest))
 }
 
@@ -153,10 +165,14 @@ impl Decode for Func {
     ghost read_at = { func_at };
 
     #[tactic(auto, unfolding(crate::specs::CodeReader::func_at))]
-    fn decode<'a>(alloc: Global, bytes: &'a [u8]) -> Result<(Func, &'a [u8]), Halt> {
+    fn decode<'a>(
+        alloc: Global,
+        version: Version,
+        bytes: &'a [u8],
+    ) -> Result<(Func, &'a [u8]), Halt> {
         let (name, rest) = name(alloc, Letter::Lower, bytes)?;
-        let ((params, result, locals), rest) = header(alloc, rest)?;
-        let (blocks, rest) = list(alloc, 1, 256, rest)?;
+        let ((params, result, locals), rest) = header(alloc, version, rest)?;
+        let (blocks, rest) = list(alloc, version, 1, 256, rest)?;
         let func = Func {
             name,
             params,

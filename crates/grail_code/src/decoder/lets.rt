@@ -2,9 +2,9 @@ ghost use Rattle.std.specs.Prelude.{◌≡◌, ℕ, IfOk};
 ghost use Rattle.grail_blocks.specs.declared.blocks.Place.{Place};
 ghost use Rattle.grail_code.specs.Code.{Let as PlainLet, let_of, op_of, operator_of};
 ghost use Rattle.grail_code.specs.Reader.{Gives};
-ghost use Rattle.grail_code.specs.CodeReader.{local_at, operator_at, place_at, lit_at, flag_at, copy_at, prim_at, make_at, call_at, op_at, let_at};
+ghost use Rattle.grail_code.specs.CodeReader.{format_of, divides, local_at, operator_at, place_at, lit_at, flag_at, copy_at, prim_at, make_at, call_at, op_at, let_at};
 
-use super::reader::{Decode, Halt, list, number};
+use super::reader::{Decode, Halt, Version, list, number};
 use grail_blocks::{Let, Op, Place, PrimCode};
 use smallvec::SmallVec;
 use std::alloc::Global;
@@ -23,16 +23,30 @@ impl Decode for u32 {
 
     ghost plain = { λ n. n };
 
-    ghost read_at = { local_at };
+    ghost read_at = { λ _. local_at };
 
-    fn decode<'a>(_alloc: Global, bytes: &'a [u8]) -> Result<(u32, &'a [u8]), Halt> {
+    fn decode<'a>(
+        _alloc: Global,
+        _version: Version,
+        bytes: &'a [u8],
+    ) -> Result<(u32, &'a [u8]), Halt> {
         local(bytes)
     }
 }
 
+// Whether code of the format may divide.
+fn divides(version: Version) -> bool
+    ensures { result ≡ divides (format_of version) }
+{
+    match version {
+        Version::First => false,
+        Version::Second => true,
+    }
+}
+
 #[tactic(auto, unfolding(crate::specs::CodeReader::operator_at, crate::specs::Reader::tag_at, crate::specs::Reader::byte_at))]
-fn operator(bytes: &[u8]) -> Result<(PrimCode, &[u8]), Halt>
-    ensures { Gives (λ x. (operator_of x.0, x.1.now)) result (operator_at bytes.now) }
+fn operator(version: Version, bytes: &[u8]) -> Result<(PrimCode, &[u8]), Halt>
+    ensures { Gives (λ x. (operator_of x.0, x.1.now)) result (operator_at (format_of version) bytes.now) }
 {
     match bytes {
         [] => Err(Halt::Short),
@@ -45,6 +59,8 @@ fn operator(bytes: &[u8]) -> Result<(PrimCode, &[u8]), Halt>
         [6, rest @ ..] => Ok((PrimCode::Le, rest)),
         [7, rest @ ..] => Ok((PrimCode::Gt, rest)),
         [8, rest @ ..] => Ok((PrimCode::Ge, rest)),
+        [9, rest @ ..] if divides(version) => Ok((PrimCode::Div, rest)),
+        [10, rest @ ..] if divides(version) => Ok((PrimCode::Mod, rest)),
         [_, ..] => Err(Halt::Bad { left: bytes.len() }),
     }
 }
@@ -94,48 +110,48 @@ fn copy(bytes: &[u8]) -> Result<(Op, &[u8]), Halt>
 }
 
 #[tactic(auto, unfolding(crate::specs::CodeReader::prim_at))]
-fn prim(bytes: &[u8]) -> Result<(Op, &[u8]), Halt>
-    ensures { Gives (λ x. (op_of x.0, x.1.now)) result (prim_at bytes.now) }
+fn prim(version: Version, bytes: &[u8]) -> Result<(Op, &[u8]), Halt>
+    ensures { Gives (λ x. (op_of x.0, x.1.now)) result (prim_at (format_of version) bytes.now) }
 {
-    let (op, rest) = operator(bytes)?;
+    let (op, rest) = operator(version, bytes)?;
     let (left, rest) = local(rest)?;
     let (right, rest) = local(rest)?;
     Ok((Op::Prim { op, left, right }, rest))
 }
 
 #[tactic(auto, unfolding(crate::specs::CodeReader::make_at))]
-fn make(alloc: Global, bytes: &[u8]) -> Result<(Op, &[u8]), Halt>
+fn make(alloc: Global, version: Version, bytes: &[u8]) -> Result<(Op, &[u8]), Halt>
     ensures { Gives (λ x. (op_of x.0, x.1.now)) result (make_at bytes.now) }
 {
     let (con, rest) = number(4, 0, 4095, bytes)?;
-    let (args, rest) = list(alloc, 0, 4, rest)?;
+    let (args, rest) = list(alloc, version, 0, 4, rest)?;
     let (place, rest) = place(rest)?;
     let args = SmallVec::from_vec(args);
     Ok((Op::Make { con, args, place }, rest))
 }
 
 #[tactic(auto, unfolding(crate::specs::CodeReader::call_at))]
-fn call(alloc: Global, bytes: &[u8]) -> Result<(Op, &[u8]), Halt>
+fn call(alloc: Global, version: Version, bytes: &[u8]) -> Result<(Op, &[u8]), Halt>
     ensures { Gives (λ x. (op_of x.0, x.1.now)) result (call_at bytes.now) }
 {
     let (func, rest) = number(4, 0, 63, bytes)?;
-    let (args, rest) = list(alloc, 0, 16, rest)?;
+    let (args, rest) = list(alloc, version, 0, 16, rest)?;
     let args = SmallVec::from_vec(args);
     Ok((Op::Call { func, args }, rest))
 }
 
 #[tactic(auto, unfolding(crate::specs::CodeReader::op_at, crate::specs::CodeReader::op_rest, crate::specs::Reader::tag_at, crate::specs::Reader::byte_at))]
-fn op(alloc: Global, bytes: &[u8]) -> Result<(Op, &[u8]), Halt>
-    ensures { Gives (λ x. (op_of x.0, x.1.now)) result (op_at bytes.now) }
+fn op(alloc: Global, version: Version, bytes: &[u8]) -> Result<(Op, &[u8]), Halt>
+    ensures { Gives (λ x. (op_of x.0, x.1.now)) result (op_at (format_of version) bytes.now) }
 {
     match bytes {
         [] => Err(Halt::Short),
         [0, rest @ ..] => lit(rest),
         [1, rest @ ..] => flag(rest),
         [2, rest @ ..] => copy(rest),
-        [3, rest @ ..] => prim(rest),
-        [4, rest @ ..] => make(alloc, rest),
-        [5, rest @ ..] => call(alloc, rest),
+        [3, rest @ ..] => prim(version, rest),
+        [4, rest @ ..] => make(alloc, version, rest),
+        [5, rest @ ..] => call(alloc, version, rest),
         [_, ..] => Err(Halt::Bad { left: bytes.len() }),
     }
 }
@@ -148,9 +164,13 @@ impl Decode for Let {
     ghost read_at = { let_at };
 
     #[tactic(auto, unfolding(crate::specs::CodeReader::let_at))]
-    fn decode<'a>(alloc: Global, bytes: &'a [u8]) -> Result<(Let, &'a [u8]), Halt> {
+    fn decode<'a>(
+        alloc: Global,
+        version: Version,
+        bytes: &'a [u8],
+    ) -> Result<(Let, &'a [u8]), Halt> {
         let (target, rest) = local(bytes)?;
-        let (op, rest) = op(alloc, rest)?;
+        let (op, rest) = op(alloc, version, rest)?;
         Ok((Let { target, op }, rest))
     }
 }

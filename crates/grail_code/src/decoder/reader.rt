@@ -2,7 +2,9 @@
 
 ghost use Rattle.std.specs.Prelude.{◌≡◌, ℕ, ◌≤◌, List, length, map, vec_len, IfOk};
 ghost use Rattle.grail_code.specs.declared.decoder.reader.Halt.TheVariants.{Memory};
+ghost use Rattle.grail_code.specs.Spelling.{Format};
 ghost use Rattle.grail_code.specs.Reader.{Read, Gives, leb_at, times_at, counted_at};
+ghost use Rattle.grail_code.specs.CodeReader.{format_of, digit_at};
 
 use std::alloc::{AllocError, AllocFailed, Global};
 
@@ -30,6 +32,28 @@ impl<T: Drop> From<AllocFailed<T>> for Halt {
 
     fn from(_failed: AllocFailed<T>) -> Halt {
         Halt::Memory
+    }
+}
+
+/// The format of the code that is read.
+#[derive(Clone, Copy)]
+pub enum Version {
+    /// `GRL1`, without division.
+    First,
+    /// `GRL2`, with all operators.
+    Second,
+}
+
+/// The last byte of the four that tell the format.
+#[tactic(auto, unfolding(crate::specs::CodeReader::digit_at, crate::specs::Reader::byte_at))]
+pub fn digit(bytes: &[u8]) -> Result<(Version, &[u8]), Halt>
+    ensures { Gives (λ x. (format_of x.0, x.1.now)) result (digit_at bytes.now) }
+{
+    match bytes {
+        [] => Err(Halt::Short),
+        [b'1', rest @ ..] => Ok((Version::First, rest)),
+        [b'2', rest @ ..] => Ok((Version::Second, rest)),
+        [_, ..] => Err(Halt::Bad { left: bytes.len() }),
     }
 }
 
@@ -70,23 +94,32 @@ pub trait Decode: Drop {
     ghost plain: { Self → Plain };
 
     // the reader as a function on lists
-    ghost read_at: { List ℕ → Read Plain };
+    ghost read_at: { Format → List ℕ → Read Plain };
 
     /// The value that stands first.
-    fn decode<'a>(alloc: Global, bytes: &'a [u8]) -> Result<(Self, &'a [u8]), Halt>
-        ensures { Gives (λ x. (plain x.0, x.1.now)) result (read_at bytes.now) };
+    fn decode<'a>(
+        alloc: Global,
+        version: Version,
+        bytes: &'a [u8],
+    ) -> Result<(Self, &'a [u8]), Halt>
+        ensures { Gives (λ x. (plain x.0, x.1.now)) result (read_at (format_of version) bytes.now) };
 }
 
 // So many things. Each takes at least a byte, so there is no room made for more things than there are bytes.
 #[tactic(auto, using(crate::proofs::SpellingLoops::starts, crate::proofs::SpellingLoops::goes_on, crate::proofs::SpellingLoops::ends_by, crate::proofs::SpellingLoops::is_done))]
-fn times<T: Decode>(alloc: Global, count: u32, bytes: &[u8]) -> Result<(Vec<T>, &[u8]), Halt>
-    ensures reads { Gives (λ x. (map T.plain x.0.items, x.1.now)) result (times_at T.read_at count bytes.now) }
+fn times<T: Decode>(
+    alloc: Global,
+    version: Version,
+    count: u32,
+    bytes: &[u8],
+) -> Result<(Vec<T>, &[u8]), Halt>
+    ensures reads { Gives (λ x. (map T.plain x.0.items, x.1.now)) result (times_at (T.read_at (format_of version)) count bytes.now) }
     ensures count { IfOk result (λ x. vec_len x.0 ≡ count) }
 {
     let mut found = Vec::with_capacity(alloc, bytes.len().min(count as usize))?;
     let mut rest = bytes;
     'things: for _ in 0..count {
-        let (one, after) = T::decode(alloc, rest)?;
+        let (one, after) = T::decode(alloc, version, rest)?;
         found.push(one)?;
         rest = after;
     }
@@ -97,15 +130,16 @@ fn times<T: Decode>(alloc: Global, count: u32, bytes: &[u8]) -> Result<(Vec<T>, 
 #[tactic(auto, unfolding(crate::specs::Reader::counted_at))]
 pub fn list<T: Decode>(
     alloc: Global,
+    version: Version,
     least: u32,
     most: u32,
     bytes: &[u8],
 ) -> Result<(Vec<T>, &[u8]), Halt>
     requires { least ≤ 1 }
-    ensures reads { Gives (λ x. (map T.plain x.0.items, x.1.now)) result (counted_at T.read_at least most bytes.now) }
+    ensures reads { Gives (λ x. (map T.plain x.0.items, x.1.now)) result (counted_at (T.read_at (format_of version)) least most bytes.now) }
     ensures enough { IfOk result (λ x. least ≤ vec_len x.0) }
     ensures few { IfOk result (λ x. vec_len x.0 ≤ most) }
 {
     let (count, rest) = number(4, least, most, bytes)?;
-    times(alloc, count, rest)
+    times(alloc, version, count, rest)
 }

@@ -5,7 +5,7 @@ ghost use Rattle.grail_code.specs.Reader.{Gives};
 ghost use Rattle.grail_code.specs.CodeReader.{kind_at, layout_at, con_at, type_at};
 
 use super::names::{Letter, name};
-use super::reader::{Decode, Halt, list, number};
+use super::reader::{Decode, Halt, Version, list, number};
 use camelot_values::{Con, Kind, TypeDef};
 use std::alloc::Global;
 
@@ -29,22 +29,26 @@ impl Decode for Kind {
 
     ghost plain = { λ kind. kind };
 
-    ghost read_at = { kind_at };
+    ghost read_at = { λ _. kind_at };
 
-    fn decode<'a>(_alloc: Global, bytes: &'a [u8]) -> Result<(Kind, &'a [u8]), Halt> {
+    fn decode<'a>(
+        _alloc: Global,
+        _version: Version,
+        bytes: &'a [u8],
+    ) -> Result<(Kind, &'a [u8]), Halt> {
         kind(bytes)
     }
 }
 
 // Whether a constructor is inline, and the kinds of its fields.
 #[tactic(auto, unfolding(crate::specs::CodeReader::layout_at, crate::specs::CodeReader::fields_at, crate::specs::Reader::tag_at, crate::specs::Reader::byte_at))]
-fn layout(alloc: Global, bytes: &[u8]) -> Result<((bool, Vec<Kind>), &[u8]), Halt>
+fn layout(alloc: Global, version: Version, bytes: &[u8]) -> Result<((bool, Vec<Kind>), &[u8]), Halt>
     ensures { Gives (λ x. ((x.0.0, x.0.1.items), x.1.now)) result (layout_at bytes.now) }
 {
     match bytes {
         [] => Err(Halt::Short),
         [0, rest @ ..] => {
-            let (fields, rest) = list(alloc, 0, 4, rest)?;
+            let (fields, rest) = list(alloc, version, 0, 4, rest)?;
             Ok(((false, fields), rest))
         }
         [1, rest @ ..] => Ok(((true, Vec::new(alloc)), rest)),
@@ -57,12 +61,16 @@ impl Decode for Con {
 
     ghost plain = { constructor_of };
 
-    ghost read_at = { con_at };
+    ghost read_at = { λ _. con_at };
 
     #[tactic(auto, unfolding(crate::specs::CodeReader::con_at))]
-    fn decode<'a>(alloc: Global, bytes: &'a [u8]) -> Result<(Con, &'a [u8]), Halt> {
+    fn decode<'a>(
+        alloc: Global,
+        version: Version,
+        bytes: &'a [u8],
+    ) -> Result<(Con, &'a [u8]), Halt> {
         let (name, rest) = name(alloc, Letter::Upper, bytes)?;
-        let ((inline, fields), rest) = layout(alloc, rest)?;
+        let ((inline, fields), rest) = layout(alloc, version, rest)?;
         let con = Con {
             name,
             inline,
@@ -77,12 +85,16 @@ impl Decode for TypeDef {
 
     ghost plain = { data_type_of };
 
-    ghost read_at = { type_at };
+    ghost read_at = { λ _. type_at };
 
     #[tactic(auto, unfolding(crate::specs::CodeReader::type_at))]
-    fn decode<'a>(alloc: Global, bytes: &'a [u8]) -> Result<(TypeDef, &'a [u8]), Halt> {
+    fn decode<'a>(
+        alloc: Global,
+        version: Version,
+        bytes: &'a [u8],
+    ) -> Result<(TypeDef, &'a [u8]), Halt> {
         let (name, rest) = name(alloc, Letter::Lower, bytes)?;
-        let (cons, rest) = list(alloc, 1, 64, rest)?;
+        let (cons, rest) = list(alloc, version, 1, 64, rest)?;
         Ok((TypeDef { name, cons }, rest))
     }
 }

@@ -1,6 +1,6 @@
 ghost use Rattle.std.specs.Prelude.{◌≡◌, ◌++◌, ◌∷◌, map, ◌≤◌, OnOk};
 ghost use Rattle.grail_code.specs.Code.{CaseArm as PlainArm, Block as PlainBlock, Func as PlainFunc, arm_of, term_of, block_of, func_of};
-ghost use Rattle.grail_code.specs.Spelling.{number, counted, arm_bytes, cell_bytes, term_bytes, block_bytes, func_bytes, AreCounted, FitsArm, FitsTerm, FitsBlock, FitsFunc};
+ghost use Rattle.grail_code.specs.Spelling.{Second, number, counted, arm_bytes, cell_bytes, term_bytes, block_bytes, func_bytes, AreCounted, FitsArm, FitsTerm, FitsBlock, FitsFunc};
 
 use super::lets::{call, tagged};
 use super::types::name;
@@ -73,7 +73,7 @@ impl Encode for Block {
 
     ghost plain = { block_of };
 
-    ghost Fits = { FitsBlock };
+    ghost Fits = { FitsBlock Second };
 
     ghost spell = { block_bytes };
 
@@ -89,7 +89,7 @@ impl Encode for Func {
 
     ghost plain = { func_of };
 
-    ghost Fits = { FitsFunc };
+    ghost Fits = { FitsFunc Second };
 
     ghost spell = { func_bytes };
 

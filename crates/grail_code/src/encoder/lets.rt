@@ -1,7 +1,7 @@
 ghost use Rattle.std.specs.Prelude.{◌≡◌, ◌++◌, ◌∷◌, [], ◌≤◌, ℕ, OnOk, if◌then◌else◌};
 ghost use Rattle.std.specs.Int.{w32, cast_unsigned};
 ghost use Rattle.grail_code.specs.Code.{Let as PlainLet, let_of, op_of, operator_of};
-ghost use Rattle.grail_code.specs.Spelling.{number, counted, operator_code, place_bytes, op_bytes, let_bytes, IsLocal, FitsOp, FitsLet, AreCounted};
+ghost use Rattle.grail_code.specs.Spelling.{Second, number, counted, operator_code, place_bytes, op_bytes, let_bytes, IsLocal, FitsOp, FitsLet, AreCounted};
 
 use super::writer::{Encode, list, number};
 use grail_blocks::{Let, Op, Place, PrimCode};
@@ -35,6 +35,8 @@ fn operator_code(op: PrimCode) -> u8
         PrimCode::Le => 6,
         PrimCode::Gt => 7,
         PrimCode::Ge => 8,
+        PrimCode::Div => 9,
+        PrimCode::Mod => 10,
     }
 }
 
@@ -95,7 +97,7 @@ fn flag(out: &mut Vec<u8>, value: bool) -> Result<(), AllocError>
 }
 
 fn op(out: &mut Vec<u8>, op: &Op) -> Result<(), AllocError>
-    requires { FitsOp (op_of op.now) }
+    requires { FitsOp Second (op_of op.now) }
     ensures { OnOk result (out.new.items ≡ out.old.items ++ op_bytes (op_of op.now)) }
 {
     match op {
@@ -113,7 +115,7 @@ impl Encode for Let {
 
     ghost plain = { let_of };
 
-    ghost Fits = { FitsLet };
+    ghost Fits = { FitsLet Second };
 
     ghost spell = { let_bytes };
 

@@ -17,3 +17,6 @@ returns-clause-short c = λ p limit func fuel other args v calls peak low e h. r
 
 pub returns-clause-deep : goal.returns-clause-deep
 returns-clause-deep c = λ p limit func fuel other args peak e h. runs.deep_is (bodies p) (bodies_respect p) limit func fuel other args peak e h
+
+pub returns-clause-trap : goal.returns-clause-trap
+returns-clause-trap c = λ p limit func fuel other args peak e h. runs.trap_is (bodies p) (bodies_respect p) limit func fuel other args peak e h
