@@ -19,9 +19,9 @@ ghost use Rattle.camelot_typing.specs.Fitting.{CallsFit, Scoped};
 ghost use Rattle.camelot_typing.specs.Settled.{IsSettled};
 
 /// A typed program on fitting arguments is never stuck, whatever the fuel and the limit of waiting calls: a run comes
-/// to a value of the function's result kind, or stops on fuel or depth. So every name that is read has a value of its
-/// kind, each function and constructor that is named is declared, each value that is taken apart has an arm, what is
-/// named behind `@` is a diamond, and each int has 32 bits.
+/// to a value of the function's result kind, stops on fuel or depth, or is trapped. So every name that is read has a
+/// value of its kind, each function and constructor that is named is declared, each value that is taken apart has an
+/// arm, what is named behind `@` is a diamond, and each int has 32 bits.
 pub fn law_of_typing()
     ensures { (p : Source) (sigs : List Signature) (limit func fuel : ℕ) (args : List Value) (s : Signature) → IsTyped p sigs
         → slice_get sigs func ≡ Some s → ArgumentsFit (types_of p) s.params args → IsSafe (types_of p) s.result (run_of p limit func fuel args) }
