@@ -2,7 +2,10 @@
 use Rattle.std.proofs.Common.{◌≡◌, ℕ, ◌<◌, ◌≤◌, ◌+◌, List, length, sym, subst, ap, arith, ◌∙◌}
 use Rattle.std.specs.Prelude.{take}
 use Rattle.stops.specs.declared.stop.Stop.{Stop}
-use Rattle.grail_code.specs.Spelling.{Second, spelling, Decoded, Spelled, Front, Broken, Means}
+use Rattle.grail_code.specs.Spelling.{Second, spelling, Decoded, Spelled, Front, Broken, Means, IsSpelling}
+use Rattle.grail_code.specs.RangeLaws.{fits_second}
+use Rattle.licence.specs.Licensed.{Licensed}
+use Rattle.grail_verifier.specs.Accepted.{IsAccepted}
 use Rattle.grail_code.specs.Decoding.{IsMigration, IsFault as IsDecodeFault}
 use Rattle.grail_code.specs.Code.{Code}
 use Rattle.grail_code.specs.declared.fault.DecodeFault.{DecodeFault}
@@ -62,6 +65,33 @@ is_migration input output b h is = record {
 
 pub is_unmigrated : (input output : List ℕ) (cause : Cause) → IsUnmigratedFor input cause → output ≡ refused_line cause → IsUnmigrated input output
 is_unmigrated input output cause refused is = record { cause = cause; refused = refused; is = is }
+
+-- ---- what the verifier accepts
+
+-- each list of bytes is one of the three alone
+abbrev OneMeaning : Type 0
+OneMeaning = (bytes : List ℕ) (first second : Decoded) → Means bytes first → Means bytes second → first ≡ second
+
+-- a text that spells this code is accepted as another one is that spells it
+accepted_as : (bytes other cert : List ℕ) (l : Licensed) → IsSpelling l.code other → IsAccepted bytes cert l → IsAccepted other cert l
+accepted_as bytes other cert l spelled h = record { spelled = spelled; well = h.well; formed = h.formed; text = h.text; granted = h.granted }
+
+same_code : OneMeaning → (bytes : List ℕ) (p q : Code) → Means bytes (Spelled p) → Means bytes (Spelled q) → p ≡ q
+same_code one bytes p q h k = let e : Spelled p ≡ Spelled q = one bytes (Spelled p) (Spelled q) h k in cc
+
+-- the code's spelling in the second format
+in_second : (p : Code) (bytes migrated : List ℕ) → IsSpelling p bytes → migrated ≡ spelling Second p → IsSpelling p migrated
+in_second p bytes migrated h is = record { format = Second; fits = fits_second h.format p h.fits; is = is }
+
+pub accepted_behind : OneMeaning → (bytes migrated cert : List ℕ) (l : Licensed) → IsMigration bytes migrated → IsAccepted bytes cert l → IsAccepted migrated cert l
+accepted_behind one bytes migrated cert l m h =
+    let same : m.program ≡ l.code = same_code one bytes m.program l.code m.means h.spelled in
+    accepted_as bytes migrated cert l (in_second l.code bytes migrated h.spelled (m.is ∙ ap (spelling Second) same)) h
+
+pub accepted_before : OneMeaning → (bytes migrated cert : List ℕ) (l : Licensed) → IsMigration bytes migrated → IsAccepted migrated cert l → IsAccepted bytes cert l
+accepted_before one bytes migrated cert l m h =
+    let same : m.program ≡ l.code = same_code one migrated m.program l.code (in_second m.program bytes migrated m.means m.is) h.spelled in
+    accepted_as migrated bytes cert l (subst (λ p. IsSpelling p bytes) same m.means) h
 
 -- ---- what is migrated isn't refused
 

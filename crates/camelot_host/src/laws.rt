@@ -5,7 +5,9 @@ ghost use Rattle.camelot_values.specs.Value.{Value};
 ghost use Rattle.camelot_values.specs.Outcome.{peak_of};
 ghost use Rattle.grail_code.specs.Meaning.{run_of};
 ghost use Rattle.licence.specs.Bound.{bound};
-ghost use Rattle.licence.specs.Licensed.{FitsEntry};
+ghost use Rattle.grail_code.specs.Decoding.{IsMigration};
+ghost use Rattle.grail_verifier.specs.Accepted.{IsAccepted};
+ghost use Rattle.licence.specs.Licensed.{Licensed, FitsEntry};
 ghost use Rattle.lp_constraints.specs.declared.fault.NoCert.TheVariants.{NoBound};
 ghost use Rattle.cause_texts.specs.declared.cause.Cause.TheVariants.{NoCert};
 ghost use Rattle.camelot_compiler.specs.Compiled.{OfCode, NoneGrants};
@@ -62,3 +64,14 @@ pub fn law_of_verify()
     ensures within { (input output : List ℕ) (due : IsDue Verify input Done output) (limit entry fuel : ℕ) (args : List Value)
         → FitsEntry due.licence entry args → peak_of (run_of due.licence.code limit entry fuel args) ≤ bound due.licence.code due.licence.cert entry args }
 {}
+
+/// What `migrate` makes of a bundle's code, in the words of the verifier: whatever it accepts before, it accepts behind,
+/// with the same licence.
+pub fn law_of_migrate()
+    // The verifier's licence of a bundle's bytes is that of the migrated ones with the same certificate.
+    ensures accepted { (bytes migrated cert : List ℕ) (l : Licensed) → IsMigration bytes migrated → IsAccepted bytes cert l → IsAccepted migrated cert l }
+    // And the other way round.
+    ensures back { (bytes migrated cert : List ℕ) (l : Licensed) → IsMigration bytes migrated → IsAccepted migrated cert l → IsAccepted bytes cert l }
+{
+    one_meaning();
+}

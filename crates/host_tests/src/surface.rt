@@ -75,6 +75,7 @@ pub use grail_code::PrimCode;
 pub use grail_code::Term;
 pub use grail_code::decode;
 pub use grail_code::encode;
+pub use grail_code::migrate;
 pub use grail_verifier::Refusal;
 pub use grail_verifier::verify;
 pub use hole_list::Holes;
