@@ -172,6 +172,8 @@ operator_known : (types : List DataType) (op : Operator) → IsKnownKind types (
 operator_known types operator.Add = tt
 operator_known types operator.Sub = tt
 operator_known types operator.Mul = tt
+operator_known types operator.Div = tt
+operator_known types operator.Mod = tt
 operator_known types operator.Eq = tt
 operator_known types operator.Ne = tt
 operator_known types operator.Lt = tt

@@ -11,7 +11,7 @@ use Rattle.camelot_values.specs.Kinds as values
 use Rattle.camelot_values.specs.Kinds.{DataType, constructor, type_of}
 use Rattle.camelot_values.specs.Typing.{Fits, FitAll, ArgumentsFit}
 use Rattle.camelot_values.specs.Bounds.{Yields}
-use Rattle.camelot_values.specs.Outcome.{Outcome, Done, Fuel, Deep, Stuck, after, first_then, given}
+use Rattle.camelot_values.specs.Outcome.{Outcome, Done, Fuel, Deep, Trap, Stuck, after, first_then, given}
 use Rattle.camelot_values.specs.OutcomeLaws.{after_first}
 use Rattle.camelot_values.specs.Runs.{Enter, chosen}
 use Rattle.camelot_values.specs.declared.kinds.Kind.{Kind}
@@ -131,6 +131,7 @@ pub then_where : {A B : Type 0} (P : A → Type 0) (k : ℕ) (o : Outcome A) (ne
 then_where P k (Done v c p g) next last h e = ap (after c p g) (e (k - c) v h)
 then_where P k (Fuel c p) next last h e = refl
 then_where P k (Deep p) next last h e = refl
+then_where P k (Trap p) next last h e = refl
 then_where P k Stuck next last h e = refl
 
 pub chosen_then : (v : Value) (j : ℕ) (a b : Outcome Value) (go : ℕ → Value → Outcome Value)

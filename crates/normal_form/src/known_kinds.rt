@@ -20,7 +20,7 @@ pub(crate) fn operator_kind(op: PrimOp) -> Kind
     ensures { result ≡ operator_kind (operator_of op) }
 {
     match op {
-        PrimOp::Add | PrimOp::Sub | PrimOp::Mul => Kind::Int,
+        PrimOp::Add | PrimOp::Sub | PrimOp::Mul | PrimOp::Div | PrimOp::Mod => Kind::Int,
         PrimOp::Eq | PrimOp::Ne | PrimOp::Lt | PrimOp::Le | PrimOp::Gt | PrimOp::Ge => Kind::Flag,
     }
 }

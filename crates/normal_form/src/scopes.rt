@@ -38,6 +38,8 @@ pub(crate) fn prim_code(op: PrimOp) -> PrimCode
         PrimOp::Add => PrimCode::Add,
         PrimOp::Sub => PrimCode::Sub,
         PrimOp::Mul => PrimCode::Mul,
+        PrimOp::Div => PrimCode::Div,
+        PrimOp::Mod => PrimCode::Mod,
         PrimOp::Eq => PrimCode::Eq,
         PrimOp::Ne => PrimCode::Ne,
         PrimOp::Lt => PrimCode::Lt,
