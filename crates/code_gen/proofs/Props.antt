@@ -1,7 +1,7 @@
 -- The limits of code and the ranges of its spelling are propositions.
 use Rattle.std.proofs.Common.{◌≡◌, ℕ, true, List, [], length}
 use Rattle.std.specs.Prelude.{◌≤◌}
-use Rattle.std.specs.Coded.{Coded-set, Unit-prop, ×_prop, coded_list, le_prop}
+use Rattle.std.specs.Coded.{Coded-set, Unit-prop, coded_list, le_prop}
 use Rattle.std.specs.List.{AllByRecursion-prop}
 use Rattle.std.proofs.Math.Bool.{Bool-set}
 use Rattle.std.proofs.Math.Path.{fun_ext}
@@ -14,7 +14,7 @@ use Rattle.grail_blocks.specs.declared.blocks.CaseCell.{CaseCell}
 use Rattle.grail_blocks.specs.declared.blocks.CaseCell.TheVariants as cell
 use Rattle.grail_code.specs.Code.{Op, Lit, Flag, Copy, Prim, Make, Call, Let, CaseArm, Term, Ret, Tail, Goto, If, Case, Block, Func, Code}
 use Rattle.grail_code.specs.Limits.{FuncIsWithin, IsWithinLimits}
-use Rattle.grail_code.specs.Spelling.{AreCounted, FitsArm, FitsBlock, FitsCell, FitsCode, FitsCon, FitsFunc, FitsKind, FitsLet, FitsOp, FitsPlace, FitsTerm, FitsType, IsLocal}
+use Rattle.grail_code.specs.Spelling.{Second, AreCounted, FitsArm, FitsBlock, FitsCell, FitsCode, FitsCon, FitsFunc, FitsKind, FitsLet, FitsOp, FitsPlace, FitsTerm, FitsType, IsLocal, IsOfFormat}
 
 pub to_prop : {A B : Type 0} → IsProp B → IsProp (A → B)
 to_prop h f g = fun_ext (λ x. h (f x) (g x))
@@ -64,15 +64,15 @@ place_prop place.Inline = Unit-prop
 place_prop place.New = Unit-prop
 place_prop (place.Reuse x) = le_prop
 
-op_prop : (op : Op) → IsProp (FitsOp op)
+op_prop : (op : Op) → IsProp (FitsOp Second op)
 op_prop (Lit z) = hlevel less_prop
 op_prop (Flag b) = Unit-prop
 op_prop (Copy x) = le_prop
-op_prop (Prim op x y) = ×_prop le_prop le_prop
+op_prop (Prim op x y) = let in_format : IsProp (IsOfFormat Second op) = Unit-prop in hlevel (in_format, less_prop)
 op_prop (Make c args p) = let few = counted_prop IsLocal 0 4 local_prop args in let at = place_prop p in hlevel (few, at, less_prop)
 op_prop (Call f args) = let few = counted_prop IsLocal 0 16 local_prop args in hlevel (few, less_prop)
 
-let_prop : (l : Let) → IsProp (FitsLet l)
+let_prop : (l : Let) → IsProp (FitsLet Second l)
 let_prop l = let op = op_prop l.op in hlevel (op, less_prop)
 
 cell_prop : (c : CaseCell) → IsProp (FitsCell c)
@@ -90,19 +90,19 @@ term_prop (Goto b) = le_prop
 term_prop (If x first second) = hlevel less_prop
 term_prop (Case x arms) = let each = counted_prop FitsArm 0 64 arm_prop arms in hlevel (each, less_prop)
 
-block_prop : (b : Block) → IsProp (FitsBlock b)
+block_prop : (b : Block) → IsProp (FitsBlock Second b)
 block_prop b =
     let params = counted_prop IsLocal 0 256 local_prop b.params in
-    let lets = counted_prop FitsLet 0 256 let_prop b.lets in
+    let lets = counted_prop (FitsLet Second) 0 256 let_prop b.lets in
     let end = term_prop b.term in
     hlevel (params, lets, end, less_prop)
 
-func_prop : (f : Func) → IsProp (FitsFunc f)
+func_prop : (f : Func) → IsProp (FitsFunc Second f)
 func_prop f =
     let params = counted_prop FitsKind 1 16 (λ q. le_prop) f.params in
     let locals = counted_prop FitsKind 0 240 (λ q. le_prop) f.locals in
-    let blocks = counted_prop FitsBlock 1 256 block_prop f.blocks in
+    let blocks = counted_prop (FitsBlock Second) 1 256 block_prop f.blocks in
     hlevel (params, locals, blocks, less_prop, Bool-set)
 
-pub fits_prop : (p : Code) → IsProp (FitsCode p)
-fits_prop p = let types = counted_prop FitsType 0 64 type_fits_prop p.types in let funcs = counted_prop FitsFunc 0 64 func_prop p.funcs in hlevel (types, funcs, less_prop)
+pub fits_prop : (p : Code) → IsProp (FitsCode Second p)
+fits_prop p = let types = counted_prop FitsType 0 64 type_fits_prop p.types in let funcs = counted_prop (FitsFunc Second) 0 64 func_prop p.funcs in hlevel (types, funcs, less_prop)

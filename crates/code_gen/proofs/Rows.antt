@@ -1,4 +1,5 @@
--- The spelling of the code of small programs, worked by hand: a sum, and a list that is doubled.
+-- The spelling of the code of small programs, worked by hand: a sum, a quotient and a remainder, and a list that is
+-- doubled.
 use Rattle.std.proofs.Common.{◌≡◌, ℕ, List, [], ◌∷◌, Some, None, false, true, refl}
 use Rattle.std.specs.Prelude.{codes}
 use Rattle.camelot_values.specs.Operator as operator
@@ -10,7 +11,7 @@ use Rattle.camelot_tree.specs.declared.tree.Atom.TheVariants as atom
 use Rattle.camelot_tree.specs.declared.tree.ArmCell.TheVariants as cell
 use Rattle.camelot_tree.specs.Tree.{Expression, Var, Prim, Let, Match, Build, Call, Expressions, NoExpressions, AndExpression, NoArms, AndArm, DataType}
 use Rattle.camelot_typing.specs.Typed.{Typing}
-use Rattle.grail_code.specs.Spelling.{number, spelling}
+use Rattle.grail_code.specs.Spelling.{Second, number, spelling}
 use Rattle.code_gen.specs.Generated.{compiled}
 
 abbrev name : List ℕ → Name
@@ -36,10 +37,21 @@ program types word params kinds result body = record {
 abbrev add : Typing
 add = program [] (codes "add") (param (codes "a") ∷ param (codes "b") ∷ []) (kind.Int ∷ kind.Int ∷ []) kind.Int (Prim operator.Add (var (codes "a")) (var (codes "b")) 1)
 
-add_spelled : spelling (compiled add) ≡
-    71 ∷ 82 ∷ 76 ∷ 49 ∷ 0 ∷ 1 ∷ 3 ∷ 97 ∷ 100 ∷ 100 ∷ 2 ∷ 0 ∷ 0 ∷ 0 ∷ 1 ∷ 0 ∷ 1 ∷ 2 ∷ 0 ∷ 1 ∷ 1 ∷ 2 ∷ 3 ∷ 0 ∷ 0 ∷ 1 ∷ 0 ∷ 2 ∷ []
+add_spelled : spelling Second (compiled add) ≡
+    71 ∷ 82 ∷ 76 ∷ 50 ∷ 0 ∷ 1 ∷ 3 ∷ 97 ∷ 100 ∷ 100 ∷ 2 ∷ 0 ∷ 0 ∷ 0 ∷ 1 ∷ 0 ∷ 1 ∷ 2 ∷ 0 ∷ 1 ∷ 1 ∷ 2 ∷ 3 ∷ 0 ∷ 0 ∷ 1 ∷ 0 ∷ 2 ∷ []
 unfolding number
 add_spelled = refl
+
+-- share a b = a / b + a mod b
+abbrev share : Typing
+share = program [] (codes "share") (param (codes "a") ∷ param (codes "b") ∷ []) (kind.Int ∷ kind.Int ∷ []) kind.Int
+    (Prim operator.Add (Prim operator.Div (var (codes "a")) (var (codes "b")) 1) (Prim operator.Mod (var (codes "a")) (var (codes "b")) 1) 1)
+
+share_spelled : spelling Second (compiled share) ≡
+    71 ∷ 82 ∷ 76 ∷ 50 ∷ 0 ∷ 1 ∷ 5 ∷ 115 ∷ 104 ∷ 97 ∷ 114 ∷ 101 ∷ 2 ∷ 0 ∷ 0 ∷ 0 ∷ 3 ∷ 0 ∷ 0 ∷ 0 ∷ 1 ∷ 2 ∷ 0 ∷ 1
+    ∷ 3 ∷ 2 ∷ 3 ∷ 9 ∷ 0 ∷ 1 ∷ 3 ∷ 3 ∷ 10 ∷ 0 ∷ 1 ∷ 4 ∷ 3 ∷ 0 ∷ 2 ∷ 3 ∷ 0 ∷ 4 ∷ []
+unfolding number
+share_spelled = refl
 
 abbrev lists : DataType
 lists = record {
@@ -56,8 +68,8 @@ dup = program (lists ∷ []) (codes "dup") (param (codes "l") ∷ []) (kind.Of 0
     (Build (name (codes "Cons")) (args (var (codes "h")) (args (Build (name (codes "Cons")) (args (var (codes "h")) (args (var (codes "r")) NoExpressions)) None) NoExpressions)) None))
     NoArms)) 1)
 
-dup_spelled : spelling (compiled dup) ≡
-    71 ∷ 82 ∷ 76 ∷ 49 ∷ 1 ∷ 5 ∷ 105 ∷ 108 ∷ 105 ∷ 115 ∷ 116 ∷ 2 ∷ 3 ∷ 78 ∷ 105 ∷ 108 ∷ 1 ∷ 4 ∷ 67 ∷ 111 ∷ 110 ∷ 115 ∷ 0 ∷ 2 ∷ 0 ∷ 3
+dup_spelled : spelling Second (compiled dup) ≡
+    71 ∷ 82 ∷ 76 ∷ 50 ∷ 1 ∷ 5 ∷ 105 ∷ 108 ∷ 105 ∷ 115 ∷ 116 ∷ 2 ∷ 3 ∷ 78 ∷ 105 ∷ 108 ∷ 1 ∷ 4 ∷ 67 ∷ 111 ∷ 110 ∷ 115 ∷ 0 ∷ 2 ∷ 0 ∷ 3
     ∷ 1 ∷ 3 ∷ 100 ∷ 117 ∷ 112 ∷ 1 ∷ 3 ∷ 3 ∷ 6 ∷ 3 ∷ 0 ∷ 3 ∷ 3 ∷ 3 ∷ 3 ∷ 3
     ∷ 1 ∷ 0 ∷ 0 ∷ 4 ∷ 0 ∷ 2 ∷ 0 ∷ 0 ∷ 1 ∷ 2 ∷ 2 ∷ 3 ∷ 1 ∷ 2
     ∷ 0 ∷ 1 ∷ 1 ∷ 4 ∷ 0 ∷ 0 ∷ 0 ∷ 0 ∷ 1

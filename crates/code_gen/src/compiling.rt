@@ -10,7 +10,7 @@ ghost use Rattle.camelot_typing.specs.TypedPrograms.{typing_of};
 ghost use Rattle.linear_use.specs.Answers.{KeepsRule};
 ghost use Rattle.grail_code.specs.Code.{code_of, func_of};
 ghost use Rattle.grail_code.specs.Meaning.{run_of};
-ghost use Rattle.grail_code.specs.Spelling.{FitsCode};
+ghost use Rattle.grail_code.specs.Spelling.{FitsCode, Second};
 ghost use Rattle.grail_code.specs.WellFormed.{IsWellFormed};
 ghost use Rattle.normal_form.specs.declared.fault.NormalFault.{NormalFault};
 ghost use Rattle.normal_form.specs.Answers.{Finds, Refuses, Takes, fault_of, program_fault};
@@ -83,8 +83,8 @@ pub fn compile(alloc: Global, program: &Linear) -> Result<Code, Stop<NormalFault
         → run_of (code_of code) limit func fuel args
         ≡ source.run_of (typing_of program.now.typed).source limit func fuel args) }
 
-    // It is within the ranges of the spelling.
-    ensures spelled { IfOk result (λ code. FitsCode (code_of code)) }
+    // It is within the ranges of the second format, so that it has a spelling there.
+    ensures spelled { IfOk result (λ code. FitsCode Second (code_of code)) }
 
     // An error is the first function that is too large, unless memory ran out.
     ensures finds { Finds result (program_fault (typing_of program.now.typed)) }

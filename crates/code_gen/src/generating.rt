@@ -11,7 +11,7 @@ ghost use Rattle.linear_use.specs.Answers.{KeepsRule};
 ghost use Rattle.grail_code.specs.Code.{code_of, func_of};
 ghost use Rattle.grail_code.specs.Limits.{IsWithinLimits};
 ghost use Rattle.grail_code.specs.Meaning.{run_of};
-ghost use Rattle.grail_code.specs.Spelling.{FitsCode};
+ghost use Rattle.grail_code.specs.Spelling.{FitsCode, Second};
 ghost use Rattle.grail_code.specs.WellFormed.{IsWellFormed};
 ghost use Rattle.normal_form.specs.Answers.{program_fault};
 ghost use Rattle.normal_form.specs.Normal.{normal_form};
@@ -58,10 +58,10 @@ pub fn generate(alloc: Global, program: Normal) -> Result<Code, AllocError>
         → IfOk result (λ code. run_of (code_of code) limit func fuel args
         ≡ source.run_of t.source limit func fuel args) }
 
-    // It is within the ranges of the spelling, as the names of a program that was read have their forms.
+    // It is within the ranges of the second format, as the names of a program that was read have their forms.
     ensures spelled { (t : Typing) → IsTyping t → KeepsRule t → IsTrue (is_whole t.source)
         → IsTrue (is_named t.source) → program_fault t ≡ None → normal_of program ≡ normal_form t
-        → IfOk result (λ code. FitsCode (code_of code)) }
+        → IfOk result (λ code. FitsCode Second (code_of code)) }
 {
     law_of_compiler();
     law_of_limits();

@@ -12,7 +12,7 @@ ghost use Rattle.camelot_typing.specs.TypedPrograms.{typing_of};
 ghost use Rattle.linear_use.specs.Answers.{KeepsRule};
 ghost use Rattle.grail_code.specs.Limits.{IsWithinLimits};
 ghost use Rattle.grail_code.specs.Meaning.{run_of};
-ghost use Rattle.grail_code.specs.Spelling.{FitsCode};
+ghost use Rattle.grail_code.specs.Spelling.{FitsCode, Second};
 ghost use Rattle.grail_code.specs.WellFormed.{IsWellFormed};
 ghost use Rattle.normal_form.specs.Answers.{program_fault};
 ghost use Rattle.code_gen.specs.Generated.{compiled};
@@ -39,13 +39,13 @@ pub fn law_of_compiler()
 }
 
 /// Where no function has too many locals or blocks, the code is within its limits, and, as the names of a program that
-/// was read have their forms, within the ranges of the spelling, so that it has one.
+/// was read have their forms, within the ranges of the second format, so that it has a spelling there.
 pub fn law_of_limits()
     // Where no function is too large, the code is within its limits.
     ensures within { (t : Typing) → IsTyping t → IsTrue (is_whole t.source) → program_fault t ≡ None → IsWithinLimits (compiled t) }
-    // Where names have their forms as well, it is within the ranges of the spelling.
+    // Where names have their forms as well, it is within the ranges of the second format.
     ensures spelled { (t : Typing) → IsTyping t → KeepsRule t → IsTrue (is_whole t.source)
-        → IsTrue (is_named t.source) → program_fault t ≡ None → FitsCode (compiled t) }
+        → IsTrue (is_named t.source) → program_fault t ≡ None → FitsCode Second (compiled t) }
 {
     law_of_compiler();
     law_of_sizes();

@@ -3,7 +3,7 @@ use Rattle.std.proofs.Math.Logic.{∥∥₁_elim}
 use Rattle.camelot_tree.specs.Meaning as source
 use Rattle.camelot_typing.specs.TypedPrograms.{typing_of}
 use Rattle.grail_code.specs.Meaning.{run_of}
-use Rattle.grail_code.specs.Spelling.{FitsCode}
+use Rattle.grail_code.specs.Spelling.{FitsCode, Second}
 use Rattle.grail_code.specs.WellFormed.{IsWellFormed}
 use Rattle.normal_form.specs.Answers.{program_fault}
 use Rattle.normal_form.specs.SetLaws.{outcome_set}
@@ -46,5 +46,5 @@ returns-clause-spelled c =
     let fits = fits_prop (compiled t) in
     let none = sym (ap (λ q. program_fault (typing_of q)) c.in_ok-known.ensures) ∙ c.in_ok-funcs.ensures.finds in
     let is = is_code typed c.in_ok-known.known.typed.now c.in_ok-known.ensures _ c.in_ok-types.ensures c.in_ok-funcs.ensures.functions in
-    subst FitsCode (sym is)
+    subst (FitsCode Second) (sym is)
     (∥∥₁_elim typed.typed fits (λ typing. ∥∥₁_elim c.args.program.now.keeps fits (λ rule. c.law_of_limits.ensures.spelled t typing rule typed.program.whole typed.program.named none)))
