@@ -2,7 +2,8 @@ use std::alloc::AllocError;
 
 /// What each worker passes between the grant of a lease and the run of its job. Workers share it.
 pub trait Gate {
-    /// Lets the worker of this job pass. It may wait.
+    /// Lets the worker of this job pass. It may wait. The job keeps its lease meanwhile: where the next job doesn't fit
+    /// beside it, neither that one nor a later one comes to its gate before this one's lease is back.
     ///
     /// # Errors
     ///

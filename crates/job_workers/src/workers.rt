@@ -19,7 +19,7 @@ use cell_span::Span;
 use job_world::{JobName, Jobs};
 use lease_desk::{Desk, Finished, Lease, Next};
 use std::alloc::Global;
-use std::sync::{Mutex, Wait};
+use std::sync::{Condvar, Mutex, Wait};
 use std::thread;
 use std::thread::Threads;
 
@@ -29,9 +29,21 @@ pub struct Home {
     pub span: Span,
 }
 
-// Asks the desk for the next job.
-fn ask<N: JobName, R: Wait>(rt: &R, desk: &Mutex<Desk<N, Answer<N>>>) -> Next<N> {
-    desk.lock(rt).next()
+// The desk behind its lock, and what wakes the workers that wait for a lease to come back.
+struct SharedDesk<N: JobName> {
+    desk: Mutex<Desk<N, Answer<N>>>,
+    came_back: Condvar,
+}
+
+// Asks the desk for the next job, once it fits or no lease is out. A job that is asked for where it doesn't fit is left
+// for the end, when the caller serves such jobs one by one.
+fn ask<N: JobName, R: Wait>(rt: &R, shared: &SharedDesk<N>) -> Next<N> {
+    let SharedDesk { desk, came_back } = shared;
+    came_back
+        .wait_while(rt, desk.lock(rt), |desk| {
+            !desk.next_fits() && desk.out() > 0
+        })
+        .next()
 }
 
 // Gives a lease back with its answer, once the desk knows it.
@@ -67,11 +79,11 @@ fn withdraw_back<N: JobName, R: Wait>(rt: &R, desk: &Mutex<Desk<N, Answer<N>>>, 
 }
 
 // Runs the job of a lease without the lock, and gives the lease back: with the job's answer, or without one where
-// memory for the run is lacking or the gate refuses. The stack of the run is kept.
+// memory for the run is lacking or the gate refuses. Those that wait for it are woken. The stack of the run is kept.
 fn serve_granted<N: JobName, R: Wait, G: Gate>(
     rt: &R,
     alloc: Global,
-    desk: &Mutex<Desk<N, Answer<N>>>,
+    shared: &SharedDesk<N>,
     jobs: &Jobs,
     gate: &G,
     lease: Lease<N>,
@@ -80,7 +92,7 @@ fn serve_granted<N: JobName, R: Wait, G: Gate>(
     requires plans { jobs.now ≡ N.planned }
     requires sizes { N.sizes ≡ leases_of N.planned.plans }
 {
-    match serve_lease(alloc, jobs, gate, lease, kept) {
+    let left = match serve_lease(alloc, jobs, gate, lease, kept) {
         Ok(
             Served {
                 lease,
@@ -88,21 +100,23 @@ fn serve_granted<N: JobName, R: Wait, G: Gate>(
                 kept,
             },
         ) => {
-            give_back(rt, desk, lease, answer);
+            give_back(rt, &shared.desk, lease, answer);
             Some(kept)
         }
         Err(lease) => {
-            withdraw_back(rt, desk, lease);
+            withdraw_back(rt, &shared.desk, lease);
             None
         }
-    }
+    };
+    shared.came_back.notify_all();
+    left
 }
 
 // The turns of one worker: it asks for jobs and serves them, until every job was asked for.
 fn work<N: JobName, R: Wait, G: Gate>(
     rt: &R,
     alloc: Global,
-    desk: &Mutex<Desk<N, Answer<N>>>,
+    shared: &SharedDesk<N>,
     jobs: &Jobs,
     gate: &G,
 )
@@ -111,14 +125,16 @@ fn work<N: JobName, R: Wait, G: Gate>(
 {
     let mut kept = None;
     for _ in rt.forever() {
-        match ask(rt, desk) {
+        match ask(rt, shared) {
             Next::Over => return,
             Next::Full {
                 job: _,
                 need: _,
                 largest: _,
             } => {}
-            Next::Granted(lease) => kept = serve_granted(rt, alloc, desk, jobs, gate, lease, kept),
+            Next::Granted(lease) => {
+                kept = serve_granted(rt, alloc, shared, jobs, gate, lease, kept);
+            }
         }
     }
     unreachable!()
@@ -153,10 +169,11 @@ fn bring_home<N: JobName>(desk: Desk<N, Answer<N>>) -> Home
 /// Serves the planned jobs of the name on its desk, by so many workers over a lock.
 ///
 /// Each worker asks the desk for the next job, makes a stack and room for it, passes the gate, runs the job in the
-/// lease's cells without the lock, and gives the lease back with the job's ending, until every job was asked for. A run
-/// takes no memory; its stack is kept for the worker's next job of the same licence. Once all workers are done, the
-/// caller asks on alone for the jobs that are left, if any, and serves those that wait, in order. It may wait for the
-/// lock and the desk.
+/// lease's cells without the lock, and gives the lease back with the job's ending, until every job was asked for. While
+/// no hole has the cells that the next job needs, it waits for a lease to come back before it asks. A run takes no
+/// memory; its stack is kept for the worker's next job of the same licence. Once all workers are done, the caller asks
+/// on alone for the jobs that are left, if any, and serves those that wait, in order. It may wait for the lock and the
+/// desk.
 ///
 /// # Errors
 ///
@@ -189,7 +206,10 @@ pub fn serve_jobs<N: JobName + Send + Sync, R: Threads + Wait + Sync, G: Gate + 
     // The run that comes home is of the name's arena too.
     ensures home_arena { IfErr result (λ home. home.span.arena ≡ N.arena) }
 {
-    let shared = Mutex::new(desk);
+    let shared = SharedDesk {
+        desk: Mutex::new(desk),
+        came_back: Condvar::new(),
+    };
     let ran = thread::map_indices(
         rt,
         alloc,
@@ -199,7 +219,8 @@ pub fn serve_jobs<N: JobName + Send + Sync, R: Threads + Wait + Sync, G: Gate + 
         { work(rt, alloc, &shared, jobs, gate) },
     )
     .is_ok();
-    let mut desk = shared.into_inner();
+    let SharedDesk { desk, came_back: _ } = shared;
+    let mut desk = desk.into_inner();
     settle(rt, &desk);
     if !ran {
         return Err(bring_home(desk));

@@ -1,4 +1,4 @@
-ghost use Rattle.std.specs.Prelude.{◌≡◌, ℕ, ◌<◌, ◌≤◌, ◌↔◌, IsTrue, [], ◌∷◌, length, replicate, slice_get, MatchResult, MatchOption};
+ghost use Rattle.std.specs.Prelude.{◌≡◌, ℕ, ◌<◌, ◌≤◌, ◌↔◌, IsTrue, [], ◌∷◌, length, replicate, slice_get, Some, MatchResult, MatchOption};
 ghost use Rattle.cell_span.specs.Range.{IsWhole, blank};
 ghost use Rattle.hole_list.specs.Placing.{run, AreParts, total, largest};
 ghost use Rattle.lease_desk.specs.Journal.{leased, left_move, AreSizes, IsLegal};
@@ -144,6 +144,16 @@ impl<N: DeskName, P: Filed> Desk<N, P> {
                     largest,
                 }
             }
+        }
+    }
+
+    /// Whether the next job fits: the largest hole has at least the cells that it needs, or every job was asked for.
+    pub fn next_fits(&self) -> bool
+        ensures { IsTrue result ↔ ((size : ℕ) → slice_get self.now.sizes self.now.state.asked ≡ Some size → size ≤ largest self.now.state.holes) }
+    {
+        match self.book.size(self.book.asked()) {
+            Some(size) => size <= self.holes.largest(),
+            None => true,
         }
     }
 
