@@ -1,9 +1,17 @@
 //! Answers about the spelling of codes.
 
-use grail_code::{DecodeFault, decode, encode};
+use grail_code::{DecodeFault, decode, migrate};
 use std::alloc::AllocError;
 use std::io;
 use stops::Stop;
+
+// Whether the bytes are what they are migrated to: code in the second format.
+fn is_written_again(rt: &HostRuntime, bytes: &[u8]) -> bool {
+    match migrate(rt.alloc(), bytes) {
+        Ok(migrated) => migrated.as_slice() == bytes,
+        Err(_) => false,
+    }
+}
 
 /// The code of the bytes, if they are the spelling of one, and whether it is written as them again.
 pub(crate) fn answer_decode(rt: &HostRuntime, bytes: &[u8]) -> io::Result<()> {
@@ -11,7 +19,7 @@ pub(crate) fn answer_decode(rt: &HostRuntime, bytes: &[u8]) -> io::Result<()> {
         Ok(code) => code,
         Err(fault) => return println!(rt; " {fault}"),
     };
-    if encode(rt.alloc(), &code)?.as_slice() == bytes {
+    if is_written_again(rt, bytes) {
         println!(rt; " code, and written again")?;
     } else {
         println!(rt; " code, and written otherwise")?;
@@ -44,10 +52,8 @@ fn values_at(rt: &HostRuntime, bytes: &[u8], place: usize) -> Result<u32, AllocE
         if let Some(byte) = text.get_mut(place) {
             *byte = value;
         }
-        if let Ok(code) = decode(rt.alloc(), &text) {
-            if encode(rt.alloc(), &code)?.as_slice() == text.as_slice() {
-                codes = codes.saturating_add(1);
-            }
+        if is_written_again(rt, &text) {
+            codes = codes.saturating_add(1);
         }
     }
     Ok(codes)
