@@ -5,7 +5,6 @@ mod command;
 mod drill;
 mod hosting;
 pub mod laws;
-mod migration;
 mod refusal;
 mod reply;
 mod serve;
