@@ -1,6 +1,7 @@
 -- Runs take no more cells than their code's lets that build in new cells allow.
 use Rattle.std.proofs.Common.{ℤ, ◌≡◌, ℕ, zero, suc, ◌+◌, ◌-◌, ◌*◌, ◌≤◌, Bool, true, false, List, [], ◌∷◌, length, map, Option, Some, None, refl, sym, ap, ◌∙◌, subst, arith}
-use Rattle.std.specs.Prelude.{cond, ◌==◌, if◌then◌else◌, slice_get}
+use Rattle.std.specs.Prelude.{pos, cond, ◌==◌, if◌then◌else◌, slice_get}
+use Rattle.std.specs.Ordering.{int_eq}
 use Rattle.camelot_values.specs.Value as value
 use Rattle.camelot_values.specs.Value.{Value, Values, parts}
 use Rattle.camelot_values.specs.Kinds.{DataType, place_of}
