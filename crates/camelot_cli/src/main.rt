@@ -38,7 +38,9 @@ fn reason(status: Status) -> Option<&'static str> {
     match status {
         Status::Ok | Status::Refused => None,
         Status::ReadFault => Some("standard input could not be read"),
-        Status::Usage => Some("no such command; there are serve, compile, verify and drill N W"),
+        Status::Usage => Some(
+            "no such command; there are serve, compile, verify, migrate and drill N W",
+        ),
         Status::WriteFault => Some("standard output could not be written"),
         Status::Memory => Some("memory was refused"),
         Status::TooLong => Some("standard input has more than 8388608 bytes"),

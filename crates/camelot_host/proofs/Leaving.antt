@@ -7,7 +7,7 @@ use Rattle.cell_span.specs.Range.{Range, IsWhole}
 use Rattle.host_io.specs.Sink.{Tells}
 use Rattle.host_io.specs.Source.{Took}
 use Rattle.script_service.specs.Service.{IsReportIn}
-use Rattle.camelot_host.specs.Commands.{Command, Serve, Compile, Verify, Drill, IsCommand, reads}
+use Rattle.camelot_host.specs.Commands.{Command, Serve, Compile, Verify, Migrate, Drill, IsCommand, reads}
 use Rattle.camelot_host.specs.Answers.{input_limit, devices, Broken}
 use Rattle.camelot_host.specs.Served.{Leaves, ArenaBy}
 use Rattle.camelot_host.specs.Replies.{verdict_of, bytes_of, IsReply, KeptBy, Keeps, WholeIn, Writes, Responds, RespondsIn}
@@ -24,6 +24,7 @@ whole_left Serve input output (Some arena) h = subst IsWhole (sym h.left) h.serv
 whole_left Serve input output None h = absurd h
 whole_left Compile input output arena h = subst (λ (o : Option Range). IfSome o IsWhole) (sym h) tt
 whole_left Verify input output arena h = subst (λ (o : Option Range). IfSome o IsWhole) (sym h) tt
+whole_left Migrate input output arena h = subst (λ (o : Option Range). IfSome o IsWhole) (sym h) tt
 whole_left (Drill jobs workers) input output arena h = subst (λ (o : Option Range). IfSome o IsWhole) (sym h) tt
 
 pub leaves_whole : (command : Command) (input : List ℕ) (r : Reply) → IsReply command input r → WholeIn r

@@ -2,6 +2,7 @@ pub mod Answering
 pub mod Compiling
 pub mod Granting
 pub mod Leaving
+pub mod Migrating
 pub mod Serving
 pub mod Telling
 pub mod Verdicts

@@ -14,8 +14,8 @@ use Rattle.camelot_compiler.specs.Compiled as compiler
 use Rattle.licence.specs.Licensed.{Licensed}
 use Rattle.bundle_licence.specs.Bundled.{HasLicence, IsRefusedFor}
 use Rattle.script_service.specs.Service.{IsScriptFault}
-use Rattle.camelot_host.specs.Commands.{Command, Serve, Compile, Verify, Drill}
-use Rattle.camelot_host.specs.Due.{Done, Refused, IsDue}
+use Rattle.camelot_host.specs.Commands.{Command, Serve, Compile, Verify, Migrate, Drill}
+use Rattle.camelot_host.specs.Due.{Done, Refused, IsDue, IsMigrationOf, IsUnmigratedFor}
 use Rattle.camelot_host.proofs.Telling.{bound_told}
 
 pub one_verdict : ((text : List ℕ) (s : Script) (n : ℕ) → IsScriptText text s → IsLineFault text n → ⊥)
@@ -23,16 +23,18 @@ pub one_verdict : ((text : List ℕ) (s : Script) (n : ℕ) → IsScriptText tex
     → ((text : List ℕ) (s : Script) (n : ℕ) → IsScriptText text s → IsRepeatFault text n → ⊥)
     → ((text : List ℕ) (first second : Compiled) → IsCompiled text first → IsCompiled text second → first ≡ second)
     → ((text : List ℕ) (l : Licensed) (c : Cause) → HasLicence text l → IsRefusedFor text c → ⊥)
+    → ((input output : List ℕ) → IsMigrationOf input output → (c : Cause) → IsUnmigratedFor input c → ⊥)
     → (command : Command) (input output other : List ℕ) → IsDue command input Done output → IsDue command input Refused other → ⊥
-one_verdict line count repeat one apart Serve input output other done refused = by_fault refused.fault refused.cause
+one_verdict line count repeat one apart migrating Serve input output other done refused = by_fault refused.fault refused.cause
   where
     by_fault : (x : ScriptFault) → IsScriptFault input x → ⊥
     by_fault (fault.Line n) h = line input done.service.script n done.served.text h
     by_fault (fault.Count n) h = count input done.service.script n done.served.text h
     by_fault (fault.Repeat n) h = repeat input done.service.script n done.served.text h
-one_verdict line count repeat one apart Compile input output other done refused = let e : Bundled done.code done.cert ≡ compiler.Refused refused.cause = one input (Bundled done.code done.cert) (compiler.Refused refused.cause) done.compiled refused.compiled in absurd cc
-one_verdict line count repeat one apart Verify input output other done refused = apart input done.licence refused.cause done.has refused.refused
-one_verdict line count repeat one apart (Drill jobs workers) input output other done refused = refused
+one_verdict line count repeat one apart migrating Compile input output other done refused = let e : Bundled done.code done.cert ≡ compiler.Refused refused.cause = one input (Bundled done.code done.cert) (compiler.Refused refused.cause) done.compiled refused.compiled in absurd cc
+one_verdict line count repeat one apart migrating Verify input output other done refused = apart input done.licence refused.cause done.has refused.refused
+one_verdict line count repeat one apart migrating Migrate input output other done refused = migrating input output done refused.cause refused.refused
+one_verdict line count repeat one apart migrating (Drill jobs workers) input output other done refused = refused
 
 -- ---- what is told of a source
 

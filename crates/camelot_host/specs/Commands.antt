@@ -11,6 +11,8 @@ pub data Command : Type 0 where
   Compile : Command
   -- to verify a bundle
   Verify : Command
+  -- to write a bundle again, its code in the second format
+  Migrate : Command
   -- to serve the drill's script with so many jobs, on so many workers
   Drill : (jobs workers : ℕ) → Command
 
@@ -25,6 +27,7 @@ abbrev pub IsCommand : List (List ℕ) → Command → Type 0
 IsCommand words Serve = words ≡ codes "serve" ∷ []
 IsCommand words Compile = words ≡ codes "compile" ∷ []
 IsCommand words Verify = words ≡ codes "verify" ∷ []
+IsCommand words Migrate = words ≡ codes "migrate" ∷ []
 IsCommand words (Drill jobs workers) = IsDrill words jobs workers
 
 -- the words spell no command
@@ -36,6 +39,7 @@ abbrev pub reads : Command → Bool
 reads Serve = true
 reads Compile = true
 reads Verify = true
+reads Migrate = true
 reads (Drill jobs workers) = false
 
 -- this is the command's input, where the source tells the bytes that it has left

@@ -1,16 +1,21 @@
 -- Cited by contracts.
 -- What is due for an input, by the command.
 use Rattle.std.specs.Prelude.{◌≡◌, ℕ, ◌++◌, List, [], ◌∷◌, codes}
+use Rattle.grail_code.specs.Decoding.{IsMigration, IsFault as IsDecodeFault}
+use Rattle.grail_code.specs.declared.fault.DecodeFault.{DecodeFault}
+use Rattle.grail_verifier.specs.declared.refusal.Refusal.TheVariants as refusal
 use Rattle.cause_texts.specs.declared.cause.Cause.{Cause}
+use Rattle.cause_texts.specs.declared.cause.Cause.TheVariants as cause
 use Rattle.cause_texts.specs.Texts.{cause_text}
-use Rattle.grail_bundle.specs.Bundles.{bundle_text}
+use Rattle.grail_bundle.specs.Bundles.{Bundle, bundle_text}
+use Rattle.grail_bundle.specs.Faults.{IsFault}
 use Rattle.camelot_compiler.specs.Compiled as compiler
 use Rattle.camelot_compiler.specs.Compiled.{IsCompiled}
 use Rattle.licence.specs.Licensed.{Licensed}
-use Rattle.bundle_licence.specs.Bundled.{HasLicence, IsRefusedFor}
+use Rattle.bundle_licence.specs.Bundled.{IsTextOf, HasLicence, IsRefusedFor}
 use Rattle.licence_text.specs.Texts.{bounds_text}
 use Rattle.script_service.specs.Service.{IsReport, IsRefusal, IsSummary}
-use Rattle.camelot_host.specs.Commands.{Command, Serve, Compile, Verify, Drill}
+use Rattle.camelot_host.specs.Commands.{Command, Serve, Compile, Verify, Migrate, Drill}
 
 -- whether a command did what it was asked for, or refused its input
 pub data Verdict : Type 0 where
@@ -51,6 +56,35 @@ pub record IsUnlicensed (input output : List ℕ) : Type 0 where
   pub refused : IsRefusedFor input cause
   pub is : output ≡ refused_line cause
 
+-- ---- migrate
+
+-- the input is a bundle, and the output is the same one, but for its code, which is spelled in the second format
+pub record IsMigrationOf (input output : List ℕ) : Type 0 where
+  pub bundle : Bundle
+  pub of : IsTextOf input bundle
+  pub code : List ℕ
+  pub migrated : IsMigration bundle.code code
+  pub is : output ≡ bundle_text code bundle.cert
+
+-- the input is a bundle, and this is wrong with the bytes of its code
+pub record HasWrongCode (input : List ℕ) (fault : DecodeFault) : Type 0 where
+  pub bundle : Bundle
+  pub of : IsTextOf input bundle
+  pub wrong : IsDecodeFault bundle.code fault
+
+-- why an input isn't migrated: its first wrong line, where it is no bundle, or that its bytes of code spell none; no
+-- other cause
+abbrev pub IsUnmigratedFor : List ℕ → Cause → Type 0
+IsUnmigratedFor input (cause.Bundle line) = IsFault input line
+IsUnmigratedFor input (cause.Verify (refusal.Code fault)) = HasWrongCode input fault
+IsUnmigratedFor input c = ⊥
+
+-- the input isn't migrated, and the output tells the cause
+pub record IsUnmigrated (input output : List ℕ) : Type 0 where
+  pub cause : Cause
+  pub refused : IsUnmigratedFor input cause
+  pub is : output ≡ refused_line cause
+
 -- ---- all commands
 
 -- with this verdict, the output is due for the input. It is a relation, since an output may depend on more than the
@@ -62,5 +96,7 @@ IsDue Compile input Done output = IsBundleOf input output
 IsDue Compile input Refused output = IsRefusalOf input output
 IsDue Verify input Done output = IsBoundsOf input output
 IsDue Verify input Refused output = IsUnlicensed input output
+IsDue Migrate input Done output = IsMigrationOf input output
+IsDue Migrate input Refused output = IsUnmigrated input output
 IsDue (Drill jobs workers) input Done output = IsSummary jobs workers output
 IsDue (Drill jobs workers) input Refused output = ⊥

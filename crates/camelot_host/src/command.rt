@@ -14,6 +14,8 @@ pub(crate) enum Command {
     Compile,
     /// To verify a bundle.
     Verify,
+    /// To write a bundle again, its code in the second format.
+    Migrate,
     /// To serve the drill's script.
     Drill { jobs: u32, workers: u32 },
 }
@@ -26,6 +28,7 @@ pub(crate) fn reads(command: Command) -> bool
         Command::Serve => true,
         Command::Compile => true,
         Command::Verify => true,
+        Command::Migrate => true,
         Command::Drill { .. } => false,
     }
 }
@@ -115,6 +118,9 @@ pub(crate) fn command_of(words: &[String]) -> Option<Command>
     }
     if is_word(words, "verify") {
         return Some(Command::Verify);
+    }
+    if is_word(words, "migrate") {
+        return Some(Command::Migrate);
     }
     match drill_of(words) {
         Some((jobs, workers)) => Some(Command::Drill { jobs, workers }),

@@ -10,6 +10,7 @@ ghost use Rattle.camelot_host.specs.Served.{ArenaBy};
 
 use super::command::{Command, command_of, reads};
 use super::drill::drill_jobs;
+use super::migration::migrate_bundle;
 use super::reply::Reply;
 use super::serve::serve;
 use super::served::Served;
@@ -42,6 +43,7 @@ fn work<R: Threads + Wait + Sync, G: Gate + Sync>(
         Command::Serve => serve(rt, alloc, input, gate),
         Command::Compile => compile_source(alloc, &input),
         Command::Verify => verify_bundle(alloc, input),
+        Command::Migrate => migrate_bundle(alloc, &input),
         Command::Drill { jobs, workers } => drill_jobs(rt, alloc, jobs, workers, gate),
     }
 }
@@ -222,6 +224,8 @@ pub fn host_gated<R: Threads + Wait + Sync, S: Source, K: Sink, G: Gate + Sync>(
 /// - `verify` reads a bundle and writes what its certificate grants: the units of a cell, and for each function how
 ///   many units its runs take at most. A text that is no bundle, and a bundle that the verifier refuses, is refused
 ///   with a line that tells the cause.
+/// - `migrate` reads a bundle and writes it again, its code in the second format and its certificate as it was. A text
+///   that is no bundle, and one whose bytes of code spell none, is refused with a line that tells the cause.
 /// - `drill N W` reads nothing. It serves a script that it makes, with N jobs, from 1 to 4,096, on W workers, from 1 to
 ///   16, and writes one line: how many jobs ended how, and the sums of their calls and peaks.
 ///

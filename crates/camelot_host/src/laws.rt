@@ -5,7 +5,9 @@ ghost use Rattle.camelot_values.specs.Value.{Value};
 ghost use Rattle.camelot_values.specs.Outcome.{peak_of};
 ghost use Rattle.grail_code.specs.Meaning.{run_of};
 ghost use Rattle.licence.specs.Bound.{bound};
-ghost use Rattle.licence.specs.Licensed.{FitsEntry};
+ghost use Rattle.grail_code.specs.Decoding.{IsMigration};
+ghost use Rattle.grail_verifier.specs.Accepted.{IsAccepted};
+ghost use Rattle.licence.specs.Licensed.{Licensed, FitsEntry};
 ghost use Rattle.lp_constraints.specs.declared.fault.NoCert.TheVariants.{NoBound};
 ghost use Rattle.cause_texts.specs.declared.cause.Cause.TheVariants.{NoCert};
 ghost use Rattle.camelot_compiler.specs.Compiled.{OfCode, NoneGrants};
@@ -15,6 +17,8 @@ ghost use Rattle.camelot_host.specs.Due.{Done, Refused, IsDue};
 
 use bundle_licence::laws::law_of_licences;
 use camelot_compiler::laws::{law_of_bundles, law_of_compiling};
+use grail_bundle::laws as texts_of_bundles;
+use grail_code::laws::one_meaning;
 use job_script::laws::law_of_scripts;
 
 /// Words spell at most one command.
@@ -24,14 +28,17 @@ pub fn one_command()
         → IsCommand words first → IsCommand words second → first ≡ second }
 {}
 
-/// No output is due with one verdict for an input for which another is due with the other: an input is served, compiled
-/// or accepted, or it is refused.
+/// No output is due with one verdict for an input for which another is due with the other: an input is served, compiled,
+/// accepted or migrated, or it is refused.
 pub fn one_verdict()
     ensures { (command : Command) (input output other : List ℕ) → IsDue command input Done output → IsDue command input Refused other → ⊥ }
 {
     law_of_scripts();
     law_of_compiling();
     law_of_licences();
+    texts_of_bundles::law_of_bundles();
+    texts_of_bundles::law_of_faults();
+    one_meaning();
 }
 
 /// What `compile` tells of a source, done or refused, in the words of the verifier and of certificates.
@@ -57,3 +64,14 @@ pub fn law_of_verify()
     ensures within { (input output : List ℕ) (due : IsDue Verify input Done output) (limit entry fuel : ℕ) (args : List Value)
         → FitsEntry due.licence entry args → peak_of (run_of due.licence.code limit entry fuel args) ≤ bound due.licence.code due.licence.cert entry args }
 {}
+
+/// What `migrate` makes of a bundle's code, in the words of the verifier: whatever it accepts before, it accepts behind,
+/// with the same licence.
+pub fn law_of_migrate()
+    // The verifier's licence of a bundle's bytes is that of the migrated ones with the same certificate.
+    ensures accepted { (bytes migrated cert : List ℕ) (l : Licensed) → IsMigration bytes migrated → IsAccepted bytes cert l → IsAccepted migrated cert l }
+    // And the other way round.
+    ensures back { (bytes migrated cert : List ℕ) (l : Licensed) → IsMigration bytes migrated → IsAccepted migrated cert l → IsAccepted bytes cert l }
+{
+    one_meaning();
+}

@@ -5,6 +5,7 @@ mod command;
 mod drill;
 mod hosting;
 pub mod laws;
+mod migration;
 mod refusal;
 mod reply;
 mod serve;
