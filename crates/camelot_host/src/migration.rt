@@ -14,7 +14,7 @@ use std::alloc::{AllocError, Global};
 use stops::Stop;
 
 // The input's bundle, its code in the second format; or why it isn't migrated.
-#[tactic(auto, using(crate::proofs::Migrating::has_parts, crate::proofs::Migrating::is_migrated, crate::proofs::Migrating::wrong_code, crate::proofs::Migrating::wrong_line))]
+#[tactic(auto, using(crate::proofs::Migrating::has_parts, crate::proofs::Migrating::is_migrated, crate::proofs::Migrating::wrong_code))]
 fn migrated(alloc: Global, input: &[u8]) -> Result<Bundle, Stop<Cause>>
     requires few { length input.now < 4294967296 }
     ensures { IsMigratedOr input.now result }
