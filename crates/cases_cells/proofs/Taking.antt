@@ -148,6 +148,7 @@ freed_takes a e k o t = let none : k - 0 ≡ k = grind (arith) in let same : 0 +
 cell_takes : (a e k : ℕ) (c : CaseCell) (env : Locals) (next : Locals → Outcome Value) → ((last : Locals) → Takes a e k (next last))
     → Takes a e k (cell_run c env next)
 cell_takes a e k cell.Inline env next h = h env
+cell_takes a e k cell.Look env next h = h env
 cell_takes a e k cell.Free env next h = freed_takes a e k (next env) (h env)
 cell_takes a e k (cell.Keep d) env next h = h (put env d value.Dia)
 

@@ -82,6 +82,7 @@ kind_word kind.Arms = codes "arms"
 kind_word kind.Place = codes "place"
 kind_word kind.Header = codes "header"
 kind_word kind.Name = codes "name"
+kind_word kind.Lent = codes "lent"
 
 unfoldable pub code_text : CodeFault → List ℕ
 code_text fault = codes "code " ++ kind_word fault.kind ++ codes " function " ++ decimal fault.func ++ codes " block " ++ decimal fault.block ++ codes " place " ++ decimal fault.place

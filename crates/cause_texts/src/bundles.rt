@@ -33,6 +33,7 @@ fn kind_word(kind: CodeKind) -> &'static [u8]
         CodeKind::Place => b"place",
         CodeKind::Header => b"header",
         CodeKind::Name => b"name",
+        CodeKind::Lent => b"lent",
     }
 }
 

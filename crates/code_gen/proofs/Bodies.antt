@@ -1,6 +1,6 @@
 -- The blocks of generated code are well formed.
 use Rattle.std.proofs.Common.{◌≡◌, ℕ, zero, suc, ◌+◌, ◌≤◌, ◌<◌, Bool, true, false, List, [], ◌∷◌, ◌++◌, length, map, Option, Some, None, refl, sym, ap, ◌∙◌, subst, arith, inl, inr, length-append}
-use Rattle.std.specs.Prelude.{◌==◌, ◌||◌, ◌&&◌, not, if◌then◌else◌, slice_get, IsSomeAnd, ◌⊎◌}
+use Rattle.std.specs.Prelude.{◌==◌, ◌||◌, ◌&&◌, not, if◌then◌else◌, slice_get, replicate, IsSomeAnd, ◌⊎◌}
 use Rattle.std.specs.List.{AllByRecursion, list_any}
 use Rattle.std.specs.Option.{option_map}
 use Rattle.std.proofs.lemmas.Bool.Decides.{nat_tests}
@@ -271,10 +271,14 @@ blocks_fit p f n [] fair whole fit once rest = tt
 blocks_fit p f n (body ∷ bs) fair whole fit once rest =
     (block_fits p f n body bs fair whole fit.0 fit.1 once rest, blocks_fit p f (suc n) bs fair whole fit.2 once.1 (rest_next f n body bs rest))
 
+none_marked : (n : ℕ) → AllByRecursion (λ mark. mark ≡ false) (replicate n false)
+none_marked zero = tt
+none_marked (suc n) = (refl, none_marked n)
+
 -- A function that uses its locals fairly, and fits as code, is well formed with its live locals as parameters.
 pub function_well_formed : (p : NormalProgram) (f : NormalFunction) → UsesFairly p.types f → FitsAsCode live_params p f
     → FuncFits (code_of_normal p) (coded live_params f)
-function_well_formed p f fair fit = record { kinds = fit.kinds; result = fit.result; blocks = blocks_fit p f 0 f.blocks fair fit.body fit.body fair.once (λ b x more. refl) }
+function_well_formed p f fair fit = record { unread = none_marked (length f.params); kinds = fit.kinds; result = fit.result; blocks = blocks_fit p f 0 f.blocks fair fit.body fit.body fair.once (λ b x more. refl) }
 
 pub functions_well_formed : (p : NormalProgram) (fs : List NormalFunction) → AllByRecursion (UsesFairly p.types) fs
     → AllByRecursion (FitsAsCode live_params p) fs → AllByRecursion (FuncFits (code_of_normal p)) (map (coded live_params) fs)

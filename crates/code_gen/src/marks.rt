@@ -84,7 +84,7 @@ fn behind_arm(later: LocalSet, arm: &CaseArm) -> LocalSet
             clear_all(&mut wanted, &arm.fields);
             wanted
         }
-        CaseCell::Inline | CaseCell::Free => {
+        CaseCell::Inline | CaseCell::Free | CaseCell::Look => {
             clear_all(&mut wanted, &arm.fields);
             wanted
         }

@@ -124,6 +124,7 @@ cell_agree : (h : ℕ → Bool) (s : State) (c : CaseCell) (env env' : Locals) (
     → ((last last' : Locals) → Agree (after h s (map Bind (kept_diamond c))) last last' → next last ≡ next' last') → cell_run c env next ≡ cell_run c env' next'
 cell_agree h s cell.Inline env env' next next' a f = f env env' a
 cell_agree h s cell.Free env env' next next' a f = ap cell_freed (f env env' a)
+cell_agree h s cell.Look env env' next next' a f = f env env' a
 cell_agree h s (cell.Keep d) env env' next next' a f = f (put env d value.Dia) (put env' d value.Dia) (put_agree s d value.Dia env env' a)
 
 abbrev arm_way : List Block → CaseArm → List Event

@@ -62,6 +62,7 @@ cell_related : (Fine : ℕ → ℕ → Type 0) (R : Relation) → Closed Fine R 
     → R Value j k (cell_run c env next) (cell_run c env next')
 cell_related Fine R closed cell.Inline env j k next next' h = h env
 cell_related Fine R closed cell.Free env j k next next' h = closed.moved Value j k 0 1 (next env) (next' env) (h env)
+cell_related Fine R closed cell.Look env j k next next' h = h env
 cell_related Fine R closed (cell.Keep d) env j k next next' h = h (put env d value.Dia)
 
 arm_related : (Fine : ℕ → ℕ → Type 0) (R : Relation) → Closed Fine R → (later later' : Later) → RelatedLater Fine R later later'

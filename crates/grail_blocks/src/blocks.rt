@@ -76,6 +76,8 @@ pub enum CaseCell {
     Free,
     /// This local is bound to a diamond that names it.
     Keep(u32),
+    /// It stays as it is: its fields are only looked at.
+    Look,
 }
 
 /// An arm of a case: it binds one local for each field, in order, then that of a kept cell, and goes on in the block

@@ -17,18 +17,19 @@ use Rattle.grail_blocks.specs.States.{State, use_of, after as state_after, at_st
 use Rattle.grail_blocks.specs.StateLaws.{after_append, uses_none}
 use Rattle.grail_code.specs.Code.{Op, Lit, Flag, Copy, Prim, Make, Call, Let, CaseArm, Term, Ret, Tail, Goto, If, Case, Block, Func, Code}
 use Rattle.grail_code.specs.WellFormed.{IsKnownKind, kind_of, is_owned, operator_kind, data_type, Ascend, AreDistinct, Use, Bind, no_reads, reads_of, operands_of, uses_of, kept_diamond, bound_by, params_at}
+use Rattle.grail_code.specs.Spelling.{IsNoLook}
 use Rattle.grail_check.specs.declared.fault.CodeKind.{CodeKind}
 use Rattle.grail_check.specs.declared.fault.CodeKind.TheVariants as fault
 use Rattle.grail_check.specs.declared.fault.CodeFault.{CodeFault}
 use Rattle.grail_check.specs.declared.locals.Mark.{Mark}
-use Rattle.grail_check.specs.Faulting.{unless, at_place, locals_of, is_local, kind_at, same_kind, same_kinds, has_kind, have_kinds, is_known, unbound, spend, spend_all, mark_fault, operand_fault, operands_fault, arguments_fault, taken_fault, place_fits, target_fault, make_fault, call_fault, op_fault, let_fault, after_let, after_lets, is_block, use_fault, uses_fault, jump_fault, callee_fault, arm_is_there, fields_count, arms_count, cell_fits, cells_fit, kept_fits, arms_have_kinds, are_distinct, arms_jump_fault, arms_fault, term_fault, ascends_from, entry_fits, block_header_fault, lets_fault, at_start, block_fault, blocks_fault, header_fault, functions_fault, constructor_fault, constructors_fault, type_fault, types_fault, first_fault}
+use Rattle.grail_check.specs.Faulting.{unless, at_place, locals_of, is_local, kind_at, same_kind, same_kinds, has_kind, have_kinds, is_known, unbound, spend, spend_all, mark_fault, operand_fault, operands_fault, arguments_fault, taken_fault, place_fits, target_fault, make_fault, call_fault, op_fault, let_fault, after_let, after_lets, is_block, use_fault, uses_fault, jump_fault, callee_fault, arm_is_there, fields_count, arms_count, takes, cell_fits, cells_fit, kept_fits, arms_have_kinds, are_distinct, arms_jump_fault, arms_fault, term_fault, ascends_from, entry_fits, block_header_fault, lets_fault, at_start, block_fault, blocks_fault, header_fault, functions_fault, constructor_fault, constructors_fault, type_fault, types_fault, first_fault}
 use Rattle.grail_check.specs.Walk.{Checks, NoMore, Must, Pass, Fails, of_entry, IsThere, AreThere, use_checks, operand_checks, operands_checks, arguments_checks, taken_checks, IsPlaceOf, target_check, op_checks, let_checks, IsBlock, jump_checks, ArmIsThere, FieldsCount, ArmsCount, IsCellOf, AreCellsOf, KeepsDiamond, ArmsBindKinds, arms_jump_checks, arms_checks, term_checks, header_checks, func_checks, cons_checks, types_checks, Walk, Finished, At, AllPass, FirstFault, lets_walk, block_walk, blocks_walk, funcs_walk, walk}
 use Rattle.grail_check.proofs.Checks.{both, join, all_true, true_all, all_then, below, is_below, same, is_same}
 use Rattle.grail_check.proofs.Distinct.{distinct_is, is_distinct, ascends_is, is_ascending_all}
 use Rattle.grail_check.proofs.LetLaws.{kind_is, count_is, kinds_same, same_kinds_true, some_same, same_some, has_the_kind, the_kind_it_has, kind_of_is, kind_at_is, have_the_kinds, the_kinds_had, not_true, true_not}
 use Rattle.grail_check.proofs.ExitLaws.{the_kinds, kinds_had}
 use Rattle.grail_check.proofs.BlockLaws.{entry_is, is_entry}
-use Rattle.grail_check.proofs.ProgramLaws.{known_is, is_known_kind, all_known, known_all}
+use Rattle.grail_check.proofs.ProgramLaws.{known_is, is_known_kind, all_known, known_all, unmarked, no_marks}
 use Rattle.grail_check.proofs.Tracking.{Tracks, track_bind, track_spend, track_uses, track_binds, track_nothing, Agrees, Front, front_must, front_mark, front_then, front_last, front_alone, front_weak, agrees_last, front_use}
 
 -- ---- locals that are there
@@ -217,12 +218,26 @@ is_right_count arms cs h = join (length arms == length cs) (fields_count arms cs
 one_cell_is : (inline : Bool) (c : CaseCell) → cell_fits inline c ≡ true → IsCellOf inline c
 one_cell_is inline cell.Inline h = h
 one_cell_is inline cell.Free h = not_true inline h
+one_cell_is inline cell.Look h = cc
 one_cell_is inline (cell.Keep d) h = not_true inline h
 
 is_one_cell : (inline : Bool) (c : CaseCell) → IsCellOf inline c → cell_fits inline c ≡ true
 is_one_cell inline cell.Inline h = h
 is_one_cell inline cell.Free h = true_not inline h
+is_one_cell inline cell.Look h = absurd h
 is_one_cell inline (cell.Keep d) h = true_not inline h
+
+is_taken : (c : CaseCell) → takes c ≡ true → IsNoLook c
+is_taken cell.Inline h = tt
+is_taken cell.Free h = tt
+is_taken (cell.Keep d) h = tt
+is_taken cell.Look h = cc
+
+takes_it : (c : CaseCell) → IsNoLook c → takes c ≡ true
+takes_it cell.Inline h = refl
+takes_it cell.Free h = refl
+takes_it (cell.Keep d) h = refl
+takes_it cell.Look h = absurd h
 
 cells_are : (arms : List CaseArm) (cs : List Constructor) → cells_fit arms cs ≡ true → AreCellsOf arms cs
 cells_are [] cs h = tt
@@ -237,11 +252,13 @@ are_cells (a ∷ arms) (c ∷ cs) h = join (cell_fits c.inline a.cell) (cells_fi
 keeps_is : (types : List DataType) (f : Func) (c : CaseCell) → kept_fits (locals_of types f) c ≡ true → KeepsDiamond f c
 keeps_is types f cell.Inline h = tt
 keeps_is types f cell.Free h = tt
+keeps_is types f cell.Look h = tt
 keeps_is types f (cell.Keep d) h = kind_of_is types f d kind.Dia (has_the_kind (locals_of types f) d kind.Dia h)
 
 is_kept : (types : List DataType) (f : Func) (c : CaseCell) → KeepsDiamond f c → kept_fits (locals_of types f) c ≡ true
 is_kept types f cell.Inline h = refl
 is_kept types f cell.Free h = refl
+is_kept types f cell.Look h = refl
 is_kept types f (cell.Keep d) h = the_kind_it_has (locals_of types f) d kind.Dia (kind_at_is types f d kind.Dia h)
 
 kinds_are_bound : (types : List DataType) (f : Func) (arms : List CaseArm) (cs : List Constructor) → FieldsCount arms cs
@@ -277,12 +294,19 @@ arms_agree types f marks s x None arms tr = inl ((λ e. e), refl)
 arms_agree types f marks s x (Some t) arms tr =
     front_must (arms_count arms t.cons) fault.Arms (ArmsCount arms t.cons) (count_is_right arms t.cons) (is_right_count arms t.cons) _ _
     (λ n. front_mark (slice_get marks x) s x (tr.same x) _ _
-    (λ u. front_must (cells_fit arms t.cons) fault.Place (AreCellsOf arms t.cons) (cells_are arms t.cons) (are_cells arms t.cons) _ _
+    (λ u. front_must (list_all (λ a. takes a.cell) arms) fault.Lent (AllByRecursion (λ a. IsNoLook a.cell) arms) taken are_taken _ _
+    (λ v. front_must (cells_fit arms t.cons) fault.Place (AreCellsOf arms t.cons) (cells_are arms t.cons) (are_cells arms t.cons) _ _
     (λ c. front_must (arms_have_kinds (locals_of types f) arms t.cons) fault.Kind (ArmsBindKinds f arms t.cons) (kinds_are_bound types f arms t.cons n.1) (bound_are_kinds types f arms t.cons) _ _
     (λ k. front_must (list_all (λ a. are_distinct (bound_by a)) arms) fault.Header (AllByRecursion (λ a. AreDistinct (bound_by a)) arms) distinct are_all_distinct _ _
     (λ d. agrees_last (arms_jump_fault f (spend (locals_of types f) marks x) arms) (arms_jump_checks f (is_owned types f) (use_of (is_owned types f) s x) arms)
-    (arms_jump_agrees types f (spend (locals_of types f) marks x) (use_of (is_owned types f) s x) arms (track_spend types f marks s x tr)))))))
+    (arms_jump_agrees types f (spend (locals_of types f) marks x) (use_of (is_owned types f) s x) arms (track_spend types f marks s x tr))))))))
   where
+    taken : list_all (λ a. takes a.cell) arms ≡ true → AllByRecursion (λ a. IsNoLook a.cell) arms
+    taken h = all_then (λ a. takes a.cell ≡ true) (λ a. IsNoLook a.cell) arms (λ a. is_taken a.cell) (all_true (λ a. takes a.cell) arms h)
+
+    are_taken : AllByRecursion (λ a. IsNoLook a.cell) arms → list_all (λ a. takes a.cell) arms ≡ true
+    are_taken h = true_all (λ a. takes a.cell) arms (all_then (λ a. IsNoLook a.cell) (λ a. takes a.cell ≡ true) arms (λ a. takes_it a.cell) h)
+
     distinct : list_all (λ a. are_distinct (bound_by a)) arms ≡ true → AllByRecursion (λ a. AreDistinct (bound_by a)) arms
     distinct h = all_then (λ a. are_distinct (bound_by a) ≡ true) (λ a. AreDistinct (bound_by a)) arms (λ a. distinct_is (bound_by a)) (all_true (λ a. are_distinct (bound_by a)) arms h)
 
@@ -376,10 +400,11 @@ func_agrees : (types : List DataType) (earlier : List (List ℕ)) (f : Func)
     → Agrees (header_fault types (not (stands earlier f.name)) f) (func_checks types earlier f)
 func_agrees types earlier f =
     front_must (not (stands earlier f.name)) fault.Name (stands earlier f.name ≡ false) (not_true (stands earlier f.name)) (true_not (stands earlier f.name)) _ _
-    (λ q. agrees_last (unless (list_all (is_known types) f.params && is_known types f.result && list_all (is_known types) f.locals) fault.NoSuchEntry) _
-    (front_alone (AllByRecursion (IsKnownKind types) f.params × IsKnownKind types f.result × AllByRecursion (IsKnownKind types) f.locals) _
-    (Must (AllByRecursion (IsKnownKind types) f.params × IsKnownKind types f.result × AllByRecursion (IsKnownKind types) f.locals) fault.NoSuchEntry)
-    (front_must (list_all (is_known types) f.params && is_known types f.result && list_all (is_known types) f.locals) fault.NoSuchEntry (AllByRecursion (IsKnownKind types) f.params × IsKnownKind types f.result × AllByRecursion (IsKnownKind types) f.locals) to from)))
+    (λ q. front_must (list_all (is_known types) f.params && is_known types f.result && list_all (is_known types) f.locals) fault.NoSuchEntry
+    (AllByRecursion (IsKnownKind types) f.params × IsKnownKind types f.result × AllByRecursion (IsKnownKind types) f.locals) to from _ _
+    (λ r. agrees_last (unless (list_all not f.reads) fault.Lent) (Must (AllByRecursion (λ mark. mark ≡ false) f.reads) fault.Lent NoMore)
+    (front_alone (AllByRecursion (λ mark. mark ≡ false) f.reads) (unless (list_all not f.reads) fault.Lent) (Must (AllByRecursion (λ mark. mark ≡ false) f.reads) fault.Lent)
+    (front_must (list_all not f.reads) fault.Lent (AllByRecursion (λ mark. mark ≡ false) f.reads) (unmarked f.reads) (no_marks f.reads)))))
   where
     to : (list_all (is_known types) f.params && is_known types f.result && list_all (is_known types) f.locals) ≡ true
         → AllByRecursion (IsKnownKind types) f.params × IsKnownKind types f.result × AllByRecursion (IsKnownKind types) f.locals

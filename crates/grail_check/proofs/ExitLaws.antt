@@ -14,7 +14,7 @@ use Rattle.grail_check.specs.declared.fault.CodeKind.TheVariants as fault
 use Rattle.grail_check.specs.declared.locals.Local.{Local}
 use Rattle.grail_check.specs.declared.locals.Mark.{Mark}
 use Rattle.grail_check.specs.declared.locals.Mark.TheVariants as mark
-use Rattle.grail_check.specs.Faulting.{unless, locals_of, is_local, kind_at, same_kind, has_kind, have_kinds, bind, bind_all, spend, mark_fault, operand_fault, arguments_fault, is_block, is_among, use_fault, uses_fault, jump_fault, callee_fault, arm_is_there, fields_count, arms_count, cell_fits, cells_fit, kept_fits, arms_have_kinds, are_distinct, arms_jump_fault, arms_fault, term_fault}
+use Rattle.grail_check.specs.Faulting.{unless, locals_of, is_local, kind_at, same_kind, has_kind, have_kinds, bind, bind_all, spend, mark_fault, operand_fault, arguments_fault, is_block, is_among, use_fault, uses_fault, jump_fault, callee_fault, arm_is_there, fields_count, arms_count, takes, cell_fits, cells_fit, kept_fits, arms_have_kinds, are_distinct, arms_jump_fault, arms_fault, term_fault}
 use Rattle.grail_check.proofs.Checks.{or_first, or_second, or_none, none_fails, all_pass, unless_true, true_unless, both, join, all_true, true_all, all_then, all_both, below, is_below, same, is_same}
 use Rattle.grail_check.proofs.Distinct.{distinct_is, is_distinct, ascend_parts}
 use Rattle.grail_check.proofs.Playing.{after, IsReady, Plays, plays_back, plays_both, set_same, ready_after_bind, ready_before_bind, spend_keeps, spend_one, length_step}
@@ -163,16 +163,24 @@ cell_is : (types : List DataType) (f : Func) (inline : Bool) (c : CaseCell) → 
     → CellFits f inline c
 cell_is types f inline cell.Inline h k = h
 cell_is types f inline cell.Free h k = not_true inline h
+cell_is types f inline cell.Look h k = cc
 cell_is types f inline (cell.Keep d) h k = (not_true inline h, kind_of_is types f d kind.Dia (has_the_kind (locals_of types f) d kind.Dia k))
 
 is_cell : (types : List DataType) (f : Func) (inline : Bool) (c : CaseCell) → CellFits f inline c
     → (cell_fits inline c ≡ true) × (kept_fits (locals_of types f) c ≡ true) × (list_all (is_local (locals_of types f)) (kept_diamond c) ≡ true)
 is_cell types f inline cell.Inline h = (h, refl, refl)
 is_cell types f inline cell.Free h = (true_not inline h, refl, refl)
+is_cell types f inline cell.Look h = absurd h
 is_cell types f inline (cell.Keep d) h =
     let locals = locals_of types f in
     let e = kind_at_is types f d kind.Dia h.1 in
     (true_not inline h.0, the_kind_it_has locals d kind.Dia e, join (is_local locals d) true (is_below d (length locals) (kind_there locals d kind.Dia e)) refl)
+
+cell_taken : (f : Func) (inline : Bool) (c : CaseCell) → CellFits f inline c → takes c ≡ true
+cell_taken f inline cell.Inline h = refl
+cell_taken f inline cell.Free h = refl
+cell_taken f inline (cell.Keep d) h = refl
+cell_taken f inline cell.Look h = absurd h
 
 -- what an arm names is there
 record There (f : Func) (locals : List Local) (a : CaseArm) : Type 0 where
@@ -212,6 +220,7 @@ jump_arms f locals marks (a ∷ arms) h = or_none (jump_fault f marks (bound_by 
 record Tests (types : List DataType) (f : Func) (number : ℕ) (arms : List CaseArm) (cs : List Constructor) : Type 0 where
   count : length arms ≡ length cs
   fields : fields_count arms cs ≡ true
+  taken : list_all (λ a. takes a.cell) arms ≡ true
   cells : cells_fit arms cs ≡ true
   kinds : arms_have_kinds (locals_of types f) arms cs ≡ true
   distinct : list_all (λ a. are_distinct (bound_by a)) arms ≡ true
@@ -239,12 +248,12 @@ arms_are types f number (a ∷ arms) (c ∷ cs) t =
         distinct = distinct_is (bound_by a) d.0;
         jump = (below number a.target g.0, below a.target (length f.blocks) (there f locals a w.0).target);
       },
-      arms_are types f number arms cs (record { count = omega arith; fields = n.1; cells = l.1; kinds = k.1; distinct = d.1; named = w.1; forward = g.1 }),
+      arms_are types f number arms cs (record { count = omega arith; fields = n.1; taken = (both (takes a.cell) (list_all (λ a. takes a.cell) arms) t.taken).1; cells = l.1; kinds = k.1; distinct = d.1; named = w.1; forward = g.1 }),
     )
 
 are_arms : (types : List DataType) (f : Func) (number : ℕ) (arms : List CaseArm) (cs : List Constructor) → ArmsFit f number cs arms
     → Tests types f number arms cs
-are_arms types f number [] [] h = record { count = refl; fields = refl; cells = refl; kinds = refl; distinct = refl; named = refl; forward = refl }
+are_arms types f number [] [] h = record { count = refl; fields = refl; taken = refl; cells = refl; kinds = refl; distinct = refl; named = refl; forward = refl }
 are_arms types f number [] (c ∷ cs) h = absurd h
 are_arms types f number (a ∷ arms) [] h = absurd h
 are_arms types f number (a ∷ arms) (c ∷ cs) h =
@@ -257,6 +266,7 @@ are_arms types f number (a ∷ arms) (c ∷ cs) h =
     record {
       count = ap suc t.count;
       fields = join (length a.fields == length c.fields) (fields_count arms cs) (is_same (length a.fields) (length c.fields) k.0) t.fields;
+      taken = join (takes a.cell) (list_all (λ a. takes a.cell) arms) (cell_taken f c.inline a.cell h.0.cell) t.taken;
       cells = join (cell_fits c.inline a.cell) (cells_fit arms cs) l.0 t.cells;
       kinds = join (have_kinds locals a.fields c.fields && kept_fits locals a.cell) (arms_have_kinds locals arms cs) (join (have_kinds locals a.fields c.fields) (kept_fits locals a.cell) k.1 l.1) t.kinds;
       distinct = join (are_distinct (bound_by a)) (list_all (λ a. are_distinct (bound_by a)) arms) (is_distinct (bound_by a) h.0.distinct) t.distinct;
@@ -280,20 +290,21 @@ arms_pass : (p : Code) (f : Func) (number : ℕ) (marks : List Mark) (x : ℕ) (
 arms_pass p f number marks x None arms asc e named forward h = cc
 arms_pass p f number marks x (Some t) arms asc e named forward h =
     let locals = locals_of p.types f in
-    let c = none_fails (unless (arms_count arms t.cons) fault.Arms ∷ mark_fault (slice_get marks x) ∷ unless (cells_fit arms t.cons) fault.Place ∷ unless (arms_have_kinds locals arms t.cons) fault.Kind
+    let c = none_fails (unless (arms_count arms t.cons) fault.Arms ∷ mark_fault (slice_get marks x) ∷ unless (list_all (λ a. takes a.cell) arms) fault.Lent ∷ unless (cells_fit arms t.cons) fault.Place ∷ unless (arms_have_kinds locals arms t.cons) fault.Kind
     ∷ unless (list_all (λ a. are_distinct (bound_by a)) arms) fault.Header ∷ arms_jump_fault f (spend locals marks x) arms ∷ []) h in
     let n = both (length arms == length t.cons) (fields_count arms t.cons) (unless_true (arms_count arms t.cons) fault.Arms c.0) in (
       arms_are p.types f number arms t.cons (record {
         count = same (length arms) (length t.cons) n.0;
         fields = n.1;
-        cells = unless_true (cells_fit arms t.cons) fault.Place c.1.1.0;
-        kinds = unless_true (arms_have_kinds locals arms t.cons) fault.Kind c.1.1.1.0;
-        distinct = unless_true (list_all (λ a. are_distinct (bound_by a)) arms) fault.Header c.1.1.1.1.0;
+        taken = unless_true (list_all (λ a. takes a.cell) arms) fault.Lent c.1.1.0;
+        cells = unless_true (cells_fit arms t.cons) fault.Place c.1.1.1.0;
+        kinds = unless_true (arms_have_kinds locals arms t.cons) fault.Kind c.1.1.1.1.0;
+        distinct = unless_true (list_all (λ a. are_distinct (bound_by a)) arms) fault.Header c.1.1.1.1.1.0;
         named = named;
         forward = forward;
       }),
       mark_ready (slice_get marks x) c.1.0,
-      arms_jump f locals (spend locals marks x) arms asc (length_step locals marks (Use x) ∙ e) (all_true (arm_is_there f locals) arms named) c.1.1.1.1.1.0,
+      arms_jump f locals (spend locals marks x) arms asc (length_step locals marks (Use x) ∙ e) (all_true (arm_is_there f locals) arms named) c.1.1.1.1.1.1.0,
     )
 
 pass_arms : (p : Code) (f : Func) (number : ℕ) (marks : List Mark) (x : ℕ) (t : DataType) (arms : List CaseArm) → ArmsFit f number t.cons arms → IsReady marks x
@@ -301,18 +312,21 @@ pass_arms : (p : Code) (f : Func) (number : ℕ) (marks : List Mark) (x : ℕ) (
 pass_arms p f number marks x t arms fits r w =
     let locals = locals_of p.types f in
     let q = are_arms p.types f number arms t.cons fits in
-    all_pass (unless (arms_count arms t.cons) fault.Arms ∷ mark_fault (slice_get marks x) ∷ unless (cells_fit arms t.cons) fault.Place ∷ unless (arms_have_kinds locals arms t.cons) fault.Kind
+    all_pass (unless (arms_count arms t.cons) fault.Arms ∷ mark_fault (slice_get marks x) ∷ unless (list_all (λ a. takes a.cell) arms) fault.Lent ∷ unless (cells_fit arms t.cons) fault.Place ∷ unless (arms_have_kinds locals arms t.cons) fault.Kind
     ∷ unless (list_all (λ a. are_distinct (bound_by a)) arms) fault.Header ∷ arms_jump_fault f (spend locals marks x) arms ∷ []) (
       true_unless (arms_count arms t.cons) fault.Arms (join (length arms == length t.cons) (fields_count arms t.cons) (is_same (length arms) (length t.cons) q.count) q.fields),
       (
         ready_mark (slice_get marks x) r,
         (
-          true_unless (cells_fit arms t.cons) fault.Place q.cells,
+          true_unless (list_all (λ a. takes a.cell) arms) fault.Lent q.taken,
           (
-            true_unless (arms_have_kinds locals arms t.cons) fault.Kind q.kinds,
+            true_unless (cells_fit arms t.cons) fault.Place q.cells,
             (
-              true_unless (list_all (λ a. are_distinct (bound_by a)) arms) fault.Header q.distinct,
-              (jump_arms f locals (spend locals marks x) arms w, tt),
+              true_unless (arms_have_kinds locals arms t.cons) fault.Kind q.kinds,
+              (
+                true_unless (list_all (λ a. are_distinct (bound_by a)) arms) fault.Header q.distinct,
+                (jump_arms f locals (spend locals marks x) arms w, tt),
+              ),
             ),
           ),
         ),

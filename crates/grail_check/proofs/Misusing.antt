@@ -19,7 +19,7 @@ use Rattle.grail_check.specs.declared.fault.CodeFault.{CodeFault}
 use Rattle.grail_check.specs.declared.locals.Local.{Local}
 use Rattle.grail_check.specs.declared.locals.Mark.{Mark}
 use Rattle.grail_check.specs.declared.locals.Mark.TheVariants as mark
-use Rattle.grail_check.specs.Faulting.{unless, at_place, locals_of, is_local, kind_at, is_heap_at, unbound, bind, bind_all, spend, spend_all, mark_fault, operand_fault, operands_fault, arguments_fault, taken_fault, target_fault, make_fault, call_fault, op_fault, let_fault, after_let, after_lets, is_block, is_among, use_fault, uses_fault, jump_fault, callee_fault, arm_is_there, arms_jump_fault, arms_fault, term_fault, block_header_fault, lets_fault, at_start, block_fault, blocks_fault, header_fault, function_fault, functions_fault, constructor_fault, constructors_fault, type_fault, types_fault, table_fault, first_fault, stands, has_kind, same_kinds, place_fits, same_kind, arms_count, cells_fit, arms_have_kinds, are_distinct, ascends_from, entry_fits, is_known}
+use Rattle.grail_check.specs.Faulting.{unless, at_place, locals_of, is_local, kind_at, is_heap_at, unbound, bind, bind_all, spend, spend_all, mark_fault, operand_fault, operands_fault, arguments_fault, taken_fault, target_fault, make_fault, call_fault, op_fault, let_fault, after_let, after_lets, is_block, is_among, use_fault, uses_fault, jump_fault, callee_fault, arm_is_there, arms_jump_fault, arms_fault, term_fault, block_header_fault, lets_fault, at_start, block_fault, blocks_fault, header_fault, function_fault, functions_fault, constructor_fault, constructors_fault, type_fault, types_fault, table_fault, first_fault, stands, has_kind, same_kinds, place_fits, same_kind, arms_count, takes, cells_fit, arms_have_kinds, are_distinct, ascends_from, entry_fits, is_known}
 use Rattle.grail_check.specs.Misuse.{events_of, Comes, ToLet, ToEnd, Onward, UsesUnbound, UsesAgain, Happens}
 use Rattle.grail_check.proofs.Checks.{or_first, or_second, unless_true, nothing_there, both, all_both, all_then, all_true, below, is_same}
 use Rattle.grail_check.proofs.MarkLaws.{spend_both}
@@ -353,11 +353,13 @@ case_hit f locals marks x (Some d) arms k e u t h =
     let headers = option_or (unless (list_all (λ a. are_distinct (bound_by a)) arms) fault.Header) (option_or jumps None) in
     let kinds = option_or (unless (arms_have_kinds locals arms d.cons) fault.Kind) headers in
     let cells = option_or (unless (cells_fit arms d.cons) fault.Place) kinds in
-    let a = behind_test (arms_count arms d.cons) fault.Arms k (option_or (mark_fault (slice_get marks x)) cells) refl u h in
-    elim (either (mark_fault (slice_get marks x)) cells k a.1) as (λ z. EndHit f locals marks (Case x arms) k) [
+    let looks = option_or (unless (list_all (λ a. takes a.cell) arms) fault.Lent) cells in
+    let a = behind_test (arms_count arms d.cons) fault.Arms k (option_or (mark_fault (slice_get marks x)) looks) refl u h in
+    elim (either (mark_fault (slice_get marks x)) looks k a.1) as (λ z. EndHit f locals marks (Case x arms) k) [
       | inl q ↦ inl (hit_first locals marks x [] k q)
       | inr (q, r) ↦ (
-          let b = behind_test (cells_fit arms d.cons) fault.Place k kinds refl u r in
+          let v = behind_test (list_all (λ a. takes a.cell) arms) fault.Lent k cells refl u r in
+          let b = behind_test (cells_fit arms d.cons) fault.Place k kinds refl u v.1 in
           let c = behind_test (arms_have_kinds locals arms d.cons) fault.Kind k headers refl u b.1 in
           let g = behind_test (list_all (λ a. are_distinct (bound_by a)) arms) fault.Header k (option_or jumps None) refl u c.1 in
           inr (arms_hit f locals (spend locals marks x) arms k (length_step locals marks (Use x) ∙ e) t (alone jumps k g.1)))
@@ -578,8 +580,10 @@ function_hit p func new f e u h =
     elim (either (at_place func 0 0 (header_fault types new f)) (option_or blocks None) e h) as (λ z. blocks ≡ Some e) [
       | inl a ↦ (
           let c = at_found func 0 0 (header_fault types new f) e a in
-          let t = behind_test new fault.Name e.kind (option_or (unless known fault.NoSuchEntry) None) refl u c.found in
-          no_test known fault.NoSuchEntry e.kind refl u (alone (unless known fault.NoSuchEntry) e.kind t.1))
+          let reads = unless (list_all not f.reads) fault.Lent in
+          let t = behind_test new fault.Name e.kind (option_or (unless known fault.NoSuchEntry) (option_or reads None)) refl u c.found in
+          let v = behind_test known fault.NoSuchEntry e.kind (option_or reads None) refl u t.1 in
+          no_test (list_all not f.reads) fault.Lent e.kind refl u (alone reads e.kind v.1))
       | inr (a, c) ↦ alone_fault blocks e c
     ]
 

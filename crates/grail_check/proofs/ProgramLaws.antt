@@ -11,6 +11,7 @@ use Rattle.grail_check.specs.declared.fault.CodeKind.TheVariants as fault
 use Rattle.grail_check.specs.declared.fault.CodeFault.{CodeFault}
 use Rattle.grail_check.specs.Faulting.{unless, at_place, stands, is_known, locals_of, blocks_fault, header_fault, function_fault, functions_fault, constructor_fault, constructors_fault, type_fault, types_fault, table_fault, first_fault}
 use Rattle.grail_check.proofs.Checks.{or_first, or_second, or_none, none_fails, all_pass, unless_true, true_unless, nothing_there, nowhere, both, join, all_true, true_all, all_then, all_both, all_front, all_back, below, is_below}
+use Rattle.grail_check.proofs.LetLaws.{not_true, true_not}
 use Rattle.camelot_values.specs.NameLaws.{AreNew, new_distinct, distinct_new}
 use Rattle.grail_check.proofs.BlockLaws.{blocks_pass, pass_blocks}
 
@@ -36,17 +37,25 @@ known_all types ks h = true_all (is_known types) ks (all_then (IsKnownKind types
 
 -- ---- functions
 
+pub unmarked : (marks : List Bool) → list_all not marks ≡ true → AllByRecursion (λ mark. mark ≡ false) marks
+unmarked marks h = all_then (λ mark. not mark ≡ true) (λ mark. mark ≡ false) marks not_true (all_true not marks h)
+
+pub no_marks : (marks : List Bool) → AllByRecursion (λ mark. mark ≡ false) marks → list_all not marks ≡ true
+no_marks marks h = true_all not marks (all_then (λ mark. mark ≡ false) (λ mark. not mark ≡ true) marks true_not h)
+
 function_passes : (p : Code) (func : ℕ) (new : Bool) (f : Func) → function_fault p func new f ≡ None → (new ≡ true) × FuncFits p f
 function_passes p func new f h =
     let types = p.types in
     let a = none_fails (at_place func 0 0 (header_fault types new f) ∷ blocks_fault p f (locals_of types f) func 0 f.blocks ∷ []) h in
-    let b = none_fails (unless new fault.Name ∷ unless (list_all (is_known types) f.params && is_known types f.result && list_all (is_known types) f.locals) fault.NoSuchEntry ∷ [])
+    let b = none_fails (unless new fault.Name ∷ unless (list_all (is_known types) f.params && is_known types f.result && list_all (is_known types) f.locals) fault.NoSuchEntry
+    ∷ unless (list_all not f.reads) fault.Lent ∷ [])
     (nothing_there func 0 0 (header_fault types new f) a.0) in
     let c = both (list_all (is_known types) f.params && is_known types f.result) (list_all (is_known types) f.locals)
     (unless_true (list_all (is_known types) f.params && is_known types f.result && list_all (is_known types) f.locals) fault.NoSuchEntry b.1.0) in
     let d = both (list_all (is_known types) f.params) (is_known types f.result) c.0 in (
       unless_true new fault.Name b.0,
       record {
+        unread = unmarked f.reads (unless_true (list_all not f.reads) fault.Lent b.1.1.0);
         kinds = all_both (IsKnownKind types) f.params f.locals (all_known types f.params d.0) (all_known types f.locals c.1);
         result = known_is types f.result d.1;
         blocks = blocks_pass p f func a.1.0;
@@ -58,14 +67,15 @@ pass_function p func new f e fits =
     let types = p.types in
     all_pass (at_place func 0 0 (header_fault types new f) ∷ blocks_fault p f (locals_of types f) func 0 f.blocks ∷ []) (
       nowhere func 0 0 (header_fault types new f)
-          (all_pass (unless new fault.Name ∷ unless (list_all (is_known types) f.params && is_known types f.result && list_all (is_known types) f.locals) fault.NoSuchEntry ∷ []) (
+          (all_pass (unless new fault.Name ∷ unless (list_all (is_known types) f.params && is_known types f.result && list_all (is_known types) f.locals) fault.NoSuchEntry
+          ∷ unless (list_all not f.reads) fault.Lent ∷ []) (
             true_unless new fault.Name e,
             (
               true_unless (list_all (is_known types) f.params && is_known types f.result && list_all (is_known types) f.locals) fault.NoSuchEntry
                   (join (list_all (is_known types) f.params && is_known types f.result) (list_all (is_known types) f.locals)
                   (join (list_all (is_known types) f.params) (is_known types f.result) (known_all types f.params (all_front (IsKnownKind types) f.params f.locals fits.kinds)) (is_known_kind types f.result fits.result))
                   (known_all types f.locals (all_back (IsKnownKind types) f.params f.locals fits.kinds))),
-              tt,
+              (true_unless (list_all not f.reads) fault.Lent (no_marks f.reads fits.unread), tt),
             ),
           )),
       (pass_blocks p f func fits.blocks, tt),

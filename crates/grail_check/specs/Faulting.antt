@@ -236,9 +236,15 @@ fields_count arms cs = true
 abbrev pub arms_count : List CaseArm → List Constructor → Bool
 arms_count arms cs = (length arms == length cs) && fields_count arms cs
 
+-- the cell isn't only looked at
+abbrev pub takes : CaseCell → Bool
+takes cell.Look = false
+takes c = true
+
 -- matched as Inline exactly where the constructor is inline
 abbrev pub cell_fits : Bool → CaseCell → Bool
 cell_fits inline cell.Inline = inline
+cell_fits inline cell.Look = false
 cell_fits inline c = not inline
 
 abbrev pub cells_fit : List CaseArm → List Constructor → Bool
@@ -271,6 +277,7 @@ arms_fault f locals marks x None arms = Some fault.Kind
 arms_fault f locals marks x (Some t) arms = first_of (
     unless (arms_count arms t.cons) fault.Arms
     ∷ mark_fault (slice_get marks x)
+    ∷ unless (list_all (λ a. takes a.cell) arms) fault.Lent
     ∷ unless (cells_fit arms t.cons) fault.Place
     ∷ unless (arms_have_kinds locals arms t.cons) fault.Kind
     ∷ unless (list_all (λ a. are_distinct (bound_by a)) arms) fault.Header
@@ -355,11 +362,12 @@ blocks_fault p f locals func number (b ∷ bs) = option_or (block_fault p f loca
 
 -- ---- functions, types and programs
 
--- a function's name must be new
+-- a function's name must be new, and no parameter may be marked as one that is only looked at
 abbrev pub header_fault : List DataType → Bool → Func → Option CodeKind
 header_fault types new f = first_of (
     unless new fault.Name
-    ∷ unless (list_all (is_known types) f.params && is_known types f.result && list_all (is_known types) f.locals) fault.NoSuchEntry ∷ [])
+    ∷ unless (list_all (is_known types) f.params && is_known types f.result && list_all (is_known types) f.locals) fault.NoSuchEntry
+    ∷ unless (list_all not f.reads) fault.Lent ∷ [])
 
 abbrev pub function_fault : Code → ℕ → Bool → Func → Option CodeFault
 function_fault p func new f = first_of (

@@ -24,6 +24,7 @@ use Rattle.grail_blocks.specs.declared.blocks.CaseCell.TheVariants as cell
 use Rattle.grail_blocks.specs.States.{State, Unbound, Spent, use_of, after, at_start, after_let}
 use Rattle.grail_code.specs.Code.{Op, Lit, Flag, Copy, Prim, Make, Call, Let, CaseArm, Term, Ret, Tail, Goto, If, Case, Block, Func, Code}
 use Rattle.grail_code.specs.WellFormed.{IsKnownKind, local_kinds, kind_of, HaveKinds, is_owned, reads_of, operator_kind, data_type, Ascend, AreDistinct, Use, Bind, operands_of, kept_diamond, bound_by, params_at}
+use Rattle.grail_code.specs.Spelling.{IsNoLook}
 use Rattle.grail_check.specs.declared.fault.CodeKind.{CodeKind}
 use Rattle.grail_check.specs.declared.fault.CodeKind.TheVariants as fault
 use Rattle.grail_check.specs.declared.fault.CodeFault.{CodeFault}
@@ -130,6 +131,7 @@ ArmsCount arms cs = (length arms ≡ length cs) × FieldsCount arms cs
 abbrev pub IsCellOf : Bool → CaseCell → Type 0
 IsCellOf inline cell.Inline = IsTrue inline
 IsCellOf inline cell.Free = inline ≡ false
+IsCellOf inline cell.Look = ⊥
 IsCellOf inline (cell.Keep d) = inline ≡ false
 
 abbrev pub AreCellsOf : List CaseArm → List Constructor → Type 0
@@ -141,6 +143,7 @@ abbrev pub KeepsDiamond : Func → CaseCell → Type 0
 KeepsDiamond f (cell.Keep d) = kind_of f d ≡ Some kind.Dia
 KeepsDiamond f cell.Inline = Unit {0}
 KeepsDiamond f cell.Free = Unit {0}
+KeepsDiamond f cell.Look = Unit {0}
 
 abbrev pub ArmsBindKinds : Func → List CaseArm → List Constructor → Type 0
 ArmsBindKinds f (a ∷ arms) (c ∷ cs) = (HaveKinds f a.fields c.fields × KeepsDiamond f a.cell) × ArmsBindKinds f arms cs
@@ -156,10 +159,11 @@ abbrev pub arms_checks : Func → (ℕ → Bool) → State → ℕ → List Case
 arms_checks f owned s x arms t =
     Must (ArmsCount arms t.cons) fault.Arms
     (use_checks s x
+    (Must (AllByRecursion (λ a. IsNoLook a.cell) arms) fault.Lent
     (Must (AreCellsOf arms t.cons) fault.Place
     (Must (ArmsBindKinds f arms t.cons) fault.Kind
     (Must (AllByRecursion (λ a. AreDistinct (bound_by a)) arms) fault.Header
-    (arms_jump_checks f owned (use_of owned s x) arms)))))
+    (arms_jump_checks f owned (use_of owned s x) arms))))))
 
 abbrev pub term_checks : Code → Func → (ℕ → Bool) → ℕ → State → Term → Checks
 term_checks p f owned number s (Ret x) = Must (IsThere f x) fault.NoSuchEntry (operand_checks f s x f.result NoMore)
@@ -184,11 +188,12 @@ header_checks f number params =
     Must (AreThere f params) fault.NoSuchEntry
     (Must (Ascend params × (number ≡ 0 → params ≡ range_with_len 0 (length f.params))) fault.Header NoMore)
 
--- a function's name is new, after those of these names
+-- a function's name is new, after those of these names, and no parameter is marked as one that is only looked at
 abbrev pub func_checks : List DataType → List (List ℕ) → Func → Checks
 func_checks types earlier f =
     Must (stands earlier f.name ≡ false) fault.Name
-    (Must (AllByRecursion (IsKnownKind types) f.params × IsKnownKind types f.result × AllByRecursion (IsKnownKind types) f.locals) fault.NoSuchEntry NoMore)
+    (Must (AllByRecursion (IsKnownKind types) f.params × IsKnownKind types f.result × AllByRecursion (IsKnownKind types) f.locals) fault.NoSuchEntry
+    (Must (AllByRecursion (λ mark. mark ≡ false) f.reads) fault.Lent NoMore))
 
 -- the constructors of a type, and then the rest
 abbrev pub cons_checks : List DataType → List (List ℕ) → List Constructor → Checks → Checks

@@ -3,7 +3,7 @@ ghost use Rattle.std.specs.List.{list_all};
 ghost use Rattle.camelot_values.specs.Kinds.{constructor_of};
 ghost use Rattle.grail_code.specs.Code.{arm_of, func_of};
 ghost use Rattle.grail_code.specs.WellFormed.{kept_diamond, bound_by};
-ghost use Rattle.grail_check.specs.Faulting.{is_local, is_among, have_kinds, is_block, arm_is_there, fields_count, arms_count, cell_fits, cells_fit, kept_fits, arms_have_kinds, are_distinct};
+ghost use Rattle.grail_check.specs.Faulting.{is_local, is_among, have_kinds, is_block, arm_is_there, fields_count, arms_count, takes, cell_fits, cells_fit, kept_fits, arms_have_kinds, are_distinct};
 
 use super::lets::are_locals;
 use super::locals::{Local, has_kind, is_local};
@@ -84,13 +84,36 @@ pub(crate) fn arms_count(arms: &[CaseArm], cons: &[Con]) -> bool
     arms.len() == cons.len() && fields_count(arms, cons)
 }
 
+/// Whether no arm only looks at its cell.
+pub(crate) fn arms_take(arms: &[CaseArm]) -> bool
+    ensures { result ≡ list_all (λ a. takes a.cell) (map arm_of arms.now) }
+{
+    'arms: for arm in arms {
+        if !takes(arm.cell) {
+            return false;
+        }
+    }
+    true
+}
+
+// Whether a cell isn't only looked at.
+fn takes(cell: CaseCell) -> bool
+    ensures { result ≡ takes cell }
+{
+    match cell {
+        CaseCell::Look => false,
+        CaseCell::Inline | CaseCell::Free | CaseCell::Keep(_) => true,
+    }
+}
+
 // Whether a constructor is matched inline exactly where it is inline.
 fn cell_fits(inline: bool, cell: CaseCell) -> bool
     ensures { result ≡ cell_fits inline cell }
 {
     match cell {
         CaseCell::Inline => inline,
-        _ => !inline,
+        CaseCell::Free | CaseCell::Keep(_) => !inline,
+        CaseCell::Look => false,
     }
 }
 

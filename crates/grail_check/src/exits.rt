@@ -8,8 +8,8 @@ ghost use Rattle.grail_check.specs.Sets.{AreUsable};
 ghost use Rattle.grail_check.specs.Faulting.{uses_fault, jump_fault, arms_jump_fault, tail_fault, arms_fault, case_fault, ret_fault, goto_fault, if_fault, term_fault};
 
 use super::arms::{
-    arms_are_there, arms_bind_once, arms_count, arms_go_on, arms_have_kinds, cells_fit, is_block,
-    keeps,
+    arms_are_there, arms_bind_once, arms_count, arms_go_on, arms_have_kinds, arms_take, cells_fit,
+    is_block, keeps,
 };
 use super::body::{Body, is_covered};
 use super::fault::CodeKind;
@@ -46,7 +46,7 @@ fn usable_in(marks: &Marks, fields: &[u32], cell: CaseCell) -> LocalSet
             set.insert(diamond);
             set
         }
-        CaseCell::Inline | CaseCell::Free => set,
+        CaseCell::Inline | CaseCell::Free | CaseCell::Look => set,
     }
 }
 
@@ -153,6 +153,7 @@ fn check_arms(
 {
     require(arms_count(arms, &def.cons), CodeKind::Arms)?;
     check_mark(marks, on)?;
+    require(arms_take(arms), CodeKind::Lent)?;
     require(cells_fit(arms, &def.cons), CodeKind::Place)?;
     require(arms_have_kinds(locals, arms, &def.cons), CodeKind::Kind)?;
     require(arms_bind_once(arms), CodeKind::Header)?;

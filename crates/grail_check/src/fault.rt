@@ -35,6 +35,9 @@ pub enum CodeKind {
     /// A type, constructor or function has the name of an earlier one.
     #[error("name")]
     Name,
+    /// A parameter is marked as one that is only looked at, or an arm only looks at its cell.
+    #[error("lent")]
+    Lent,
 }
 
 /// The first check of code that fails, with its place. Functions and blocks are counted from 0; place 0 is a header,

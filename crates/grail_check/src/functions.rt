@@ -1,4 +1,4 @@
-ghost use Rattle.std.specs.Prelude.{◌≡◌, ◌++◌, [], OnOk, IfOk, map};
+ghost use Rattle.std.specs.Prelude.{◌≡◌, ◌++◌, [], OnOk, IfOk, map, not};
 ghost use Rattle.std.specs.List.{list_all};
 ghost use Rattle.grail_code.specs.Code.{func_of, code_of};
 ghost use Rattle.grail_check.specs.Finding.{Finds, Answers};
@@ -37,6 +37,18 @@ pub(crate) fn are_known(types: &Types, kinds: &[Kind]) -> bool
     true
 }
 
+// Whether no parameter is marked as one that is only looked at.
+fn are_unmarked(reads: &[bool]) -> bool
+    ensures { result ≡ list_all not reads.now }
+{
+    'reads: for read in reads {
+        if *read {
+            return false;
+        }
+    }
+    true
+}
+
 // The locals of a function, with their kinds.
 fn locals_of(alloc: Global, types: &Types, func: &Func) -> Result<Vec<Local>, AllocError>
     ensures { IfOk result (λ locals. locals.items ≡ locals_of types.now (func_of func.now)) }
@@ -66,7 +78,8 @@ fn check_header(types: &Types, new: bool, func: &Func) -> Result<(), CodeKind>
     let known = are_known(types, &func.params)
         && is_known(types, func.result)
         && are_known(types, &func.locals);
-    require(known, CodeKind::NoSuchEntry)
+    require(known, CodeKind::NoSuchEntry)?;
+    require(are_unmarked(&func.reads), CodeKind::Lent)
 }
 
 // One function.

@@ -18,6 +18,7 @@ few_lets (b ∷ bs) = (omega (arith, length-map b.lets.items let_of, b.lets.ok.0
 func_within : (f : DeclaredFunc) → FuncIsWithin (func_of f)
 func_within f = record {
   few_params = omega (arith, f.params.ok.0, f.few_params);
+  as_many = omega (arith, f.reads.ok.0, f.params.ok.0, f.marks);
   few_locals = omega (arith, f.locals.ok.0, f.few_locals);
   some_blocks = omega (arith, length-map f.blocks.items block_of, f.blocks.ok.0, f.some_blocks);
   few_blocks = omega (arith, length-map f.blocks.items block_of, f.blocks.ok.0, f.few_blocks);

@@ -1,4 +1,6 @@
 -- The theory of the spelling, from its parts up.
+pub mod SpellingParams
+pub mod SpellingApart
 pub mod SpellingParts
 pub mod SpellingTypes
 pub mod SpellingLets

@@ -2,7 +2,7 @@
 -- evaluation, wrap-around, division, diamonds as arguments, the peak of cells. Then what bytes are that tell the
 -- formats apart.
 use Rattle.std.proofs.Common.{◌≡◌, ℕ, List, [], ◌∷◌, false, true, refl, subst}
-use Rattle.std.specs.Prelude.{codes, pos, negsuc}
+use Rattle.std.specs.Prelude.{codes, pos, negsuc, map}
 use Rattle.camelot_values.specs.Value as value
 use Rattle.camelot_values.specs.Value.{Value, parts}
 use Rattle.camelot_values.specs.Operator as operator
@@ -17,7 +17,7 @@ use Rattle.grail_code.specs.Code.{Lit, Prim, Make, Call, Let, Term, Ret, Tail, G
 use Rattle.grail_code.specs.Meaning.{run_of}
 use Rattle.grail_code.specs.Spelling.{Decoded, Spelled, Front, Broken, Means}
 use Rattle.grail_code.specs.Reader.{byte_at, tag_at, leb_at, times_at, counted_at}
-use Rattle.grail_code.specs.CodeReader.{whole, headed_at, digit_at, format_at, code_at, tables_at, type_at, func_at, name_at, word_at, tail_at, header_at, kind_at, block_at, local_at, let_at, op_at, op_rest, prim_at, operator_at, exit_at, exit_rest, ret_at}
+use Rattle.grail_code.specs.CodeReader.{whole, headed_at, digit_at, format_at, code_at, tables_at, type_at, func_at, name_at, word_at, tail_at, header_at, param_at, kind_at, block_at, local_at, let_at, op_at, op_rest, prim_at, operator_at, exit_at, exit_rest, ret_at}
 use Rattle.grail_code.proofs.SpellingMeans.{means_whole}
 
 abbrev bound : ℕ → Op → Let
@@ -27,7 +27,7 @@ abbrev block : List ℕ → List Let → Term → Block
 block params lets term = record { params = params; lets = lets; term = term }
 
 abbrev func : List Kind → Kind → List Kind → List Block → Func
-func params result locals blocks = record { name = codes "f"; params = params; result = result; locals = locals; blocks = blocks }
+func params result locals blocks = record { name = codes "f"; params = params; reads = map (λ q. false) params; result = result; locals = locals; blocks = blocks }
 
 abbrev code : List DataType → List Func → Code
 code types funcs = record { types = types; funcs = funcs }
@@ -202,6 +202,7 @@ abbrev add_code : Operator → Code
 add_code op = code [] (record {
   name = codes "add";
   params = kind.Int ∷ kind.Int ∷ [];
+  reads = false ∷ false ∷ [];
   result = kind.Int;
   locals = kind.Int ∷ [];
   blocks = block (0 ∷ 1 ∷ []) (bound 2 (Prim op 0 1) ∷ []) (Ret 2) ∷ [];
@@ -220,7 +221,7 @@ pub record OfFormats : Type 0 where
   pub none_in_second : Means (add_bytes 50 11) (Broken 23)
 
 pub of_formats : OfFormats
-unfolding code_at format_at headed_at digit_at tables_at counted_at times_at byte_at tag_at leb_at type_at func_at name_at word_at tail_at header_at kind_at block_at local_at let_at op_at op_rest prim_at operator_at exit_at exit_rest ret_at
+unfolding code_at format_at headed_at digit_at tables_at counted_at times_at byte_at tag_at leb_at type_at func_at name_at word_at tail_at header_at param_at kind_at block_at local_at let_at op_at op_rest prim_at operator_at exit_at exit_rest ret_at
 of_formats = record {
   add_in_first = is_so _ (Spelled (add_code operator.Add)) refl;
   add_in_second = is_so _ (Spelled (add_code operator.Add)) refl;

@@ -13,8 +13,8 @@ use Rattle.grail_code.specs.Code.{Code}
 use Rattle.grail_code.specs.Reader.{Read, Done, More, Stop}
 use Rattle.grail_code.specs.CodeReader.{code_at, whole, Sees}
 use Rattle.grail_code.specs.Decoding.{IsSo, Says, IsMigration}
-use Rattle.grail_code.specs.RangeLaws.{fits_second, fits_first, first_undivided}
-use Rattle.grail_code.specs.Spelling.{Format, First, Second, spelling, FitsCode, IsUndivided, Decoded, Spelled, Front, Broken, IsSpelling, BeginsCode, IsFront, IsLongestBegin, Means}
+use Rattle.grail_code.specs.RangeLaws.{fits_second, fits_first, first_old}
+use Rattle.grail_code.specs.Spelling.{Format, First, Second, spelling, FitsCode, IsOld, Decoded, Spelled, Front, Broken, IsSpelling, BeginsCode, IsFront, IsLongestBegin, Means}
 use Rattle.grail_code.proofs.SpellingParts.{Begins, Stops, Tells, one_way}
 use Rattle.grail_code.proofs.SpellingCode.{FitsFormat, format_spelling, code_law}
 
@@ -163,15 +163,15 @@ spelled_within p bytes h = fits_second h.format p h.fits
 pub spelled_second : (p : Code) → FitsCode Second p → IsSpelling p (spelling Second p)
 spelled_second p fits = record { format = Second; fits = fits; is = refl }
 
-pub spelled_first : (p : Code) → FitsCode Second p → IsUndivided p → IsSpelling p (spelling First p)
+pub spelled_first : (p : Code) → FitsCode Second p → IsOld p → IsSpelling p (spelling First p)
 spelled_first p fits undivided = record { format = First; fits = fits_first p fits undivided; is = refl }
 
 by_format : (f : Format) (p : Code) (bytes : List ℕ) → FitsCode f p → bytes ≡ spelling f p
-    → (bytes ≡ spelling Second p) ⊎ ((bytes ≡ spelling First p) × IsUndivided p)
-by_format First p bytes fits is = inr (is, first_undivided p fits)
+    → (bytes ≡ spelling Second p) ⊎ ((bytes ≡ spelling First p) × IsOld p)
+by_format First p bytes fits is = inr (is, first_old p fits)
 by_format Second p bytes fits is = inl is
 
-pub spelled_only : (p : Code) (bytes : List ℕ) → IsSpelling p bytes → (bytes ≡ spelling Second p) ⊎ ((bytes ≡ spelling First p) × IsUndivided p)
+pub spelled_only : (p : Code) (bytes : List ℕ) → IsSpelling p bytes → (bytes ≡ spelling Second p) ⊎ ((bytes ≡ spelling First p) × IsOld p)
 spelled_only p bytes h = by_format h.format p bytes h.fits h.is
 
 -- ---- migrating

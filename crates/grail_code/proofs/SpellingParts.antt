@@ -273,15 +273,21 @@ headed {A} F s r b law =
 
 -- ---- a tag, and what follows it
 
+pub tagged_within : {C : Type 0} (Fits : C → Type 0) (spell tail : C → List ℕ) (tag : C → ℕ) (limit : ℕ) (rest : ℕ → List ℕ → Read C)
+    → 0 < limit → ((c : C) → Fits c → tag c < limit) → ((c : C) → spell c ≡ tag c ∷ tail c)
+    → ((n : ℕ) → n < limit → Lawful (λ c. Fits c × (tag c ≡ n)) tail (rest n))
+    → Lawful Fits spell (λ bytes. then_read (tag_at limit bytes) rest)
+unfolding tag_at
+tagged_within Fits spell tail tag limit rest positive small spells laws =
+    retold _ _ _ Fits spell (λ c h. h.1.0) (λ c h. (lt-ltb (tag c) limit (small c h), (h, refl))) (λ c h. sym (spells c))
+    (bind (λ b. nat_lt b limit ≡ true) (λ b. b ∷ []) (byte_at (λ b. nat_lt b limit)) (λ n c. Fits c × (tag c ≡ n)) (λ n c. tail c) rest tag
+    (byte_law (λ b. nat_lt b limit) 0 (lt-ltb 0 limit positive)) (λ n c h. h.1) (λ n h. laws n (ltb-true n limit h)))
+
 pub tagged : {C : Type 0} (Fits : C → Type 0) (spell tail : C → List ℕ) (tag : C → ℕ) (limit : ℕ) (rest : ℕ → List ℕ → Read C)
     → 0 < limit → ((c : C) → tag c < limit) → ((c : C) → spell c ≡ tag c ∷ tail c)
     → ((n : ℕ) → n < limit → Lawful (λ c. Fits c × (tag c ≡ n)) tail (rest n))
     → Lawful Fits spell (λ bytes. then_read (tag_at limit bytes) rest)
-unfolding tag_at
-tagged Fits spell tail tag limit rest positive small spells laws =
-    retold _ _ _ Fits spell (λ c h. h.1.0) (λ c h. (lt-ltb (tag c) limit (small c), (h, refl))) (λ c h. sym (spells c))
-    (bind (λ b. nat_lt b limit ≡ true) (λ b. b ∷ []) (byte_at (λ b. nat_lt b limit)) (λ n c. Fits c × (tag c ≡ n)) (λ n c. tail c) rest tag
-    (byte_law (λ b. nat_lt b limit) 0 (lt-ltb 0 limit positive)) (λ n c h. h.1) (λ n h. laws n (ltb-true n limit h)))
+tagged Fits spell tail tag limit rest positive small spells laws = tagged_within Fits spell tail tag limit rest positive (λ c h. small c) spells laws
 
 pub tag_law : (limit : ℕ) → 0 < limit → Lawful (λ n. n < limit) (λ n. n ∷ []) (tag_at limit)
 unfolding tag_at

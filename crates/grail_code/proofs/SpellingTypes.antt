@@ -78,13 +78,13 @@ upper_law = name_law is_upper 65 refl
 pub upto_law : (most : ℕ) → Lawful (λ n. n ≤ most) number (leb_at 4 0 most)
 upto_law most = retold _ _ _ (λ n. n ≤ most) number (λ n h. h.1) (λ n h. (omega arith, h)) (λ n h. refl) (number_law 0 most (lit≤ tt) (omega arith))
 
-code_back : (n : ℕ) → s.kind_code (numbered_kind n) ≡ n
+pub code_back : (n : ℕ) → s.kind_code (numbered_kind n) ≡ n
 code_back zero = refl
 code_back (suc zero) = refl
 code_back (suc (suc zero)) = refl
 code_back (suc (suc (suc t))) = omega arith
 
-kind_back : (q : Kind) → numbered_kind (s.kind_code q) ≡ q
+pub kind_back : (q : Kind) → numbered_kind (s.kind_code q) ≡ q
 kind_back kind.Int = refl
 kind_back kind.Flag = refl
 kind_back kind.Dia = refl

@@ -1,7 +1,7 @@
 -- Private: words for functions of this crate.
 -- Reading the spelling of code from the left, part by part in the order of the spelling. The format, which the first
 -- four bytes tell, says which operators there are.
-use Rattle.std.specs.Prelude.{◌≡◌, ℕ, zero, suc, ◌-◌, ◌==◌, ◌||◌, if◌then◌else◌, Bool, true, false, List, [], ◌∷◌, length, Result, Ok, Err}
+use Rattle.std.specs.Prelude.{◌≡◌, ℕ, zero, suc, ◌-◌, ◌==◌, ◌||◌, nat_lt, if◌then◌else◌, Bool, true, false, List, [], ◌∷◌, length, map, Result, Ok, Err}
 use Rattle.std.specs.Int.{w32, cast_signed}
 use Rattle.camelot_values.specs.Names.{is_lower, is_upper, is_tail}
 use Rattle.camelot_values.specs.Kinds.{Constructor, DataType}
@@ -169,13 +169,19 @@ let_at f bytes = map_read (λ p. record { target = p.0; op = p.1 }) (pair_at loc
 unfoldable pub cell_rest : ℕ → List ℕ → Read CaseCell
 cell_rest zero bytes = Done cell.Inline bytes
 cell_rest (suc zero) bytes = Done cell.Free bytes
-cell_rest (suc (suc tag)) bytes = map_read cell.Keep (local_at bytes)
+cell_rest (suc (suc zero)) bytes = map_read cell.Keep (local_at bytes)
+cell_rest (suc (suc (suc tag))) bytes = Done cell.Look bytes
 
-unfoldable pub cell_at : List ℕ → Read CaseCell
-cell_at bytes = then_read (tag_at 3 bytes) cell_rest
+-- in how many ways an arm may leave its cell
+abbrev pub cells : Format → ℕ
+cells First = 3
+cells Second = 4
 
-unfoldable pub arm_at : List ℕ → Read CaseArm
-arm_at bytes = map_read (λ p. record { fields = p.0; cell = p.1.0; target = p.1.1 }) (pair_at (counted_at local_at 0 4) (pair_at cell_at local_at) bytes)
+unfoldable pub cell_at : Format → List ℕ → Read CaseCell
+cell_at f bytes = then_read (tag_at (cells f) bytes) cell_rest
+
+unfoldable pub arm_at : Format → List ℕ → Read CaseArm
+arm_at f bytes = map_read (λ p. record { fields = p.0; cell = p.1.0; target = p.1.1 }) (pair_at (counted_at local_at 0 4) (pair_at (cell_at f) local_at) bytes)
 
 unfoldable pub ret_at : List ℕ → Read Term
 ret_at bytes = map_read Ret (local_at bytes)
@@ -189,31 +195,49 @@ goto_at bytes = map_read Goto (local_at bytes)
 unfoldable pub if_at : List ℕ → Read Term
 if_at bytes = map_read (λ p. If p.0 p.1.0 p.1.1) (pair_at local_at (pair_at local_at local_at) bytes)
 
-unfoldable pub case_at : List ℕ → Read Term
-case_at bytes = map_read (λ p. Case p.0 p.1) (pair_at local_at (counted_at arm_at 0 64) bytes)
+unfoldable pub case_at : Format → List ℕ → Read Term
+case_at f bytes = map_read (λ p. Case p.0 p.1) (pair_at local_at (counted_at (arm_at f) 0 64) bytes)
 
-unfoldable pub exit_rest : ℕ → List ℕ → Read Term
-exit_rest zero bytes = ret_at bytes
-exit_rest (suc zero) bytes = tail_call_at bytes
-exit_rest (suc (suc zero)) bytes = goto_at bytes
-exit_rest (suc (suc (suc zero))) bytes = if_at bytes
-exit_rest (suc (suc (suc (suc tag)))) bytes = case_at bytes
+unfoldable pub exit_rest : Format → ℕ → List ℕ → Read Term
+exit_rest f zero bytes = ret_at bytes
+exit_rest f (suc zero) bytes = tail_call_at bytes
+exit_rest f (suc (suc zero)) bytes = goto_at bytes
+exit_rest f (suc (suc (suc zero))) bytes = if_at bytes
+exit_rest f (suc (suc (suc (suc tag)))) bytes = case_at f bytes
 
-unfoldable pub exit_at : List ℕ → Read Term
-exit_at bytes = then_read (tag_at 5 bytes) exit_rest
+unfoldable pub exit_at : Format → List ℕ → Read Term
+exit_at f bytes = then_read (tag_at 5 bytes) (exit_rest f)
 
 -- ---- blocks, functions and code
 
 unfoldable pub block_at : Format → List ℕ → Read Block
-block_at f bytes = map_read (λ p. record { params = p.0; lets = p.1.0; term = p.1.1 }) (pair_at (counted_at local_at 0 256) (pair_at (counted_at (let_at f) 0 256) exit_at) bytes)
+block_at f bytes = map_read (λ p. record { params = p.0; lets = p.1.0; term = p.1.1 }) (pair_at (counted_at local_at 0 256) (pair_at (counted_at (let_at f) 0 256) (exit_at f)) bytes)
 
--- the kinds of the parameters, of the result and of the further locals
-unfoldable pub header_at : List ℕ → Read (List Kind × (Kind × List Kind))
-header_at bytes = pair_at (counted_at kind_at 1 16) (pair_at kind_at (counted_at kind_at 0 240)) bytes
+-- a parameter's kind and its mark
+abbrev pub numbered_param : ℕ → Kind × Bool
+numbered_param n = if nat_lt n 67 then (numbered_kind n, false) else (numbered_kind (n - 67), true)
+
+-- the largest number of a parameter
+abbrev pub most_param : Format → ℕ
+most_param First = 66
+most_param Second = 133
+
+unfoldable pub param_at : Format → List ℕ → Read (Kind × Bool)
+param_at f bytes = map_read numbered_param (leb_at 4 0 (most_param f) bytes)
+
+-- the parameters, and the kinds of the result and of the further locals
+unfoldable pub header_at : Format → List ℕ → Read (List (Kind × Bool) × (Kind × List Kind))
+header_at f bytes = pair_at (counted_at (param_at f) 1 16) (pair_at kind_at (counted_at kind_at 0 240)) bytes
+
+abbrev pub kinds_of : List (Kind × Bool) → List Kind
+kinds_of ps = map (λ p. p.0) ps
+
+abbrev pub marks_of : List (Kind × Bool) → List Bool
+marks_of ps = map (λ p. p.1) ps
 
 unfoldable pub func_at : Format → List ℕ → Read Func
-func_at f bytes = map_read (λ p. record { name = p.0; params = p.1.0.0; result = p.1.0.1.0; locals = p.1.0.1.1; blocks = p.1.1 })
-    (pair_at (name_at is_lower) (pair_at header_at (counted_at (block_at f) 1 256)) bytes)
+func_at f bytes = map_read (λ p. record { name = p.0; params = kinds_of p.1.0.0; reads = marks_of p.1.0.0; result = p.1.0.1.0; locals = p.1.0.1.1; blocks = p.1.1 })
+    (pair_at (name_at is_lower) (pair_at (header_at f) (counted_at (block_at f) 1 256)) bytes)
 
 unfoldable pub tables_at : Format → List ℕ → Read Code
 tables_at f bytes = map_read (λ p. record { types = p.0; funcs = p.1 }) (pair_at (counted_at type_at 0 64) (counted_at (func_at f) 0 64) bytes)

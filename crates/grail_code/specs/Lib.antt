@@ -14,3 +14,4 @@ pub mod SoundLaws
 pub mod Limits
 pub mod RangeLaws
 pub mod ByName
+pub mod Params

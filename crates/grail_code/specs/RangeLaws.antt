@@ -1,7 +1,7 @@
 -- Laws, for the proofs of this crate and of those above it.
 -- Well-formed code within the limits whose names have their forms is within the ranges of the spelling. Which code is
 -- within those of which format.
-use Rattle.std.proofs.Common.{◌≡◌, ℕ, zero, suc, ◌*◌, ◌-◌, ◌<◌, ◌≤◌, Bool, List, [], ◌∷◌, ◌++◌, length, Option, Some, None, refl, sym, ap, ◌∙◌, subst, arith, length-append}
+use Rattle.std.proofs.Common.{◌≡◌, ℕ, zero, suc, ◌*◌, ◌-◌, ◌<◌, ◌≤◌, Bool, false, List, [], ◌∷◌, ◌++◌, length, Option, Some, None, refl, sym, ap, ◌∙◌, subst, arith, length-append}
 use Rattle.std.specs.Prelude.{slice_get, IsSomeAnd}
 use Rattle.std.specs.List.{AllByRecursion}
 use Rattle.std.specs.Option.{option_map}
@@ -18,7 +18,7 @@ use Rattle.grail_blocks.specs.declared.blocks.CaseCell.TheVariants as cell
 use Rattle.grail_code.specs.Code.{Op, Lit, Flag, Copy, Prim, Make, Call, Let, CaseArm, Term, Ret, Tail, Goto, If, Case, Block, Func, Code}
 use Rattle.grail_code.specs.WellFormed.{IsKnownKind, local_kinds, kind_of, HaveKinds, PlaceFits, Gives, LetFits, JumpFits, CellFits, ArmsFit, data_type, TermFits, BlockFits, BlocksFit, FuncFits, IsWellFormed}
 use Rattle.grail_code.specs.Limits.{FuncIsWithin, IsWithinLimits, HaveParams, TypeIsNamed, IsNamed}
-use Rattle.grail_code.specs.Spelling.{AreCounted, IsLocal, IsBlockNumber, FitsKind, FitsCon, FitsType, FitsPlace, FitsOp, FitsLet, FitsCell, FitsArm, FitsTerm, FitsBlock, FitsFunc, FitsCode, Format, First, Second, OpIsUndivided, BlockIsUndivided, FuncIsUndivided, IsUndivided}
+use Rattle.grail_code.specs.Spelling.{AreCounted, IsLocal, IsBlockNumber, FitsKind, FitsCon, FitsType, FitsPlace, FitsOp, FitsLet, FitsCell, FitsArm, FitsTerm, FitsBlock, FitsFunc, FitsCode, Format, First, Second, OpIsOld, IsNoLook, TermIsOld, BlockIsOld, FuncIsOld, IsOld, MarkIsOfFormat}
 
 -- ---- lists
 
@@ -117,25 +117,26 @@ let_fits p l f w b fit = by_target (kind_of f b.target) refl fit
 block_below : (f : Func) → FuncIsWithin f → (number b : ℕ) → JumpFits f number b → IsBlockNumber b
 block_below f w number b h = omega (arith, h.1, w.few_blocks)
 
-cell_fits : (f : Func) → FuncIsWithin f → (inline : Bool) (c : CaseCell) → CellFits f inline c → FitsCell c
+cell_fits : (f : Func) → FuncIsWithin f → (inline : Bool) (c : CaseCell) → CellFits f inline c → FitsCell Second c
 cell_fits f w inline cell.Inline h = tt
 cell_fits f w inline cell.Free h = tt
+cell_fits f w inline cell.Look h = tt
 cell_fits f w inline (cell.Keep d) h = local_below f w d kind.Dia h.1
 
 arms_fit : (f : Func) → FuncIsWithin f → (number : ℕ) (cs : List Constructor) (arms : List CaseArm) → AllByRecursion IsConstructor cs
-    → ArmsFit f number cs arms → (length arms ≡ length cs) × AllByRecursion FitsArm arms
+    → ArmsFit f number cs arms → (length arms ≡ length cs) × AllByRecursion (FitsArm Second) arms
 arms_fit f w number [] [] k h = (refl, tt)
 arms_fit f w number [] (a ∷ arms) k h = absurd h
 arms_fit f w number (c ∷ cs) [] k h = absurd h
 arms_fit f w number (c ∷ cs) (a ∷ arms) k h = let r = arms_fit f w number cs arms k.1 h.1 in
     (ap suc r.0, (record { fields = counted_locals f w 4 a.fields c.fields h.0.fields k.0.few_fields; cell = cell_fits f w c.inline a.cell h.0.cell; target = block_below f w number a.target h.0.jump }, r.1))
 
-term_fits : (p : Code) → IsWithinLimits p → (f : Func) → FuncIsWithin f → (number : ℕ) (t : Term) → TermFits p f number t → FitsTerm t
+term_fits : (p : Code) → IsWithinLimits p → (f : Func) → FuncIsWithin f → (number : ℕ) (t : Term) → TermFits p f number t → FitsTerm Second t
 term_fits p l f w number (Ret x) h = local_below f w x f.result h
 term_fits p l f w number (Tail func args) h = by_func (slice_get p.funcs func) refl h
   where
     by_func : (o : Option Func) → slice_get p.funcs func ≡ o → IsSomeAnd o (λ callee. HaveKinds f args callee.params × (callee.result ≡ f.result))
-        → FitsTerm (Tail func args)
+        → FitsTerm Second (Tail func args)
     by_func None e m = absurd m
     by_func (Some callee) e m = (let k = got_below p.funcs func callee e in omega (arith, k, l.few_funcs), counted_locals f w 16 args callee.params m.0 (all_got FuncIsWithin p.funcs func callee l.funcs e).few_params)
 term_fits p l f w number (Goto b) h = block_below f w number b h
@@ -143,14 +144,14 @@ term_fits p l f w number (If x first second) h = (local_below f w x kind.Flag h.
 term_fits p l f w number (Case x arms) h = by_kind (kind_of f x) refl h
   where
     by_def : (t : ℕ) (o : Option DataType) → slice_get p.types t ≡ o → kind_of f x ≡ Some (kind.Of t)
-        → IsSomeAnd o (λ d. ArmsFit f number d.cons arms) → FitsTerm (Case x arms)
+        → IsSomeAnd o (λ d. ArmsFit f number d.cons arms) → FitsTerm Second (Case x arms)
     by_def t None e k m = absurd m
     by_def t (Some d) e k m =
         let is : IsDataType d = all_got IsDataType p.types t d l.types.each e in
         let r = arms_fit f w number d.cons arms is.each m in
         (local_below f w x (kind.Of t) k, record { enough = omega arith; few = omega (arith, r.0, is.few_cons); each = r.1 })
 
-    by_kind : (o : Option Kind) → kind_of f x ≡ o → IsSomeAnd (data_type p.types o) (λ d. ArmsFit f number d.cons arms) → FitsTerm (Case x arms)
+    by_kind : (o : Option Kind) → kind_of f x ≡ o → IsSomeAnd (data_type p.types o) (λ d. ArmsFit f number d.cons arms) → FitsTerm Second (Case x arms)
     by_kind None e m = absurd m
     by_kind (Some kind.Int) e m = absurd m
     by_kind (Some kind.Flag) e m = absurd m
@@ -201,6 +202,8 @@ func_fits : (p : Code) → IsWithinLimits p → (f : Func) → FuncIsWithin f �
 func_fits p l f w h some named = let kinds = all_front (IsKnownKind p.types) f.params f.locals h.kinds in record {
   name = named;
   params = record { enough = some; few = w.few_params; each = known_all p.types f.params l.types.few_types kinds.0 };
+  as_many = w.as_many;
+  marks = all_of (λ mark. mark ≡ false) (MarkIsOfFormat Second) f.reads (λ mark k. tt) h.unread;
   result = known_fits p.types f.result l.types.few_types h.result;
   locals = record { enough = omega arith; few = w.few_locals; each = known_all p.types f.locals l.types.few_types kinds.1 };
   blocks = record { enough = w.some_blocks; few = w.few_blocks; each = blocks_fit p l f w 0 f.blocks w.few_lets h.blocks };
@@ -251,16 +254,34 @@ op_second f (Prim op x y) h = (tt, h.1, h.2)
 op_second f (Make c args at) h = h
 op_second f (Call func args) h = h
 
+cell_second : (f : Format) (c : CaseCell) → FitsCell f c → FitsCell Second c
+cell_second f cell.Inline h = tt
+cell_second f cell.Free h = tt
+cell_second f (cell.Keep d) h = h
+cell_second f cell.Look h = tt
+
+arm_second : (f : Format) (a : CaseArm) → FitsArm f a → FitsArm Second a
+arm_second f a h = record { fields = h.fields; cell = cell_second f a.cell h.cell; target = h.target }
+
+term_second : (f : Format) (t : Term) → FitsTerm f t → FitsTerm Second t
+term_second f (Ret x) h = h
+term_second f (Tail func args) h = h
+term_second f (Goto b) h = h
+term_second f (If x first second) h = h
+term_second f (Case x arms) h = (h.0, fit_all (FitsArm f) (FitsArm Second) 0 64 arms (arm_second f) h.1)
+
 let_second : (f : Format) (l : Let) → FitsLet f l → FitsLet Second l
 let_second f l h = record { target = h.target; op = op_second f l.op h.op }
 
 block_second : (f : Format) (b : Block) → FitsBlock f b → FitsBlock Second b
-block_second f b h = record { params = h.params; lets = fit_all (FitsLet f) (FitsLet Second) 0 256 b.lets (let_second f) h.lets; term = h.term }
+block_second f b h = record { params = h.params; lets = fit_all (FitsLet f) (FitsLet Second) 0 256 b.lets (let_second f) h.lets; term = term_second f b.term h.term }
 
 func_second : (f : Format) (g : Func) → FitsFunc f g → FitsFunc Second g
 func_second f g h = record {
   name = h.name;
   params = h.params;
+  as_many = h.as_many;
+  marks = all_of (MarkIsOfFormat f) (MarkIsOfFormat Second) g.reads (λ mark k. tt) h.marks;
   result = h.result;
   locals = h.locals;
   blocks = fit_all (FitsBlock f) (FitsBlock Second) 1 256 g.blocks (block_second f) h.blocks;
@@ -270,7 +291,7 @@ func_second f g h = record {
 pub fits_second : (f : Format) (p : Code) → FitsCode f p → FitsCode Second p
 fits_second f p h = record { types = h.types; funcs = fit_all (FitsFunc f) (FitsFunc Second) 0 64 p.funcs (func_second f) h.funcs }
 
--- ---- code without division is within the ranges of the first
+-- ---- code with what the first format has is within its ranges
 
 both_all : {A : Type 0} (P Q R : A → Type 0) (xs : List A) → ((x : A) → P x → Q x → R x) → AllByRecursion P xs → AllByRecursion Q xs → AllByRecursion R xs
 both_all P Q R [] f h g = tt
@@ -280,7 +301,7 @@ fit_both : {A : Type 0} (P Q R : A → Type 0) (least most : ℕ) (xs : List A) 
     → AreCounted R least most xs
 fit_both P Q R least most xs f h g = record { enough = h.enough; few = h.few; each = both_all P Q R xs f h.each g }
 
-op_first : (op : Op) → FitsOp Second op → OpIsUndivided op → FitsOp First op
+op_first : (op : Op) → FitsOp Second op → OpIsOld op → FitsOp First op
 op_first (Lit z) h u = h
 op_first (Flag b) h u = tt
 op_first (Copy x) h u = h
@@ -288,38 +309,69 @@ op_first (Prim op x y) h u = (u, h.1, h.2)
 op_first (Make c args at) h u = h
 op_first (Call func args) h u = h
 
-let_first : (l : Let) → FitsLet Second l → OpIsUndivided l.op → FitsLet First l
+cell_first : (c : CaseCell) → FitsCell Second c → IsNoLook c → FitsCell First c
+cell_first cell.Inline h u = tt
+cell_first cell.Free h u = tt
+cell_first (cell.Keep d) h u = h
+cell_first cell.Look h u = u
+
+arm_first : (a : CaseArm) → FitsArm Second a → IsNoLook a.cell → FitsArm First a
+arm_first a h u = record { fields = h.fields; cell = cell_first a.cell h.cell u; target = h.target }
+
+term_first : (t : Term) → FitsTerm Second t → TermIsOld t → FitsTerm First t
+term_first (Ret x) h u = h
+term_first (Tail func args) h u = h
+term_first (Goto b) h u = h
+term_first (If x first second) h u = h
+term_first (Case x arms) h u = (h.0, fit_both (FitsArm Second) (λ a. IsNoLook a.cell) (FitsArm First) 0 64 arms arm_first h.1 u)
+
+let_first : (l : Let) → FitsLet Second l → OpIsOld l.op → FitsLet First l
 let_first l h u = record { target = h.target; op = op_first l.op h.op u }
 
-block_first : (b : Block) → FitsBlock Second b → BlockIsUndivided b → FitsBlock First b
-block_first b h u = record { params = h.params; lets = fit_both (FitsLet Second) (λ l. OpIsUndivided l.op) (FitsLet First) 0 256 b.lets let_first h.lets u; term = h.term }
+block_first : (b : Block) → FitsBlock Second b → BlockIsOld b → FitsBlock First b
+block_first b h u = record { params = h.params; lets = fit_both (FitsLet Second) (λ l. OpIsOld l.op) (FitsLet First) 0 256 b.lets let_first h.lets u.lets; term = term_first b.term h.term u.term }
 
-func_first : (g : Func) → FitsFunc Second g → FuncIsUndivided g → FitsFunc First g
+func_first : (g : Func) → FitsFunc Second g → FuncIsOld g → FitsFunc First g
 func_first g h u = record {
   name = h.name;
   params = h.params;
+  as_many = h.as_many;
+  marks = u.marks;
   result = h.result;
   locals = h.locals;
-  blocks = fit_both (FitsBlock Second) BlockIsUndivided (FitsBlock First) 1 256 g.blocks block_first h.blocks u;
+  blocks = fit_both (FitsBlock Second) BlockIsOld (FitsBlock First) 1 256 g.blocks block_first h.blocks u.blocks;
 }
 
-pub fits_first : (p : Code) → FitsCode Second p → IsUndivided p → FitsCode First p
-fits_first p h u = record { types = h.types; funcs = fit_both (FitsFunc Second) FuncIsUndivided (FitsFunc First) 0 64 p.funcs func_first h.funcs u }
+pub fits_first : (p : Code) → FitsCode Second p → IsOld p → FitsCode First p
+fits_first p h u = record { types = h.types; funcs = fit_both (FitsFunc Second) FuncIsOld (FitsFunc First) 0 64 p.funcs func_first h.funcs u }
 
-op_undivided : (op : Op) → FitsOp First op → OpIsUndivided op
-op_undivided (Lit z) h = tt
-op_undivided (Flag b) h = tt
-op_undivided (Copy x) h = tt
-op_undivided (Prim op x y) h = h.0
-op_undivided (Make c args at) h = tt
-op_undivided (Call func args) h = tt
+op_old : (op : Op) → FitsOp First op → OpIsOld op
+op_old (Lit z) h = tt
+op_old (Flag b) h = tt
+op_old (Copy x) h = tt
+op_old (Prim op x y) h = h.0
+op_old (Make c args at) h = tt
+op_old (Call func args) h = tt
 
-block_undivided : (b : Block) → FitsBlock First b → BlockIsUndivided b
-block_undivided b h = all_of (FitsLet First) (λ l. OpIsUndivided l.op) b.lets (λ l k. op_undivided l.op k.op) h.lets.each
+cell_old : (c : CaseCell) → FitsCell First c → IsNoLook c
+cell_old cell.Inline h = tt
+cell_old cell.Free h = tt
+cell_old (cell.Keep d) h = tt
+cell_old cell.Look h = h
 
-func_undivided : (g : Func) → FitsFunc First g → FuncIsUndivided g
-func_undivided g h = all_of (FitsBlock First) BlockIsUndivided g.blocks block_undivided h.blocks.each
+term_old : (t : Term) → FitsTerm First t → TermIsOld t
+term_old (Ret x) h = tt
+term_old (Tail func args) h = tt
+term_old (Goto b) h = tt
+term_old (If x first second) h = tt
+term_old (Case x arms) h = all_of (FitsArm First) (λ a. IsNoLook a.cell) arms (λ a k. cell_old a.cell k.cell) h.1.each
 
--- Code within the ranges of the first has no division.
-pub first_undivided : (p : Code) → FitsCode First p → IsUndivided p
-first_undivided p h = all_of (FitsFunc First) FuncIsUndivided p.funcs func_undivided h.funcs.each
+block_old : (b : Block) → FitsBlock First b → BlockIsOld b
+block_old b h = record { lets = all_of (FitsLet First) (λ l. OpIsOld l.op) b.lets (λ l k. op_old l.op k.op) h.lets.each; term = term_old b.term h.term }
+
+func_old : (g : Func) → FitsFunc First g → FuncIsOld g
+func_old g h = record { marks = h.marks; blocks = all_of (FitsBlock First) BlockIsOld g.blocks block_old h.blocks.each }
+
+-- Code within the ranges of the first has nothing else.
+pub first_old : (p : Code) → FitsCode First p → IsOld p
+first_old p h = all_of (FitsFunc First) FuncIsOld p.funcs func_old h.funcs.each

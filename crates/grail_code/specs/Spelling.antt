@@ -3,7 +3,7 @@
 -- functions. It is a function of the format and the code, and each count is followed by exactly so many things. What
 -- stands behind the four bytes is the same in both formats, but the first has no division. `docs/GRAIL.md` tells it in
 -- words.
-use Rattle.std.specs.Prelude.{◌≡◌, ℕ, zero, suc, ◌+◌, ◌/◌, ◌%◌, ◌≤◌, ◌<◌, nat_lt, if◌then◌else◌, true, List, [], ◌∷◌, ◌++◌, length, take, flat_map, FitsSigned}
+use Rattle.std.specs.Prelude.{◌≡◌, ℕ, zero, suc, ◌+◌, ◌/◌, ◌%◌, ◌≤◌, ◌<◌, nat_lt, if◌then◌else◌, Bool, true, false, List, [], ◌∷◌, ◌++◌, length, take, flat_map, FitsSigned}
 use Rattle.std.specs.List.{AllByRecursion}
 use Rattle.std.specs.Int.{w32, cast_unsigned}
 use Rattle.camelot_values.specs.Names.{IsLowerName, IsUpperName}
@@ -20,9 +20,9 @@ use Rattle.grail_code.specs.Code.{Op, Lit, Flag, Copy, Prim, Make, Call, Let, Ca
 
 -- the formats of code
 pub data Format : Type 0 where
-  -- `GRL1`, without division
+  -- `GRL1`, without division, marks and looks
   First : Format
-  -- `GRL2`, with all operators
+  -- `GRL2`, with all of them
   Second : Format
 
 -- A whole number below 2 ^ 35 in LEB128, in as few bytes as it takes (DWARF Debugging Information Format, section 7.6):
@@ -91,6 +91,7 @@ let_bytes l = number l.target ++ op_bytes l.op
 abbrev pub cell_bytes : CaseCell → List ℕ
 cell_bytes cell.Inline = 0 ∷ []
 cell_bytes cell.Free = 1 ∷ []
+cell_bytes cell.Look = 3 ∷ []
 cell_bytes (cell.Keep x) = 2 ∷ number x
 
 abbrev pub arm_bytes : CaseArm → List ℕ
@@ -106,12 +107,22 @@ term_bytes (Case x arms) = 4 ∷ (number x ++ counted arm_bytes arms)
 abbrev pub block_bytes : Block → List ℕ
 block_bytes b = counted number b.params ++ counted let_bytes b.lets ++ term_bytes b.term
 
+-- The parameters, each with its mark: whether it is only looked at. One without a mark isn't.
+abbrev pub marked : List Kind → List Bool → List (Kind × Bool)
+marked [] marks = []
+marked (q ∷ qs) [] = (q, false) ∷ marked qs []
+marked (q ∷ qs) (b ∷ bs) = (q, b) ∷ marked qs bs
+
+-- a parameter that is only looked at goes by its kind's number behind those of all kinds
+abbrev pub param_code : Kind × Bool → ℕ
+param_code p = kind_code p.0 + (if p.1 then 67 else 0)
+
 -- a function's parameter
-abbrev pub param_bytes : Kind → List ℕ
-param_bytes = kind_bytes
+abbrev pub param_bytes : Kind × Bool → List ℕ
+param_bytes p = number (param_code p)
 
 abbrev pub func_bytes : Func → List ℕ
-func_bytes f = name f.name ++ counted param_bytes f.params ++ kind_bytes f.result ++ counted kind_bytes f.locals ++ counted block_bytes f.blocks
+func_bytes f = name f.name ++ counted param_bytes (marked f.params f.reads) ++ kind_bytes f.result ++ counted kind_bytes f.locals ++ counted block_bytes f.blocks
 
 -- the bytes `GRL1` or `GRL2`
 abbrev pub format_bytes : Format → List ℕ
@@ -121,26 +132,36 @@ format_bytes Second = 71 ∷ 82 ∷ 76 ∷ 50 ∷ []
 abbrev pub spelling : Format → Code → List ℕ
 spelling f p = format_bytes f ++ counted type_bytes p.types ++ counted func_bytes p.funcs
 
--- ---- code without division
+-- ---- code with what the first format has: no division, no mark of a parameter, and no arm that only looks at its cell
 
 abbrev pub IsNoDivision : Operator → Type 0
 IsNoDivision operator.Div = ⊥
 IsNoDivision operator.Mod = ⊥
 IsNoDivision op = Unit {0}
 
-abbrev pub OpIsUndivided : Op → Type 0
-OpIsUndivided (Prim op x y) = IsNoDivision op
-OpIsUndivided op = Unit {0}
+abbrev pub OpIsOld : Op → Type 0
+OpIsOld (Prim op x y) = IsNoDivision op
+OpIsOld op = Unit {0}
 
-abbrev pub BlockIsUndivided : Block → Type 0
-BlockIsUndivided b = AllByRecursion (λ l. OpIsUndivided l.op) b.lets
+abbrev pub IsNoLook : CaseCell → Type 0
+IsNoLook cell.Look = ⊥
+IsNoLook c = Unit {0}
 
-abbrev pub FuncIsUndivided : Func → Type 0
-FuncIsUndivided f = AllByRecursion BlockIsUndivided f.blocks
+abbrev pub TermIsOld : Term → Type 0
+TermIsOld (Case x arms) = AllByRecursion (λ a. IsNoLook a.cell) arms
+TermIsOld t = Unit {0}
 
--- no Div and no Mod stands in the code
-abbrev pub IsUndivided : Code → Type 0
-IsUndivided p = AllByRecursion FuncIsUndivided p.funcs
+pub record BlockIsOld (b : Block) : Type 0 where
+  pub lets : AllByRecursion (λ l. OpIsOld l.op) b.lets
+  pub term : TermIsOld b.term
+
+pub record FuncIsOld (f : Func) : Type 0 where
+  pub marks : AllByRecursion (λ b. b ≡ false) f.reads
+  pub blocks : AllByRecursion BlockIsOld f.blocks
+
+-- no Div, no Mod, no mark and no Look stands in the code
+abbrev pub IsOld : Code → Type 0
+IsOld p = AllByRecursion FuncIsOld p.funcs
 
 -- ---- what has a spelling: each number and each count is within its own limit, and each operator is of the format
 
@@ -189,30 +210,44 @@ pub record FitsLet (f : Format) (l : Let) : Type 0 where
   pub target : IsLocal l.target
   pub op : FitsOp f l.op
 
-abbrev pub FitsCell : CaseCell → Type 0
-FitsCell (cell.Keep x) = IsLocal x
-FitsCell c = Unit {0}
+-- what a format says of an arm that only looks at its cell
+abbrev pub HasLooks : Format → Type 0
+HasLooks First = ⊥
+HasLooks Second = Unit {0}
 
-pub record FitsArm (a : CaseArm) : Type 0 where
+abbrev pub FitsCell : Format → CaseCell → Type 0
+FitsCell f cell.Inline = Unit {0}
+FitsCell f cell.Free = Unit {0}
+FitsCell f (cell.Keep x) = IsLocal x
+FitsCell f cell.Look = HasLooks f
+
+pub record FitsArm (f : Format) (a : CaseArm) : Type 0 where
   pub fields : AreCounted IsLocal 0 4 a.fields
-  pub cell : FitsCell a.cell
+  pub cell : FitsCell f a.cell
   pub target : IsBlockNumber a.target
 
-abbrev pub FitsTerm : Term → Type 0
-FitsTerm (Ret x) = IsLocal x
-FitsTerm (Tail f args) = (f ≤ 63) × AreCounted IsLocal 0 16 args
-FitsTerm (Goto b) = IsBlockNumber b
-FitsTerm (If x first second) = IsLocal x × IsBlockNumber first × IsBlockNumber second
-FitsTerm (Case x arms) = IsLocal x × AreCounted FitsArm 0 64 arms
+abbrev pub FitsTerm : Format → Term → Type 0
+FitsTerm f (Ret x) = IsLocal x
+FitsTerm f (Tail func args) = (func ≤ 63) × AreCounted IsLocal 0 16 args
+FitsTerm f (Goto b) = IsBlockNumber b
+FitsTerm f (If x first second) = IsLocal x × IsBlockNumber first × IsBlockNumber second
+FitsTerm f (Case x arms) = IsLocal x × AreCounted (FitsArm f) 0 64 arms
+
+-- the marks of a format: the first has none
+abbrev pub MarkIsOfFormat : Format → Bool → Type 0
+MarkIsOfFormat First b = b ≡ false
+MarkIsOfFormat Second b = Unit {0}
 
 pub record FitsBlock (f : Format) (b : Block) : Type 0 where
   pub params : AreCounted IsLocal 0 256 b.params
   pub lets : AreCounted (FitsLet f) 0 256 b.lets
-  pub term : FitsTerm b.term
+  pub term : FitsTerm f b.term
 
 pub record FitsFunc (f : Format) (g : Func) : Type 0 where
   pub name : IsLowerName g.name
   pub params : AreCounted FitsKind 1 16 g.params
+  pub as_many : length g.reads ≡ length g.params
+  pub marks : AllByRecursion (MarkIsOfFormat f) g.reads
   pub result : FitsKind g.result
   pub locals : AreCounted FitsKind 0 240 g.locals
   pub blocks : AreCounted (FitsBlock f) 1 256 g.blocks

@@ -77,6 +77,7 @@ JumpFits f number b = (number < b) × (b < length f.blocks)
 abbrev pub CellFits : Func → Bool → CaseCell → Type 0
 CellFits f inline cell.Inline = IsTrue inline
 CellFits f inline cell.Free = inline ≡ false
+CellFits f inline cell.Look = ⊥
 CellFits f inline (cell.Keep d) = (inline ≡ false) × (kind_of f d ≡ Some kind.Dia)
 
 pub record ArmFits (f : Func) (number : ℕ) (c : Constructor) (a : CaseArm) : Type 0 where
@@ -121,6 +122,8 @@ BlocksFit p f number [] = Unit {0}
 BlocksFit p f number (b ∷ bs) = BlockFits p f number b × BlocksFit p f (suc number) bs
 
 pub record FuncFits (p : Code) (f : Func) : Type 0 where
+  -- no parameter is only looked at, until the rule of uses speaks of such
+  pub unread : AllByRecursion (λ mark. mark ≡ false) f.reads
   pub kinds : AllByRecursion (IsKnownKind p.types) (local_kinds f)
   pub result : IsKnownKind p.types f.result
   pub blocks : BlocksFit p f 0 f.blocks

@@ -4,7 +4,7 @@ ghost use Rattle.std.specs.Prelude.{◌≡◌, ℕ, List, ◌∷◌, ◌++◌, �
 ghost use Rattle.grail_code.specs.Code.{Code};
 ghost use Rattle.grail_code.specs.Limits.{IsWithinLimits, HaveParams, IsNamed};
 ghost use Rattle.grail_code.specs.WellFormed.{IsWellFormed};
-ghost use Rattle.grail_code.specs.Spelling.{Format, First, Second, spelling, FitsCode, IsUndivided, Decoded, Spelled, Means};
+ghost use Rattle.grail_code.specs.Spelling.{Format, First, Second, spelling, FitsCode, IsOld, Decoded, Spelled, Means};
 ghost use Rattle.grail_code.specs.Decoding.{IsMigration};
 
 /// Each text is the spelling of one code at most, in one format, and no spelling is the beginning of another.
@@ -42,10 +42,10 @@ pub fn law_of_formats()
     // Code within the ranges has a spelling in the second format.
     ensures second { (p : Code) → FitsCode Second p → Means (spelling Second p) (Spelled p) }
     // Where it has no division, it has one in the first format too.
-    ensures first { (p : Code) → FitsCode Second p → IsUndivided p → Means (spelling First p) (Spelled p) }
+    ensures first { (p : Code) → FitsCode Second p → IsOld p → Means (spelling First p) (Spelled p) }
     // Bytes that spell the code are the former, or the latter where it has no division.
     ensures only { (p : Code) (bytes : List ℕ) → Means bytes (Spelled p)
-        → (bytes ≡ spelling Second p) ⊎ ((bytes ≡ spelling First p) × IsUndivided p) }
+        → (bytes ≡ spelling Second p) ⊎ ((bytes ≡ spelling First p) × IsOld p) }
     // The code that bytes spell is within the ranges.
     ensures within { (p : Code) (bytes : List ℕ) → Means bytes (Spelled p) → FitsCode Second p }
 {}

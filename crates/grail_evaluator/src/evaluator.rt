@@ -361,7 +361,7 @@ fn take(counts: Counts, mut env: Vec<Bound>, arm: &CaseArm) -> Result<BlockEnd, 
     ensures used { IfOk result (OnEnd (Stepped 1 counts)) }
 {
     match arm.cell {
-        CaseCell::Inline => Ok(BlockEnd::Jumps {
+        CaseCell::Inline | CaseCell::Look => Ok(BlockEnd::Jumps {
             counts,
             target: arm.target,
             env,

@@ -107,6 +107,7 @@ module _ (p : Code) (c : Cert) (known : Known p c) where
 
         by_cell : (d : CaseCell) → (found integers p.types (pos c.unit) a on con m.fields d).left ≡ pos (given c.unit d node)
         by_cell cell.Inline = by_heap (is_heap_con p.types con)
+        by_cell cell.Look = by_heap (is_heap_con p.types con)
         by_cell cell.Free = let n = most (is_heap_con p.types con) in let u : c.unit ≤ 2147483648 = known.right.within.unit in
             ap (λ k. k +ℤ pos c.unit) (by_heap (is_heap_con p.types con)) ∙ sym (plus_is node c.unit) ∙ ap pos (sym (small (node + c.unit) (omega (arith, n, u))))
         by_cell (cell.Keep x) = by_heap (is_heap_con p.types con)
@@ -118,6 +119,7 @@ module _ (p : Code) (c : Cert) (known : Known p c) where
       where
         by_cell : (d : CaseCell) → AreHeld f (bound slots m.fields matched) (found integers p.types (pos c.unit) a on con m.fields d).carried
         by_cell cell.Inline = bound_held f slots a.carried m.fields matched (a.carried on) all held
+        by_cell cell.Look = bound_held f slots a.carried m.fields matched (a.carried on) all held
         by_cell cell.Free = bound_held f slots a.carried m.fields matched (a.carried on) all held
         by_cell (cell.Keep x) = bound_held f slots a.carried m.fields matched (a.carried on) all held
 

@@ -141,6 +141,7 @@ jump_short types f own s left have to = line_short types f s left have (line_at 
 abbrev pub given : ℕ → CaseCell → ℕ → ℕ
 given unit cell.Free left = capped (left + unit)
 given unit cell.Inline left = left
+given unit cell.Look left = left
 given unit (cell.Keep d) left = left
 
 abbrev pub left_in_arm : List DataType → ℕ → ℕ → Vector → (con : ℕ) → CaseCell → ℕ

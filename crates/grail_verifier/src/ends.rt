@@ -106,7 +106,7 @@ fn given(unit: u64, cell: CaseCell, left: u64) -> u64
 {
     match cell {
         CaseCell::Free => left.saturating_add(unit),
-        CaseCell::Inline | CaseCell::Keep(_) => left,
+        CaseCell::Inline | CaseCell::Keep(_) | CaseCell::Look => left,
     }
 }
 

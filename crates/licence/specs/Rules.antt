@@ -92,6 +92,7 @@ found amounts types unit account on con fields cell.Free = record {
   carried = (opened amounts types account on con fields).carried;
 }
 found amounts types unit account on con fields cell.Inline = opened amounts types account on con fields
+found amounts types unit account on con fields cell.Look = opened amounts types account on con fields
 found amounts types unit account on con fields (cell.Keep d) = opened amounts types account on con fields
 
 -- where an arm begins

@@ -263,6 +263,7 @@ module _ (us : List Unknown) where
           carried = bound_is carried a.fields (carried on) i;
         }
         by_cell cell.Inline = λ i. record { left = found_is left (carried on) con i; carried = bound_is carried a.fields (carried on) i }
+        by_cell cell.Look = λ i. record { left = found_is left (carried on) con i; carried = bound_is carried a.fields (carried on) i }
         by_cell (cell.Keep d) = λ i. record { left = found_is left (carried on) con i; carried = bound_is carried a.fields (carried on) i }
 
     arms_are : (f : Func) (s : Site) (left : Dense) (carried : Carried Unknown) (on con : ℕ) (arms : List CaseArm)

@@ -113,6 +113,7 @@ jump_rows types us f func left carried to =
 abbrev pub freed : CaseCell → Dense → Dense
 freed cell.Free left = record { constant = more left.constant (pos 1); factors = left.factors }
 freed cell.Inline left = left
+freed cell.Look left = left
 freed (cell.Keep d) left = left
 
 abbrev pub found : List DataType → List Unknown → Dense → Units Unknown → (con : ℕ) → Dense

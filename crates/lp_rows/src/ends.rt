@@ -81,7 +81,7 @@ fn left_in_arm(
     }
     match cell {
         CaseCell::Free => form.give_cell(),
-        CaseCell::Inline | CaseCell::Keep(_) => {}
+        CaseCell::Inline | CaseCell::Keep(_) | CaseCell::Look => {}
     }
     Ok(form)
 }

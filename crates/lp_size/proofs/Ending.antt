@@ -98,6 +98,7 @@ module _ (p : Code) (func : ℕ) (f : Func) (there : slice_get p.funcs func ≡ 
           carried : (c : CaseCell) (x : ℕ) → (found forms p.types one_cell account on con a.fields c).carried x ≡ units_of (bound func block slots a.fields (origin_at func block slots on) x)
           carried cell.Free = arm_carried func block slots account.carried a.fields on h
           carried cell.Inline = arm_carried func block slots account.carried a.fields on h
+          carried cell.Look = arm_carried func block slots account.carried a.fields on h
           carried (cell.Keep d) = arm_carried func block slots account.carried a.fields on h
 
           node : (opened forms p.types account on con a.fields).left.factor (BlockNeed func a.target) ≡ pos 0
@@ -107,6 +108,7 @@ module _ (p : Code) (func : ℕ) (f : Func) (there : slice_get p.funcs func ≡ 
           left : (c : CaseCell) → (found forms p.types one_cell account on con a.fields c).left.factor (BlockNeed func a.target) ≡ pos 0
           left cell.Free = sum_none ((opened forms p.types account on con a.fields).left.factor (BlockNeed func a.target)) (pos 0) node refl
           left cell.Inline = node
+          left cell.Look = node
           left (cell.Keep d) = node
 
       arms_kept : (on con total : ℕ) (cs : List Constructor) (arms : List CaseArm) → ArmsFit f block cs arms

@@ -83,6 +83,7 @@ fn show_arm(out: &mut String, arm: &CaseArm) -> Result<(), AllocError> {
     match arm.cell {
         CaseCell::Inline => out.push_str(" inline")?,
         CaseCell::Free => out.push_str(" free")?,
+        CaseCell::Look => out.push_str(" look")?,
         CaseCell::Keep(diamond) => write!(out, " keep {diamond}")?,
     }
     write!(out, " to {}", arm.target)

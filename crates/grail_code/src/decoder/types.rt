@@ -2,12 +2,24 @@ ghost use Rattle.std.specs.Prelude.{◌≡◌, map};
 ghost use Rattle.camelot_values.specs.Kinds.{Constructor, DataType, constructor_of, data_type_of};
 ghost use Rattle.camelot_values.specs.declared.kinds.Kind.{Kind};
 ghost use Rattle.grail_code.specs.Reader.{Gives};
-ghost use Rattle.grail_code.specs.CodeReader.{kind_at, layout_at, con_at, type_at};
+ghost use Rattle.grail_code.specs.CodeReader.{numbered_kind, kind_at, layout_at, con_at, type_at};
 
 use super::names::{Letter, name};
 use super::reader::{Decode, Halt, Version, list, number};
 use camelot_values::{Con, Kind, TypeDef};
 use std::alloc::Global;
+
+/// The kind of this number.
+pub fn numbered(code: u32) -> Kind
+    ensures { result ≡ numbered_kind code }
+{
+    match code {
+        0 => Kind::Int,
+        1 => Kind::Flag,
+        2 => Kind::Dia,
+        _ => Kind::Of(code - 3),
+    }
+}
 
 /// A kind.
 #[tactic(auto, unfolding(crate::specs::CodeReader::kind_at))]
@@ -15,13 +27,7 @@ pub fn kind(bytes: &[u8]) -> Result<(Kind, &[u8]), Halt>
     ensures { Gives (λ x. (x.0, x.1.now)) result (kind_at bytes.now) }
 {
     let (code, rest) = number(4, 0, 66, bytes)?;
-    let kind = match code {
-        0 => Kind::Int,
-        1 => Kind::Flag,
-        2 => Kind::Dia,
-        _ => Kind::Of(code - 3),
-    };
-    Ok((kind, rest))
+    Ok((numbered(code), rest))
 }
 
 impl Decode for Kind {

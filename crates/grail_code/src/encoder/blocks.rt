@@ -1,11 +1,13 @@
-ghost use Rattle.std.specs.Prelude.{◌≡◌, ◌++◌, ◌∷◌, map, ◌≤◌, OnOk};
+ghost use Rattle.std.specs.Prelude.{◌≡◌, ◌++◌, ◌∷◌, length, map, flat_map, ◌≤◌, OnOk};
+ghost use Rattle.std.specs.List.{AllByRecursion};
 ghost use Rattle.grail_code.specs.Code.{CaseArm as PlainArm, Block as PlainBlock, Func as PlainFunc, arm_of, term_of, block_of, func_of};
-ghost use Rattle.grail_code.specs.Spelling.{Second, number, counted, arm_bytes, cell_bytes, term_bytes, block_bytes, func_bytes, AreCounted, FitsArm, FitsTerm, FitsBlock, FitsFunc};
+ghost use Rattle.grail_code.specs.Spelling.{Second, number, counted, arm_bytes, cell_bytes, term_bytes, block_bytes, func_bytes, param_bytes, marked, AreCounted, FitsKind, FitsArm, FitsTerm, FitsBlock, FitsFunc};
 
 use super::lets::{call, tagged};
-use super::types::name;
+use super::types::{kind_code, name};
 use super::writer::{Encode, list, number};
 use crate::code::{Block, Func};
+use camelot_values::Kind;
 use grail_blocks::{CaseArm, CaseCell, Term};
 use std::alloc::AllocError;
 
@@ -19,6 +21,7 @@ fn cell(out: &mut Vec<u8>, cell: CaseCell) -> Result<(), AllocError>
             out.push(2)?;
             number(out, diamond)?;
         }
+        CaseCell::Look => out.push(3)?,
     }
     Ok(())
 }
@@ -28,7 +31,7 @@ impl Encode for CaseArm {
 
     ghost plain = { arm_of };
 
-    ghost Fits = { FitsArm };
+    ghost Fits = { FitsArm Second };
 
     ghost spell = { arm_bytes };
 
@@ -48,7 +51,7 @@ fn branch(out: &mut Vec<u8>, cond: u32, yes: u32, no: u32) -> Result<(), AllocEr
 }
 
 fn case(out: &mut Vec<u8>, on: u32, arms: &[CaseArm]) -> Result<(), AllocError>
-    requires { AreCounted FitsArm 0 64 (map arm_of arms.now) }
+    requires { AreCounted (FitsArm Second) 0 64 (map arm_of arms.now) }
     ensures { OnOk result (out.new.items ≡ out.old.items ++ (4 ∷ (number on ++ counted arm_bytes (map arm_of arms.now)))) }
 {
     tagged(out, 4, on)?;
@@ -56,7 +59,7 @@ fn case(out: &mut Vec<u8>, on: u32, arms: &[CaseArm]) -> Result<(), AllocError>
 }
 
 fn term(out: &mut Vec<u8>, term: &Term) -> Result<(), AllocError>
-    requires { FitsTerm (term_of term.now) }
+    requires { FitsTerm Second (term_of term.now) }
     ensures { OnOk result (out.new.items ≡ out.old.items ++ term_bytes (term_of term.now)) }
 {
     match term {
@@ -84,6 +87,39 @@ impl Encode for Block {
     }
 }
 
+// A parameter of this kind, and whether it is only looked at.
+fn param(out: &mut Vec<u8>, kind: Kind, read: bool) -> Result<(), AllocError>
+    requires { FitsKind kind }
+    ensures { OnOk result (out.new.items ≡ out.old.items ++ param_bytes (kind, read)) }
+{
+    let behind = if read { 67 } else { 0 };
+    number(out, kind_code(kind) + behind)
+}
+
+// The parameters, each with its mark.
+fn each_param(out: &mut Vec<u8>, kinds: &[Kind], reads: &[bool]) -> Result<(), AllocError>
+    requires as_many { length reads.now ≡ length kinds.now }
+    requires fit { AllByRecursion FitsKind kinds.now }
+    ensures { OnOk result (out.new.items ≡ out.old.items ++ flat_map param_bytes (marked kinds.now reads.now)) }
+{
+    'params: for (place, kind) in kinds.iter().enumerate() {
+        param(out, *kind, reads[place])?;
+    }
+    Ok(())
+}
+
+// How many parameters there are, and each.
+#[tactic(auto, using(crate::proofs::SpellingParams::params_written))]
+fn params(out: &mut Vec<u8>, kinds: &[Kind], reads: &[bool]) -> Result<(), AllocError>
+    requires few { length kinds.now ≤ 16 }
+    requires as_many { length reads.now ≡ length kinds.now }
+    requires fit { AllByRecursion FitsKind kinds.now }
+    ensures { OnOk result (out.new.items ≡ out.old.items ++ counted param_bytes (marked kinds.now reads.now)) }
+{
+    number(out, kinds.len() as u32)?;
+    each_param(out, kinds, reads)
+}
+
 impl Encode for Func {
     ghost Plain = { PlainFunc };
 
@@ -95,7 +131,7 @@ impl Encode for Func {
 
     fn encode(&self, out: &mut Vec<u8>) -> Result<(), AllocError> {
         name(out, &self.name)?;
-        list(out, &self.params)?;
+        params(out, &self.params, &self.reads)?;
         self.result.encode(out)?;
         list(out, &self.locals)?;
         list(out, &self.blocks)

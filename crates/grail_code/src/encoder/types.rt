@@ -1,7 +1,7 @@
 ghost use Rattle.std.specs.Prelude.{◌≡◌, ◌++◌, length, ◌≤◌, OnOk};
 ghost use Rattle.camelot_values.specs.Kinds.{Constructor, DataType, constructor_of, data_type_of};
 ghost use Rattle.camelot_values.specs.declared.kinds.Kind.{Kind};
-ghost use Rattle.grail_code.specs.Spelling.{name, kind_bytes, con_bytes, type_bytes, FitsKind, FitsCon, FitsType};
+ghost use Rattle.grail_code.specs.Spelling.{name, kind_code, kind_bytes, con_bytes, type_bytes, FitsKind, FitsCon, FitsType};
 
 use super::writer::{Encode, list, number};
 use camelot_values::{Con, Kind, TypeDef, Word};
@@ -18,6 +18,19 @@ pub fn name(out: &mut Vec<u8>, word: &Word) -> Result<(), AllocError>
     Ok(())
 }
 
+/// The number of a kind.
+pub fn kind_code(kind: Kind) -> u32
+    requires { FitsKind kind }
+    ensures { result ≡ kind_code kind }
+{
+    match kind {
+        Kind::Int => 0,
+        Kind::Flag => 1,
+        Kind::Dia => 2,
+        Kind::Of(number) => 3 + number,
+    }
+}
+
 impl Encode for Kind {
     ghost Plain = { Kind };
 
@@ -28,13 +41,7 @@ impl Encode for Kind {
     ghost spell = { kind_bytes };
 
     fn encode(&self, out: &mut Vec<u8>) -> Result<(), AllocError> {
-        let code = match *self {
-            Kind::Int => 0,
-            Kind::Flag => 1,
-            Kind::Dia => 2,
-            Kind::Of(number) => 3 + number,
-        };
-        number(out, code)
+        number(out, kind_code(*self))
     }
 }
 

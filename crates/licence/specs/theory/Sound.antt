@@ -54,6 +54,7 @@ fits_at p f number b fits is = let n : 0 + number ≡ number = omega arith in su
 
 effect_safe : (types : List DataType) (q : Kind) (c : CaseCell) (o : Outcome Value) → IsSafe types q o → IsSafe types q (cell_effect c o)
 effect_safe types q cell.Inline o h = h
+effect_safe types q cell.Look o h = h
 effect_safe types q cell.Free o h = yields_after (Fits types q) 0 0 1 o h
 effect_safe types q (cell.Keep d) o h = h
 
@@ -312,6 +313,7 @@ way_of f h s (b ∷ arms) (suc i) a all e = way_of f h s arms i a all.1 e
 cell_total : (types : List DataType) (f : Func) (h : ℕ → Bool) (s : State) (env : Locals) (carried : Carried ℕ) (c : CaseCell)
     → total types f (after h s (map Bind (kept_diamond c))) (with_cell c env) carried ≤ total types f s env carried
 cell_total types f h s env carried cell.Inline = omega arith
+cell_total types f h s env carried cell.Look = omega arith
 cell_total types f h s env carried cell.Free = omega arith
 cell_total types f h s env carried (cell.Keep d) = bind_plain types f s env carried d value.Dia refl
 
@@ -374,6 +376,7 @@ con_of_arm types con i vs (Some q) g e = by_type (type_of types con) refl g.0
 abbrev with_price : ℕ → CaseCell → ℕ → ℕ
 with_price unit cell.Free n = n + unit
 with_price unit cell.Inline n = n
+with_price unit cell.Look n = n
 with_price unit (cell.Keep d) n = n
 
 -- An arm begins with what was there, what the matched node carried, and a cell's price where its cell is given back.
@@ -458,6 +461,7 @@ arm_worth p f book func number b env s account e con vs a bound target t less th
     by_cell : (c : CaseCell) (u : State) (bindings : Locals) → node_open.left + total p.types f u bindings node_open.carried ≤ worth p.types f s env account
         → worth p.types f u bindings (found naturals p.types book.unit account t.on con a.fields c) ≤ with_price book.unit c (worth p.types f s env account)
     by_cell cell.Inline u bindings x = x
+    by_cell cell.Look u bindings x = x
     by_cell cell.Free u bindings x = omega (arith, x)
     by_cell (cell.Keep d) u bindings x = x
 
@@ -469,6 +473,7 @@ arm_worth p f book func number b env s account e con vs a bound target t less th
 effect_paid : (q : Kind) (types : List DataType) (u top middle : ℕ) (left : Value → ℕ) (c : CaseCell) (o : Outcome Value)
     → middle ≤ with_price u c top → IsSafe types q o → IsPaidBy u middle left o → IsPaidBy u top left (cell_effect c o)
 effect_paid q types u top middle left cell.Inline o less safe h = paid_more (Fits types q) u middle top left left o less (λ v y. omega arith) safe h
+effect_paid q types u top middle left cell.Look o less safe h = paid_more (Fits types q) u middle top left left o less (λ v y. omega arith) safe h
 effect_paid q types u top middle left cell.Free o less safe h = paid_behind_free u top middle left o less h
 effect_paid q types u top middle left (cell.Keep d) o less safe h = paid_more (Fits types q) u middle top left left o less (λ v y. omega arith) safe h
 

@@ -241,6 +241,7 @@ arm_same p book a b on con m e = by_cell m.cell
 
     by_cell : (c : CaseCell) → Same (found naturals p.types book.unit a on con m.fields c) (found integers p.types (pos book.unit) b on con m.fields c)
     by_cell cell.Inline = node
+    by_cell cell.Look = node
     by_cell cell.Free = record { left = ap (λ m. m +ℤ pos book.unit) node.left ∙ sym (plus_is (opened naturals p.types a on con m.fields).left book.unit); carried = node.carried }
     by_cell (cell.Keep d) = node
 

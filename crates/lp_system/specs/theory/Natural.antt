@@ -192,6 +192,7 @@ module _ {A B : Type 0} (R : A → B → Type 0) (amounts : Amounts A) (others :
         carried = node.carried;
       }
       by_cell cell.Inline = node
+      by_cell cell.Look = node
       by_cell (cell.Keep d) = node
 
   -- ---- lets and ends

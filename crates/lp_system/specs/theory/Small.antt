@@ -196,6 +196,7 @@ module _ (limit : ℕ) (room : 2 ≤ limit) where
 
         by_cell : (c : CaseCell) → SmallAccount (k + 2) (found forms p.types book.unit a on con arm.fields c)
         by_cell cell.Inline = as_node
+        by_cell cell.Look = as_node
         by_cell cell.Free = record {
           left = sized_more (k + 1 + 1) (k + 2) (forms.plus (opened forms p.types a on con arm.fields).left book.unit) (omega arith) (sized_plus (k + 1) 1 (opened forms p.types a on con arm.fields).left book.unit node.left h.unit);
           carried = node.carried;
