@@ -12,6 +12,7 @@ ghost use Rattle.grail_code.specs.Code.{Func, Code};
 ghost use Rattle.grail_code.specs.Limits.{IsWithinLimits};
 ghost use Rattle.grail_code.specs.Meaning.{run_of};
 ghost use Rattle.grail_code.specs.WellFormed.{IsWellFormed};
+ghost use Rattle.grail_code.specs.Unread.{AreUnread};
 ghost use Rattle.cell_machine.specs.Cells.{inline_base};
 ghost use Rattle.cell_machine.specs.Coming.{IsWithinRoom, IsOnCourse, IsOnWay, KeepsCourse, EndsAsMeant};
 ghost use Rattle.cell_machine.specs.Dead.{live, live_next};
@@ -19,7 +20,7 @@ ghost use Rattle.cell_machine.specs.Loading.{cells_from, begun, steps};
 ghost use Rattle.licence.specs.Licensed.{Licensed, IsLicensed};
 ghost use Rattle.cell_machine.specs.Plans.{IsPlan, RunsAsPlanned};
 ghost use Rattle.cell_machine.specs.Wide.{wide, Widens};
-ghost use Rattle.cell_machine.specs.Owners.{TwoTake, OneTakesTwice, FreeIsTaken};
+ghost use Rattle.cell_machine.specs.Owners.{TwoTake, OneTakesTwice, FreeIsTaken, LoanIsTaken};
 ghost use Rattle.cell_machine.specs.Sound.{IsSound};
 ghost use Rattle.cell_machine.specs.Stands.{Stands, footprint, RepeatsNone};
 ghost use Rattle.cell_machine.specs.State.{Configuration, Running};
@@ -112,13 +113,16 @@ pub fn law_of_words()
         → length (cells_from types 0 (parts args)) ≡ cells_among types args }
 {}
 
-/// Each owned cell has one owner. A state is not sound where two ready locals own the same cell, where one owns a cell
-/// twice, or where it owns a cell of the free list.
+/// Each owned cell has one owner. A state is not sound where two ready locals own the same cell, where the value of one,
+/// owned or lent, takes a cell twice, or where it takes a cell of the free list. Nor is it where a value that is lent to
+/// a frame shares a cell with what this frame or a younger one owns.
 pub fn law_of_owners()
     // No sound state has two ready locals that own one cell.
     ensures two { (program : Code) (s : Configuration) → AreTypes program.types → TwoTake program s → ¬ (IsSound program s) }
-    // In none does a local own a cell twice.
+    // In none does the value of a local take a cell twice.
     ensures twice { (program : Code) (s : Configuration) → AreTypes program.types → OneTakesTwice program s → ¬ (IsSound program s) }
-    // In none does a local own a cell of the free list.
+    // In none does it take a cell of the free list.
     ensures free { (program : Code) (s : Configuration) → AreTypes program.types → FreeIsTaken program s → ¬ (IsSound program s) }
+    // In none does a lent value share a cell with an owned one of its own frame or of a younger one.
+    ensures loans { (program : Code) (s : Configuration) → AreTypes program.types → LoanIsTaken program s → ¬ (IsSound program s) }
 {}

@@ -1,12 +1,13 @@
 -- Private: words for functions of this crate.
 -- The lines of a function, block by block.
-use Rattle.std.specs.Prelude.{◌≡◌, ◌≢◌, ◌==◌, cond, ℕ, ◌<◌, ◌≤◌, nat_le, nat_lt, ◌&&◌, if◌then◌else◌, min, Option, Some, None, List, [], ◌∷◌, length, map, IsTrue, IsSomeAnd}
+use Rattle.std.specs.Prelude.{◌≡◌, ◌≢◌, ◌==◌, cond, ℕ, ◌<◌, ◌≤◌, nat_le, nat_lt, ◌&&◌, if◌then◌else◌, min, Bool, slice_get, Option, Some, None, List, [], ◌∷◌, length, map, IsTrue, IsSomeAnd}
 use Rattle.std.specs.List.{AllByRecursion, range_with_len}
 use Rattle.camelot_values.specs.Kinds.{DataType, type_of}
 use Rattle.camelot_values.specs.declared.kinds.Kind.TheVariants.{Of}
 use Rattle.camelot_values.specs.Lists.{Ascend, is_among}
 use Rattle.grail_blocks.specs.Events.{params_at}
 use Rattle.grail_code.specs.Code.{Func, Code}
+use Rattle.grail_code.specs.WellFormed.{local_kinds, looked_in}
 use Rattle.annotations.specs.Vectors.{Vector, is_heap_con}
 use Rattle.certificate.specs.Certificates.{BlockCert, MakeCert, FuncCert, Cert, MakesAscend}
 use Rattle.licence.specs.Fitting.{IsOfKind, VarFits, MakeFits, IsRightAt, IsRightIn}
@@ -15,6 +16,10 @@ use Rattle.licence.specs.Fitting.{IsOfKind, VarFits, MakeFits, IsRightAt, IsRigh
 pub record HasParams (f : Func) : Type 0 where
   pub ascending : AllByRecursion (λ b. Ascend b.params) f.blocks
   pub entry : params_at f.blocks 0 ≡ range_with_len 0 (length f.params)
+
+-- These marks say of each local of the function whether some arm that only looks at its cell has it as a field.
+abbrev pub AreLooked : Func → List Bool → Type 0
+AreLooked f marks = (x : ℕ) → x < length (local_kinds f) → slice_get marks x ≡ Some (is_among (looked_in f) x)
 
 -- the lines of this block and of later ones
 abbrev pub lines_from : ℕ → List BlockCert → List BlockCert

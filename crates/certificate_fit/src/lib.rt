@@ -5,6 +5,7 @@ mod blocks;
 mod fit;
 pub mod laws;
 mod lines;
+mod looks;
 mod makes;
 mod own;
 mod vars;

@@ -2,7 +2,7 @@ ghost use Rattle.std.specs.Prelude.{◌≡◌, ◌↔◌, ◌<◌, IsTrue, lengt
 ghost use Rattle.annotations.specs.Tables.{table_of};
 ghost use Rattle.grail_code.specs.Code.{code_of, func_of};
 ghost use Rattle.certificate.specs.Words.{block_of, make_of};
-ghost use Rattle.certificate_fit.specs.Shapes.{HasParams, lines_from, makes_from, AreLinesFrom, AreMakesFrom, FrontFits, LineFits, MakesFitAt, first_left};
+ghost use Rattle.certificate_fit.specs.Shapes.{AreLooked, HasParams, lines_from, makes_from, AreLinesFrom, AreMakesFrom, FrontFits, LineFits, MakesFitAt, first_left};
 
 use crate::makes::make_fits;
 use crate::own::params_at;
@@ -41,8 +41,16 @@ pub(crate) fn makes_from(makes: &[MakeCert], number: u32) -> &[MakeCert]
 
 // Whether the foremost line is right at this block: it is of a block after the first, and what it says of the block's
 // parameters fits. Where it's of a later block, this one has no line, as only the first has.
-fn front_fits(code: &Code, table: &ReachTable, func: &Func, line: &BlockCert, number: u32) -> bool
+fn front_fits(
+    code: &Code,
+    table: &ReachTable,
+    func: &Func,
+    looked: &[bool],
+    line: &BlockCert,
+    number: u32,
+) -> bool
     requires table { table.now ≡ table_of code.now.types }
+    requires looked { AreLooked (func_of func.now) looked.now }
     requires params { HasParams (func_of func.now) }
     ensures { IsTrue result ↔ FrontFits (code_of code.now) (func_of func.now) (block_of line.now) number }
 {
@@ -56,6 +64,7 @@ fn front_fits(code: &Code, table: &ReachTable, func: &Func, line: &BlockCert, nu
         &code.types,
         table,
         func,
+        looked,
         params_at(func, number),
         &line.vars,
     )
@@ -68,10 +77,12 @@ pub(crate) fn line_fits(
     code: &Code,
     table: &ReachTable,
     func: &Func,
+    looked: &[bool],
     lines: &[BlockCert],
     number: u32,
 ) -> bool
     requires table { table.now ≡ table_of code.now.types }
+    requires looked { AreLooked (func_of func.now) looked.now }
     requires params { HasParams (func_of func.now) }
     requires there { number < length (func_of func.now).blocks }
     requires lines { AreLinesFrom number (map block_of lines.now) }
@@ -79,7 +90,7 @@ pub(crate) fn line_fits(
 {
     match lines {
         [] => number == 0,
-        [line, ..] => front_fits(code, table, func, line, number),
+        [line, ..] => front_fits(code, table, func, looked, line, number),
     }
 }
 

@@ -5,7 +5,9 @@ ghost use Rattle.annotations.specs.Tables.{table_of};
 ghost use Rattle.grail_code.specs.Code.{func_of};
 ghost use Rattle.certificate.specs.Words.{var_of};
 ghost use Rattle.licence.specs.Fitting.{IsHeapData, IsOfKind, VarFits};
+ghost use Rattle.certificate_fit.specs.Shapes.{AreLooked};
 
+use crate::looks::is_read;
 use annotations::{ReachTable, Vector, is_among};
 use camelot_values::{Kind, Types};
 use certificate::VarCert;
@@ -33,9 +35,19 @@ pub(crate) fn vector_fits(types: &Types, table: &ReachTable, kind: Kind, vector:
     }
 }
 
-// Whether the line is of one of these parameters, which is of a heap type, and of constructors that its kind reaches.
-fn var_fits(types: &Types, table: &ReachTable, func: &Func, params: &[u32], line: &VarCert) -> bool
+// Whether the line is of one of these parameters, which is of a heap type and isn't lent, and of constructors that its
+// kind reaches.
+#[tactic(auto, using(crate::proofs::ReadLaws::lent_is_read, std::proofs::lemmas::Option::slice_get_within))]
+fn var_fits(
+    types: &Types,
+    table: &ReachTable,
+    func: &Func,
+    looked: &[bool],
+    params: &[u32],
+    line: &VarCert,
+) -> bool
     requires table { table.now ≡ table_of types.now }
+    requires looked { AreLooked (func_of func.now) looked.now }
     requires order { Ascend params.now }
     ensures { IsTrue result ↔ VarFits types.now (func_of func.now) params.now (var_of line.now) }
 {
@@ -43,7 +55,12 @@ fn var_fits(types: &Types, table: &ReachTable, func: &Func, params: &[u32], line
         return false;
     }
     match func.kind_of(line.var) {
-        Some(kind) => vector_fits(types, table, kind, &line.vector),
+        Some(kind) => {
+            if is_read(func, looked, line.var) {
+                return false;
+            }
+            vector_fits(types, table, kind, &line.vector)
+        }
         None => false,
     }
 }
@@ -53,16 +70,18 @@ pub(crate) fn vars_fit(
     types: &Types,
     table: &ReachTable,
     func: &Func,
+    looked: &[bool],
     params: &[u32],
     lines: &[VarCert],
 ) -> bool
     requires table { table.now ≡ table_of types.now }
+    requires looked { AreLooked (func_of func.now) looked.now }
     requires order { Ascend params.now }
     ensures { IsTrue result ↔ AllByRecursion (VarFits types.now (func_of func.now) params.now) (map var_of lines.now) }
 {
     let mut rest = lines;
     'lines: while let [line, others @ ..] = rest {
-        if !var_fits(types, table, func, params, line) {
+        if !var_fits(types, table, func, looked, params, line) {
             return false;
         }
         rest = others;

@@ -13,7 +13,8 @@ use Rattle.grail_blocks.specs.declared.blocks.Place.TheVariants as place
 use Rattle.grail_blocks.specs.Blocks.{Op, Lit, Flag, Copy, Prim, Make, Call, Let, CaseArm, Term, Ret, Tail, Goto, If, Case}
 use Rattle.grail_blocks.specs.Events.{taken, operands_of, term_uses, bound_by, params_at}
 use Rattle.grail_code.specs.Code.{Func, Code}
-use Rattle.grail_code.specs.WellFormed.{local_kinds, kind_of, HaveKinds, PlaceFits, Gives, LetFits, JumpFits, ArmsFit, data_type, TermFits, BlockFits, BlocksFit, FuncFits, is_owned}
+use Rattle.grail_code.specs.WellFormed.{local_kinds, kind_of, HaveKinds, PlaceFits, Gives, LetFits, JumpFits, data_type, is_of_heap}
+use Rattle.grail_code.specs.Unread.{ArmsOwned, TermOwned, BlockOwned, BlocksOwned, FuncOwned}
 use Rattle.normal_form.specs.Normal.{NormalBlock, NormalFunction, NormalProgram}
 use Rattle.normal_form.specs.Live.{Marks, LaterMarks, unless_bound, lets_live, onward_live, term_live, block_live, live_from, times, BlocksOnce}
 use Rattle.normal_form.specs.Coded.{coded_blocks, coded}
@@ -108,7 +109,7 @@ lets_there p f (l ∷ ls) after x fit rest e =
     either f g (inl a) = f a
     either f g (inr b) = g b
 
-term_there : (p : Code) (f : Func) (n : ℕ) (t : Term) (x : ℕ) → TermFits p f n t → is_among (term_uses t) x ≡ true → IsThere f x
+term_there : (p : Code) (f : Func) (n : ℕ) (t : Term) (x : ℕ) → TermOwned p f n t → is_among (term_uses t) x ≡ true → IsThere f x
 term_there p f n (Ret y) x fit e = one_there f y x f.result fit (or_none (y == x) e)
 term_there p f n (Tail func args) x fit e = by_callee (slice_get p.funcs func) fit
   where
@@ -119,7 +120,7 @@ term_there p f n (Goto b) x fit e = absurd cc
 term_there p f n (If y first second) x fit e = one_there f y x kind.Flag fit.0 (or_none (y == x) e)
 term_there p f n (Case y arms) x fit e = by_kind (kind_of f y) refl fit
   where
-    by_kind : (o : Option Kind) → kind_of f y ≡ o → IsSomeAnd (data_type p.types o) (λ t. ArmsFit f n t.cons arms) → IsThere f x
+    by_kind : (o : Option Kind) → kind_of f y ≡ o → IsSomeAnd (data_type p.types o) (λ t. ArmsOwned f n t.cons arms) → IsThere f x
     by_kind None is h = absurd h
     by_kind (Some k) is h = one_there f y x k is (or_none (y == x) e)
 
@@ -146,7 +147,7 @@ onward_there later x Q h (If y first second) e = either (or_split (later first x
 onward_there later x Q h (Case y arms) e = arms_there later x Q h arms e
 
 block_there : (p : Code) (f : Func) (n : ℕ) (b : NormalBlock) (later : LaterMarks) (x : ℕ) → AllByRecursion (LetFits p f) b.lets
-    → TermFits p f n b.term → ((m : ℕ) → later m x ≡ true → IsThere f x) → block_live later b x ≡ true → IsThere f x
+    → TermOwned p f n b.term → ((m : ℕ) → later m x ≡ true → IsThere f x) → block_live later b x ≡ true → IsThere f x
 block_there p f n b later x lets term h e = lets_there p f b.lets (term_live later b.term) x lets (λ k. either (or_split (is_among (term_uses b.term) x) (onward_live later b.term x) k)) e
   where
     either : (is_among (term_uses b.term) x ≡ true) ⊎ (onward_live later b.term x ≡ true) → IsThere f x
@@ -165,20 +166,20 @@ live_there p f first (body ∷ bs) b x fit e = by_test (b == first) (λ m k. liv
 
 -- ---- jumps
 
-arms_ahead : (f : Func) (n : ℕ) (cs : List Constructor) (arms : List CaseArm) → ArmsFit f n cs arms → AllByRecursion (λ a. JumpFits f n a.target) arms
+arms_ahead : (f : Func) (n : ℕ) (cs : List Constructor) (arms : List CaseArm) → ArmsOwned f n cs arms → AllByRecursion (λ a. JumpFits f n a.target) arms
 arms_ahead f n [] [] h = tt
 arms_ahead f n [] (a ∷ arms) h = absurd h
 arms_ahead f n (c ∷ cs) [] h = absurd h
 arms_ahead f n (c ∷ cs) (a ∷ arms) h = (h.0.jump, arms_ahead f n cs arms h.1)
 
-term_ahead : (p : Code) (f : Func) (n : ℕ) (t : Term) → TermFits p f n t → Ahead f n t
+term_ahead : (p : Code) (f : Func) (n : ℕ) (t : Term) → TermOwned p f n t → Ahead f n t
 term_ahead p f n (Ret y) fit = tt
 term_ahead p f n (Tail func args) fit = tt
 term_ahead p f n (Goto b) fit = fit
 term_ahead p f n (If y first second) fit = (fit.1, fit.2)
 term_ahead p f n (Case y arms) fit = by_type (data_type p.types (kind_of f y)) fit
   where
-    by_type : (o : Option DataType) → IsSomeAnd o (λ t. ArmsFit f n t.cons arms) → AllByRecursion (λ a. JumpFits f n a.target) arms
+    by_type : (o : Option DataType) → IsSomeAnd o (λ t. ArmsOwned f n t.cons arms) → AllByRecursion (λ a. JumpFits f n a.target) arms
     by_type None h = absurd h
     by_type (Some t) h = arms_ahead f n t.cons arms h
 
@@ -251,22 +252,22 @@ params_ascend f (suc n) = passing_ascend (live_from 0 f.blocks (suc n)) 0 (local
 
 block_fits : (p : NormalProgram) (f : NormalFunction) (n : ℕ) (body : NormalBlock) (bs : List NormalBlock) → UsesFairly p.types f
     → BodyFits (code_of_normal p) (coded live_params f) 0 f.blocks
-    → AllByRecursion (LetFits (code_of_normal p) (coded live_params f)) body.lets → TermFits (code_of_normal p) (coded live_params f) n body.term → BlocksOnce (is_owned p.types (coded live_params f)) n (body ∷ bs) → IsRest f n (body ∷ bs)
-    → BlockFits (code_of_normal p) (coded live_params f) n (record { params = live_params f n; lets = body.lets; term = body.term })
+    → AllByRecursion (LetFits (code_of_normal p) (coded live_params f)) body.lets → TermOwned (code_of_normal p) (coded live_params f) n body.term → BlocksOnce (is_of_heap p.types (coded live_params f)) n (body ∷ bs) → IsRest f n (body ∷ bs)
+    → BlockOwned (code_of_normal p) (coded live_params f) n (record { params = live_params f n; lets = body.lets; term = body.term })
 block_fits p f n body bs fair fit lets term once rest = record {
   params = params_below f n;
   ascending = params_ascend f n;
   entry = λ is. ap (live_params f) is;
   lets = lets;
   term = term;
-  uses = block_ready (is_owned p.types (coded live_params f)) (coded_blocks (live_params f) 0 f.blocks) (live_from (suc n) bs) (coded live_params f) n (live_params f n) body once.0
+  uses = block_ready (is_of_heap p.types (coded live_params f)) (coded_blocks (live_params f) 0 f.blocks) (live_from (suc n) bs) (coded live_params f) n (live_params f n) body once.0
       (params_live f n bs (rest_next f n body bs rest)) (term_ahead (code_of_normal p) (coded live_params f) n body.term term)
       (λ x e. holds_live (code_of_normal p) f p.types n x fair fit (rest_here f n body bs rest x ∙ e));
 }
 
 blocks_fit : (p : NormalProgram) (f : NormalFunction) (n : ℕ) (bs : List NormalBlock) → UsesFairly p.types f
     → BodyFits (code_of_normal p) (coded live_params f) 0 f.blocks → BodyFits (code_of_normal p) (coded live_params f) n bs
-    → BlocksOnce (is_owned p.types (coded live_params f)) n bs → IsRest f n bs → BlocksFit (code_of_normal p) (coded live_params f) n (coded_blocks (live_params f) n bs)
+    → BlocksOnce (is_of_heap p.types (coded live_params f)) n bs → IsRest f n bs → BlocksOwned (code_of_normal p) (coded live_params f) n (coded_blocks (live_params f) n bs)
 blocks_fit p f n [] fair whole fit once rest = tt
 blocks_fit p f n (body ∷ bs) fair whole fit once rest =
     (block_fits p f n body bs fair whole fit.0 fit.1 once rest, blocks_fit p f (suc n) bs fair whole fit.2 once.1 (rest_next f n body bs rest))
@@ -277,10 +278,10 @@ none_marked (suc n) = (refl, none_marked n)
 
 -- A function that uses its locals fairly, and fits as code, is well formed with its live locals as parameters.
 pub function_well_formed : (p : NormalProgram) (f : NormalFunction) → UsesFairly p.types f → FitsAsCode live_params p f
-    → FuncFits (code_of_normal p) (coded live_params f)
+    → FuncOwned (code_of_normal p) (coded live_params f)
 function_well_formed p f fair fit = record { unread = none_marked (length f.params); kinds = fit.kinds; result = fit.result; blocks = blocks_fit p f 0 f.blocks fair fit.body fit.body fair.once (λ b x more. refl) }
 
 pub functions_well_formed : (p : NormalProgram) (fs : List NormalFunction) → AllByRecursion (UsesFairly p.types) fs
-    → AllByRecursion (FitsAsCode live_params p) fs → AllByRecursion (FuncFits (code_of_normal p)) (map (coded live_params) fs)
+    → AllByRecursion (FitsAsCode live_params p) fs → AllByRecursion (FuncOwned (code_of_normal p)) (map (coded live_params) fs)
 functions_well_formed p [] fair fit = tt
 functions_well_formed p (f ∷ fs) fair fit = (function_well_formed p f fair.0 fit.0, functions_well_formed p fs fair.1 fit.1)

@@ -106,9 +106,9 @@ ready_was h s (Bind y ∷ es) x e = either (ready_was h (bind s y) es x e)
     either (inr b) = inr (in_front (Bind y) x es b)
 
 -- a local that isn't bound wasn't, and no event binds it
-record StillUnbound (s : State) (es : List Event) (x : ℕ) : Type 0 where
-  was : s x ≡ Unbound
-  never : Binds x es → ⊥
+pub record StillUnbound (s : State) (es : List Event) (x : ℕ) : Type 0 where
+  pub was : s x ≡ Unbound
+  pub never : Binds x es → ⊥
 
 not_in_nothing : (x : ℕ) → Binds x [] → ⊥
 not_in_nothing x (before, rest, e) = absurd (omega (arith, ap length e, length-append before (Bind x ∷ rest)))
@@ -125,7 +125,7 @@ binds_bind : (x y : ℕ) (es : List Event) → Binds x (Bind y ∷ es) → (y �
 binds_bind x y es ([], rest, e) = inl cc
 binds_bind x y es (d ∷ before, rest, e) = inr (before, rest, cc)
 
-unbound_was : (h : ℕ → Bool) (s : State) (es : List Event) (x : ℕ) → after h s es x ≡ Unbound → StillUnbound s es x
+pub unbound_was : (h : ℕ → Bool) (s : State) (es : List Event) (x : ℕ) → after h s es x ≡ Unbound → StillUnbound s es x
 unbound_was h s [] x e = record { was = e; never = not_in_nothing x }
 unbound_was h s (Use y ∷ es) x e = let q = unbound_was h (use_of h s y) es x e in record { was = by_test ((y == x) && h y) q.was; never = λ b. q.never (binds_use x y es b) }
   where
@@ -144,17 +144,17 @@ unbound_was h s (Bind y ∷ es) x e = let q = unbound_was h (bind s y) es x e in
     either n (inr b) = b
 
 -- a spent local was used, and not bound since
-record WasUsed (h : ℕ → Bool) (es : List Event) (x : ℕ) : Type 0 where
-  before : List Event
-  between : List Event
-  is : es ≡ before ++ Use x ∷ between
-  owned : h x ≡ true
-  never : Binds x between → ⊥
+pub record WasUsed (h : ℕ → Bool) (es : List Event) (x : ℕ) : Type 0 where
+  pub before : List Event
+  pub between : List Event
+  pub is : es ≡ before ++ Use x ∷ between
+  pub owned : h x ≡ true
+  pub never : Binds x between → ⊥
 
 used_later : (h : ℕ → Bool) (d : Event) (es : List Event) (x : ℕ) → WasUsed h es x → WasUsed h (d ∷ es) x
 used_later h d es x u = record { before = d ∷ u.before; between = u.between; is = ap (λ l. d ∷ l) u.is; owned = u.owned; never = u.never }
 
-spent_was : (h : ℕ → Bool) (s : State) (es : List Event) (x : ℕ) → after h s es x ≡ Spent → ((s x ≡ Spent) × (Binds x es → ⊥)) ⊎ WasUsed h es x
+pub spent_was : (h : ℕ → Bool) (s : State) (es : List Event) (x : ℕ) → after h s es x ≡ Spent → ((s x ≡ Spent) × (Binds x es → ⊥)) ⊎ WasUsed h es x
 spent_was h s [] x e = inl (e, not_in_nothing x)
 spent_was h s (Use y ∷ es) x e = either (spent_was h (use_of h s y) es x e)
   where

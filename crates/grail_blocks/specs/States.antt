@@ -23,7 +23,7 @@ nothing_bound = λ x. Unbound
 abbrev pub bind : State → ℕ → State
 bind s x = λ y. if x == y then Ready else s y
 
--- a use of this local; `is_owned` says which locals are owned: those of a heap kind
+-- a use of this local; `is_owned` says which locals are owned: those of a heap kind that aren't lent
 abbrev pub use_of : (ℕ → Bool) → State → ℕ → State
 use_of is_owned s x = λ y. if (x == y) && is_owned x then Spent else s y
 

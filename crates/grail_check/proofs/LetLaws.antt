@@ -1,51 +1,67 @@
--- The checks of one let pass exactly where it fits and its uses do.
-use Rattle.std.proofs.Common.{◌≡◌, ℕ, suc, ◌<◌, Bool, true, false, List, [], ◌∷◌, ◌++◌, length, map, Option, Some, None, refl, sym, ap, ◌∙◌, subst, arith}
-use Rattle.std.specs.Prelude.{◌&&◌, ◌==◌, IsSomeAnd, not, slice_get}
-use Rattle.std.specs.List.{list_all}
+-- Kinds of locals, what the check knows of each local, and tests of options.
+use Rattle.std.proofs.Common.{◌≡◌, ℕ, zero, suc, ◌+◌, ◌<◌, Bool, true, false, List, [], ◌∷◌, length, map, Option, Some, None, refl, sym, ap, ◌∙◌, subst, arith}
+use Rattle.std.specs.Prelude.{◌&&◌, IsSomeAnd, not, slice_get}
+use Rattle.std.specs.List.{list_all, AllByRecursion, range_with_len}
 use Rattle.std.specs.Option.{option_map, option_map_or}
-use Rattle.std.proofs.lemmas.List.{length-map}
-use Rattle.std.proofs.lemmas.Option.{slice_get-map, slice_get_within}
-use Rattle.camelot_values.specs.Value.{is_int32}
-use Rattle.camelot_values.specs.IntLaws.{passing_int, int_passes}
-use Rattle.camelot_values.specs.Kinds.{Constructor, DataType, constructor, type_of}
+use Rattle.std.proofs.lemmas.Option.{slice_get_within}
+use Rattle.camelot_values.specs.Kinds.{DataType}
 use Rattle.camelot_values.specs.Heap.{is_heap}
 use Rattle.camelot_values.specs.declared.kinds.Kind.{Kind}
 use Rattle.camelot_values.specs.declared.kinds.Kind.TheVariants as kind
-use Rattle.grail_blocks.specs.declared.blocks.Place.{Place}
-use Rattle.grail_blocks.specs.declared.blocks.Place.TheVariants as place
-use Rattle.grail_code.specs.Code.{Op, Lit, Flag, Copy, Prim, Make, Call, Let, Func, Code}
-use Rattle.grail_code.specs.WellFormed.{local_kinds, kind_of, HaveKinds, is_owned, operator_kind, PlaceFits, Gives, LetFits, Event, Use, Bind, no_reads, taken, operands_of, let_events}
-use Rattle.grail_blocks.specs.StateLaws.{uses_none}
-use Rattle.grail_check.specs.declared.fault.CodeKind.TheVariants as fault
+use Rattle.grail_code.specs.Code.{Func}
+use Rattle.grail_code.specs.WellFormed.{IsKnownKind, local_kinds, kind_of, HaveKinds, is_owned, is_lent, is_read}
 use Rattle.grail_check.specs.declared.locals.Local.{Local}
 use Rattle.grail_check.specs.declared.locals.Mark.{Mark}
 use Rattle.grail_check.specs.declared.locals.Mark.TheVariants as mark
-use Rattle.grail_check.specs.Faulting.{unless, local_of, locals_of, is_local, kind_at, is_heap_at, same_kind, same_kinds, has_kind, bind, spend, spend_all, mark_fault, operand_fault, operands_fault, arguments_fault, taken_fault, place_fits, target_fault, make_fault, call_fault, op_fault, let_fault, after_let}
-use Rattle.grail_check.proofs.Checks.{or_first, or_second, or_none, none_fails, all_pass, unless_true, true_unless, both, join, is_below, same, is_same}
-use Rattle.grail_check.proofs.Playing.{after, IsReady, Plays, plays_front, plays_back, plays_both, after_both}
+use Rattle.grail_check.specs.Faulting.{local_of, locals_from, locals_of, is_local, kind_at, is_owned_at, is_lent_at, same_kind, same_kinds, has_kind, have_kinds, mark_fault, is_known, entry_fits}
+use Rattle.grail_check.proofs.Checks.{both, join, all_true, true_all, all_then, below, is_below, same, is_same}
+use Rattle.grail_check.proofs.Distinct.{first_numbers, are_first_numbers}
 
--- ---- kinds
+-- ---- what is known of each local
+
+some_local : (types : List DataType) (f : Func) (y : ℕ) (ks : List Kind) (x : ℕ)
+    → slice_get (locals_from types f y ks) x ≡ option_map (λ k. local_of types k (is_read f (y + x))) (slice_get ks x)
+some_local types f y [] x = refl
+some_local types f y (k ∷ ks) zero = let same : y ≡ y + 0 = omega arith in ap (λ n. Some (local_of types k (is_read f n))) same
+some_local types f y (k ∷ ks) (suc x) =
+    let same : suc y + x ≡ y + suc x = omega arith in some_local types f (suc y) ks x ∙ ap (λ n. option_map (λ k. local_of types k (is_read f n)) (slice_get ks x)) same
+
+pub local_is : (types : List DataType) (f : Func) (x : ℕ) → slice_get (locals_of types f) x ≡ option_map (λ k. local_of types k (is_read f x)) (kind_of f x)
+local_is types f x = let same : 0 + x ≡ x = omega arith in some_local types f 0 (local_kinds f) x ∙ ap (λ n. option_map (λ k. local_of types k (is_read f n)) (kind_of f x)) same
 
 pub kind_is : (types : List DataType) (f : Func) (x : ℕ) → kind_at (locals_of types f) x ≡ kind_of f x
-kind_is types f x = ap (option_map (λ l. l.kind)) (slice_get-map (local_of types) (local_kinds f) x) ∙ there (slice_get (local_kinds f) x)
+kind_is types f x = ap (option_map (λ l. l.kind)) (local_is types f x) ∙ by_kind (kind_of f x)
   where
-    there : (o : Option Kind) → option_map (λ l. l.kind) (option_map (local_of types) o) ≡ o
-    there None = refl
-    there (Some k) = refl
+    by_kind : (o : Option Kind) → option_map (λ l. l.kind) (option_map (λ k. local_of types k (is_read f x)) o) ≡ o
+    by_kind None = refl
+    by_kind (Some k) = refl
 
-pub heap_is : (types : List DataType) (f : Func) (x : ℕ) → is_heap_at (locals_of types f) x ≡ is_owned types f x
-heap_is types f x = ap (λ o. option_map_or (λ l. l.heap) o false) (slice_get-map (local_of types) (local_kinds f) x) ∙ there (slice_get (local_kinds f) x)
+pub owned_is : (types : List DataType) (f : Func) (x : ℕ) → is_owned_at (locals_of types f) x ≡ is_owned types f x
+owned_is types f x = ap (λ o. option_map_or (λ l. l.owned) o false) (local_is types f x) ∙ by_kind (kind_of f x)
   where
-    there : (o : Option Kind) → option_map_or (λ l. l.heap) (option_map (local_of types) o) false ≡ option_map_or (is_heap types) o false
-    there None = refl
-    there (Some k) = refl
+    by_kind : (o : Option Kind) → option_map_or (λ l. l.owned) (option_map (λ k. local_of types k (is_read f x)) o) false ≡ (option_map_or (is_heap types) o false && not (is_read f x))
+    by_kind None = refl
+    by_kind (Some k) = refl
+
+pub lent_is : (types : List DataType) (f : Func) (x : ℕ) → is_lent_at (locals_of types f) x ≡ is_lent types f x
+lent_is types f x = ap (λ o. option_map_or (λ l. l.lent) o false) (local_is types f x) ∙ by_kind (kind_of f x)
+  where
+    by_kind : (o : Option Kind) → option_map_or (λ l. l.lent) (option_map (λ k. local_of types k (is_read f x)) o) false ≡ (option_map_or (is_heap types) o false && is_read f x)
+    by_kind None = refl
+    by_kind (Some k) = refl
+
+pub count_from : (types : List DataType) (f : Func) (y : ℕ) (ks : List Kind) → length (locals_from types f y ks) ≡ length ks
+count_from types f y [] = refl
+count_from types f y (k ∷ ks) = ap suc (count_from types f (suc y) ks)
 
 pub count_is : (types : List DataType) (f : Func) → length (locals_of types f) ≡ length (local_kinds f)
-count_is types f = length-map (local_kinds f) (local_of types)
+count_is types f = count_from types f 0 (local_kinds f)
 
 pub kinds_are : (types : List DataType) (f : Func) (xs : List ℕ) → map (kind_at (locals_of types f)) xs ≡ map (kind_of f) xs
 kinds_are types f [] = refl
 kinds_are types f (x ∷ xs) = let e : kind_at (locals_of types f) x ≡ kind_of f x = kind_is types f x in let q : map (kind_at (locals_of types f)) xs ≡ map (kind_of f) xs = kinds_are types f xs in cc
+
+-- ---- kinds
 
 pub kinds_same : (j k : Kind) → same_kind j k ≡ true → j ≡ k
 kinds_same kind.Int kind.Int h = refl
@@ -116,79 +132,7 @@ mark_ready (Some mark.Unbound) h = cc
 pub ready_mark : (o : Option Mark) → o ≡ Some mark.Ready → mark_fault o ≡ None
 ready_mark o e = ap mark_fault e
 
--- ---- operands
-
-abbrev pub uses : List ℕ → List Event
-uses xs = map Use xs
-
-pub after_uses : (locals : List Local) (marks : List Mark) (xs : List ℕ) → after locals marks (uses xs) ≡ spend_all locals marks xs
-after_uses locals marks [] = refl
-after_uses locals marks (x ∷ xs) = after_uses locals (spend locals marks x) xs
-
-pub operand_passes : (locals : List Local) (marks : List Mark) (x : ℕ) (k : Kind) → operand_fault locals marks x k ≡ None
-    → IsReady marks x × (kind_at locals x ≡ Some k)
-operand_passes locals marks x k h =
-    let a = none_fails (mark_fault (slice_get marks x) ∷ unless (has_kind locals x k) fault.Kind ∷ []) h in
-    (mark_ready (slice_get marks x) a.0, has_the_kind locals x k (unless_true (has_kind locals x k) fault.Kind a.1.0))
-
-pub pass_operand : (locals : List Local) (marks : List Mark) (x : ℕ) (k : Kind) → IsReady marks x → kind_at locals x ≡ Some k
-    → operand_fault locals marks x k ≡ None
-pass_operand locals marks x k r e = all_pass (mark_fault (slice_get marks x) ∷ unless (has_kind locals x k) fault.Kind ∷ [])
-    (ready_mark (slice_get marks x) r, (true_unless (has_kind locals x k) fault.Kind (the_kind_it_has locals x k e), tt))
-
-operands_pass : (locals : List Local) (marks : List Mark) (xs : List ℕ) (ks : List Kind) → length xs ≡ length ks
-    → operands_fault locals marks xs ks ≡ None → (map (kind_at locals) xs ≡ map Some ks) × Plays locals marks (uses xs)
-operands_pass locals marks [] [] e h = (refl, tt)
-operands_pass locals marks [] (k ∷ ks) e h = absurd (omega arith)
-operands_pass locals marks (x ∷ xs) [] e h = absurd (omega arith)
-operands_pass locals marks (x ∷ xs) (k ∷ ks) e h =
-    let a = operand_passes locals marks x k (or_first _ _ h) in
-    let b = operands_pass locals (spend locals marks x) xs ks (omega arith) (or_second (operand_fault locals marks x k) _ h) in
-    let q : kind_at locals x ≡ Some k = a.1 in
-    let r : map (kind_at locals) xs ≡ map Some ks = b.0 in
-    let s : map (kind_at locals) (x ∷ xs) ≡ map Some (k ∷ ks) = cc in
-    (s, (a.0, b.1))
-
-pass_operands : (locals : List Local) (marks : List Mark) (xs : List ℕ) (ks : List Kind) → map (kind_at locals) xs ≡ map Some ks
-    → Plays locals marks (uses xs) → (length xs ≡ length ks) × (operands_fault locals marks xs ks ≡ None)
-pass_operands locals marks [] [] e h = (refl, refl)
-pass_operands locals marks [] (k ∷ ks) e h = cc
-pass_operands locals marks (x ∷ xs) [] e h = cc
-pass_operands locals marks (x ∷ xs) (k ∷ ks) e h =
-    let a : kind_at locals x ≡ Some k = cc in
-    let b : map (kind_at locals) xs ≡ map Some ks = cc in
-    let c = pass_operands locals (spend locals marks x) xs ks b h.1 in
-    (ap suc c.0, or_none (operand_fault locals marks x k) _ (pass_operand locals marks x k h.0 a) c.1)
-
-pub arguments_pass : (locals : List Local) (marks : List Mark) (xs : List ℕ) (ks : List Kind) → arguments_fault locals marks xs ks ≡ None
-    → (map (kind_at locals) xs ≡ map Some ks) × Plays locals marks (uses xs)
-arguments_pass locals marks xs ks h =
-    let a = none_fails (unless (length xs == length ks) fault.Arms ∷ operands_fault locals marks xs ks ∷ []) h in
-    operands_pass locals marks xs ks (same (length xs) (length ks) (unless_true (length xs == length ks) fault.Arms a.0)) a.1.0
-
-pub pass_arguments : (locals : List Local) (marks : List Mark) (xs : List ℕ) (ks : List Kind) → map (kind_at locals) xs ≡ map Some ks
-    → Plays locals marks (uses xs) → arguments_fault locals marks xs ks ≡ None
-pass_arguments locals marks xs ks e h =
-    let a = pass_operands locals marks xs ks e h in
-    all_pass (unless (length xs == length ks) fault.Arms ∷ operands_fault locals marks xs ks ∷ [])
-    (true_unless (length xs == length ks) fault.Arms (is_same (length xs) (length ks) a.0), (a.1, tt))
-
-uses_both : (xs ys : List ℕ) → uses (xs ++ ys) ≡ uses xs ++ uses ys
-uses_both [] ys = refl
-uses_both (x ∷ xs) ys = ap (λ l. Use x ∷ l) (uses_both xs ys)
-
-play_both : (locals : List Local) (marks : List Mark) (xs ys : List ℕ) → Plays locals marks (uses xs)
-    → Plays locals (spend_all locals marks xs) (uses ys) → Plays locals marks (uses (xs ++ ys))
-play_both locals marks xs ys h k = subst (Plays locals marks) (sym (uses_both xs ys))
-    (plays_both locals marks (uses xs) (uses ys) h (subst (λ m. Plays locals m (uses ys)) (sym (after_uses locals marks xs)) k))
-
-both_play : (locals : List Local) (marks : List Mark) (xs ys : List ℕ) → Plays locals marks (uses (xs ++ ys))
-    → Plays locals marks (uses xs) × Plays locals (spend_all locals marks xs) (uses ys)
-both_play locals marks xs ys h =
-    let k = subst (Plays locals marks) (uses_both xs ys) h in
-    (plays_front locals marks (uses xs) (uses ys) k, subst (λ m. Plays locals m (uses ys)) (after_uses locals marks xs) (plays_back locals marks (uses xs) (uses ys) k))
-
--- ---- lets
+-- ---- tests
 
 pub not_true : (b : Bool) → not b ≡ true → b ≡ false
 not_true true h = cc
@@ -216,185 +160,54 @@ have_the_kinds types f xs ks h = sym (kinds_are types f xs) ∙ h
 pub the_kinds_had : (types : List DataType) (f : Func) (xs : List ℕ) (ks : List Kind) → HaveKinds f xs ks → map (kind_at (locals_of types f)) xs ≡ map Some ks
 the_kinds_had types f xs ks h = kinds_are types f xs ∙ h
 
-target_passes : (locals : List Local) (x : ℕ) (o : Option Kind) → target_fault locals x o ≡ None → (k : Kind) × (kind_at locals x ≡ Some k) × (o ≡ Some k)
-target_passes locals x o h = some_same (kind_at locals x) o (unless_true (same_kinds (kind_at locals x) o) fault.Kind h)
+pub the_kinds : (locals : List Local) (xs : List ℕ) (ks : List Kind) → length xs ≡ length ks → have_kinds locals xs ks ≡ true
+    → map (kind_at locals) xs ≡ map Some ks
+the_kinds locals [] [] e h = refl
+the_kinds locals [] (k ∷ ks) e h = absurd (omega arith)
+the_kinds locals (x ∷ xs) [] e h = absurd (omega arith)
+the_kinds locals (x ∷ xs) (k ∷ ks) e h =
+    let parts : (has_kind locals x k ≡ true) × (have_kinds locals xs ks ≡ true) = both (has_kind locals x k) (have_kinds locals xs ks) h in
+    let a : kind_at locals x ≡ Some k = has_the_kind locals x k parts.0 in
+    let b : map (kind_at locals) xs ≡ map Some ks = the_kinds locals xs ks (omega arith) parts.1 in
+    cc
 
-pass_target : (locals : List Local) (x : ℕ) (o : Option Kind) (k : Kind) → kind_at locals x ≡ Some k → o ≡ Some k → target_fault locals x o ≡ None
-pass_target locals x o k a b = true_unless (same_kinds (kind_at locals x) o) fault.Kind (same_some (kind_at locals x) o k a b)
+pub kinds_had : (locals : List Local) (xs : List ℕ) (ks : List Kind) → map (kind_at locals) xs ≡ map Some ks
+    → (length xs ≡ length ks) × (have_kinds locals xs ks ≡ true)
+kinds_had locals [] [] h = (refl, refl)
+kinds_had locals [] (k ∷ ks) h = cc
+kinds_had locals (x ∷ xs) [] h = cc
+kinds_had locals (x ∷ xs) (k ∷ ks) h =
+    let a : kind_at locals x ≡ Some k = cc in
+    let b : map (kind_at locals) xs ≡ map Some ks = cc in
+    let c = kinds_had locals xs ks b in
+    (ap suc c.0, join (has_kind locals x k) (have_kinds locals xs ks) (the_kind_it_has locals x k a) c.1)
 
-place_passes : (types : List DataType) (f : Func) (marks : List Mark) (inline : Bool) (at : Place)
-    → taken_fault (locals_of types f) marks at ≡ None → place_fits inline at ≡ true → PlaceFits f inline at × Plays (locals_of types f) marks (uses (taken at))
-place_passes types f marks inline place.Inline h k = (k, tt)
-place_passes types f marks inline place.New h k = (not_true inline k, tt)
-place_passes types f marks inline (place.Reuse d) h k =
-    let a = operand_passes (locals_of types f) marks d kind.Dia h in
-    ((not_true inline k, kind_of_is types f d kind.Dia a.1), (a.0, tt))
+-- ---- kinds whose types are there
 
-pass_place : (types : List DataType) (f : Func) (marks : List Mark) (inline : Bool) (at : Place)
-    → PlaceFits f inline at → Plays (locals_of types f) marks (uses (taken at)) → (taken_fault (locals_of types f) marks at ≡ None) × (place_fits inline at ≡ true)
-pass_place types f marks inline place.Inline h k = (refl, h)
-pass_place types f marks inline place.New h k = (refl, true_not inline h)
-pass_place types f marks inline (place.Reuse d) h k = (pass_operand (locals_of types f) marks d kind.Dia k.0 (kind_at_is types f d kind.Dia h.1), true_not inline h.0)
+pub known_is : (types : List DataType) (k : Kind) → is_known types k ≡ true → IsKnownKind types k
+known_is types kind.Int h = tt
+known_is types kind.Flag h = tt
+known_is types kind.Dia h = tt
+known_is types (kind.Of t) h = below t (length types) h
 
--- what is asked of a build of this constructor
-abbrev MakeFits : Func → List ℕ → Place → Option Kind → Kind → Constructor → Type 0
-MakeFits f args at owner k c = HaveKinds f args c.fields × PlaceFits f c.inline at × (owner ≡ Some k)
+pub is_known_kind : (types : List DataType) (k : Kind) → IsKnownKind types k → is_known types k ≡ true
+is_known_kind types kind.Int h = refl
+is_known_kind types kind.Flag h = refl
+is_known_kind types kind.Dia h = refl
+is_known_kind types (kind.Of t) h = is_below t (length types) h
 
-make_passes : (types : List DataType) (f : Func) (marks : List Mark) (x : ℕ) (o : Option Constructor) (owner : Option Kind) (args : List ℕ) (at : Place)
-    → make_fault (locals_of types f) marks x o owner args at ≡ None
-    → (k : Kind) × (kind_at (locals_of types f) x ≡ Some k) × IsSomeAnd o (MakeFits f args at owner k)
-    × Plays (locals_of types f) marks (uses (args ++ taken at))
-make_passes types f marks x None owner args at h = cc
-make_passes types f marks x (Some c) owner args at h =
-    let locals = locals_of types f in
-    let a = none_fails (arguments_fault locals marks args c.fields ∷ taken_fault locals (spend_all locals marks args) at ∷ unless (place_fits c.inline at) fault.Place ∷ target_fault locals x owner ∷ []) h in
-    let b = arguments_pass locals marks args c.fields a.0 in
-    let d = place_passes types f (spend_all locals marks args) c.inline at a.1.0 (unless_true (place_fits c.inline at) fault.Place a.1.1.0) in
-    let (k, e, q) = target_passes locals x owner a.1.1.1.0 in
-    (k, e, (have_the_kinds types f args c.fields b.0, d.0, q), play_both locals marks args (taken at) b.1 d.1)
+pub all_known : (types : List DataType) (ks : List Kind) → list_all (is_known types) ks ≡ true → AllByRecursion (IsKnownKind types) ks
+all_known types ks h = all_then (λ k. is_known types k ≡ true) (IsKnownKind types) ks (known_is types) (all_true (is_known types) ks h)
 
-pass_make : (types : List DataType) (f : Func) (marks : List Mark) (x : ℕ) (o : Option Constructor) (owner : Option Kind) (args : List ℕ) (at : Place) (k : Kind)
-    → kind_at (locals_of types f) x ≡ Some k → IsSomeAnd o (MakeFits f args at owner k) → Plays (locals_of types f) marks (uses (args ++ taken at))
-    → make_fault (locals_of types f) marks x o owner args at ≡ None
-pass_make types f marks x None owner args at k e h plays = absurd h
-pass_make types f marks x (Some c) owner args at k e h plays =
-    let locals = locals_of types f in
-    let b = both_play locals marks args (taken at) plays in
-    let d = pass_place types f (spend_all locals marks args) c.inline at h.1 b.1 in
-    all_pass (arguments_fault locals marks args c.fields ∷ taken_fault locals (spend_all locals marks args) at ∷ unless (place_fits c.inline at) fault.Place ∷ target_fault locals x owner ∷ [])
-    (pass_arguments locals marks args c.fields (the_kinds_had types f args c.fields h.0) b.0, (d.0, (true_unless (place_fits c.inline at) fault.Place d.1, (pass_target locals x owner k e h.2, tt))))
+pub known_all : (types : List DataType) (ks : List Kind) → AllByRecursion (IsKnownKind types) ks → list_all (is_known types) ks ≡ true
+known_all types ks h = true_all (is_known types) ks (all_then (IsKnownKind types) (λ k. is_known types k ≡ true) ks (is_known_kind types) h)
 
-abbrev CallFits : Func → List ℕ → Kind → Func → Type 0
-CallFits f args k callee = HaveKinds f args callee.params × (k ≡ callee.result)
+-- ---- the first block
 
-call_passes : (types : List DataType) (f : Func) (marks : List Mark) (x : ℕ) (o : Option Func) (args : List ℕ)
-    → call_fault (locals_of types f) marks x o args ≡ None
-    → (k : Kind) × (kind_at (locals_of types f) x ≡ Some k) × IsSomeAnd o (CallFits f args k) × Plays (locals_of types f) marks (uses args)
-call_passes types f marks x None args h = cc
-call_passes types f marks x (Some callee) args h =
-    let locals = locals_of types f in
-    let a = none_fails (arguments_fault locals marks args callee.params ∷ target_fault locals x (Some callee.result) ∷ []) h in
-    let b = arguments_pass locals marks args callee.params a.0 in
-    let (k, e, q) = target_passes locals x (Some callee.result) a.1.0 in
-    let r : k ≡ callee.result = cc in
-    (k, e, (have_the_kinds types f args callee.params b.0, r), b.1)
+pub entry_is : (f : Func) (number : ℕ) (params : List ℕ) → entry_fits f number params ≡ true → number ≡ 0 → params ≡ range_with_len 0 (length f.params)
+entry_is f zero params h e = first_numbers (length f.params) params h
+entry_is f (suc number) params h e = absurd (omega arith)
 
-pass_call : (types : List DataType) (f : Func) (marks : List Mark) (x : ℕ) (o : Option Func) (args : List ℕ) (k : Kind)
-    → kind_at (locals_of types f) x ≡ Some k → IsSomeAnd o (CallFits f args k) → Plays (locals_of types f) marks (uses args)
-    → call_fault (locals_of types f) marks x o args ≡ None
-pass_call types f marks x None args k e h plays = absurd h
-pass_call types f marks x (Some callee) args k e h plays =
-    let locals = locals_of types f in
-    all_pass (arguments_fault locals marks args callee.params ∷ target_fault locals x (Some callee.result) ∷ [])
-    (pass_arguments locals marks args callee.params (the_kinds_had types f args callee.params h.0) plays, (pass_target locals x (Some callee.result) k e (ap Some (sym h.1)), tt))
-
--- the local that is bound has a kind that the operation gives
-abbrev Binds_kind : Code → Func → ℕ → Op → Type 0
-Binds_kind p f x op = (k : Kind) × (kind_at (locals_of p.types f) x ≡ Some k) × Gives p f op k
-
-operation_passes : (p : Code) (f : Func) (marks : List Mark) (x : ℕ) (op : Op)
-    → op_fault p (locals_of p.types f) marks x op ≡ None → Binds_kind p f x op × Plays (locals_of p.types f) marks (uses (operands_of op))
-operation_passes p f marks x (Lit z) h =
-    let a = none_fails (unless (is_int32 z) fault.Kind ∷ target_fault (locals_of p.types f) x (Some kind.Int) ∷ []) h in
-    let (k, e, q) = target_passes (locals_of p.types f) x (Some kind.Int) a.1.0 in let r : k ≡ kind.Int = cc in ((k, e, (r, passing_int z (unless_true (is_int32 z) fault.Kind a.0))), tt)
-operation_passes p f marks x (Flag b) h = let (k, e, q) = target_passes (locals_of p.types f) x (Some kind.Flag) h in let r : k ≡ kind.Flag = cc in ((k, e, r), tt)
-operation_passes p f marks x (Copy y) h =
-    let locals = locals_of p.types f in
-    let a = none_fails (mark_fault (slice_get marks y) ∷ target_fault locals x (kind_at locals y) ∷ []) h in
-    let (k, e, q) = target_passes locals x (kind_at locals y) a.1.0 in
-    ((k, e, kind_of_is p.types f y k q), (mark_ready (slice_get marks y) a.0, tt))
-operation_passes p f marks x (Prim op left right) h =
-    let locals = locals_of p.types f in
-    let a = none_fails (operand_fault locals marks left kind.Int ∷ operand_fault locals (spend locals marks left) right kind.Int ∷ target_fault locals x (Some (operator_kind op)) ∷ []) h in
-    let b = operand_passes locals marks left kind.Int a.0 in
-    let d = operand_passes locals (spend locals marks left) right kind.Int a.1.0 in
-    let (k, e, q) = target_passes locals x (Some (operator_kind op)) a.1.1.0 in
-    let r : k ≡ operator_kind op = cc in
-    let s : kind_of f left ≡ Some kind.Int = kind_of_is p.types f left kind.Int b.1 in
-    let t : kind_of f right ≡ Some kind.Int = kind_of_is p.types f right kind.Int d.1 in
-    let u : HaveKinds f (left ∷ right ∷ []) (kind.Int ∷ kind.Int ∷ []) = cc in
-    ((k, e, (u, r)), (b.0, (d.0, tt)))
-operation_passes p f marks x (Make con args at) h =
-    let (k, e, fits, plays) = make_passes p.types f marks x (constructor p.types con) (option_map kind.Of (type_of p.types con)) args at h in
-    ((k, e, fits), plays)
-operation_passes p f marks x (Call func args) h =
-    let (k, e, fits, plays) = call_passes p.types f marks x (slice_get p.funcs func) args h in
-    ((k, e, fits), plays)
-
-pass_operation : (p : Code) (f : Func) (marks : List Mark) (x : ℕ) (op : Op)
-    → Binds_kind p f x op → Plays (locals_of p.types f) marks (uses (operands_of op)) → op_fault p (locals_of p.types f) marks x op ≡ None
-pass_operation p f marks x (Lit z) (k, e, g) h =
-    all_pass (unless (is_int32 z) fault.Kind ∷ target_fault (locals_of p.types f) x (Some kind.Int) ∷ [])
-    (true_unless (is_int32 z) fault.Kind (int_passes z g.1), (pass_target (locals_of p.types f) x (Some kind.Int) k e (ap Some (sym g.0)), tt))
-pass_operation p f marks x (Flag b) (k, e, g) h = pass_target (locals_of p.types f) x (Some kind.Flag) k e (ap Some (sym g))
-pass_operation p f marks x (Copy y) (k, e, g) h =
-    let locals = locals_of p.types f in
-    all_pass (mark_fault (slice_get marks y) ∷ target_fault locals x (kind_at locals y) ∷ [])
-    (ready_mark (slice_get marks y) h.0, (pass_target locals x (kind_at locals y) k e (kind_at_is p.types f y k g), tt))
-pass_operation p f marks x (Prim op left right) (k, e, g) h =
-    let locals = locals_of p.types f in
-    let a : kind_of f left ≡ Some kind.Int = cc (g.0) in
-    let b : kind_of f right ≡ Some kind.Int = cc (g.0) in
-    all_pass (operand_fault locals marks left kind.Int ∷ operand_fault locals (spend locals marks left) right kind.Int ∷ target_fault locals x (Some (operator_kind op)) ∷ []) (
-      pass_operand locals marks left kind.Int h.0 (kind_at_is p.types f left kind.Int a),
-      (
-        pass_operand locals (spend locals marks left) right kind.Int h.1.0 (kind_at_is p.types f right kind.Int b),
-        (pass_target locals x (Some (operator_kind op)) k e (ap Some (sym g.1)), tt),
-      ),
-    )
-pass_operation p f marks x (Make con args at) (k, e, g) h = pass_make p.types f marks x (constructor p.types con) (option_map kind.Of (type_of p.types con)) args at k e g h
-pass_operation p f marks x (Call func args) (k, e, g) h = pass_call p.types f marks x (slice_get p.funcs func) args k e g h
-
--- what is used is there
-taken_there : (types : List DataType) (f : Func) (inline : Bool) (at : Place) → PlaceFits f inline at
-    → list_all (is_local (locals_of types f)) (taken at) ≡ true
-taken_there types f inline place.Inline h = refl
-taken_there types f inline place.New h = refl
-taken_there types f inline (place.Reuse d) h = kinds_there (locals_of types f) (d ∷ []) (kind.Dia ∷ []) (ap (λ o. o ∷ []) (kind_at_is types f d kind.Dia h.1))
-
-all_there : (locals : List Local) (xs ys : List ℕ) → list_all (is_local locals) xs ≡ true → list_all (is_local locals) ys ≡ true
-    → list_all (is_local locals) (xs ++ ys) ≡ true
-all_there locals [] ys h k = k
-all_there locals (x ∷ xs) ys h k = let a : (is_local locals x ≡ true) × (list_all (is_local locals) xs ≡ true) = both (is_local locals x) (list_all (is_local locals) xs) h in join (is_local locals x) (list_all (is_local locals) (xs ++ ys)) a.0 (all_there locals xs ys a.1 k)
-
-pub operands_there : (p : Code) (f : Func) (op : Op) (k : Kind) → Gives p f op k → list_all (is_local (locals_of p.types f)) (operands_of op) ≡ true
-operands_there p f (Lit z) k g = refl
-operands_there p f (Flag b) k g = refl
-operands_there p f (Copy y) k g = kinds_there (locals_of p.types f) (y ∷ []) (k ∷ []) (ap (λ o. o ∷ []) (kind_at_is p.types f y k g))
-operands_there p f (Prim op left right) k g = kinds_there (locals_of p.types f) (left ∷ right ∷ []) (kind.Int ∷ kind.Int ∷ []) (the_kinds_had p.types f (left ∷ right ∷ []) (kind.Int ∷ kind.Int ∷ []) g.0)
-operands_there p f (Make con args at) k g =
-    let (c, e, h) = some_and (constructor p.types con) (MakeFits f args at (option_map kind.Of (type_of p.types con)) k) g in
-    all_there (locals_of p.types f) args (taken at) (kinds_there (locals_of p.types f) args c.fields (the_kinds_had p.types f args c.fields h.0)) (taken_there p.types f c.inline at h.1)
-operands_there p f (Call func args) k g =
-    let (callee, e, h) = some_and (slice_get p.funcs func) (CallFits f args k) g in
-    kinds_there (locals_of p.types f) args callee.params (the_kinds_had p.types f args callee.params h.0)
-
--- nothing is read, so that a let uses its operands
-pub let_uses : (l : Let) → let_events no_reads l ≡ uses (operands_of l.op) ++ Bind l.target ∷ []
-let_uses l = ap (λ es. es ++ Bind l.target ∷ []) (uses_none l.op)
-
-pub after_a_let : (locals : List Local) (marks : List Mark) (l : Let) → after locals marks (let_events no_reads l) ≡ after_let locals marks l
-after_a_let locals marks l =
-    ap (after locals marks) (let_uses l) ∙ after_both locals marks (uses (operands_of l.op)) (Bind l.target ∷ []) ∙ ap (λ m. bind m l.target) (after_uses locals marks (operands_of l.op))
-
-pub let_passes : (p : Code) (f : Func) (marks : List Mark) (l : Let) → let_fault p (locals_of p.types f) marks l ≡ None
-    → LetFits p f l × Plays (locals_of p.types f) marks (let_events no_reads l)
-let_passes p f marks l h =
-    let locals = locals_of p.types f in
-    let a = or_second (unless (is_local locals l.target && list_all (is_local locals) (operands_of l.op)) fault.NoSuchEntry) _ h in
-    let ((k, e, g), plays) = operation_passes p f marks l.target l.op (or_first (op_fault p locals marks l.target l.op) None a) in (
-      and_some (kind_of f l.target) (Gives p f l.op) k (kind_of_is p.types f l.target k e) g,
-      subst (Plays locals marks) (sym (let_uses l)) (plays_both locals marks (uses (operands_of l.op)) (Bind l.target ∷ []) plays (tt, tt)),
-    )
-
-pub pass_let : (p : Code) (f : Func) (marks : List Mark) (l : Let) → LetFits p f l → Plays (locals_of p.types f) marks (let_events no_reads l)
-    → let_fault p (locals_of p.types f) marks l ≡ None
-pass_let p f marks l fits plays =
-    let locals = locals_of p.types f in
-    let (k, e, g) = some_and (kind_of f l.target) (Gives p f l.op) fits in
-    let q = kind_at_is p.types f l.target k e in
-    all_pass (unless (is_local locals l.target && list_all (is_local locals) (operands_of l.op)) fault.NoSuchEntry ∷ op_fault p locals marks l.target l.op ∷ []) (
-      true_unless (is_local locals l.target && list_all (is_local locals) (operands_of l.op)) fault.NoSuchEntry
-          (join (is_local locals l.target) (list_all (is_local locals) (operands_of l.op)) (is_below l.target (length locals) (kind_there locals l.target k q)) (operands_there p f l.op k g)),
-      (pass_operation p f marks l.target l.op (k, q, g) (plays_front locals marks (uses (operands_of l.op)) (Bind l.target ∷ []) (subst (Plays locals marks) (let_uses l) plays)), tt),
-    )
+pub is_entry : (f : Func) (number : ℕ) (params : List ℕ) → (number ≡ 0 → params ≡ range_with_len 0 (length f.params)) → entry_fits f number params ≡ true
+is_entry f zero params h = are_first_numbers (length f.params) params (h refl)
+is_entry f (suc number) params h = refl

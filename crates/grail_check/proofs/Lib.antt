@@ -1,15 +1,14 @@
-pub mod BlockLaws
 pub mod Checks
 pub mod Distinct
-pub mod ExitLaws
+pub mod LentLaws
 pub mod LetLaws
 pub mod MarkLaws
 pub mod Misusing
 pub mod NameLaws
 pub mod Playing
-pub mod ProgramLaws
 pub mod ReadyLaws
 pub mod SetLaws
 pub mod Tracking
 pub mod Agreeing
+pub mod Passing
 pub mod WalkLaws

@@ -2,9 +2,9 @@
 use Rattle.std.proofs.Common.{◌≡◌, ℕ, ◌≤◌, Bool, true, false, List, [], ◌∷◌, ◌++◌, length, drop, refl, sym, ap, ◌∙◌, drop_of_length-le}
 use Rattle.std.specs.Prelude.{slice_set, replicate, if◌then◌else◌}
 use Rattle.std.proofs.lemmas.List.{length-set, length-replicate}
-use Rattle.grail_code.specs.Code.{Let}
-use Rattle.grail_code.specs.WellFormed.{operands_of}
-use Rattle.grail_check.specs.Faulting.{is_heap_at, bind, bind_all, spend, spend_all, after_let, after_lets, have_kinds}
+use Rattle.grail_code.specs.Code.{Let, Code}
+use Rattle.grail_code.specs.WellFormed.{takes}
+use Rattle.grail_check.specs.Faulting.{is_owned_at, bind, bind_all, spend, spend_all, after_let, after_lets, have_kinds}
 use Rattle.camelot_values.specs.declared.kinds.Kind.{Kind}
 use Rattle.grail_check.specs.declared.locals.Local.{Local}
 use Rattle.grail_check.specs.declared.locals.Mark.{Mark}
@@ -27,7 +27,7 @@ kinds_end locals xs ks i b h e = sym (no_kinds locals (drop i xs)) ∙ ap (have_
 -- ---- there are as many marks as before
 
 pub length_spend : (locals : List Local) (marks : List Mark) (x : ℕ) → length (spend locals marks x) ≡ length marks
-length_spend locals marks x = by_test (is_heap_at locals x)
+length_spend locals marks x = by_test (is_owned_at locals x)
   where
     by_test : (b : Bool) → length (if b then slice_set marks x mark.Spent else marks) ≡ length marks
     by_test true = length-set marks x mark.Spent
@@ -41,17 +41,17 @@ length_bind_all : (marks : List Mark) (xs : List ℕ) → length (bind_all marks
 length_bind_all marks [] = refl
 length_bind_all marks (x ∷ xs) = length_bind_all (bind marks x) xs ∙ length-set marks x mark.Ready
 
-length_after_lets : (locals : List Local) (marks : List Mark) (ls : List Let) → length (after_lets locals marks ls) ≡ length marks
-length_after_lets locals marks [] = refl
-length_after_lets locals marks (l ∷ ls) =
-    length_after_lets locals (after_let locals marks l) ls
-    ∙ length-set (spend_all locals marks (operands_of l.op)) l.target mark.Ready
-    ∙ length_spend_all locals marks (operands_of l.op)
+length_after_lets : (p : Code) (locals : List Local) (marks : List Mark) (ls : List Let) → length (after_lets p locals marks ls) ≡ length marks
+length_after_lets p locals marks [] = refl
+length_after_lets p locals marks (l ∷ ls) =
+    length_after_lets p locals (after_let p locals marks l) ls
+    ∙ length-set (spend_all locals marks (takes p l.op)) l.target mark.Ready
+    ∙ length_spend_all locals marks (takes p l.op)
 
 -- behind the lets of a block that begins with all locals unbound
-pub length_at_end : (locals : List Local) (n : ℕ) (params : List ℕ) (ls : List Let)
-    → length (after_lets locals (bind_all (replicate n mark.Unbound) params) ls) ≡ n
-length_at_end locals n params ls =
-    length_after_lets locals (bind_all (replicate n mark.Unbound) params) ls
+pub length_at_end : (p : Code) (locals : List Local) (n : ℕ) (params : List ℕ) (ls : List Let)
+    → length (after_lets p locals (bind_all (replicate n mark.Unbound) params) ls) ≡ n
+length_at_end p locals n params ls =
+    length_after_lets p locals (bind_all (replicate n mark.Unbound) params) ls
     ∙ length_bind_all (replicate n mark.Unbound) params
     ∙ length-replicate n mark.Unbound

@@ -1,33 +1,24 @@
--- A fault of use stands where a local is misused.
-use Rattle.std.proofs.Common.{◌≡◌, ℕ, zero, suc, ◌+◌, ◌<◌, Bool, true, false, List, [], ◌∷◌, ◌++◌, length, map, Option, Some, None, refl, sym, ap, ◌∙◌, subst, arith, inl, inr, ◌⊎◌, append_assoc}
-use Rattle.std.specs.Prelude.{◌&&◌, ◌==◌, not, slice_get, slice_set, flat_map, nat_lt, replicate, if◌then◌else◌, ⊤}
-use Rattle.std.specs.List.{list_all, AllByRecursion}
-use Rattle.std.specs.Option.{option_or, option_map}
-use Rattle.std.proofs.lemmas.List.{length-replicate}
-use Rattle.camelot_values.specs.Value.{is_int32}
+-- What the two faults of use say of the code, by the state in which the check finds them.
+use Rattle.std.proofs.Common.{◌≡◌, ℕ, suc, ◌+◌, ◌<◌, Bool, true, false, List, [], ◌∷◌, ◌++◌, length, map, Option, Some, None, refl, sym, ap, ◌∙◌, subst, arith, append_assoc, append-nil, inl, inr, ◌⊎◌}
+use Rattle.std.specs.Prelude.{IsTrue, flat_map, slice_get}
+use Rattle.std.specs.List.{AllByRecursion, range_with_len}
+use Rattle.std.specs.Option.{option_map, option_map_or}
 use Rattle.camelot_values.specs.Kinds.{Constructor, DataType, constructor, type_of}
+use Rattle.camelot_values.specs.Names.{stands}
 use Rattle.camelot_values.specs.declared.kinds.Kind.{Kind}
 use Rattle.camelot_values.specs.declared.kinds.Kind.TheVariants as kind
 use Rattle.grail_blocks.specs.declared.blocks.Place.{Place}
 use Rattle.grail_blocks.specs.declared.blocks.Place.TheVariants as place
-use Rattle.grail_blocks.specs.StateLaws.{uses_none, term_uses_none}
+use Rattle.grail_blocks.specs.Events.{Wants}
+use Rattle.grail_blocks.specs.States.{Status, Unbound, Ready, Spent, State, nothing_bound, use_of, after, at_start, after_let, after_lets}
+use Rattle.grail_blocks.specs.StateLaws.{after_append, unbound_was, spent_was, WasUsed, lets_after}
 use Rattle.grail_code.specs.Code.{Op, Lit, Flag, Copy, Prim, Make, Call, Let, CaseArm, Term, Ret, Tail, Goto, If, Case, Block, Func, Code}
-use Rattle.grail_code.specs.WellFormed.{Event, Use, Look, Bind, Binds, is_owned, no_reads, operator_kind, taken, operands_of, let_events, term_uses, params_at, jump_events, ways, bound_by, data_type}
+use Rattle.grail_code.specs.WellFormed.{IsKnownKind, kind_of, is_owned, is_lent, AreNotLent, bound_anew, reads_of, operator_kind, data_type, Ascend, Event, Use, Look, Bind, Binds, taken_by, read_by, argument_events, taken, uses_of, let_events, term_events, bound_by, params_at, jump_events, ways, AreDistinct}
 use Rattle.grail_check.specs.declared.fault.CodeKind.{CodeKind}
 use Rattle.grail_check.specs.declared.fault.CodeKind.TheVariants as fault
 use Rattle.grail_check.specs.declared.fault.CodeFault.{CodeFault}
-use Rattle.grail_check.specs.declared.locals.Local.{Local}
-use Rattle.grail_check.specs.declared.locals.Mark.{Mark}
-use Rattle.grail_check.specs.declared.locals.Mark.TheVariants as mark
-use Rattle.grail_check.specs.Faulting.{unless, at_place, locals_of, is_local, kind_at, is_heap_at, unbound, bind, bind_all, spend, spend_all, mark_fault, operand_fault, operands_fault, arguments_fault, taken_fault, target_fault, make_fault, call_fault, op_fault, let_fault, after_let, after_lets, is_block, is_among, use_fault, uses_fault, jump_fault, callee_fault, arm_is_there, arms_jump_fault, arms_fault, term_fault, block_header_fault, lets_fault, at_start, block_fault, blocks_fault, header_fault, function_fault, functions_fault, constructor_fault, constructors_fault, type_fault, types_fault, table_fault, first_fault, stands, has_kind, same_kinds, place_fits, same_kind, arms_count, takes, cells_fit, arms_have_kinds, are_distinct, ascends_from, entry_fits, is_known}
+use Rattle.grail_check.specs.Walk.{Checks, NoMore, Must, Fails, of_entry, use_checks, own_check, operand_checks, operands_checks, again_checks, arguments_checks, taken_checks, IsPlaceOf, target_check, op_checks, let_checks, jump_checks, IsThere, AreThere, IsBlock, ArmIsThere, ArmsCount, LookWhere, AreCellsOf, ArmsBindKinds, arms_jump_checks, arms_checks, term_checks, LendsRightly, cons_checks, types_checks, Walk, At, FirstFault, lets_walk, block_walk, blocks_walk, funcs_walk, walk}
 use Rattle.grail_check.specs.Misuse.{events_of, Comes, ToLet, ToEnd, Onward, UsesUnbound, UsesAgain, Happens}
-use Rattle.grail_check.proofs.Checks.{or_first, or_second, unless_true, nothing_there, both, all_both, all_then, all_true, below, is_same}
-use Rattle.grail_check.proofs.MarkLaws.{spend_both}
-use Rattle.grail_check.proofs.Playing.{step, after, after_both, IsReady, set_same, length_step, not_bound, behind_use, behind_look, behind_bind}
-use Rattle.grail_check.proofs.LetLaws.{uses, after_uses, let_uses, heap_is}
-use Rattle.std.proofs.lemmas.Option.{same_Some}
-use Rattle.grail_check.proofs.BlockLaws.{header_passes, after_all_lets, end_length}
-use Rattle.grail_check.proofs.ExitLaws.{AreBelow, bound_below, way, arm_way, after_binds, use_passes}
 
 -- ---- kinds of fault
 
@@ -36,791 +27,749 @@ is_use fault.Unbound = true
 is_use fault.Spent = true
 is_use k = false
 
--- the second of two checks, where the first one refuses with another kind
-behind_test : (b : Bool) (j k : CodeKind) (o : Option CodeKind) → is_use j ≡ false → is_use k ≡ true → option_or (unless b j) o ≡ Some k
-    → (b ≡ true) × (o ≡ Some k)
-behind_test true j k o u v h = (refl, h)
-behind_test false j k o u v h = let e : j ≡ k = cc in let q : is_use k ≡ false = subst (λ l. is_use l ≡ false) e u in cc
+-- behind a check whose fault is of another kind
+behind : (P : Type 0) (j k : CodeKind) (rest : Checks) → is_use j ≡ false → is_use k ≡ true → Fails (Must P j rest) k → Fails rest k
+behind P j k rest u v (inl h) = let e : j ≡ k = h.1 in let q : is_use k ≡ false = subst (λ l. is_use l ≡ false) e u in absurd cc
+behind P j k rest u v (inr h) = h.1
 
-no_test : {P : Type 0} (b : Bool) (j k : CodeKind) → is_use j ≡ false → is_use k ≡ true → unless b j ≡ Some k → P
-no_test true j k u v h = cc
-no_test false j k u v h = let e : j ≡ k = cc in let q : is_use k ≡ false = subst (λ l. is_use l ≡ false) e u in cc
+-- the state says that the local isn't bound, or is spent
+abbrev IsFault : Status → CodeKind → Type 0
+IsFault m k = ((m ≡ Unbound) × (k ≡ fault.Unbound)) ⊎ ((m ≡ Spent) × (k ≡ fault.Spent))
 
-no_other : {P : Type 0} (j k : CodeKind) → is_use j ≡ false → is_use k ≡ true → Some j ≡ Some k → P
-no_other j k u v h = let e : j ≡ k = cc in let q : is_use k ≡ false = subst (λ l. is_use l ≡ false) e u in cc
+unbound_or : (m : Status) → ((m ≡ Unbound → ⊥) → ⊥) → m ≡ Unbound
+unbound_or Unbound h = refl
+unbound_or Ready h = absurd (h (λ e. absurd cc))
+unbound_or Spent h = absurd (h (λ e. absurd cc))
 
-either : {A : Type 0} (a b : Option A) (x : A) → option_or a b ≡ Some x → (a ≡ Some x) ⊎ ((a ≡ None) × (b ≡ Some x))
-either None b x h = inr (refl, h)
-either (Some y) b x h = inl h
+spent_or : (m : Status) → ((m ≡ Spent → ⊥) → ⊥) → m ≡ Spent
+spent_or Spent h = refl
+spent_or Ready h = absurd (h (λ e. absurd cc))
+spent_or Unbound h = absurd (h (λ e. absurd cc))
 
--- ---- a local that can't be used
+use_fails : (s : State) (x : ℕ) (rest : Checks) (k : CodeKind) → Fails (use_checks s x rest) k → IsFault (s x) k ⊎ Fails rest k
+use_fails s x rest k (inl h) = inl (inl (unbound_or (s x) h.0, sym h.1))
+use_fails s x rest k (inr (p, inl h)) = inl (inr (spent_or (s x) h.0, sym h.1))
+use_fails s x rest k (inr (p, inr h)) = inr h.1
 
--- among locals that are used one after the other, the first that can't be
-record Hit (locals : List Local) (marks : List Mark) (xs : List ℕ) (k : CodeKind) : Type 0 where
+operand_fails : (types : List DataType) (f : Func) (s : State) (x : ℕ) (q : Kind) (rest : Checks) (k : CodeKind) → is_use k ≡ true
+    → Fails (operand_checks types f s x q rest) k → IsFault (s x) k ⊎ Fails rest k
+operand_fails types f s x q rest k u h = on (use_fails s x (own_check types f x (Must (kind_of f x ≡ Some q) fault.Kind rest)) k h)
+  where
+    on : IsFault (s x) k ⊎ Fails (own_check types f x (Must (kind_of f x ≡ Some q) fault.Kind rest)) k → IsFault (s x) k ⊎ Fails rest k
+    on (inl e) = inl e
+    on (inr g) = inr (behind (kind_of f x ≡ Some q) fault.Kind k rest refl u (behind (is_lent types f x ≡ false) fault.Lent k (Must (kind_of f x ≡ Some q) fault.Kind rest) refl u g))
+
+-- ---- a local that can't be used behind some events
+
+abbrev BadAt : (ℕ → Bool) → List Event → ℕ → CodeKind → Type 0
+BadAt h es x k = ((k ≡ fault.Unbound) × (Binds x es → ⊥)) ⊎ ((k ≡ fault.Spent) × WasUsed h es x)
+
+bad_at : (h : ℕ → Bool) (es : List Event) (x : ℕ) (k : CodeKind) → IsFault (after h nothing_bound es x) k → BadAt h es x k
+bad_at h es x k (inl f) = inl (f.1, (unbound_was h nothing_bound es x f.0).never)
+bad_at h es x k (inr f) = inr (f.1, on (spent_was h nothing_bound es x f.0))
+  where
+    on : ((Unbound ≡ Spent) × (Binds x es → ⊥)) ⊎ WasUsed h es x → WasUsed h es x
+    on (inl g) = absurd (let e : Unbound ≡ Spent = g.0 in cc)
+    on (inr g) = g
+
+binds_either : (x : ℕ) (es ds : List Event) → Binds x (es ++ ds) → Binds x es ⊎ Binds x ds
+binds_either x [] ds b = inr b
+binds_either x (e ∷ es) ds ([], rest, same) = inl ([], es, cc)
+binds_either x (e ∷ es) ds (d ∷ front, rest, same) = on (binds_either x es ds (front, rest, cc))
+  where
+    on : Binds x es ⊎ Binds x ds → Binds x (e ∷ es) ⊎ Binds x ds
+    on (inl c) = inl (e ∷ c.0, c.1, ap (λ l. e ∷ l) c.2)
+    on (inr c) = inr c
+
+-- events that bind nothing
+abbrev BindNothing : List Event → Type 0
+BindNothing ds = (x : ℕ) → Binds x ds → ⊥
+
+nothing_in_none : BindNothing []
+nothing_in_none x ([], rest, e) = absurd cc
+nothing_in_none x (d ∷ front, rest, e) = absurd cc
+
+uses_bind_nothing : (xs : List ℕ) → BindNothing (map Use xs)
+uses_bind_nothing [] = nothing_in_none
+uses_bind_nothing (y ∷ xs) = λ x b. first (uses_bind_nothing xs) x b
+  where
+    first : BindNothing (map Use xs) → (x : ℕ) → Binds x (Use y ∷ map Use xs) → ⊥
+    first n x ([], rest, e) = absurd cc
+    first n x (d ∷ front, rest, e) = n x (front, rest, cc)
+
+looks_bind_nothing : (xs : List ℕ) → BindNothing (map Look xs)
+looks_bind_nothing [] = nothing_in_none
+looks_bind_nothing (y ∷ xs) = λ x b. first (looks_bind_nothing xs) x b
+  where
+    first : BindNothing (map Look xs) → (x : ℕ) → Binds x (Look y ∷ map Look xs) → ⊥
+    first n x ([], rest, e) = absurd cc
+    first n x (d ∷ front, rest, e) = n x (front, rest, cc)
+
+-- it can't be used behind more of them either, where these bind nothing
+bad_later : (h : ℕ → Bool) (es ds : List Event) (x : ℕ) (k : CodeKind) → BindNothing ds → BadAt h es x k → BadAt h (es ++ ds) x k
+bad_later h es ds x k n (inl b) = inl (b.0, λ c. on (binds_either x es ds c))
+  where
+    on : Binds x es ⊎ Binds x ds → ⊥
+    on (inl c) = b.1 c
+    on (inr c) = n x c
+bad_later h es ds x k n (inr b) = inr (
+  b.0,
+  record {
+    before = b.1.before;
+    between = b.1.between ++ ds;
+    is = ap (λ l. l ++ ds) b.1.is ∙ append_assoc b.1.before (Use x ∷ b.1.between) ds;
+    owned = b.1.owned;
+    never = λ c. on (binds_either x b.1.between ds c);
+  },
+)
+  where
+    on : Binds x b.1.between ⊎ Binds x ds → ⊥
+    on (inl c) = b.1.never c
+    on (inr c) = n x c
+
+-- ---- among the events at a place
+
+-- the local that is wanted there can't be used, behind what comes before the place and in front of it at the place
+record Hit (h : ℕ → Bool) (before here : List Event) (k : CodeKind) : Type 0 where
+  local : ℕ
+  want : Event
+  wants : Wants local want
+  front : List Event
+  rest : List Event
+  is : here ≡ front ++ want ∷ rest
+  bad : BadAt h (before ++ front) local k
+
+hit_front : (h : ℕ → Bool) (before here more : List Event) (k : CodeKind) → Hit h before here k → Hit h before (here ++ more) k
+hit_front h before here more k g = record {
+  local = g.local;
+  want = g.want;
+  wants = g.wants;
+  front = g.front;
+  rest = g.rest ++ more;
+  is = ap (λ l. l ++ more) g.is ∙ append_assoc g.front (g.want ∷ g.rest) more;
+  bad = g.bad;
+}
+
+hit_back : (h : ℕ → Bool) (before first here : List Event) (k : CodeKind) → Hit h (before ++ first) here k → Hit h before (first ++ here) k
+hit_back h before first here k g = record {
+  local = g.local;
+  want = g.want;
+  wants = g.wants;
+  front = first ++ g.front;
+  rest = g.rest;
+  is = ap (λ l. first ++ l) g.is ∙ sym (append_assoc first g.front (g.want ∷ g.rest));
+  bad = subst (λ l. BadAt h l g.local k) (append_assoc before first g.front) g.bad;
+}
+
+-- the state behind these events
+abbrev Behind : (ℕ → Bool) → List Event → State → Type 0
+Behind h before s = s ≡ after h nothing_bound before
+
+more_behind : (h : ℕ → Bool) (before ds : List Event) (s : State) → Behind h before s → Behind h (before ++ ds) (after h s ds)
+more_behind h before ds s e = ap (λ t. after h t ds) e ∙ sym (after_append h nothing_bound before ds)
+
+fault_behind : (h : ℕ → Bool) (before : List Event) (s : State) (x : ℕ) (k : CodeKind) → Behind h before s → IsFault (s x) k → BadAt h before x k
+fault_behind h before s x k e f = bad_at h before x k (subst (λ t. IsFault (t x) k) e f)
+
+at_once : (h : ℕ → Bool) (before : List Event) (x : ℕ) (rest : List Event) (k : CodeKind) → BadAt h before x k → Hit h before (Use x ∷ rest) k
+at_once h before x rest k b = record { local = x; want = Use x; wants = inl refl; front = []; rest = rest; is = refl; bad = subst (λ l. BadAt h l x k) (sym (append-nil before)) b }
+
+-- ---- arguments
+
+-- among locals that are used in turn, one that can't be
+record TakenHit (h : ℕ → Bool) (before : List Event) (xs : List ℕ) (k : CodeKind) : Type 0 where
   front : List ℕ
   local : ℕ
   rest : List ℕ
   is : xs ≡ front ++ local ∷ rest
-  marked : mark_fault (slice_get (spend_all locals marks front) local) ≡ Some k
+  bad : BadAt h (before ++ map Use front) local k
 
-hit_first : (locals : List Local) (marks : List Mark) (x : ℕ) (xs : List ℕ) (k : CodeKind) → mark_fault (slice_get marks x) ≡ Some k
-    → Hit locals marks (x ∷ xs) k
-hit_first locals marks x xs k h = record { front = []; local = x; rest = xs; is = refl; marked = h }
-
-hit_later : (locals : List Local) (marks : List Mark) (x : ℕ) (xs : List ℕ) (k : CodeKind) → Hit locals (spend locals marks x) xs k
-    → Hit locals marks (x ∷ xs) k
-hit_later locals marks x xs k h = record { front = x ∷ h.front; local = h.local; rest = h.rest; is = ap (λ l. x ∷ l) h.is; marked = h.marked }
-
-hit_front : (locals : List Local) (marks : List Mark) (xs ys : List ℕ) (k : CodeKind) → Hit locals marks xs k → Hit locals marks (xs ++ ys) k
-hit_front locals marks xs ys k h = record {
-  front = h.front;
-  local = h.local;
-  rest = h.rest ++ ys;
-  is = ap (λ l. l ++ ys) h.is ∙ append_assoc h.front (h.local ∷ h.rest) ys;
-  marked = h.marked;
-}
-
-hit_back : (locals : List Local) (marks : List Mark) (xs ys : List ℕ) (k : CodeKind) → Hit locals (spend_all locals marks xs) ys k
-    → Hit locals marks (xs ++ ys) k
-hit_back locals marks xs ys k h = record {
-  front = xs ++ h.front;
-  local = h.local;
-  rest = h.rest;
-  is = ap (λ l. xs ++ l) h.is ∙ sym (append_assoc xs h.front (h.local ∷ h.rest));
-  marked = subst (λ m. mark_fault (slice_get m h.local) ≡ Some k) (sym (spend_both locals marks xs h.front)) h.marked;
-}
-
-operand_hit : (locals : List Local) (marks : List Mark) (x : ℕ) (q : Kind) (k : CodeKind) → is_use k ≡ true → operand_fault locals marks x q ≡ Some k
-    → mark_fault (slice_get marks x) ≡ Some k
-operand_hit locals marks x q k u h = elim (either (mark_fault (slice_get marks x)) (option_or (unless (has_kind locals x q) fault.Kind) None) k h) as (λ c. mark_fault (slice_get marks x) ≡ Some k) [
-  | inl a ↦ a
-  | inr (a, b) ↦ (let c = behind_test (has_kind locals x q) fault.Kind k None refl u b in cc (c.1))
-]
-
-operands_hit : (locals : List Local) (marks : List Mark) (xs : List ℕ) (ks : List Kind) (k : CodeKind) → is_use k ≡ true
-    → operands_fault locals marks xs ks ≡ Some k → Hit locals marks xs k
-operands_hit locals marks [] ks k u h = cc
-operands_hit locals marks (x ∷ xs) [] k u h = cc
-operands_hit locals marks (x ∷ xs) (q ∷ ks) k u h =
-    elim (either (operand_fault locals marks x q) (operands_fault locals (spend locals marks x) xs ks) k h) as (λ c. Hit locals marks (x ∷ xs) k) [
-      | inl a ↦ hit_first locals marks x xs k (operand_hit locals marks x q k u a)
-      | inr (a, b) ↦ hit_later locals marks x xs k (operands_hit locals (spend locals marks x) xs ks k u b)
-    ]
-
--- the only check that is left
-alone : (o : Option CodeKind) (k : CodeKind) → option_or o None ≡ Some k → o ≡ Some k
-alone None k h = cc
-alone (Some j) k h = h
-
-alone_fault : (o : Option CodeFault) (e : CodeFault) → option_or o None ≡ Some e → o ≡ Some e
-alone_fault None e h = cc
-alone_fault (Some j) e h = h
-
-arguments_hit : (locals : List Local) (marks : List Mark) (xs : List ℕ) (ks : List Kind) (k : CodeKind) → is_use k ≡ true
-    → arguments_fault locals marks xs ks ≡ Some k → Hit locals marks xs k
-arguments_hit locals marks xs ks k u h =
-    let c = behind_test (length xs == length ks) fault.Arms k (option_or (operands_fault locals marks xs ks) None) refl u h in
-    operands_hit locals marks xs ks k u (alone (operands_fault locals marks xs ks) k c.1)
-
-no_target : {P : Type 0} (locals : List Local) (x : ℕ) (o : Option Kind) (k : CodeKind) → is_use k ≡ true
-    → option_or (target_fault locals x o) None ≡ Some k → P
-no_target locals x o k u h = no_test (same_kinds (kind_at locals x) o) fault.Kind k refl u (alone (target_fault locals x o) k h)
-
-taken_hit : (locals : List Local) (marks : List Mark) (at : Place) (k : CodeKind) → is_use k ≡ true → taken_fault locals marks at ≡ Some k
-    → Hit locals marks (taken at) k
-taken_hit locals marks place.Inline k u h = cc
-taken_hit locals marks place.New k u h = cc
-taken_hit locals marks (place.Reuse d) k u h = hit_first locals marks d [] k (operand_hit locals marks d kind.Dia k u h)
-
-make_hit : (locals : List Local) (marks : List Mark) (x : ℕ) (o : Option Constructor) (owner : Option Kind) (args : List ℕ) (at : Place) (k : CodeKind) → is_use k ≡ true
-    → make_fault locals marks x o owner args at ≡ Some k → Hit locals marks (args ++ taken at) k
-make_hit locals marks x None owner args at k u h = no_other fault.NoSuchEntry k refl u h
-make_hit locals marks x (Some c) owner args at k u h =
-    let last = option_or (target_fault locals x owner) None in
-    let places = option_or (unless (place_fits c.inline at) fault.Place) last in
-    elim (either (arguments_fault locals marks args c.fields) (option_or (taken_fault locals (spend_all locals marks args) at) places) k h) as (λ z. Hit locals marks (args ++ taken at) k) [
-      | inl a ↦ hit_front locals marks args (taken at) k (arguments_hit locals marks args c.fields k u a)
-      | inr (a, b) ↦ elim (either (taken_fault locals (spend_all locals marks args) at) places k b) as (λ z. Hit locals marks (args ++ taken at) k) [
-        | inl d ↦ hit_back locals marks args (taken at) k (taken_hit locals (spend_all locals marks args) at k u d)
-        | inr (d, e) ↦ no_target locals x owner k u (behind_test (place_fits c.inline at) fault.Place k last refl u e).1
-      ]
-    ]
-
-call_hit : (locals : List Local) (marks : List Mark) (x : ℕ) (o : Option Func) (args : List ℕ) (k : CodeKind) → is_use k ≡ true
-    → call_fault locals marks x o args ≡ Some k → Hit locals marks args k
-call_hit locals marks x None args k u h = no_other fault.NoSuchEntry k refl u h
-call_hit locals marks x (Some callee) args k u h =
-    elim (either (arguments_fault locals marks args callee.params) (option_or (target_fault locals x (Some callee.result)) None) k h) as (λ z. Hit locals marks args k) [
-      | inl a ↦ arguments_hit locals marks args callee.params k u a
-      | inr (a, b) ↦ no_target locals x (Some callee.result) k u b
-    ]
-
-operation_hit : (p : Code) (locals : List Local) (marks : List Mark) (x : ℕ) (op : Op) (k : CodeKind) → is_use k ≡ true
-    → op_fault p locals marks x op ≡ Some k → Hit locals marks (operands_of op) k
-operation_hit p locals marks x (Lit z) k u h = no_target locals x (Some kind.Int) k u (behind_test (is_int32 z) fault.Kind k (option_or (target_fault locals x (Some kind.Int)) None) refl u h).1
-operation_hit p locals marks x (Flag b) k u h = no_test (same_kinds (kind_at locals x) (Some kind.Flag)) fault.Kind k refl u h
-operation_hit p locals marks x (Copy y) k u h =
-    elim (either (mark_fault (slice_get marks y)) (option_or (target_fault locals x (kind_at locals y)) None) k h) as (λ z. Hit locals marks (y ∷ []) k) [
-      | inl a ↦ hit_first locals marks y [] k a
-      | inr (a, b) ↦ no_target locals x (kind_at locals y) k u b
-    ]
-operation_hit p locals marks x (Prim op left right) k u h =
-    let last = option_or (target_fault locals x (Some (operator_kind op))) None in
-    elim (either (operand_fault locals marks left kind.Int) (option_or (operand_fault locals (spend locals marks left) right kind.Int) last) k h) as (λ z. Hit locals marks (left ∷ right ∷ []) k) [
-      | inl a ↦ hit_first locals marks left (right ∷ []) k (operand_hit locals marks left kind.Int k u a)
-      | inr (a, b) ↦ elim (either (operand_fault locals (spend locals marks left) right kind.Int) last k b) as (λ z. Hit locals marks (left ∷ right ∷ []) k) [
-        | inl d ↦ hit_later locals marks left (right ∷ []) k (hit_first locals (spend locals marks left) right [] k (operand_hit locals (spend locals marks left) right kind.Int k u d))
-        | inr (d, e) ↦ no_target locals x (Some (operator_kind op)) k u e
-      ]
-    ]
-operation_hit p locals marks x (Make con args at) k u h = make_hit locals marks x (constructor p.types con) (option_map kind.Of (type_of p.types con)) args at k u h
-operation_hit p locals marks x (Call func args) k u h = call_hit locals marks x (slice_get p.funcs func) args k u h
-
-let_hit : (p : Code) (locals : List Local) (marks : List Mark) (l : Let) (k : CodeKind) → is_use k ≡ true → let_fault p locals marks l ≡ Some k
-    → Hit locals marks (operands_of l.op) k
-let_hit p locals marks l k u h =
-    let c = behind_test (is_local locals l.target && list_all (is_local locals) (operands_of l.op)) fault.NoSuchEntry k (option_or (op_fault p locals marks l.target l.op) None) refl u h in
-    operation_hit p locals marks l.target l.op k u (alone (op_fault p locals marks l.target l.op) k c.1)
-
--- ---- the same among events
-
--- what is bound in these events is there
-abbrev IsBindWithin : ℕ → Event → Type 0
-IsBindWithin n (Use x) = ⊤
-IsBindWithin n (Look x) = ⊤
-IsBindWithin n (Bind x) = x < n
-
-abbrev BindWithin : ℕ → List Event → Type 0
-BindWithin n events = AllByRecursion (IsBindWithin n) events
-
-record Strikes (locals : List Local) (marks : List Mark) (here : List Event) (k : CodeKind) : Type 0 where
-  front : List Event
+-- among locals that are looked at behind these uses, one that can't be
+record ReadHit (h : ℕ → Bool) (before : List Event) (ts rs : List ℕ) (k : CodeKind) : Type 0 where
+  front : List ℕ
   local : ℕ
-  rest : List Event
-  is : here ≡ front ++ Use local ∷ rest
-  marked : mark_fault (slice_get (after locals marks front) local) ≡ Some k
-  inside : BindWithin (length locals) front
+  rest : List ℕ
+  is : rs ≡ front ++ local ∷ rest
+  bad : BadAt h (before ++ map Use ts) local k
 
-uses_split : (xs ys : List ℕ) → uses (xs ++ ys) ≡ uses xs ++ uses ys
+uses_split : (xs ys : List ℕ) → map Use (xs ++ ys) ≡ map Use xs ++ map Use ys
 uses_split [] ys = refl
 uses_split (x ∷ xs) ys = ap (λ l. Use x ∷ l) (uses_split xs ys)
 
-uses_bind_nothing : (n : ℕ) (xs : List ℕ) → BindWithin n (uses xs)
-uses_bind_nothing n [] = tt
-uses_bind_nothing n (x ∷ xs) = (tt, uses_bind_nothing n xs)
+looks_split : (xs ys : List ℕ) → map Look (xs ++ ys) ≡ map Look xs ++ map Look ys
+looks_split [] ys = refl
+looks_split (x ∷ xs) ys = ap (λ l. Look x ∷ l) (looks_split xs ys)
 
-let_binds : (n : ℕ) (l : Let) → l.target < n → BindWithin n (let_events no_reads l)
-let_binds n l h = subst (BindWithin n) (sym (let_uses l)) (all_both (IsBindWithin n) (uses (operands_of l.op)) (Bind l.target ∷ []) (uses_bind_nothing n (operands_of l.op)) (h, tt))
-
-hit_strikes : (locals : List Local) (marks : List Mark) (xs : List ℕ) (k : CodeKind) → Hit locals marks xs k → Strikes locals marks (uses xs) k
-hit_strikes locals marks xs k h = record {
-  front = uses h.front;
-  local = h.local;
-  rest = uses h.rest;
-  is = ap uses h.is ∙ uses_split h.front (h.local ∷ h.rest);
-  marked = subst (λ m. mark_fault (slice_get m h.local) ≡ Some k) (sym (after_uses locals marks h.front)) h.marked;
-  inside = uses_bind_nothing (length locals) h.front;
+taken_is_hit : (h : ℕ → Bool) (before : List Event) (xs : List ℕ) (k : CodeKind) → TakenHit h before xs k → Hit h before (map Use xs) k
+taken_is_hit h before xs k t = record {
+  local = t.local;
+  want = Use t.local;
+  wants = inl refl;
+  front = map Use t.front;
+  rest = map Use t.rest;
+  is = ap (map Use) t.is ∙ uses_split t.front (t.local ∷ t.rest);
+  bad = t.bad;
 }
 
-strikes_back : (locals : List Local) (marks : List Mark) (xs ys : List Event) (k : CodeKind) → BindWithin (length locals) xs
-    → Strikes locals (after locals marks xs) ys k → Strikes locals marks (xs ++ ys) k
-strikes_back locals marks xs ys k w h = record {
-  front = xs ++ h.front;
-  local = h.local;
-  rest = h.rest;
-  is = ap (λ l. xs ++ l) h.is ∙ sym (append_assoc xs h.front (Use h.local ∷ h.rest));
-  marked = subst (λ m. mark_fault (slice_get m h.local) ≡ Some k) (sym (after_both locals marks xs h.front)) h.marked;
-  inside = all_both (IsBindWithin (length locals)) xs h.front w h.inside;
+read_is_hit : (h : ℕ → Bool) (before : List Event) (ts rs : List ℕ) (k : CodeKind) → ReadHit h before ts rs k
+    → Hit h before (map Use ts ++ map Look rs) k
+read_is_hit h before ts rs k t = record {
+  local = t.local;
+  want = Look t.local;
+  wants = inr refl;
+  front = map Use ts ++ map Look t.front;
+  rest = map Look t.rest;
+  is = ap (λ l. map Use ts ++ map Look l) t.is ∙ ap (λ l. map Use ts ++ l) (looks_split t.front (t.local ∷ t.rest)) ∙ sym (append_assoc (map Use ts) (map Look t.front) (Look t.local ∷ map Look t.rest));
+  bad = subst (λ l. BadAt h l t.local k) (append_assoc before (map Use ts) (map Look t.front)) (bad_later h (before ++ map Use ts) (map Look t.front) t.local k (looks_bind_nothing t.front) t.bad);
 }
 
--- ---- jumps
+-- a hit among arguments, or what is behind them fails
+abbrev Arguments : (ℕ → Bool) → List Event → (ts rs : List ℕ) → CodeKind → Checks → Type 0
+Arguments h before ts rs k rest = TakenHit h before ts k ⊎ (ReadHit h before ts rs k ⊎ Fails rest k)
 
-other_mark : (marks : List Mark) (x y : ℕ) (m : Mark) → (x ≡ y → ⊥) → slice_get (slice_set marks x m) y ≡ slice_get marks y
-other_mark [] x y m h = refl
-other_mark (n ∷ marks) zero zero m h = absurd (h refl)
-other_mark (n ∷ marks) zero (suc y) m h = refl
-other_mark (n ∷ marks) (suc x) zero m h = refl
-other_mark (n ∷ marks) (suc x) (suc y) m h = other_mark marks x y m (λ e. h (ap suc e))
+taken_now : (h : ℕ → Bool) (before : List Event) (x : ℕ) (xs : List ℕ) (k : CodeKind) → BadAt h before x k → TakenHit h before (x ∷ xs) k
+taken_now h before x xs k b = record { front = []; local = x; rest = xs; is = refl; bad = subst (λ l. BadAt h l x k) (sym (append-nil before)) b }
 
-other_spent : (locals : List Local) (marks : List Mark) (x y : ℕ) → (x ≡ y → ⊥) → slice_get (spend locals marks x) y ≡ slice_get marks y
-other_spent locals marks x y h =
-    let P : Bool → Type 0 = λ b. slice_get (if b then slice_set marks x mark.Spent else marks) y ≡ slice_get marks y in
-    elim (is_heap_at locals x) as P [ true ↦ other_mark marks x y mark.Spent h | false ↦ refl ]
+-- behind one use
+one_use_later : (h : ℕ → Bool) (before : List Event) (x : ℕ) (ts rs : List ℕ) (k : CodeKind) (rest : Checks)
+    → Arguments h (before ++ Use x ∷ []) ts rs k rest → Arguments h before (x ∷ ts) rs k rest
+one_use_later h before x ts rs k rest (inl t) = inl (record { front = x ∷ t.front; local = t.local; rest = t.rest; is = ap (λ l. x ∷ l) t.is; bad = subst (λ l. BadAt h l t.local k) (append_assoc before (Use x ∷ []) (map Use t.front)) t.bad })
+one_use_later h before x ts rs k rest (inr (inl t)) = inr (inl (record { front = t.front; local = t.local; rest = t.rest; is = t.is; bad = subst (λ l. BadAt h l t.local k) (append_assoc before (Use x ∷ []) (map Use ts)) t.bad }))
+one_use_later h before x ts rs k rest (inr (inr f)) = inr (inr f)
 
-others_spent : (locals : List Local) (marks : List Mark) (xs : List ℕ) (y : ℕ) → AllByRecursion (λ x. x ≡ y → ⊥) xs
-    → slice_get (spend_all locals marks xs) y ≡ slice_get marks y
-others_spent locals marks [] y h = refl
-others_spent locals marks (x ∷ xs) y h = others_spent locals (spend locals marks x) xs y h.1 ∙ other_spent locals marks x y h.0
+-- behind one look
+one_look_later : (h : ℕ → Bool) (before : List Event) (x : ℕ) (ts rs : List ℕ) (k : CodeKind) (rest : Checks)
+    → Arguments h before ts rs k rest → Arguments h before ts (x ∷ rs) k rest
+one_look_later h before x ts rs k rest (inl t) = inl t
+one_look_later h before x ts rs k rest (inr (inl t)) = inr (inl (record { front = x ∷ t.front; local = t.local; rest = t.rest; is = ap (λ l. x ∷ l) t.is; bad = t.bad }))
+one_look_later h before x ts rs k rest (inr (inr f)) = inr (inr f)
 
--- what isn't among the locals that were bound is as it was
-unbound_stays : (xs : List ℕ) (marks : List Mark) (x : ℕ) → is_among xs x ≡ false → slice_get (bind_all marks xs) x ≡ slice_get marks x
-unbound_stays [] marks x h = refl
-unbound_stays (y ∷ ys) marks x h =
-    let rest : is_among ys x ≡ false = grind arith in
-    let differs : y ≡ x → ⊥ = λ e. (let t : (y == x) ≡ true = is_same y x e in grind arith) in
-    unbound_stays ys (bind marks y) x rest ∙ other_mark marks y x mark.Ready differs
-
-use_hit : (marks : List Mark) (bound : List ℕ) (x : ℕ) (k : CodeKind) → use_fault marks bound x ≡ Some k
-    → mark_fault (slice_get (bind_all marks bound) x) ≡ Some k
-use_hit marks bound x k h = by_test (is_among bound x) refl h
+operands_hit : (types : List DataType) (f : Func) (before : List Event) (s : State) (marks : List Bool) (xs : List ℕ) (qs : List Kind) (rest : Checks) (k : CodeKind)
+    → Behind (is_owned types f) before s → is_use k ≡ true → length xs ≡ length qs → Fails (operands_checks types f s marks xs qs rest) k
+    → Arguments (is_owned types f) before (taken_by marks xs) (read_by marks xs) k rest
+operands_hit types f before s [] [] [] rest k e u n h = inr (inr h)
+operands_hit types f before s (true ∷ marks) [] [] rest k e u n h = inr (inr h)
+operands_hit types f before s (false ∷ marks) [] [] rest k e u n h = inr (inr h)
+operands_hit types f before s marks [] (q ∷ qs) rest k e u n h = absurd (omega (arith, n))
+operands_hit types f before s marks (x ∷ xs) [] rest k e u n h = absurd (omega (arith, n))
+operands_hit types f before s [] (x ∷ xs) (q ∷ qs) rest k e u n h =
+    on (λ g. operands_hit types f (before ++ Use x ∷ []) (use_of (is_owned types f) s x) [] xs qs rest k (more_behind (is_owned types f) before (Use x ∷ []) s e) u (omega (arith, n)) g)
+    (operand_fails types f s x q (operands_checks types f (use_of (is_owned types f) s x) [] xs qs rest) k u h)
   where
-    by_test : (b : Bool) → is_among bound x ≡ b → (if b then None else mark_fault (slice_get marks x)) ≡ Some k
-        → mark_fault (slice_get (bind_all marks bound) x) ≡ Some k
-    by_test true e q = cc
-    by_test false e q = ap mark_fault (unbound_stays bound marks x e) ∙ q
+    on : (Fails (operands_checks types f (use_of (is_owned types f) s x) [] xs qs rest) k → Arguments (is_owned types f) (before ++ Use x ∷ []) xs [] k rest)
+        → IsFault (s x) k ⊎ Fails (operands_checks types f (use_of (is_owned types f) s x) [] xs qs rest) k → Arguments (is_owned types f) before (x ∷ xs) [] k rest
+    on later (inl b) = inl (taken_now (is_owned types f) before x xs k (fault_behind (is_owned types f) before s x k e b))
+    on later (inr g) = one_use_later (is_owned types f) before x xs [] k rest (later g)
+operands_hit types f before s (false ∷ marks) (x ∷ xs) (q ∷ qs) rest k e u n h =
+    on (λ g. operands_hit types f (before ++ Use x ∷ []) (use_of (is_owned types f) s x) marks xs qs rest k (more_behind (is_owned types f) before (Use x ∷ []) s e) u (omega (arith, n)) g)
+    (operand_fails types f s x q (operands_checks types f (use_of (is_owned types f) s x) marks xs qs rest) k u h)
+  where
+    on : (Fails (operands_checks types f (use_of (is_owned types f) s x) marks xs qs rest) k → Arguments (is_owned types f) (before ++ Use x ∷ []) (taken_by marks xs) (read_by marks xs) k rest)
+        → IsFault (s x) k ⊎ Fails (operands_checks types f (use_of (is_owned types f) s x) marks xs qs rest) k
+        → Arguments (is_owned types f) before (x ∷ taken_by marks xs) (read_by marks xs) k rest
+    on later (inl b) = inl (taken_now (is_owned types f) before x (taken_by marks xs) k (fault_behind (is_owned types f) before s x k e b))
+    on later (inr g) = one_use_later (is_owned types f) before x (taken_by marks xs) (read_by marks xs) k rest (later g)
+operands_hit types f before s (true ∷ marks) (x ∷ xs) (q ∷ qs) rest k e u n h =
+    on (λ g. operands_hit types f before s marks xs qs rest k e u (omega (arith, n)) g)
+    (use_fails s x (Must (kind_of f x ≡ Some q) fault.Kind (operands_checks types f s marks xs qs rest)) k h)
+  where
+    on : (Fails (operands_checks types f s marks xs qs rest) k → Arguments (is_owned types f) before (taken_by marks xs) (read_by marks xs) k rest)
+        → IsFault (s x) k ⊎ Fails (Must (kind_of f x ≡ Some q) fault.Kind (operands_checks types f s marks xs qs rest)) k
+        → Arguments (is_owned types f) before (taken_by marks xs) (x ∷ read_by marks xs) k rest
+    on later (inl b) = inr (inl (record {
+      front = [];
+      local = x;
+      rest = read_by marks xs;
+      is = refl;
+      bad = bad_later (is_owned types f) before (map Use (taken_by marks xs)) x k (uses_bind_nothing (taken_by marks xs)) (fault_behind (is_owned types f) before s x k e b);
+    }))
+    on later (inr g) = one_look_later (is_owned types f) before x (taken_by marks xs) (read_by marks xs) k rest
+        (later (behind (kind_of f x ≡ Some q) fault.Kind k (operands_checks types f s marks xs qs rest) refl u g))
 
--- the first parameter that can't be used, after others that can
-record First (marks : List Mark) (xs : List ℕ) (k : CodeKind) : Type 0 where
+again_hit : (h : ℕ → Bool) (before : List Event) (ts : List ℕ) (s : State) (rs : List ℕ) (rest : Checks) (k : CodeKind) → Behind h (before ++ map Use ts) s
+    → Fails (again_checks s rs rest) k → ReadHit h before ts rs k ⊎ Fails rest k
+again_hit h before ts s [] rest k e f = inr f
+again_hit h before ts s (x ∷ rs) rest k e f = on (λ g. again_hit h before ts s rs rest k e g) (use_fails s x (again_checks s rs rest) k f)
+  where
+    later : ReadHit h before ts rs k ⊎ Fails rest k → ReadHit h before ts (x ∷ rs) k ⊎ Fails rest k
+    later (inl t) = inl (record { front = x ∷ t.front; local = t.local; rest = t.rest; is = ap (λ l. x ∷ l) t.is; bad = t.bad })
+    later (inr g) = inr g
+
+    on : (Fails (again_checks s rs rest) k → ReadHit h before ts rs k ⊎ Fails rest k) → IsFault (s x) k ⊎ Fails (again_checks s rs rest) k → ReadHit h before ts (x ∷ rs) k ⊎ Fails rest k
+    on go (inl b) = inl (record { front = []; local = x; rest = rs; is = refl; bad = fault_behind h (before ++ map Use ts) s x k e b })
+    on go (inr g) = later (go g)
+
+-- uses and then looks are the events of a call's arguments
+events_are : (marks : List Bool) (xs : List ℕ) → map Use (taken_by marks xs) ++ map Look (read_by marks xs) ≡ argument_events marks xs
+events_are [] xs = append-nil (map Use xs)
+events_are (mark ∷ marks) xs = refl
+
+arguments_hit : (types : List DataType) (f : Func) (before : List Event) (s : State) (marks : List Bool) (xs : List ℕ) (qs : List Kind) (rest : Checks) (k : CodeKind)
+    → Behind (is_owned types f) before s → is_use k ≡ true → Fails (arguments_checks types f s marks xs qs rest) k
+    → Hit (is_owned types f) before (argument_events marks xs) k ⊎ Fails rest k
+arguments_hit types f before s marks xs qs rest k e u (inl h) = let j : fault.Arms ≡ k = h.1 in let q : is_use k ≡ false = subst (λ l. is_use l ≡ false) j refl in absurd cc
+arguments_hit types f before s marks xs qs rest k e u (inr h) =
+    on (operands_hit types f before s marks xs qs (again_checks (after (is_owned types f) s (map Use (taken_by marks xs))) (read_by marks xs) rest) k e u h.0 h.1)
+  where
+    whole : Hit (is_owned types f) before (map Use (taken_by marks xs) ++ map Look (read_by marks xs)) k → Hit (is_owned types f) before (argument_events marks xs) k
+    whole g = subst (λ l. Hit (is_owned types f) before l k) (events_are marks xs) g
+
+    looked : ReadHit (is_owned types f) before (taken_by marks xs) (read_by marks xs) k ⊎ Fails rest k → Hit (is_owned types f) before (argument_events marks xs) k ⊎ Fails rest k
+    looked (inl t) = inl (whole (read_is_hit (is_owned types f) before (taken_by marks xs) (read_by marks xs) k t))
+    looked (inr g) = inr g
+
+    on : Arguments (is_owned types f) before (taken_by marks xs) (read_by marks xs) k (again_checks (after (is_owned types f) s (map Use (taken_by marks xs))) (read_by marks xs) rest)
+        → Hit (is_owned types f) before (argument_events marks xs) k ⊎ Fails rest k
+    on (inl t) = inl (whole (hit_front (is_owned types f) before (map Use (taken_by marks xs)) (map Look (read_by marks xs)) k (taken_is_hit (is_owned types f) before (taken_by marks xs) k t)))
+    on (inr (inl t)) = inl (whole (read_is_hit (is_owned types f) before (taken_by marks xs) (read_by marks xs) k t))
+    on (inr (inr g)) = looked (again_hit (is_owned types f) before (taken_by marks xs) (after (is_owned types f) s (map Use (taken_by marks xs))) (read_by marks xs) rest k
+        (more_behind (is_owned types f) before (map Use (taken_by marks xs)) s e) g)
+
+-- ---- lets
+
+no_target : {P : Type 0} (types : List DataType) (f : Func) (x : ℕ) (o : Option Kind) (k : CodeKind) → is_use k ≡ true → Fails (target_check types f x o) k → P
+no_target types f x o k u h =
+    absurd (behind (is_lent types f x ≡ false) fault.Lent k NoMore refl u (behind ((q : Kind) × (kind_of f x ≡ Some q) × (o ≡ Some q)) fault.Kind k (own_check types f x NoMore) refl u h))
+
+no_entry : {P : Type 0} (k : CodeKind) → is_use k ≡ true → Fails (Must ⊥ fault.NoSuchEntry NoMore) k → P
+no_entry k u h = absurd (behind ⊥ fault.NoSuchEntry k NoMore refl u h)
+
+taken_hit : (types : List DataType) (f : Func) (before : List Event) (s : State) (at : Place) (inline : Bool) (rest : Checks) (k : CodeKind)
+    → Behind (is_owned types f) before s → is_use k ≡ true → Fails (taken_checks types f s at (Must (IsPlaceOf inline at) fault.Place rest)) k
+    → Hit (is_owned types f) before (map Use (taken at)) k ⊎ Fails rest k
+taken_hit types f before s place.Inline inline rest k e u h = inr (behind (IsTrue inline) fault.Place k rest refl u h)
+taken_hit types f before s place.New inline rest k e u h = inr (behind (inline ≡ false) fault.Place k rest refl u h)
+taken_hit types f before s (place.Reuse d) inline rest k e u h = on (operand_fails types f s d kind.Dia (Must (inline ≡ false) fault.Place rest) k u h)
+  where
+    on : IsFault (s d) k ⊎ Fails (Must (inline ≡ false) fault.Place rest) k → Hit (is_owned types f) before (Use d ∷ []) k ⊎ Fails rest k
+    on (inl b) = inl (at_once (is_owned types f) before d [] k (fault_behind (is_owned types f) before s d k e b))
+    on (inr g) = inr (behind (inline ≡ false) fault.Place k rest refl u g)
+
+reads_is : (p : Code) (func : ℕ) (callee : Func) → slice_get p.funcs func ≡ Some callee → reads_of p func ≡ callee.reads
+reads_is p func callee e = ap (λ o. option_map_or (λ f. f.reads) o []) e
+
+operation_hit : (p : Code) (f : Func) (before : List Event) (s : State) (x : ℕ) (op : Op) (k : CodeKind) → Behind (is_owned p.types f) before s → is_use k ≡ true
+    → Fails (op_checks p f s x op) k → Hit (is_owned p.types f) before (uses_of (reads_of p) op) k
+operation_hit p f before s x (Lit z) k e u h = no_target p.types f x (Some kind.Int) k u (behind _ fault.Kind k (target_check p.types f x (Some kind.Int)) refl u h)
+operation_hit p f before s x (Flag b) k e u h = no_target p.types f x (Some kind.Flag) k u h
+operation_hit p f before s x (Copy y) k e u h = on (use_fails s y (own_check p.types f y (target_check p.types f x (kind_of f y))) k h)
+  where
+    on : IsFault (s y) k ⊎ Fails (own_check p.types f y (target_check p.types f x (kind_of f y))) k → Hit (is_owned p.types f) before (Use y ∷ []) k
+    on (inl b) = at_once (is_owned p.types f) before y [] k (fault_behind (is_owned p.types f) before s y k e b)
+    on (inr g) = no_target p.types f x (kind_of f y) k u (behind (is_lent p.types f y ≡ false) fault.Lent k (target_check p.types f x (kind_of f y)) refl u g)
+operation_hit p f before s x (Prim op left right) k e u h =
+    first (operand_fails p.types f s left kind.Int (operand_checks p.types f (use_of (is_owned p.types f) s left) right kind.Int (target_check p.types f x (Some (operator_kind op)))) k u h)
+  where
+    second : IsFault (use_of (is_owned p.types f) s left right) k ⊎ Fails (target_check p.types f x (Some (operator_kind op))) k → Hit (is_owned p.types f) before (Use left ∷ Use right ∷ []) k
+    second (inl b) = hit_back (is_owned p.types f) before (Use left ∷ []) (Use right ∷ []) k
+        (at_once (is_owned p.types f) (before ++ Use left ∷ []) right [] k (fault_behind (is_owned p.types f) (before ++ Use left ∷ []) (use_of (is_owned p.types f) s left) right k (more_behind (is_owned p.types f) before (Use left ∷ []) s e) b))
+    second (inr g) = no_target p.types f x (Some (operator_kind op)) k u g
+
+    first : IsFault (s left) k ⊎ Fails (operand_checks p.types f (use_of (is_owned p.types f) s left) right kind.Int (target_check p.types f x (Some (operator_kind op)))) k
+        → Hit (is_owned p.types f) before (Use left ∷ Use right ∷ []) k
+    first (inl b) = at_once (is_owned p.types f) before left (Use right ∷ []) k (fault_behind (is_owned p.types f) before s left k e b)
+    first (inr g) = second (operand_fails p.types f (use_of (is_owned p.types f) s left) right kind.Int (target_check p.types f x (Some (operator_kind op))) k u g)
+operation_hit p f before s x (Make con args at) k e u h = by_con (constructor p.types con) h
+  where
+    owner : Option Kind
+    owner = option_map kind.Of (type_of p.types con)
+
+    whole : Hit (is_owned p.types f) before (map Use args ++ map Use (taken at)) k → Hit (is_owned p.types f) before (map Use (args ++ taken at)) k
+    whole g = subst (λ l. Hit (is_owned p.types f) before l k) (sym (uses_split args (taken at))) g
+
+    by_con : (o : Option Constructor) → Fails (of_entry o fault.NoSuchEntry (λ c. arguments_checks p.types f s [] args c.fields
+        (taken_checks p.types f (after (is_owned p.types f) s (map Use args)) at (Must (IsPlaceOf c.inline at) fault.Place (target_check p.types f x owner))))) k
+        → Hit (is_owned p.types f) before (map Use (args ++ taken at)) k
+    by_con None g = no_entry k u g
+    by_con (Some c) g = on (arguments_hit p.types f before s [] args c.fields (taken_checks p.types f (after (is_owned p.types f) s (map Use args)) at (Must (IsPlaceOf c.inline at) fault.Place (target_check p.types f x owner))) k e u g)
+      where
+        place : Hit (is_owned p.types f) (before ++ map Use args) (map Use (taken at)) k ⊎ Fails (target_check p.types f x owner) k → Hit (is_owned p.types f) before (map Use (args ++ taken at)) k
+        place (inl t) = whole (hit_back (is_owned p.types f) before (map Use args) (map Use (taken at)) k t)
+        place (inr t) = no_target p.types f x owner k u t
+
+        on : Hit (is_owned p.types f) before (map Use args) k ⊎ Fails (taken_checks p.types f (after (is_owned p.types f) s (map Use args)) at (Must (IsPlaceOf c.inline at) fault.Place (target_check p.types f x owner))) k
+            → Hit (is_owned p.types f) before (map Use (args ++ taken at)) k
+        on (inl t) = whole (hit_front (is_owned p.types f) before (map Use args) (map Use (taken at)) k t)
+        on (inr t) = place (taken_hit p.types f (before ++ map Use args) (after (is_owned p.types f) s (map Use args)) at c.inline (target_check p.types f x owner) k (more_behind (is_owned p.types f) before (map Use args) s e) u t)
+operation_hit p f before s x (Call func args) k e u h = by_func (slice_get p.funcs func) refl h
+  where
+    by_func : (o : Option Func) → slice_get p.funcs func ≡ o
+        → Fails (of_entry o fault.NoSuchEntry (λ callee. arguments_checks p.types f s callee.reads args callee.params (target_check p.types f x (Some callee.result)))) k
+        → Hit (is_owned p.types f) before (argument_events (reads_of p func) args) k
+    by_func None q g = no_entry k u g
+    by_func (Some callee) q g = on (arguments_hit p.types f before s callee.reads args callee.params (target_check p.types f x (Some callee.result)) k e u g)
+      where
+        on : Hit (is_owned p.types f) before (argument_events callee.reads args) k ⊎ Fails (target_check p.types f x (Some callee.result)) k → Hit (is_owned p.types f) before (argument_events (reads_of p func) args) k
+        on (inl t) = subst (λ marks. Hit (is_owned p.types f) before (argument_events marks args) k) (sym (reads_is p func callee q)) t
+        on (inr t) = no_target p.types f x (Some callee.result) k u t
+
+let_hit : (p : Code) (f : Func) (before : List Event) (s : State) (l : Let) (k : CodeKind) → Behind (is_owned p.types f) before s → is_use k ≡ true
+    → Fails (let_checks p f s l) k → Hit (is_owned p.types f) before (uses_of (reads_of p) l.op) k
+let_hit p f before s l k e u h = operation_hit p f before s l.target l.op k e u (behind _ fault.NoSuchEntry k (op_checks p f s l.target l.op) refl u h)
+
+-- ---- the end of a block
+
+-- a jump's parameter that can't be used; a jump marks nothing as used
+record JumpHit (h : ℕ → Bool) (before : List Event) (xs : List ℕ) (k : CodeKind) : Type 0 where
   front : List ℕ
   local : ℕ
   rest : List ℕ
   is : xs ≡ front ++ local ∷ rest
-  marked : mark_fault (slice_get marks local) ≡ Some k
-  ready : AllByRecursion (λ x. IsReady marks x) front
+  bad : BadAt h before local k
 
-first_use : (marks : List Mark) (bound xs : List ℕ) (k : CodeKind) → AreBelow (length marks) bound → uses_fault marks bound xs ≡ Some k
-    → First (bind_all marks bound) xs k
-first_use marks bound [] k w h = cc
-first_use marks bound (x ∷ xs) k w h =
-    elim (either (use_fault marks bound x) (uses_fault marks bound xs) k h) as (λ z. First (bind_all marks bound) (x ∷ xs) k) [
-      | inl a ↦ record { front = []; local = x; rest = xs; is = refl; marked = use_hit marks bound x k a; ready = tt }
-      | inr (a, b) ↦ (let f = first_use marks bound xs k w b in
-          record { front = x ∷ f.front; local = f.local; rest = f.rest; is = ap (λ l. x ∷ l) f.is; marked = f.marked; ready = (use_passes marks bound x w a, f.ready) })
-    ]
-
-differ : (marks : List Mark) (x y : ℕ) (k : CodeKind) → IsReady marks x → mark_fault (slice_get marks y) ≡ Some k → x ≡ y → ⊥
-differ marks x y k r h e = let a : mark_fault (slice_get marks x) ≡ None = ap mark_fault r in let b : mark_fault (slice_get marks x) ≡ Some k = subst (λ z. mark_fault (slice_get marks z) ≡ Some k) (sym e) h in cc
-
-first_hit : (locals : List Local) (marks : List Mark) (xs : List ℕ) (k : CodeKind) → First marks xs k → Hit locals marks xs k
-first_hit locals marks xs k f = record {
-  front = f.front;
-  local = f.local;
-  rest = f.rest;
-  is = f.is;
-  marked = ap mark_fault (others_spent locals marks f.front f.local (all_then (λ x. IsReady marks x) (λ x. x ≡ f.local → ⊥) f.front (λ x r. differ marks x f.local k r f.marked) f.ready)) ∙ f.marked;
+jump_is_hit : (h : ℕ → Bool) (before : List Event) (xs : List ℕ) (k : CodeKind) → JumpHit h before xs k → Hit h before (map Use xs) k
+jump_is_hit h before xs k t = record {
+  local = t.local;
+  want = Use t.local;
+  wants = inl refl;
+  front = map Use t.front;
+  rest = map Use t.rest;
+  is = ap (map Use) t.is ∙ uses_split t.front (t.local ∷ t.rest);
+  bad = bad_later h before (map Use t.front) t.local k (uses_bind_nothing t.front) t.bad;
 }
 
-binds_within_are : (n : ℕ) (xs : List ℕ) → AreBelow n xs → BindWithin n (map Bind xs)
-binds_within_are n [] h = tt
-binds_within_are n (x ∷ xs) h = (h.0, binds_within_are n xs h.1)
+jump_hit : (h : ℕ → Bool) (before : List Event) (s : State) (xs : List ℕ) (rest : Checks) (k : CodeKind) → Behind h before s → Fails (jump_checks s xs rest) k
+    → JumpHit h before xs k ⊎ Fails rest k
+jump_hit h before s [] rest k e f = inr f
+jump_hit h before s (x ∷ xs) rest k e f = on (λ g. jump_hit h before s xs rest k e g) (use_fails s x (jump_checks s xs rest) k f)
+  where
+    later : JumpHit h before xs k ⊎ Fails rest k → JumpHit h before (x ∷ xs) k ⊎ Fails rest k
+    later (inl t) = inl (record { front = x ∷ t.front; local = t.local; rest = t.rest; is = ap (λ l. x ∷ l) t.is; bad = t.bad })
+    later (inr g) = inr g
 
-jump_strikes : (f : Func) (locals : List Local) (marks : List Mark) (bound : List ℕ) (b : ℕ) (k : CodeKind) → length marks ≡ length locals
-    → AreBelow (length locals) bound
-    → jump_fault f marks bound b ≡ Some k → Strikes locals marks (way f bound b) k
-jump_strikes f locals marks bound b k e w h =
-    strikes_back locals marks (map Bind bound) (jump_events f.blocks b) k (binds_within_are (length locals) bound w)
-    (subst (λ m. Strikes locals m (jump_events f.blocks b) k) (sym (after_binds locals marks bound))
-    (hit_strikes locals (bind_all marks bound) (params_at f.blocks b) k
-    (first_hit locals (bind_all marks bound) (params_at f.blocks b) k (first_use marks bound (params_at f.blocks b) k (subst (λ n. AreBelow n bound) (sym e) w) h))))
+    on : (Fails (jump_checks s xs rest) k → JumpHit h before xs k ⊎ Fails rest k) → IsFault (s x) k ⊎ Fails (jump_checks s xs rest) k → JumpHit h before (x ∷ xs) k ⊎ Fails rest k
+    on go (inl b) = inl (record { front = []; local = x; rest = xs; is = refl; bad = fault_behind h before s x k e b })
+    on go (inr g) = later (go g)
 
--- ---- the end of a block
+abbrev arm_way : Func → CaseArm → List Event
+arm_way f a = map Bind (bound_by a) ++ jump_events f.blocks a.target
 
-record Ahead (locals : List Local) (marks : List Mark) (ws : List (List Event)) (k : CodeKind) : Type 0 where
+-- on one of the ways on
+record Ahead (h : ℕ → Bool) (before : List Event) (ws : List (List Event)) (k : CodeKind) : Type 0 where
   index : ℕ
-  way_on : List Event
-  is : slice_get ws index ≡ Some way_on
-  strikes : Strikes locals marks way_on k
+  way : List Event
+  is : slice_get ws index ≡ Some way
+  hit : Hit h before way k
 
-arms_hit : (f : Func) (locals : List Local) (marks : List Mark) (arms : List CaseArm) (k : CodeKind) → length marks ≡ length locals
-    → AllByRecursion (λ a. arm_is_there f locals a ≡ true) arms
-    → arms_jump_fault f marks arms ≡ Some k → Ahead locals marks (map (arm_way f) arms) k
-arms_hit f locals marks [] k e t h = cc
-arms_hit f locals marks (a ∷ arms) k e t h =
-    elim (either (jump_fault f marks (bound_by a) a.target) (arms_jump_fault f marks arms) k h) as (λ z. Ahead locals marks (map (arm_way f) (a ∷ arms)) k) [
-      | inl q ↦ record { index = 0; way_on = arm_way f a; is = refl; strikes = jump_strikes f locals marks (bound_by a) a.target k e (bound_below f locals a t.0) q }
-      | inr (q, r) ↦ (let s = arms_hit f locals marks arms k e t.1 r in record { index = suc s.index; way_on = s.way_on; is = s.is; strikes = s.strikes })
-    ]
+arms_hit : (types : List DataType) (f : Func) (before : List Event) (s : State) (arms : List CaseArm) (k : CodeKind) → Behind (is_owned types f) before s
+    → Fails (arms_jump_checks types f s arms) k → Ahead (is_owned types f) before (map (arm_way f) arms) k
+arms_hit types f before s [] k e h = absurd h
+arms_hit types f before s (a ∷ arms) k e h =
+    on (λ g. arms_hit types f before s arms k e g)
+    (jump_hit (is_owned types f) (before ++ map Bind (bound_by a)) (after (is_owned types f) s (map Bind (bound_by a))) (params_at f.blocks a.target) (arms_jump_checks types f s arms) k
+    (more_behind (is_owned types f) before (map Bind (bound_by a)) s e) h)
+  where
+    later : Ahead (is_owned types f) before (map (arm_way f) arms) k → Ahead (is_owned types f) before (map (arm_way f) (a ∷ arms)) k
+    later t = record { index = suc t.index; way = t.way; is = t.is; hit = t.hit }
 
--- what the end itself uses, or what a way on does
-abbrev EndHit : Func → List Local → List Mark → Term → CodeKind → Type 0
-EndHit f locals marks e k = Hit locals marks (term_uses e) k ⊎ Ahead locals (after locals marks (uses (term_uses e))) (ways f.blocks e) k
+    on : (Fails (arms_jump_checks types f s arms) k → Ahead (is_owned types f) before (map (arm_way f) arms) k)
+        → JumpHit (is_owned types f) (before ++ map Bind (bound_by a)) (params_at f.blocks a.target) k ⊎ Fails (arms_jump_checks types f s arms) k
+        → Ahead (is_owned types f) before (map (arm_way f) (a ∷ arms)) k
+    on go (inl t) = record {
+      index = 0;
+      way = arm_way f a;
+      is = refl;
+      hit = hit_back (is_owned types f) before (map Bind (bound_by a)) (jump_events f.blocks a.target) k (jump_is_hit (is_owned types f) (before ++ map Bind (bound_by a)) (params_at f.blocks a.target) k t);
+    }
+    on go (inr g) = later (go g)
 
-callee_hit : (f : Func) (locals : List Local) (marks : List Mark) (o : Option Func) (args : List ℕ) (k : CodeKind) → is_use k ≡ true
-    → callee_fault f locals marks o args ≡ Some k → Hit locals marks args k
-callee_hit f locals marks None args k u h = no_other fault.NoSuchEntry k refl u h
-callee_hit f locals marks (Some callee) args k u h =
-    elim (either (arguments_fault locals marks args callee.params) (option_or (unless (same_kind callee.result f.result) fault.Kind) None) k h) as (λ z. Hit locals marks args k) [
-      | inl a ↦ arguments_hit locals marks args callee.params k u a
-      | inr (a, b) ↦ no_test (same_kind callee.result f.result) fault.Kind k refl u (alone (unless (same_kind callee.result f.result) fault.Kind) k b)
-    ]
+-- what the end itself uses, or what a way on does behind that
+abbrev EndHit : Code → Func → List Event → Term → CodeKind → Type 0
+EndHit p f before t k = Hit (is_owned p.types f) before (term_events (reads_of p) t) k ⊎ Ahead (is_owned p.types f) (before ++ term_events (reads_of p) t) (ways f.blocks t) k
 
-case_hit : (f : Func) (locals : List Local) (marks : List Mark) (x : ℕ) (o : Option DataType) (arms : List CaseArm) (k : CodeKind)
-    → length marks ≡ length locals → is_use k ≡ true
-    → AllByRecursion (λ a. arm_is_there f locals a ≡ true) arms → arms_fault f locals marks x o arms ≡ Some k → EndHit f locals marks (Case x arms) k
-case_hit f locals marks x None arms k e u t h = no_other fault.Kind k refl u h
-case_hit f locals marks x (Some d) arms k e u t h =
-    let jumps = arms_jump_fault f (spend locals marks x) arms in
-    let headers = option_or (unless (list_all (λ a. are_distinct (bound_by a)) arms) fault.Header) (option_or jumps None) in
-    let kinds = option_or (unless (arms_have_kinds locals arms d.cons) fault.Kind) headers in
-    let cells = option_or (unless (cells_fit arms d.cons) fault.Place) kinds in
-    let looks = option_or (unless (list_all (λ a. takes a.cell) arms) fault.Lent) cells in
-    let a = behind_test (arms_count arms d.cons) fault.Arms k (option_or (mark_fault (slice_get marks x)) looks) refl u h in
-    elim (either (mark_fault (slice_get marks x)) looks k a.1) as (λ z. EndHit f locals marks (Case x arms) k) [
-      | inl q ↦ inl (hit_first locals marks x [] k q)
-      | inr (q, r) ↦ (
-          let v = behind_test (list_all (λ a. takes a.cell) arms) fault.Lent k cells refl u r in
-          let b = behind_test (cells_fit arms d.cons) fault.Place k kinds refl u v.1 in
-          let c = behind_test (arms_have_kinds locals arms d.cons) fault.Kind k headers refl u b.1 in
-          let g = behind_test (list_all (λ a. are_distinct (bound_by a)) arms) fault.Header k (option_or jumps None) refl u c.1 in
-          inr (arms_hit f locals (spend locals marks x) arms k (length_step locals marks (Use x) ∙ e) t (alone jumps k g.1)))
-    ]
+plain_hit : (f : Func) (h : ℕ → Bool) (before : List Event) (b : ℕ) (k : CodeKind) → JumpHit h before (params_at f.blocks b) k → Hit h before (jump_events f.blocks b) k
+plain_hit f h before b k t = jump_is_hit h before (params_at f.blocks b) k t
 
-jump_ahead : (f : Func) (locals : List Local) (marks : List Mark) (b : ℕ) (k : CodeKind) → length marks ≡ length locals
-    → jump_fault f marks [] b ≡ Some k → Strikes locals marks (jump_events f.blocks b) k
-jump_ahead f locals marks b k e h = jump_strikes f locals marks [] b k e tt h
+case_hit : (p : Code) (f : Func) (before : List Event) (s : State) (x : ℕ) (arms : List CaseArm) (t : DataType) (k : CodeKind) → Behind (is_owned p.types f) before s → is_use k ≡ true
+    → Fails (arms_checks p.types f s x arms t) k → EndHit p f before (Case x arms) k
+case_hit p f before s x arms t k e u h =
+    on (use_fails s x (Must (LookWhere (is_lent p.types f x) arms t.cons) fault.Lent (Must (AreCellsOf arms t.cons) fault.Place (Must (ArmsBindKinds f arms t.cons) fault.Kind
+    (Must distinct fault.Header (Must own fault.Lent jumps))))) k (behind (ArmsCount arms t.cons) fault.Arms k (use_checks s x
+    (Must (LookWhere (is_lent p.types f x) arms t.cons) fault.Lent (Must (AreCellsOf arms t.cons) fault.Place (Must (ArmsBindKinds f arms t.cons) fault.Kind
+    (Must distinct fault.Header (Must own fault.Lent jumps)))))) refl u h))
+  where
+    distinct : Type 0
+    distinct = AllByRecursion (λ a. AreDistinct (bound_by a)) arms
 
-exit_hit : (p : Code) (f : Func) (locals : List Local) (number : ℕ) (marks : List Mark) (e : Term) (k : CodeKind) → length marks ≡ length locals
-    → is_use k ≡ true
-    → term_fault p f locals number marks e ≡ Some k → EndHit f locals marks e k
-exit_hit p f locals number marks (Ret x) k q u h =
-    let a = behind_test (is_local locals x) fault.NoSuchEntry k (option_or (operand_fault locals marks x f.result) None) refl u h in
-    inl (hit_first locals marks x [] k (operand_hit locals marks x f.result k u (alone (operand_fault locals marks x f.result) k a.1)))
-exit_hit p f locals number marks (Tail func args) k q u h =
-    let callee = callee_fault f locals marks (slice_get p.funcs func) args in
-    let a = behind_test (list_all (is_local locals) args) fault.NoSuchEntry k (option_or callee None) refl u h in
-    inl (callee_hit f locals marks (slice_get p.funcs func) args k u (alone callee k a.1))
-exit_hit p f locals number marks (Goto b) k q u h =
-    let jump = jump_fault f marks [] b in
-    let a = behind_test (is_block f b) fault.NoSuchEntry k (option_or (unless (nat_lt number b) fault.Backward) (option_or jump None)) refl u h in
-    let c = behind_test (nat_lt number b) fault.Backward k (option_or jump None) refl u a.1 in
-    inr (record { index = 0; way_on = jump_events f.blocks b; is = refl; strikes = jump_ahead f locals marks b k q (alone jump k c.1) })
-exit_hit p f locals number marks (If x first second) k q u h =
-    let spent = spend locals marks x in
-    let e = length_step locals marks (Use x) ∙ q in
-    let no_jump = option_or (jump_fault f spent [] second) None in
-    let jumps = option_or (jump_fault f spent [] first) no_jump in
-    let rest = option_or (operand_fault locals marks x kind.Flag) jumps in
-    let a = behind_test (is_local locals x && is_block f first && is_block f second) fault.NoSuchEntry k (option_or (unless (nat_lt number first && nat_lt number second) fault.Backward) rest) refl u h in
-    let c = behind_test (nat_lt number first && nat_lt number second) fault.Backward k rest refl u a.1 in
-    elim (either (operand_fault locals marks x kind.Flag) jumps k c.1) as (λ z. EndHit f locals marks (If x first second) k) [
-      | inl r ↦ inl (hit_first locals marks x [] k (operand_hit locals marks x kind.Flag k u r))
-      | inr (r, s) ↦ elim (either (jump_fault f spent [] first) no_jump k s) as (λ z. EndHit f locals marks (If x first second) k) [
-        | inl t ↦ inr (record { index = 0; way_on = jump_events f.blocks first; is = refl; strikes = jump_ahead f locals spent first k e t })
-        | inr (t, v) ↦ inr (record { index = 1; way_on = jump_events f.blocks second; is = refl; strikes = jump_ahead f locals spent second k e (alone (jump_fault f spent [] second) k v) })
-      ]
-    ]
-exit_hit p f locals number marks (Case x arms) k q u h =
-    let o = data_type p.types (kind_at locals x) in
-    let arms_checked = arms_fault f locals marks x o arms in
-    let a = behind_test (is_local locals x && list_all (arm_is_there f locals) arms) fault.NoSuchEntry k (option_or (unless (list_all (λ a. nat_lt number a.target) arms) fault.Backward) (option_or arms_checked None)) refl u h in
-    let t = both (is_local locals x) (list_all (arm_is_there f locals) arms) a.0 in
-    let c = behind_test (list_all (λ a. nat_lt number a.target) arms) fault.Backward k (option_or arms_checked None) refl u a.1 in
-    case_hit f locals marks x o arms k q u (all_true (arm_is_there f locals) arms t.1) (alone arms_checked k c.1)
+    own : Type 0
+    own = AllByRecursion (λ a. AreNotLent p.types f (bound_anew a.cell (bound_by a))) arms
+
+    jumps : Checks
+    jumps = arms_jump_checks p.types f (use_of (is_owned p.types f) s x) arms
+
+    on : IsFault (s x) k ⊎ Fails (Must (LookWhere (is_lent p.types f x) arms t.cons) fault.Lent (Must (AreCellsOf arms t.cons) fault.Place (Must (ArmsBindKinds f arms t.cons) fault.Kind
+        (Must distinct fault.Header (Must own fault.Lent jumps))))) k → EndHit p f before (Case x arms) k
+    on (inl b) = inl (at_once (is_owned p.types f) before x [] k (fault_behind (is_owned p.types f) before s x k e b))
+    on (inr g) = inr (arms_hit p.types f (before ++ Use x ∷ []) (use_of (is_owned p.types f) s x) arms k (more_behind (is_owned p.types f) before (Use x ∷ []) s e)
+        (behind own fault.Lent k jumps refl u (behind distinct fault.Header k (Must own fault.Lent jumps) refl u
+        (behind (ArmsBindKinds f arms t.cons) fault.Kind k (Must distinct fault.Header (Must own fault.Lent jumps)) refl u
+        (behind (AreCellsOf arms t.cons) fault.Place k (Must (ArmsBindKinds f arms t.cons) fault.Kind (Must distinct fault.Header (Must own fault.Lent jumps))) refl u
+        (behind (LookWhere (is_lent p.types f x) arms t.cons) fault.Lent k (Must (AreCellsOf arms t.cons) fault.Place (Must (ArmsBindKinds f arms t.cons) fault.Kind (Must distinct fault.Header (Must own fault.Lent jumps)))) refl u g))))))
+
+term_hit : (p : Code) (f : Func) (number : ℕ) (before : List Event) (s : State) (t : Term) (k : CodeKind) → Behind (is_owned p.types f) before s → is_use k ≡ true
+    → Fails (term_checks p f number s t) k → EndHit p f before t k
+term_hit p f number before s (Ret x) k e u h = on (operand_fails p.types f s x f.result NoMore k u (behind (IsThere f x) fault.NoSuchEntry k (operand_checks p.types f s x f.result NoMore) refl u h))
+  where
+    on : IsFault (s x) k ⊎ Fails NoMore k → EndHit p f before (Ret x) k
+    on (inl b) = inl (at_once (is_owned p.types f) before x [] k (fault_behind (is_owned p.types f) before s x k e b))
+    on (inr g) = absurd g
+term_hit p f number before s (Tail func args) k e u h = by_func (slice_get p.funcs func) refl (behind (AreThere f args) fault.NoSuchEntry k (of_entry (slice_get p.funcs func) fault.NoSuchEntry
+    (λ callee. arguments_checks p.types f s callee.reads args callee.params (Must (callee.result ≡ f.result) fault.Kind NoMore))) refl u h)
+  where
+    by_func : (o : Option Func) → slice_get p.funcs func ≡ o
+        → Fails (of_entry o fault.NoSuchEntry (λ callee. arguments_checks p.types f s callee.reads args callee.params (Must (callee.result ≡ f.result) fault.Kind NoMore))) k
+        → EndHit p f before (Tail func args) k
+    by_func None q g = no_entry k u g
+    by_func (Some callee) q g = on (arguments_hit p.types f before s callee.reads args callee.params (Must (callee.result ≡ f.result) fault.Kind NoMore) k e u g)
+      where
+        on : Hit (is_owned p.types f) before (argument_events callee.reads args) k ⊎ Fails (Must (callee.result ≡ f.result) fault.Kind NoMore) k → EndHit p f before (Tail func args) k
+        on (inl t) = inl (subst (λ marks. Hit (is_owned p.types f) before (argument_events marks args) k) (sym (reads_is p func callee q)) t)
+        on (inr t) = absurd (behind (callee.result ≡ f.result) fault.Kind k NoMore refl u t)
+term_hit p f number before s (Goto b) k e u h =
+    on (jump_hit (is_owned p.types f) before s (params_at f.blocks b) NoMore k e (behind (number < b) fault.Backward k (jump_checks s (params_at f.blocks b) NoMore) refl u
+    (behind (IsBlock f b) fault.NoSuchEntry k (Must (number < b) fault.Backward (jump_checks s (params_at f.blocks b) NoMore)) refl u h)))
+  where
+    on : JumpHit (is_owned p.types f) before (params_at f.blocks b) k ⊎ Fails NoMore k → EndHit p f before (Goto b) k
+    on (inl t) = inr (record { index = 0; way = jump_events f.blocks b; is = refl; hit = subst (λ l. Hit (is_owned p.types f) l (jump_events f.blocks b) k) (sym (append-nil before)) (plain_hit f (is_owned p.types f) before b k t) })
+    on (inr g) = absurd g
+term_hit p f number before s (If x first second) k e u h =
+    on (operand_fails p.types f s x kind.Flag (jump_checks (use_of (is_owned p.types f) s x) (params_at f.blocks first) (jump_checks (use_of (is_owned p.types f) s x) (params_at f.blocks second) NoMore)) k u
+    (behind ((number < first) × (number < second)) fault.Backward k whole refl u (behind (IsThere f x × IsBlock f first × IsBlock f second) fault.NoSuchEntry k (Must ((number < first) × (number < second)) fault.Backward whole) refl u h)))
+  where
+    whole : Checks
+    whole = operand_checks p.types f s x kind.Flag (jump_checks (use_of (is_owned p.types f) s x) (params_at f.blocks first) (jump_checks (use_of (is_owned p.types f) s x) (params_at f.blocks second) NoMore))
+
+    past : List Event
+    past = before ++ Use x ∷ []
+
+    there : Behind (is_owned p.types f) past (use_of (is_owned p.types f) s x)
+    there = more_behind (is_owned p.types f) before (Use x ∷ []) s e
+
+    other : JumpHit (is_owned p.types f) past (params_at f.blocks second) k ⊎ Fails NoMore k → EndHit p f before (If x first second) k
+    other (inl t) = inr (record { index = 1; way = jump_events f.blocks second; is = refl; hit = plain_hit f (is_owned p.types f) past second k t })
+    other (inr g) = absurd g
+
+    one : JumpHit (is_owned p.types f) past (params_at f.blocks first) k ⊎ Fails (jump_checks (use_of (is_owned p.types f) s x) (params_at f.blocks second) NoMore) k → EndHit p f before (If x first second) k
+    one (inl t) = inr (record { index = 0; way = jump_events f.blocks first; is = refl; hit = plain_hit f (is_owned p.types f) past first k t })
+    one (inr g) = other (jump_hit (is_owned p.types f) past (use_of (is_owned p.types f) s x) (params_at f.blocks second) NoMore k there g)
+
+    on : IsFault (s x) k ⊎ Fails (jump_checks (use_of (is_owned p.types f) s x) (params_at f.blocks first) (jump_checks (use_of (is_owned p.types f) s x) (params_at f.blocks second) NoMore)) k
+        → EndHit p f before (If x first second) k
+    on (inl b) = inl (at_once (is_owned p.types f) before x [] k (fault_behind (is_owned p.types f) before s x k e b))
+    on (inr g) = one (jump_hit (is_owned p.types f) past (use_of (is_owned p.types f) s x) (params_at f.blocks first) (jump_checks (use_of (is_owned p.types f) s x) (params_at f.blocks second) NoMore) k there g)
+term_hit p f number before s (Case x arms) k e u h = by_type (data_type p.types (kind_of f x)) (behind (AllByRecursion (λ a. number < a.target) arms) fault.Backward k checks refl u
+    (behind (IsThere f x × AllByRecursion (ArmIsThere f) arms) fault.NoSuchEntry k (Must (AllByRecursion (λ a. number < a.target) arms) fault.Backward checks) refl u h))
+  where
+    checks : Checks
+    checks = of_entry (data_type p.types (kind_of f x)) fault.Kind (arms_checks p.types f s x arms)
+
+    by_type : (o : Option DataType) → Fails (of_entry o fault.Kind (arms_checks p.types f s x arms)) k → EndHit p f before (Case x arms) k
+    by_type None g = absurd (behind ⊥ fault.Kind k NoMore refl u g)
+    by_type (Some t) g = case_hit p f before s x arms t k e u g
 
 -- ---- places
 
--- a fault and its place
-record At (func block place : ℕ) (o : Option CodeKind) (e : CodeFault) : Type 0 where
-  found : o ≡ Some e.kind
-  place_is : e.place ≡ place
-  block_is : e.block ≡ block
-  func_is : e.func ≡ func
+abbrev Place_of : (func number place : ℕ) → CodeFault → Type 0
+Place_of func number place e = e ≡ record { func = func; block = number; place = place; kind = e.kind }
 
-at_found : (func block place : ℕ) (o : Option CodeKind) (e : CodeFault) → at_place func block place o ≡ Some e → At func block place o e
-at_found func block place None e h = cc
-at_found func block place (Some k) e h =
-    let r : CodeFault = record { func = func; block = block; place = place; kind = k } in
-    let q : r ≡ e = same_Some r e h in
-    record { found = ap (λ x. Some x.kind) q; place_is = sym (ap (λ x. x.place) q); block_is = sym (ap (λ x. x.block) q); func_is = sym (ap (λ x. x.func) q) }
-
-record LetHit (locals : List Local) (marks : List Mark) (ls : List Let) (func block place : ℕ) (e : CodeFault) : Type 0 where
-  earlier : List Let
-  l : Let
-  rest : List Let
-  is : ls ≡ earlier ++ l ∷ rest
-  hit : Hit locals (after_lets locals marks earlier) (operands_of l.op) e.kind
-  inside : BindWithin (length locals) (flat_map (let_events no_reads) earlier)
-  place_is : e.place ≡ place + length earlier
-  block_is : e.block ≡ block
-  func_is : e.func ≡ func
-
-lets_hit : (p : Code) (locals : List Local) (func number place : ℕ) (marks : List Mark) (ls : List Let) (e : CodeFault) → is_use e.kind ≡ true
-    → lets_fault p locals func number place marks ls ≡ Some e → LetHit locals marks ls func number place e
-lets_hit p locals func number place marks [] e u h = cc
-lets_hit p locals func number place marks (l ∷ ls) e u h =
-    elim (either (at_place func number place (let_fault p locals marks l)) (lets_fault p locals func number (suc place) (after_let locals marks l) ls) e h) as (λ z. LetHit locals marks (l ∷ ls) func number place e) [
-      | inl a ↦ (let c = at_found func number place (let_fault p locals marks l) e a in
-          record { earlier = []; l = l; rest = ls; is = refl; hit = let_hit p locals marks l e.kind u c.found; inside = tt; place_is = c.place_is ∙ omega arith; block_is = c.block_is; func_is = c.func_is })
-      | inr (a, b) ↦ (
-          let c = lets_hit p locals func number (suc place) (after_let locals marks l) ls e u b in
-          let t = both (is_local locals l.target) (list_all (is_local locals) (operands_of l.op)) (unless_true (is_local locals l.target && list_all (is_local locals) (operands_of l.op)) fault.NoSuchEntry
-          (or_first (unless (is_local locals l.target && list_all (is_local locals) (operands_of l.op)) fault.NoSuchEntry) _ (nothing_there func number place (let_fault p locals marks l) a))) in
-          let w : BindWithin (length locals) (let_events no_reads l) = let_binds (length locals) l (below l.target (length locals) t.0) in
-          record {
-            earlier = l ∷ c.earlier;
-            l = c.l;
-            rest = c.rest;
-            is = ap (λ x. l ∷ x) c.is;
-            hit = c.hit;
-            inside = all_both (IsBindWithin (length locals)) (let_events no_reads l) (flat_map (let_events no_reads) c.earlier) w c.inside;
-            place_is = c.place_is ∙ omega arith;
-            block_is = c.block_is;
-            func_is = c.func_is;
-          })
-    ]
-
--- what happens at a place of a block, with the state that the walk has there
-record Struck (f : Func) (locals : List Local) (b : Block) (func block : ℕ) (e : CodeFault) : Type 0 where
+-- what happens at the fault's place in this block
+record Struck (p : Code) (f : Func) (b : Block) (func number : ℕ) (e : CodeFault) : Type 0 where
   before : List Event
   here : List Event
-  comes : Comes no_reads f b before here e.place
-  inside : BindWithin (length locals) before
-  strikes : Strikes locals (after locals (unbound locals) before) here e.kind
-  block_is : e.block ≡ block
+  comes : Comes (reads_of p) f b before here e.place
+  hit : Hit (is_owned p.types f) before here e.kind
   func_is : e.func ≡ func
+  block_is : e.block ≡ number
 
-after_events : (locals : List Local) (b : Block) (ls : List Let)
-    → after locals (unbound locals) (events_of no_reads b ls) ≡ after_lets locals (at_start locals b) ls
-after_events locals b ls = after_both locals (unbound locals) (map Bind b.params) (flat_map (let_events no_reads) ls)
-    ∙ ap (λ m. after locals m (flat_map (let_events no_reads) ls)) (after_binds locals (unbound locals) b.params) ∙ after_all_lets locals (at_start locals b) ls
+-- a let that fails, or what is behind all of them
+record LetHit (p : Code) (f : Func) (func number place : ℕ) (s : State) (ls : List Let) (e : CodeFault) : Type 0 where
+  earlier : List Let
+  one : Let
+  rest : List Let
+  is : ls ≡ earlier ++ one ∷ rest
+  fails : Fails (let_checks p f (after_lets (reads_of p) (is_owned p.types f) s earlier) one) e.kind
+  at : Place_of func number (place + length earlier) e
 
-all_lets_inside : (p : Code) (locals : List Local) (func number place : ℕ) (marks : List Mark) (ls : List Let)
-    → lets_fault p locals func number place marks ls ≡ None → BindWithin (length locals) (flat_map (let_events no_reads) ls)
-all_lets_inside p locals func number place marks [] h = tt
-all_lets_inside p locals func number place marks (l ∷ ls) h =
-    let a = nothing_there func number place (let_fault p locals marks l) (or_first _ _ h) in
-    let t = both (is_local locals l.target) (list_all (is_local locals) (operands_of l.op)) (unless_true (is_local locals l.target && list_all (is_local locals) (operands_of l.op)) fault.NoSuchEntry
-    (or_first (unless (is_local locals l.target && list_all (is_local locals) (operands_of l.op)) fault.NoSuchEntry) _ a)) in
-    all_both (IsBindWithin (length locals)) (let_events no_reads l) (flat_map (let_events no_reads) ls)
-    (let_binds (length locals) l (below l.target (length locals) t.0))
-    (all_lets_inside p locals func number (suc place) (after_let locals marks l) ls (or_second (at_place func number place (let_fault p locals marks l)) _ h))
+lets_fail : (p : Code) (f : Func) (func number place : ℕ) (s : State) (ls : List Let) (next : State → Walk) (e : CodeFault)
+    → FirstFault (lets_walk p f func number place s ls next) e
+    → LetHit p f func number place s ls e ⊎ FirstFault (next (after_lets (reads_of p) (is_owned p.types f) s ls)) e
+lets_fail p f func number place s [] next e h = inr h
+lets_fail p f func number place s (l ∷ ls) next e (inl h) =
+    let same : place ≡ place + 0 = omega arith in
+    inl (record { earlier = []; one = l; rest = ls; is = refl; fails = h.0; at = subst (λ n. Place_of func number n e) same h.1 })
+lets_fail p f func number place s (l ∷ ls) next e (inr h) = on (lets_fail p f func number (suc place) (after_let (reads_of p) (is_owned p.types f) s l) ls next e h.1)
+  where
+    on : LetHit p f func number (suc place) (after_let (reads_of p) (is_owned p.types f) s l) ls e ⊎ FirstFault (next (after_lets (reads_of p) (is_owned p.types f) (after_let (reads_of p) (is_owned p.types f) s l) ls)) e
+        → LetHit p f func number place s (l ∷ ls) e ⊎ FirstFault (next (after_lets (reads_of p) (is_owned p.types f) s (l ∷ ls))) e
+    on (inl t) = inl (record {
+      earlier = l ∷ t.earlier;
+      one = t.one;
+      rest = t.rest;
+      is = ap (λ m. l ∷ m) t.is;
+      fails = t.fails;
+      at = let same : suc place + length t.earlier ≡ place + suc (length t.earlier) = omega arith in subst (λ n. Place_of func number n e) same t.at;
+    })
+    on (inr g) = inr g
 
-at_the_let : (f : Func) (locals : List Local) (b : Block) (func number : ℕ) (e : CodeFault) → AreBelow (length locals) b.params
-    → LetHit locals (at_start locals b) b.lets func number 1 e → Struck f locals b func number e
-at_the_let f locals b func number e w h = record {
-  before = events_of no_reads b h.earlier;
-  here = uses (operands_of h.l.op);
-  comes = subst (λ n. Comes no_reads f b (events_of no_reads b h.earlier) (uses (operands_of h.l.op)) n) (let q : suc (length h.earlier) ≡ e.place = omega (arith, h.place_is) in q) (ToLet h.earlier h.rest h.l h.is refl (sym (uses_none h.l.op)));
-  inside = all_both (IsBindWithin (length locals)) (map Bind b.params) (flat_map (let_events no_reads) h.earlier) (binds_within_are (length locals) b.params w) h.inside;
-  strikes = subst (λ m. Strikes locals m (uses (operands_of h.l.op)) e.kind) (sym (after_events locals b h.earlier)) (hit_strikes locals (after_lets locals (at_start locals b) h.earlier) (operands_of h.l.op) e.kind h.hit);
-  block_is = h.block_is;
-  func_is = h.func_is;
-}
+-- the state behind these lets is that behind the events
+lets_behind : (p : Code) (f : Func) (b : Block) (ls : List Let)
+    → Behind (is_owned p.types f) (events_of (reads_of p) b ls) (after_lets (reads_of p) (is_owned p.types f) (at_start (is_owned p.types f) b) ls)
+lets_behind p f b ls = sym (after_append (is_owned p.types f) nothing_bound (map Bind b.params) (flat_map (let_events (reads_of p)) ls)
+    ∙ lets_after (reads_of p) (is_owned p.types f) (at_start (is_owned p.types f) b) ls)
 
-at_the_end : (f : Func) (locals : List Local) (b : Block) (func number : ℕ) (e : CodeFault)
-    → BindWithin (length locals) (events_of no_reads b b.lets) → e.place ≡ suc (length b.lets) → e.block ≡ number → e.func ≡ func
-    → EndHit f locals (after_lets locals (at_start locals b) b.lets) b.term e.kind → Struck f locals b func number e
-at_the_end f locals b func number e w place block in_func (inl h) = record {
-  before = events_of no_reads b b.lets;
-  here = uses (term_uses b.term);
-  comes = subst (λ n. Comes no_reads f b (events_of no_reads b b.lets) (uses (term_uses b.term)) n) (sym place) (ToEnd refl (sym (term_uses_none b.term)));
-  inside = w;
-  strikes = subst (λ m. Strikes locals m (uses (term_uses b.term)) e.kind) (sym (after_events locals b b.lets)) (hit_strikes locals (after_lets locals (at_start locals b) b.lets) (term_uses b.term) e.kind h);
-  block_is = block;
-  func_is = in_func;
-}
-at_the_end f locals b func number e w place block in_func (inr h) = record {
-  before = events_of no_reads b b.lets;
-  here = uses (term_uses b.term) ++ h.way_on;
-  comes = subst (λ n. Comes no_reads f b (events_of no_reads b b.lets) (uses (term_uses b.term) ++ h.way_on) n) (sym place) (Onward h.index h.way_on h.is refl (ap (λ es. es ++ h.way_on) (sym (term_uses_none b.term))));
-  inside = w;
-  strikes = subst (λ m. Strikes locals m (uses (term_uses b.term) ++ h.way_on) e.kind) (sym (after_events locals b b.lets))
-      (strikes_back locals (after_lets locals (at_start locals b) b.lets) (uses (term_uses b.term)) h.way_on e.kind (uses_bind_nothing (length locals) (term_uses b.term)) h.strikes);
-  block_is = block;
-  func_is = in_func;
-}
+block_struck : (p : Code) (f : Func) (func number : ℕ) (b : Block) (rest : Walk) (e : CodeFault) → is_use e.kind ≡ true
+    → FirstFault (block_walk p f func number b rest) e → Struck p f b func number e ⊎ FirstFault rest e
+block_struck p f func number b rest e u (inl h) = absurd
+    (let starts : Type 0 = Ascend b.params × (number ≡ 0 → b.params ≡ range_with_len 0 (length f.params)) in
+    behind starts fault.Header e.kind NoMore refl u (behind (AreThere f b.params) fault.NoSuchEntry e.kind (Must starts fault.Header NoMore) refl u h.0))
+block_struck p f func number b rest e u (inr h) = on (lets_fail p f func number 1 (at_start (is_owned p.types f) b) b.lets next e h.1)
+  where
+    next : State → Walk
+    next s = At func number (suc (length b.lets)) (term_checks p f number s b.term) rest
 
-block_hit : (p : Code) (f : Func) (func number : ℕ) (b : Block) (e : CodeFault) → is_use e.kind ≡ true
-    → block_fault p f (locals_of p.types f) func number b ≡ Some e → Struck f (locals_of p.types f) b func number e
-block_hit p f func number b e u h =
-    let locals = locals_of p.types f in
-    let end = after_lets locals (at_start locals b) b.lets in
-    let header = at_place func number 0 (block_header_fault f locals number b.params) in
-    let lets = lets_fault p locals func number 1 (at_start locals b) b.lets in
-    let term = term_fault p f locals number end b.term in
-    let last = option_or (at_place func number (suc (length b.lets)) term) None in
-    elim (either header (option_or lets last) e h) as (λ z. Struck f locals b func number e) [
-      | inl a ↦ (
-          let c = at_found func number 0 (block_header_fault f locals number b.params) e a in
-          let t = behind_test (list_all (is_local locals) b.params) fault.NoSuchEntry e.kind (option_or (unless (ascends_from 0 b.params && entry_fits f number b.params) fault.Header) None) refl u c.found in
-          no_test (ascends_from 0 b.params && entry_fits f number b.params) fault.Header e.kind refl u (alone (unless (ascends_from 0 b.params && entry_fits f number b.params) fault.Header) e.kind t.1))
-      | inr (a, c) ↦ (
-          let w = (header_passes p.types f number b.params (nothing_there func number 0 (block_header_fault f locals number b.params) a)).0 in
-          elim (either lets last e c) as (λ z. Struck f locals b func number e) [
-            | inl d ↦ at_the_let f locals b func number e w (lets_hit p locals func number 1 (at_start locals b) b.lets e u d)
-            | inr (d, g) ↦ (
-                let t = at_found func number (suc (length b.lets)) term e (alone_fault (at_place func number (suc (length b.lets)) term) e g) in
-                at_the_end f locals b func number e
-                (all_both (IsBindWithin (length locals)) (map Bind b.params) (flat_map (let_events no_reads) b.lets) (binds_within_are (length locals) b.params w) (all_lets_inside p locals func number 1 (at_start locals b) b.lets d))
-                t.place_is t.block_is t.func_is (exit_hit p f locals number end b.term e.kind (end_length locals b) u t.found))
-          ])
-    ]
+    last : State
+    last = after_lets (reads_of p) (is_owned p.types f) (at_start (is_owned p.types f) b) b.lets
 
--- ---- functions and programs
+    at_end : Place_of func number (suc (length b.lets)) e → EndHit p f (events_of (reads_of p) b b.lets) b.term e.kind → Struck p f b func number e
+    at_end q (inl t) = record {
+      before = events_of (reads_of p) b b.lets;
+      here = term_events (reads_of p) b.term;
+      comes = subst (Comes (reads_of p) f b (events_of (reads_of p) b b.lets) (term_events (reads_of p) b.term)) (sym (ap (λ d. d.place) q)) (ToEnd refl refl);
+      hit = t;
+      func_is = ap (λ d. d.func) q;
+      block_is = ap (λ d. d.block) q;
+    }
+    at_end q (inr t) = record {
+      before = events_of (reads_of p) b b.lets;
+      here = term_events (reads_of p) b.term ++ t.way;
+      comes = subst (Comes (reads_of p) f b (events_of (reads_of p) b b.lets) (term_events (reads_of p) b.term ++ t.way)) (sym (ap (λ d. d.place) q)) (Onward t.index t.way t.is refl refl);
+      hit = hit_back (is_owned p.types f) (events_of (reads_of p) b b.lets) (term_events (reads_of p) b.term) t.way e.kind t.hit;
+      func_is = ap (λ d. d.func) q;
+      block_is = ap (λ d. d.block) q;
+    }
+
+    let_place : (t : LetHit p f func number 1 (at_start (is_owned p.types f) b) b.lets e) → suc (length t.earlier) ≡ e.place
+    let_place t = let same : suc (length t.earlier) ≡ 1 + length t.earlier = omega arith in same ∙ sym (ap (λ d. d.place) t.at)
+
+    on : LetHit p f func number 1 (at_start (is_owned p.types f) b) b.lets e ⊎ FirstFault (next last) e → Struck p f b func number e ⊎ FirstFault rest e
+    on (inl t) = inl (record {
+      before = events_of (reads_of p) b t.earlier;
+      here = uses_of (reads_of p) t.one.op;
+      comes = subst (Comes (reads_of p) f b (events_of (reads_of p) b t.earlier) (uses_of (reads_of p) t.one.op)) (let_place t) (ToLet t.earlier t.rest t.one t.is refl refl);
+      hit = let_hit p f (events_of (reads_of p) b t.earlier) (after_lets (reads_of p) (is_owned p.types f) (at_start (is_owned p.types f) b) t.earlier) t.one e.kind (lets_behind p f b t.earlier) u t.fails;
+      func_is = ap (λ d. d.func) t.at;
+      block_is = ap (λ d. d.block) t.at;
+    })
+    on (inr (inl g)) = inl (at_end g.1 (term_hit p f number (events_of (reads_of p) b b.lets) last b.term e.kind (lets_behind p f b b.lets) u g.0))
+    on (inr (inr g)) = inr g.1
 
 record BlockHit (p : Code) (f : Func) (func number : ℕ) (bs : List Block) (e : CodeFault) : Type 0 where
   index : ℕ
   b : Block
   is : slice_get bs index ≡ Some b
-  fault : block_fault p f (locals_of p.types f) func (number + index) b ≡ Some e
+  struck : Struck p f b func (number + index) e
 
-blocks_hit : (p : Code) (f : Func) (func number : ℕ) (bs : List Block) (e : CodeFault)
-    → blocks_fault p f (locals_of p.types f) func number bs ≡ Some e → BlockHit p f func number bs e
-blocks_hit p f func number [] e h = cc
-blocks_hit p f func number (b ∷ bs) e h =
-    let locals = locals_of p.types f in
-    elim (either (block_fault p f locals func number b) (blocks_fault p f locals func (suc number) bs) e h) as (λ z. BlockHit p f func number (b ∷ bs) e) [
-      | inl a ↦ record { index = 0; b = b; is = refl; fault = subst (λ n. block_fault p f locals func n b ≡ Some e) (let q : number ≡ number + 0 = omega arith in q) a }
-      | inr (a, c) ↦ (let d = blocks_hit p f func (suc number) bs e c in
-          record { index = suc d.index; b = d.b; is = d.is; fault = subst (λ n. block_fault p f locals func n d.b ≡ Some e) (let q : suc number + d.index ≡ number + suc d.index = omega arith in q) d.fault })
-    ]
+blocks_struck : (p : Code) (f : Func) (func number : ℕ) (bs : List Block) (rest : Walk) (e : CodeFault) → is_use e.kind ≡ true
+    → FirstFault (blocks_walk p f func number bs rest) e → BlockHit p f func number bs e ⊎ FirstFault rest e
+blocks_struck p f func number [] rest e u h = inr h
+blocks_struck p f func number (b ∷ bs) rest e u h =
+    on (λ g. blocks_struck p f func (suc number) bs rest e u g) (block_struck p f func number b (blocks_walk p f func (suc number) bs rest) e u h)
+  where
+    later : BlockHit p f func (suc number) bs e ⊎ FirstFault rest e → BlockHit p f func number (b ∷ bs) e ⊎ FirstFault rest e
+    later (inl t) = let same : suc number + t.index ≡ number + suc t.index = omega arith in
+        inl (record { index = suc t.index; b = t.b; is = t.is; struck = subst (λ n. Struck p f t.b func n e) same t.struck })
+    later (inr g) = inr g
 
-record FunctionHit (p : Code) (func : ℕ) (fs : List Func) (e : CodeFault) : Type 0 where
+    on : (FirstFault (blocks_walk p f func (suc number) bs rest) e → BlockHit p f func (suc number) bs e ⊎ FirstFault rest e)
+        → Struck p f b func number e ⊎ FirstFault (blocks_walk p f func (suc number) bs rest) e → BlockHit p f func number (b ∷ bs) e ⊎ FirstFault rest e
+    on go (inl t) = let same : number ≡ number + 0 = omega arith in inl (record { index = 0; b = b; is = refl; struck = subst (λ n. Struck p f b func n e) same t })
+    on go (inr g) = later (go g)
+
+record FuncHit (p : Code) (func : ℕ) (fs : List Func) (e : CodeFault) : Type 0 where
   index : ℕ
   f : Func
   is : slice_get fs index ≡ Some f
-  fault : blocks_fault p f (locals_of p.types f) (func + index) 0 f.blocks ≡ Some e
+  block : BlockHit p f (func + index) 0 f.blocks e
 
-function_hit : (p : Code) (func : ℕ) (new : Bool) (f : Func) (e : CodeFault) → is_use e.kind ≡ true → function_fault p func new f ≡ Some e
-    → blocks_fault p f (locals_of p.types f) func 0 f.blocks ≡ Some e
-function_hit p func new f e u h =
-    let types = p.types in
-    let known = list_all (is_known types) f.params && is_known types f.result && list_all (is_known types) f.locals in
-    let blocks = blocks_fault p f (locals_of types f) func 0 f.blocks in
-    elim (either (at_place func 0 0 (header_fault types new f)) (option_or blocks None) e h) as (λ z. blocks ≡ Some e) [
-      | inl a ↦ (
-          let c = at_found func 0 0 (header_fault types new f) e a in
-          let reads = unless (list_all not f.reads) fault.Lent in
-          let t = behind_test new fault.Name e.kind (option_or (unless known fault.NoSuchEntry) (option_or reads None)) refl u c.found in
-          let v = behind_test known fault.NoSuchEntry e.kind (option_or reads None) refl u t.1 in
-          no_test (list_all not f.reads) fault.Lent e.kind refl u (alone reads e.kind v.1))
-      | inr (a, c) ↦ alone_fault blocks e c
-    ]
+funcs_struck : (p : Code) (func : ℕ) (earlier : List (List ℕ)) (fs : List Func) (e : CodeFault) → is_use e.kind ≡ true
+    → FirstFault (funcs_walk p func earlier fs) e → FuncHit p func fs e
+funcs_struck p func earlier [] e u h = absurd h
+funcs_struck p func earlier (f ∷ fs) e u (inl h) =
+    absurd
+    (let last : Checks = Must (LendsRightly p.types f) fault.Lent NoMore in
+    let known : Type 0 = AllByRecursion (IsKnownKind p.types) f.params × IsKnownKind p.types f.result × AllByRecursion (IsKnownKind p.types) f.locals in
+    behind (LendsRightly p.types f) fault.Lent e.kind NoMore refl u
+    (behind known fault.NoSuchEntry e.kind last refl u (behind (stands earlier f.name ≡ false) fault.Name e.kind (Must known fault.NoSuchEntry last) refl u h.0)))
+funcs_struck p func earlier (f ∷ fs) e u (inr h) =
+    on (λ g. funcs_struck p (suc func) (earlier ++ f.name ∷ []) fs e u g) (blocks_struck p f func 0 f.blocks (funcs_walk p (suc func) (earlier ++ f.name ∷ []) fs) e u h.1)
+  where
+    later : FuncHit p (suc func) fs e → FuncHit p func (f ∷ fs) e
+    later t = let same : suc func + t.index ≡ func + suc t.index = omega arith in
+        record { index = suc t.index; f = t.f; is = t.is; block = subst (λ n. BlockHit p t.f n 0 t.f.blocks e) same t.block }
 
-functions_hit : (p : Code) (func : ℕ) (earlier : List (List ℕ)) (fs : List Func) (e : CodeFault) → is_use e.kind ≡ true
-    → functions_fault p func earlier fs ≡ Some e → FunctionHit p func fs e
-functions_hit p func earlier [] e u h = cc
-functions_hit p func earlier (f ∷ fs) e u h =
-    elim (either (function_fault p func (not (stands earlier f.name)) f) (functions_fault p (suc func) (earlier ++ f.name ∷ []) fs) e h) as (λ z. FunctionHit p func (f ∷ fs) e) [
-      | inl a ↦ record { index = 0; f = f; is = refl; fault = subst (λ n. blocks_fault p f (locals_of p.types f) n 0 f.blocks ≡ Some e) (let q : func ≡ func + 0 = omega arith in q) (function_hit p func (not (stands earlier f.name)) f e u a) }
-      | inr (a, c) ↦ (let d = functions_hit p (suc func) (earlier ++ f.name ∷ []) fs e u c in
-          record { index = suc d.index; f = d.f; is = d.is; fault = subst (λ n. blocks_fault p d.f (locals_of p.types d.f) n 0 d.f.blocks ≡ Some e) (let q : suc func + d.index ≡ func + suc d.index = omega arith in q) d.fault })
-    ]
+    on : (FirstFault (funcs_walk p (suc func) (earlier ++ f.name ∷ []) fs) e → FuncHit p (suc func) fs e)
+        → BlockHit p f func 0 f.blocks e ⊎ FirstFault (funcs_walk p (suc func) (earlier ++ f.name ∷ []) fs) e → FuncHit p func (f ∷ fs) e
+    on go (inl t) = let same : func ≡ func + 0 = omega arith in record { index = 0; f = f; is = refl; block = subst (λ n. BlockHit p f n 0 f.blocks e) same t }
+    on go (inr g) = later (go g)
 
 -- a fault of the types is none of use
-cons_hit : {P : Type 0} (types : List DataType) (earlier : List (List ℕ)) (cs : List Constructor) (k : CodeKind) → is_use k ≡ true
-    → constructors_fault types earlier cs ≡ Some k → P
-cons_hit types earlier [] k u h = cc
-cons_hit {P} types earlier (c ∷ cs) k u h =
-    let new = not (stands earlier c.name) in
-    let known = list_all (is_known types) c.fields in
-    elim (either (constructor_fault types new c) (constructors_fault types (earlier ++ c.name ∷ []) cs) k h) as (λ z. P) [
-      | inl a ↦ (let t = behind_test new fault.Name k (option_or (unless known fault.NoSuchEntry) None) refl u a in no_test known fault.NoSuchEntry k refl u (alone (unless known fault.NoSuchEntry) k t.1))
-      | inr (a, b) ↦ cons_hit types (earlier ++ c.name ∷ []) cs k u b
-    ]
+cons_fail : {P : Type 0} (types : List DataType) (earlier : List (List ℕ)) (cs : List Constructor) (rest : Checks) (k : CodeKind) → is_use k ≡ true → (Fails rest k → P)
+    → Fails (cons_checks types earlier cs rest) k → P
+cons_fail types earlier [] rest k u go h = go h
+cons_fail types earlier (c ∷ cs) rest k u go h = cons_fail types (earlier ++ c.name ∷ []) cs rest k u go (behind (AllByRecursion (IsKnownKind types) c.fields) fault.NoSuchEntry k (cons_checks types (earlier ++ c.name ∷ []) cs rest) refl u
+    (behind (stands earlier c.name ≡ false) fault.Name k (Must (AllByRecursion (IsKnownKind types) c.fields) fault.NoSuchEntry (cons_checks types (earlier ++ c.name ∷ []) cs rest)) refl u h))
 
-types_hit : {P : Type 0} (types : List DataType) (earlier cons : List (List ℕ)) (ts : List DataType) (k : CodeKind) → is_use k ≡ true
-    → types_fault types earlier cons ts ≡ Some k → P
-types_hit types earlier cons [] k u h = cc
-types_hit {P} types earlier cons (t ∷ ts) k u h =
-    let new = not (stands earlier t.name) in
-    elim (either (type_fault types new cons t) (types_fault types (earlier ++ t.name ∷ []) (cons ++ map (λ c. c.name) t.cons) ts) k h) as (λ z. P) [
-      | inl a ↦ (let c = behind_test new fault.Name k (option_or (constructors_fault types cons t.cons) None) refl u a in cons_hit types cons t.cons k u (alone (constructors_fault types cons t.cons) k c.1))
-      | inr (a, b) ↦ types_hit types (earlier ++ t.name ∷ []) (cons ++ map (λ c. c.name) t.cons) ts k u b
-    ]
+types_fail : {P : Type 0} (types : List DataType) (earlier cons : List (List ℕ)) (ts : List DataType) (k : CodeKind) → is_use k ≡ true → Fails (types_checks types earlier cons ts) k → P
+types_fail types earlier cons [] k u h = absurd h
+types_fail types earlier cons (t ∷ ts) k u h =
+    cons_fail types cons t.cons (types_checks types (earlier ++ t.name ∷ []) (cons ++ map (λ c. c.name) t.cons) ts) k u
+    (λ g. types_fail types (earlier ++ t.name ∷ []) (cons ++ map (λ c. c.name) t.cons) ts k u g)
+    (behind (stands earlier t.name ≡ false) fault.Name k (cons_checks types cons t.cons (types_checks types (earlier ++ t.name ∷ []) (cons ++ map (λ c. c.name) t.cons) ts)) refl u h)
 
-record ProgramHit (p : Code) (e : CodeFault) : Type 0 where
-  f : Func
-  function : slice_get p.funcs e.func ≡ Some f
-  b : Block
-  in_block : slice_get f.blocks e.block ≡ Some b
-  struck : Struck f (locals_of p.types f) b e.func e.block e
-
-in_functions : (p : Code) (e : CodeFault) → is_use e.kind ≡ true → FunctionHit p 0 p.funcs e → ProgramHit p e
-in_functions p e u h =
-    let g = blocks_hit p h.f (0 + h.index) 0 h.f.blocks e h.fault in
-    let s = block_hit p h.f (0 + h.index) (0 + g.index) g.b e u g.fault in
-    let i : h.index ≡ e.func = omega (arith, s.func_is) in
-    let j : g.index ≡ e.block = omega (arith, s.block_is) in
-    record {
-      f = h.f;
-      function = subst (λ n. slice_get p.funcs n ≡ Some h.f) i h.is;
-      b = g.b;
-      in_block = subst (λ n. slice_get h.f.blocks n ≡ Some g.b) j g.is;
-      struck = record { before = s.before; here = s.here; comes = s.comes; inside = s.inside; strikes = s.strikes; block_is = refl; func_is = refl };
-    }
-
-program_hit : (p : Code) (e : CodeFault) → is_use e.kind ≡ true → first_fault p ≡ Some e → ProgramHit p e
-program_hit p e u h =
-    elim (either (table_fault p) (functions_fault p 0 [] p.funcs) e h) as (λ z. ProgramHit p e) [
-      | inl a ↦ types_hit p.types [] [] p.types e.kind u (at_found (length p.funcs) 0 0 (types_fault p.types [] [] p.types) e a).found
-      | inr (a, b) ↦ in_functions p e u (functions_hit p 0 [] p.funcs e u b)
-    ]
-
--- ---- what the marks say
-
--- bound, whether used or not
-abbrev is_set : Option Mark → Bool
-is_set (Some mark.Ready) = true
-is_set (Some mark.Spent) = true
-is_set m = false
-
-set_stays : (marks : List Mark) (x y : ℕ) (m : Mark) → is_set (Some m) ≡ true → is_set (slice_get marks y) ≡ true
-    → is_set (slice_get (slice_set marks x m) y) ≡ true
-set_stays [] x y m u h = h
-set_stays (n ∷ marks) zero zero m u h = u
-set_stays (n ∷ marks) zero (suc y) m u h = h
-set_stays (n ∷ marks) (suc x) zero m u h = h
-set_stays (n ∷ marks) (suc x) (suc y) m u h = set_stays marks x y m u h
-
-step_keeps : (locals : List Local) (marks : List Mark) (e : Event) (y : ℕ) → is_set (slice_get marks y) ≡ true
-    → is_set (slice_get (step locals marks e) y) ≡ true
-step_keeps locals marks (Bind x) y h = set_stays marks x y mark.Ready refl h
-step_keeps locals marks (Look x) y h = h
-step_keeps locals marks (Use x) y h =
-    let P : Bool → Type 0 = λ b. is_set (slice_get (if b then slice_set marks x mark.Spent else marks) y) ≡ true in
-    elim (is_heap_at locals x) as P [ true ↦ set_stays marks x y mark.Spent refl h | false ↦ h ]
-
-after_keeps : (locals : List Local) (marks : List Mark) (es : List Event) (y : ℕ) → is_set (slice_get marks y) ≡ true
-    → is_set (slice_get (after locals marks es) y) ≡ true
-after_keeps locals marks [] y h = h
-after_keeps locals marks (e ∷ es) y h = after_keeps locals (step locals marks e) es y (step_keeps locals marks e y h)
-
--- what is bound in these events is set after them
-bound_is_set : (locals : List Local) (marks : List Mark) (es : List Event) (x : ℕ) → BindWithin (length marks) es → Binds x es
-    → is_set (slice_get (after locals marks es) x) ≡ true
-bound_is_set locals marks [] x w h = absurd (not_bound x h)
-bound_is_set locals marks (Use y ∷ es) x w h = bound_is_set locals (spend locals marks y) es x (subst (λ n. BindWithin n es) (sym (length_step locals marks (Use y))) w.1) (behind_use x y es h)
-bound_is_set locals marks (Look y ∷ es) x w h = bound_is_set locals marks es x w.1 (behind_look x y es h)
-bound_is_set locals marks (Bind y ∷ es) x w h =
-    elim (behind_bind x y es h) as (λ z. is_set (slice_get (after locals (bind marks y) es) x) ≡ true) [
-      | inl e ↦ after_keeps locals (bind marks y) es x (subst (λ z. is_set (slice_get (bind marks y) z) ≡ true) e (ap is_set (set_same marks y mark.Ready w.0)))
-      | inr b ↦ bound_is_set locals (bind marks y) es x (subst (λ n. BindWithin n es) (sym (length_step locals marks (Bind y))) w.1) b
-    ]
-
-unbound_unset : (o : Option Mark) → mark_fault o ≡ Some fault.Unbound → is_set o ≡ true → ⊥
-unbound_unset None h k = cc
-unbound_unset (Some mark.Ready) h k = cc
-unbound_unset (Some mark.Spent) h k = cc
-unbound_unset (Some mark.Unbound) h k = cc
-
-uses_unbound : (locals : List Local) (before here : List Event) → BindWithin (length locals) before
-    → Strikes locals (after locals (unbound locals) before) here fault.Unbound → UsesUnbound before here
-uses_unbound locals before here w s = record {
-  local = s.local;
-  want = Use s.local;
-  wants = inl refl;
-  front = s.front;
-  rest = s.rest;
-  is = s.is;
-  unbound = λ b. unbound_unset (slice_get (after locals (unbound locals) (before ++ s.front)) s.local)
-      (subst (λ m. mark_fault (slice_get m s.local) ≡ Some fault.Unbound) (sym (after_both locals (unbound locals) before s.front)) s.marked)
-      (bound_is_set locals (unbound locals) (before ++ s.front) s.local
-      (subst (λ n. BindWithin n (before ++ s.front)) (sym (length-replicate (length locals) mark.Unbound)) (all_both (IsBindWithin (length locals)) before s.front w s.inside)) b);
-}
-
--- the last use of a local since it was bound
-record Since (locals : List Local) (es : List Event) (x : ℕ) : Type 0 where
-  first : List Event
-  between : List Event
-  is : es ≡ first ++ Use x ∷ between
-  kept : Binds x between → ⊥
-  heap : is_heap_at locals x ≡ true
-
-abbrev IsSpent : List Mark → ℕ → Type 0
-IsSpent marks x = slice_get marks x ≡ Some mark.Spent
-
-since_later : (locals : List Local) (e : Event) (es : List Event) (x : ℕ) → Since locals es x → Since locals (e ∷ es) x
-since_later locals e es x s = record { first = e ∷ s.first; between = s.between; is = ap (λ l. e ∷ l) s.is; kept = s.kept; heap = s.heap }
-
-spent_by_set : (marks : List Mark) (y x : ℕ) → IsSpent (slice_set marks y mark.Spent) x → IsSpent marks x ⊎ (y ≡ x)
-spent_by_set [] y x h = inl h
-spent_by_set (m ∷ marks) zero zero h = inr refl
-spent_by_set (m ∷ marks) zero (suc x) h = inl h
-spent_by_set (m ∷ marks) (suc y) zero h = inl h
-spent_by_set (m ∷ marks) (suc y) (suc x) h = elim (spent_by_set marks y x h) as (λ z. IsSpent marks x ⊎ (suc y ≡ suc x)) [ inl s ↦ inl s | inr e ↦ inr (ap suc e) ]
-
-spent_by_use : (locals : List Local) (marks : List Mark) (y x : ℕ) → IsSpent (spend locals marks y) x
-    → IsSpent marks x ⊎ ((y ≡ x) × (is_heap_at locals y ≡ true))
-spent_by_use locals marks y x h = by_test (is_heap_at locals y) refl h
-  where
-    by_test : (b : Bool) → is_heap_at locals y ≡ b → IsSpent (if b then slice_set marks y mark.Spent else marks) x
-        → IsSpent marks x ⊎ ((y ≡ x) × (is_heap_at locals y ≡ true))
-    by_test true q k = elim (spent_by_set marks y x k) as (λ z. IsSpent marks x ⊎ ((y ≡ x) × (is_heap_at locals y ≡ true))) [ inl s ↦ inl s | inr e ↦ inr (e, q) ]
-    by_test false q k = inl k
-
-spent_by_bind : (marks : List Mark) (y x : ℕ) → IsSpent (bind marks y) x → IsSpent marks x × (y ≡ x → ⊥)
-spent_by_bind [] y x h = cc
-spent_by_bind (m ∷ marks) zero zero h = cc
-spent_by_bind (m ∷ marks) zero (suc x) h = (h, (λ e. absurd (omega arith)))
-spent_by_bind (m ∷ marks) (suc y) zero h = (h, (λ e. absurd (omega arith)))
-spent_by_bind (m ∷ marks) (suc y) (suc x) h = let a = spent_by_bind marks y x h in (a.0, (λ e. a.1 (omega arith)))
-
--- a local that is spent was so at the beginning and isn't bound since, or was used since it was bound
-spent_since : (locals : List Local) (marks : List Mark) (es : List Event) (x : ℕ) → IsSpent (after locals marks es) x
-    → (IsSpent marks x × (Binds x es → ⊥)) ⊎ Since locals es x
-spent_since locals marks [] x h = inl (h, not_bound x)
-spent_since locals marks (Use y ∷ es) x h =
-    elim (spent_since locals (spend locals marks y) es x h) as (λ z. (IsSpent marks x × (Binds x (Use y ∷ es) → ⊥)) ⊎ Since locals (Use y ∷ es) x) [
-      | inl (s, n) ↦ elim (spent_by_use locals marks y x s) as (λ z. (IsSpent marks x × (Binds x (Use y ∷ es) → ⊥)) ⊎ Since locals (Use y ∷ es) x) [
-        | inl t ↦ inl (t, (λ b. n (behind_use x y es b)))
-        | inr (e, heap) ↦ inr (record { first = []; between = es; is = ap (λ z. Use z ∷ es) e; kept = n; heap = subst (λ z. is_heap_at locals z ≡ true) e heap })
-      ]
-      | inr s ↦ inr (since_later locals (Use y) es x s)
-    ]
-spent_since locals marks (Look y ∷ es) x h =
-    elim (spent_since locals marks es x h) as (λ z. (IsSpent marks x × (Binds x (Look y ∷ es) → ⊥)) ⊎ Since locals (Look y ∷ es) x)
-    [ inl (s, n) ↦ inl (s, (λ b. n (behind_look x y es b))) | inr s ↦ inr (since_later locals (Look y) es x s) ]
-spent_since locals marks (Bind y ∷ es) x h =
-    elim (spent_since locals (bind marks y) es x h) as (λ z. (IsSpent marks x × (Binds x (Bind y ∷ es) → ⊥)) ⊎ Since locals (Bind y ∷ es) x) [
-      | inl (s, n) ↦ (let t = spent_by_bind marks y x s in
-          inl (t.0, (λ b. elim (behind_bind x y es b) as (λ z. ⊥) [ inl e ↦ t.1 e | inr c ↦ n c ])))
-      | inr s ↦ inr (since_later locals (Bind y) es x s)
-    ]
-
-never_spent : (n x : ℕ) → IsSpent (replicate n mark.Unbound) x → ⊥
-never_spent zero x h = cc
-never_spent (suc n) zero h = cc
-never_spent (suc n) (suc x) h = never_spent n x h
-
-spent_mark : (o : Option Mark) → mark_fault o ≡ Some fault.Spent → o ≡ Some mark.Spent
-spent_mark None h = cc
-spent_mark (Some mark.Ready) h = cc
-spent_mark (Some mark.Spent) h = refl
-spent_mark (Some mark.Unbound) h = cc
-
-was_used : (locals : List Local) (es : List Event) (x : ℕ) → IsSpent (after locals (unbound locals) es) x → Since locals es x
-was_used locals es x h = elim (spent_since locals (unbound locals) es x h) as (λ z. Since locals es x) [ inl (s, n) ↦ absurd (never_spent (length locals) x s) | inr s ↦ s ]
-
-uses_again : (types : List DataType) (f : Func) (before here : List Event)
-    → Strikes (locals_of types f) (after (locals_of types f) (unbound (locals_of types f)) before) here fault.Spent
-    → UsesAgain (is_owned types f) before here
-uses_again types f before here s =
-    let locals = locals_of types f in
-    let d = was_used locals (before ++ s.front) s.local
-    (spent_mark (slice_get (after locals (unbound locals) (before ++ s.front)) s.local) (subst (λ m. mark_fault (slice_get m s.local) ≡ Some fault.Spent) (sym (after_both locals (unbound locals) before s.front)) s.marked)) in
-    record { local = s.local; want = Use s.local; wants = inl refl; owned = sym (heap_is types f s.local) ∙ d.heap; front = s.front; rest = s.rest; is = s.is; first = d.first; between = d.between; used = d.is; kept = d.kept }
+struck_in : (p : Code) (e : CodeFault) → is_use e.kind ≡ true → FirstFault (walk p) e → FuncHit p 0 p.funcs e
+unfolding walk
+struck_in p e u (inl h) = types_fail p.types [] [] p.types e.kind u h.0
+struck_in p e u (inr h) = funcs_struck p 0 [] p.funcs e u h.1
 
 -- ---- what the faults of use say
 
-pub unbound_misuse : (p : Code) (e : CodeFault) → e.kind ≡ fault.Unbound → first_fault p ≡ Some e
-    → Happens p e.func e.block e.place (λ f before here. UsesUnbound before here)
-unbound_misuse p e k h =
-    let g = program_hit p e (ap is_use k) h in
-    let s = g.struck in
+happens : (p : Code) (e : CodeFault) (Bad : Func → List Event → List Event → Type 0) → is_use e.kind ≡ true → FirstFault (walk p) e
+    → ((f : Func) (before here : List Event) → Hit (is_owned p.types f) before here e.kind → Bad f before here) → Happens p e.func e.block e.place Bad
+happens p e Bad u h bad =
+    let g = struck_in p e u h in
+    let c = g.block in
+    let t = c.struck in
+    let i : g.index ≡ e.func = omega (arith, t.func_is) in
+    let j : c.index ≡ e.block = omega (arith, t.block_is) in
     record {
       f = g.f;
-      function = g.function;
-      b = g.b;
-      in_block = g.in_block;
-      before = s.before;
-      here = s.here;
-      comes = s.comes;
-      bad = uses_unbound (locals_of p.types g.f) s.before s.here s.inside (subst (λ q. Strikes (locals_of p.types g.f) (after (locals_of p.types g.f) (unbound (locals_of p.types g.f)) s.before) s.here q) k s.strikes);
+      function = subst (λ n. slice_get p.funcs n ≡ Some g.f) i g.is;
+      b = c.b;
+      in_block = subst (λ n. slice_get g.f.blocks n ≡ Some c.b) j c.is;
+      before = t.before;
+      here = t.here;
+      comes = t.comes;
+      bad = bad g.f t.before t.here t.hit;
     }
 
-pub spent_misuse : (p : Code) (e : CodeFault) → e.kind ≡ fault.Spent → first_fault p ≡ Some e
+unbound_of : (h : ℕ → Bool) (es : List Event) (x : ℕ) (k : CodeKind) → k ≡ fault.Unbound → BadAt h es x k → Binds x es → ⊥
+unbound_of h es x k e (inl b) = b.1
+unbound_of h es x k e (inr b) = absurd (let c : fault.Unbound ≡ fault.Spent = sym e ∙ b.0 in cc)
+
+used_of : (h : ℕ → Bool) (es : List Event) (x : ℕ) (k : CodeKind) → k ≡ fault.Spent → BadAt h es x k → WasUsed h es x
+used_of h es x k e (inl b) = absurd (let c : fault.Spent ≡ fault.Unbound = sym e ∙ b.0 in cc)
+used_of h es x k e (inr b) = b.1
+
+pub unbound_misuse : (p : Code) (e : CodeFault) → e.kind ≡ fault.Unbound → FirstFault (walk p) e
+    → Happens p e.func e.block e.place (λ f before here. UsesUnbound before here)
+unbound_misuse p e k h = happens p e (λ f before here. UsesUnbound before here) (ap is_use k) h
+    (λ f before here t. record { local = t.local; want = t.want; wants = t.wants; front = t.front; rest = t.rest; is = t.is; unbound = unbound_of (is_owned p.types f) (before ++ t.front) t.local e.kind k t.bad })
+
+pub spent_misuse : (p : Code) (e : CodeFault) → e.kind ≡ fault.Spent → FirstFault (walk p) e
     → Happens p e.func e.block e.place (λ f before here. UsesAgain (is_owned p.types f) before here)
-spent_misuse p e k h =
-    let g = program_hit p e (ap is_use k) h in
-    let s = g.struck in
-    record {
-      f = g.f;
-      function = g.function;
-      b = g.b;
-      in_block = g.in_block;
-      before = s.before;
-      here = s.here;
-      comes = s.comes;
-      bad = uses_again p.types g.f s.before s.here (subst (λ q. Strikes (locals_of p.types g.f) (after (locals_of p.types g.f) (unbound (locals_of p.types g.f)) s.before) s.here q) k s.strikes);
-    }
+spent_misuse p e k h = happens p e (λ f before here. UsesAgain (is_owned p.types f) before here) (ap is_use k) h (λ f before here t. again f before here t)
+  where
+    again : (f : Func) (before here : List Event) → Hit (is_owned p.types f) before here e.kind → UsesAgain (is_owned p.types f) before here
+    again f before here t =
+        let w = used_of (is_owned p.types f) (before ++ t.front) t.local e.kind k t.bad in
+        record { local = t.local; want = t.want; wants = t.wants; owned = w.owned; front = t.front; rest = t.rest; is = t.is; first = w.before; between = w.between; used = w.is; kept = w.never }

@@ -1,6 +1,6 @@
 -- Marks in a list track the states of locals, and a row of faults agrees with a row of checks.
 use Rattle.std.proofs.Common.{◌≡◌, ℕ, zero, suc, ◌<◌, Bool, true, false, List, [], ◌∷◌, length, map, Option, Some, None, refl, sym, ap, ◌∙◌, subst, arith, inl, inr}
-use Rattle.std.specs.Prelude.{◌==◌, ◌&&◌, ◌||◌, slice_get, slice_set, replicate, if◌then◌else◌, ⊤}
+use Rattle.std.specs.Prelude.{◌==◌, ◌&&◌, ◌||◌, not, slice_get, slice_set, replicate, if◌then◌else◌, ⊤}
 use Rattle.std.specs.List.{AllByRecursion}
 use Rattle.std.specs.Option.{option_or, option_map_or}
 use Rattle.camelot_values.specs.Heap.{is_heap}
@@ -11,7 +11,7 @@ use Rattle.camelot_values.specs.Kinds.{DataType}
 use Rattle.camelot_values.specs.Lists.{is_among}
 use Rattle.grail_blocks.specs.States.{Status, Unbound, Ready, Spent, State, nothing_bound, bind as state_bind, use_of, after as state_after}
 use Rattle.grail_code.specs.Code.{Func}
-use Rattle.grail_code.specs.WellFormed.{is_owned, local_kinds, kind_of, Use, Bind}
+use Rattle.grail_code.specs.WellFormed.{is_owned, is_read, local_kinds, kind_of, Use, Bind}
 use Rattle.grail_check.specs.declared.fault.CodeKind.{CodeKind}
 use Rattle.grail_check.specs.declared.fault.CodeKind.TheVariants as fault
 use Rattle.grail_check.specs.declared.locals.Mark.{Mark}
@@ -19,7 +19,7 @@ use Rattle.grail_check.specs.declared.locals.Mark.TheVariants as mark
 use Rattle.grail_check.specs.Faulting.{unless, locals_of, unbound, bind, bind_all, spend, spend_all, mark_fault, use_fault}
 use Rattle.grail_check.specs.Walk.{Checks, NoMore, Must, Pass, Fails, use_checks}
 use Rattle.grail_check.proofs.Playing.{set_same}
-use Rattle.grail_check.proofs.LetLaws.{heap_is, count_is}
+use Rattle.grail_check.proofs.LetLaws.{owned_is, count_is}
 
 -- ---- marks and states
 
@@ -50,7 +50,7 @@ track_bind types f marks s x t less = record { size = length-set marks x mark.Re
     by_test y false e =
         ap status_of (set_other marks x y mark.Ready (λ same. let c : (x == y) ≡ true = grind (arith, nat_tests, same) in let k : false ≡ true = sym e ∙ c in absurd cc)) ∙ t.same y
 
--- a local of a heap kind is there
+-- a local that is owned is there
 heap_there : (types : List DataType) (f : Func) (x : ℕ) → is_owned types f x ≡ true → x < length (local_kinds f)
 heap_there types f x h = there (local_kinds f) x (some (kind_of f x) refl h)
   where
@@ -59,8 +59,8 @@ heap_there types f x h = there (local_kinds f) x (some (kind_of f x) refl h)
     there (y ∷ xs) zero n = omega arith
     there (y ∷ xs) (suc x) n = let k = there xs x n in omega (arith, k)
 
-    some : (o : Option Kind) → kind_of f x ≡ o → is_owned types f x ≡ true → kind_of f x ≡ None → ⊥
-    some None e h n = let k : false ≡ true = sym (ap (λ q. option_map_or (is_heap types) q false) n) ∙ h in absurd cc
+    some : (o : Option Kind) → kind_of f x ≡ o → (option_map_or (is_heap types) (kind_of f x) false && not (is_read f x)) ≡ true → kind_of f x ≡ None → ⊥
+    some None e h n = let k : false ≡ true = sym (ap (λ q. option_map_or (is_heap types) q false && not (is_read f x)) n) ∙ h in absurd cc
     some (Some q) e h n = let k : Some q ≡ None = sym e ∙ n in absurd cc
 
 pub track_spend : (types : List DataType) (f : Func) (marks : List Mark) (s : State) (x : ℕ) → Tracks types f marks s
@@ -80,12 +80,12 @@ track_spend types f marks s x t = by_heap (is_owned types f x) refl
 
     by_heap : (h : Bool) → is_owned types f x ≡ h → Tracks types f (spend (locals_of types f) marks x) (use_of (is_owned types f) s x)
     by_heap true h = record {
-      size = ap (λ b. length (if b then slice_set marks x mark.Spent else marks)) (heap_is types f x ∙ h) ∙ length-set marks x mark.Spent ∙ t.size;
-      same = λ y. ap (λ b. status_of (slice_get (if b then slice_set marks x mark.Spent else marks) y)) (heap_is types f x ∙ h) ∙ spent y h (x == y) refl ∙ ap (λ b. if (x == y) && b then Spent else s y) (sym h);
+      size = ap (λ b. length (if b then slice_set marks x mark.Spent else marks)) (owned_is types f x ∙ h) ∙ length-set marks x mark.Spent ∙ t.size;
+      same = λ y. ap (λ b. status_of (slice_get (if b then slice_set marks x mark.Spent else marks) y)) (owned_is types f x ∙ h) ∙ spent y h (x == y) refl ∙ ap (λ b. if (x == y) && b then Spent else s y) (sym h);
     }
     by_heap false h = record {
-      size = ap (λ b. length (if b then slice_set marks x mark.Spent else marks)) (heap_is types f x ∙ h) ∙ t.size;
-      same = λ y. ap (λ b. status_of (slice_get (if b then slice_set marks x mark.Spent else marks) y)) (heap_is types f x ∙ h) ∙ t.same y ∙ kept y (x == y) ∙ ap (λ b. if (x == y) && b then Spent else s y) (sym h);
+      size = ap (λ b. length (if b then slice_set marks x mark.Spent else marks)) (owned_is types f x ∙ h) ∙ t.size;
+      same = λ y. ap (λ b. status_of (slice_get (if b then slice_set marks x mark.Spent else marks) y)) (owned_is types f x ∙ h) ∙ t.same y ∙ kept y (x == y) ∙ ap (λ b. if (x == y) && b then Spent else s y) (sym h);
     }
 
 pub track_uses : (types : List DataType) (f : Func) (marks : List Mark) (s : State) (xs : List ℕ) → Tracks types f marks s

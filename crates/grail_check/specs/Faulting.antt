@@ -6,10 +6,12 @@
 --
 -- At a let and at the end of a block the checks come in this order: what is named is there; jumps go forward; numbers
 -- of arguments, arms and fields are right (a case on what is no data type is of the wrong kind here); each operand in
--- turn is bound, unspent and of its kind; constructors are built or matched inline where they are inline; what is bound
--- has its kind; an arm binds distinct locals; and each jump in turn finds the parameters of its target bound and
--- unspent. What speaks of arms goes over all of them before the next check.
-use Rattle.std.specs.Prelude.{ℕ, zero, suc, nat_lt, nat_le, ◌==◌, ◌&&◌, not, Bool, true, false, if◌then◌else◌, List, [], ◌∷◌, ◌++◌, length, map, replicate, slice_get, slice_set, Option, Some, None}
+-- turn is bound, unspent, not lent where it isn't only read, and of its kind, and then each argument that is only read is
+-- still unspent; a value that is lent is only looked at, and another one isn't; constructors are built or matched inline
+-- where they are inline; what is bound has its kind; an arm binds distinct locals; what is bound isn't lent; and each
+-- jump in turn finds the parameters of its target bound and unspent.
+-- What speaks of arms goes over all of them before the next check.
+use Rattle.std.specs.Prelude.{ℕ, zero, suc, nat_lt, nat_le, ◌==◌, ◌&&◌, ◌||◌, not, Bool, true, false, if◌then◌else◌, List, [], ◌∷◌, ◌++◌, length, map, replicate, slice_get, slice_set, Option, Some, None}
 use Rattle.std.specs.List.{list_all}
 use Rattle.std.specs.Option.{option_map, option_map_or, option_or}
 use Rattle.camelot_values.specs.Value.{is_int32}
@@ -26,7 +28,8 @@ use Rattle.grail_blocks.specs.declared.blocks.Place.TheVariants as place
 use Rattle.grail_blocks.specs.declared.blocks.CaseCell.{CaseCell}
 use Rattle.grail_blocks.specs.declared.blocks.CaseCell.TheVariants as cell
 use Rattle.grail_code.specs.Code.{Op, Lit, Flag, Copy, Prim, Make, Call, Let, CaseArm, Term, Ret, Tail, Goto, If, Case, Block, Func, Code}
-use Rattle.grail_code.specs.WellFormed.{local_kinds, operator_kind, operands_of, kept_diamond, bound_by, params_at, data_type}
+use Rattle.grail_code.specs.WellFormed.{local_kinds, is_marked, is_read, takes, bound_anew, operator_kind, taken_by, read_by, operands_of, kept_diamond, bound_by, params_at, data_type}
+use Rattle.grail_check.specs.Marked.{first_mark, later_marks, is_look}
 use Rattle.grail_check.specs.declared.fault.CodeKind.{CodeKind}
 use Rattle.grail_check.specs.declared.fault.CodeKind.TheVariants as fault
 use Rattle.grail_check.specs.declared.fault.CodeFault.{CodeFault}
@@ -54,12 +57,17 @@ at_place func block place found = option_map (λ k. record { func = func; block 
 
 -- ---- locals and their kinds
 
--- a local's kind, and whether that is a heap kind
-abbrev pub local_of : List DataType → Kind → Local
-local_of types k = record { kind = k; heap = is_heap types k }
+-- a local's kind, and whether values of it are owned, or lent where it is only read
+abbrev pub local_of : List DataType → Kind → Bool → Local
+local_of types k read = record { kind = k; owned = is_heap types k && not read; lent = is_heap types k && read }
+
+-- the locals from this one on, of these kinds
+abbrev pub locals_from : List DataType → Func → ℕ → List Kind → List Local
+locals_from types f x [] = []
+locals_from types f x (k ∷ ks) = local_of types k (is_read f x) ∷ locals_from types f (suc x) ks
 
 abbrev pub locals_of : List DataType → Func → List Local
-locals_of types f = map (local_of types) (local_kinds f)
+locals_of types f = locals_from types f 0 (local_kinds f)
 
 abbrev pub is_local : List Local → ℕ → Bool
 is_local locals x = nat_lt x (length locals)
@@ -67,8 +75,14 @@ is_local locals x = nat_lt x (length locals)
 abbrev pub kind_at : List Local → ℕ → Option Kind
 kind_at locals x = option_map (λ l. l.kind) (slice_get locals x)
 
-abbrev pub is_heap_at : List Local → ℕ → Bool
-is_heap_at locals x = option_map_or (λ l. l.heap) (slice_get locals x) false
+abbrev pub is_owned_at : List Local → ℕ → Bool
+is_owned_at locals x = option_map_or (λ l. l.owned) (slice_get locals x) false
+
+abbrev pub is_lent_at : List Local → ℕ → Bool
+is_lent_at locals x = option_map_or (λ l. l.lent) (slice_get locals x) false
+
+abbrev pub are_not_lent : List Local → List ℕ → Bool
+are_not_lent locals xs = list_all (λ x. not (is_lent_at locals x)) xs
 
 -- two kinds that are there and are the same
 abbrev pub same_kinds : Option Kind → Option Kind → Bool
@@ -102,15 +116,15 @@ abbrev pub bind_all : List Mark → List ℕ → List Mark
 bind_all marks [] = marks
 bind_all marks (x ∷ xs) = bind_all (bind marks x) xs
 
--- an operand of a heap kind is then used
+-- an operand that is owned is then used
 abbrev pub spend : List Local → List Mark → ℕ → List Mark
-spend locals marks x = if is_heap_at locals x then slice_set marks x mark.Spent else marks
+spend locals marks x = if is_owned_at locals x then slice_set marks x mark.Spent else marks
 
 abbrev pub spend_all : List Local → List Mark → List ℕ → List Mark
 spend_all locals marks [] = marks
 spend_all locals marks (x ∷ xs) = spend_all locals (spend locals marks x) xs
 
--- a local that is used isn't bound, or is of a heap kind and was used
+-- a local that is used isn't bound, or is owned and was used
 abbrev pub mark_fault : Option Mark → Option CodeKind
 mark_fault (Some mark.Ready) = None
 mark_fault (Some mark.Spent) = Some fault.Spent
@@ -118,17 +132,42 @@ mark_fault m = Some fault.Unbound
 
 -- ---- operands
 
-abbrev pub operand_fault : List Local → List Mark → ℕ → Kind → Option CodeKind
-operand_fault locals marks x k = first_of (mark_fault (slice_get marks x) ∷ unless (has_kind locals x k) fault.Kind ∷ [])
+-- a local that is lent can't be taken
+abbrev pub own_fault : List Local → ℕ → Option CodeKind
+own_fault locals x = unless (not (is_lent_at locals x)) fault.Lent
 
--- one after the other
-abbrev pub operands_fault : List Local → List Mark → List ℕ → List Kind → Option CodeKind
-operands_fault locals marks (x ∷ xs) (k ∷ ks) = option_or (operand_fault locals marks x k) (operands_fault locals (spend locals marks x) xs ks)
-operands_fault locals marks xs ks = None
+abbrev pub operand_fault : List Local → List Mark → ℕ → Kind → Option CodeKind
+operand_fault locals marks x k = first_of (mark_fault (slice_get marks x) ∷ own_fault locals x ∷ unless (has_kind locals x k) fault.Kind ∷ [])
+
+-- an argument that is only read
+abbrev pub read_fault : List Local → List Mark → ℕ → Kind → Option CodeKind
+read_fault locals marks x k = first_of (mark_fault (slice_get marks x) ∷ unless (has_kind locals x k) fault.Kind ∷ [])
+
+abbrev pub argument_fault : Bool → List Local → List Mark → ℕ → Kind → Option CodeKind
+argument_fault true locals marks x k = read_fault locals marks x k
+argument_fault false locals marks x k = operand_fault locals marks x k
+
+abbrev pub spend_unless : Bool → List Local → List Mark → ℕ → List Mark
+spend_unless true locals marks x = marks
+spend_unless false locals marks x = spend locals marks x
+
+-- one after the other, by the marks of the parameters
+abbrev pub operands_fault : List Local → List Mark → List Bool → List ℕ → List Kind → Option CodeKind
+operands_fault locals marks reads (x ∷ xs) (k ∷ ks) = option_or (argument_fault (first_mark reads) locals marks x k)
+    (operands_fault locals (spend_unless (first_mark reads) locals marks x) (later_marks reads) xs ks)
+operands_fault locals marks reads xs ks = None
+
+-- behind them all, those that are only read are looked at again
+abbrev pub again_fault : List Mark → List ℕ → Option CodeKind
+again_fault marks [] = None
+again_fault marks (x ∷ xs) = option_or (mark_fault (slice_get marks x)) (again_fault marks xs)
 
 -- as many operands as are needed, and then each of them
-abbrev pub arguments_fault : List Local → List Mark → List ℕ → List Kind → Option CodeKind
-arguments_fault locals marks xs ks = first_of (unless (length xs == length ks) fault.Arms ∷ operands_fault locals marks xs ks ∷ [])
+abbrev pub arguments_fault : List Local → List Mark → List Bool → List ℕ → List Kind → Option CodeKind
+arguments_fault locals marks reads xs ks = first_of (
+    unless (length xs == length ks) fault.Arms
+    ∷ operands_fault locals marks reads xs ks
+    ∷ again_fault (spend_all locals marks (taken_by reads xs)) (read_by reads xs) ∷ [])
 
 -- ---- lets
 
@@ -142,15 +181,15 @@ abbrev pub place_fits : Bool → Place → Bool
 place_fits inline place.Inline = inline
 place_fits inline p = not inline
 
--- the local that is bound has the kind of what comes out
+-- the local that is bound has the kind of what comes out, and isn't lent
 abbrev pub target_fault : List Local → ℕ → Option Kind → Option CodeKind
-target_fault locals x k = unless (same_kinds (kind_at locals x) k) fault.Kind
+target_fault locals x k = first_of (unless (same_kinds (kind_at locals x) k) fault.Kind ∷ own_fault locals x ∷ [])
 
 -- a build of this constructor, which belongs to the type of this kind
 abbrev pub make_fault : List Local → List Mark → ℕ → Option Constructor → Option Kind → List ℕ → Place → Option CodeKind
 make_fault locals marks x None owner args at = Some fault.NoSuchEntry
 make_fault locals marks x (Some c) owner args at = first_of (
-    arguments_fault locals marks args c.fields
+    arguments_fault locals marks [] args c.fields
     ∷ taken_fault locals (spend_all locals marks args) at
     ∷ unless (place_fits c.inline at) fault.Place
     ∷ target_fault locals x owner ∷ [])
@@ -158,12 +197,13 @@ make_fault locals marks x (Some c) owner args at = first_of (
 abbrev pub call_fault : List Local → List Mark → ℕ → Option Func → List ℕ → Option CodeKind
 call_fault locals marks x None args = Some fault.NoSuchEntry
 call_fault locals marks x (Some callee) args = first_of (
-    arguments_fault locals marks args callee.params
+    arguments_fault locals marks callee.reads args callee.params
     ∷ target_fault locals x (Some callee.result) ∷ [])
 
 abbrev pub copy_fault : List Local → List Mark → ℕ → ℕ → Option CodeKind
 copy_fault locals marks x y = first_of (
     mark_fault (slice_get marks y)
+    ∷ own_fault locals y
     ∷ target_fault locals x (kind_at locals y) ∷ [])
 
 abbrev pub operator_fault : List Local → List Mark → ℕ → Operator → (left right : ℕ) → Option CodeKind
@@ -185,13 +225,13 @@ let_fault p locals marks l = first_of (
     unless (is_local locals l.target && list_all (is_local locals) (operands_of l.op)) fault.NoSuchEntry
     ∷ op_fault p locals marks l.target l.op ∷ [])
 
--- a let uses its operands, and then binds its local
-abbrev pub after_let : List Local → List Mark → Let → List Mark
-after_let locals marks l = bind (spend_all locals marks (operands_of l.op)) l.target
+-- a let uses the operands that it takes, and then binds its local
+abbrev pub after_let : Code → List Local → List Mark → Let → List Mark
+after_let p locals marks l = bind (spend_all locals marks (takes p l.op)) l.target
 
-abbrev pub after_lets : List Local → List Mark → List Let → List Mark
-after_lets locals marks [] = marks
-after_lets locals marks (l ∷ ls) = after_lets locals (after_let locals marks l) ls
+abbrev pub after_lets : Code → List Local → List Mark → List Let → List Mark
+after_lets p locals marks [] = marks
+after_lets p locals marks (l ∷ ls) = after_lets p locals (after_let p locals marks l) ls
 
 -- ---- the end of a block
 
@@ -215,7 +255,7 @@ jump_fault f marks bound b = uses_fault marks bound (params_at f.blocks b)
 abbrev pub callee_fault : Func → List Local → List Mark → Option Func → List ℕ → Option CodeKind
 callee_fault f locals marks None args = Some fault.NoSuchEntry
 callee_fault f locals marks (Some callee) args = first_of (
-    arguments_fault locals marks args callee.params
+    arguments_fault locals marks callee.reads args callee.params
     ∷ unless (same_kind callee.result f.result) fault.Kind ∷ [])
 
 abbrev pub tail_fault : Func → List Local → List Mark → Option Func → List ℕ → Option CodeKind
@@ -236,15 +276,18 @@ fields_count arms cs = true
 abbrev pub arms_count : List CaseArm → List Constructor → Bool
 arms_count arms cs = (length arms == length cs) && fields_count arms cs
 
--- the cell isn't only looked at
-abbrev pub takes : CaseCell → Bool
-takes cell.Look = false
-takes c = true
+-- a value that is lent is only looked at, in the arm of each constructor that has a cell; another one in no arm
+abbrev pub looks_where : (lent inline : Bool) → CaseCell → Bool
+looks_where true inline c = inline || is_look c
+looks_where false inline c = not (is_look c)
+
+abbrev pub look_where : Bool → List CaseArm → List Constructor → Bool
+look_where lent (a ∷ arms) (c ∷ cs) = looks_where lent c.inline a.cell && look_where lent arms cs
+look_where lent arms cs = true
 
 -- matched as Inline exactly where the constructor is inline
 abbrev pub cell_fits : Bool → CaseCell → Bool
 cell_fits inline cell.Inline = inline
-cell_fits inline cell.Look = false
 cell_fits inline c = not inline
 
 abbrev pub cells_fit : List CaseArm → List Constructor → Bool
@@ -277,10 +320,11 @@ arms_fault f locals marks x None arms = Some fault.Kind
 arms_fault f locals marks x (Some t) arms = first_of (
     unless (arms_count arms t.cons) fault.Arms
     ∷ mark_fault (slice_get marks x)
-    ∷ unless (list_all (λ a. takes a.cell) arms) fault.Lent
+    ∷ unless (look_where (is_lent_at locals x) arms t.cons) fault.Lent
     ∷ unless (cells_fit arms t.cons) fault.Place
     ∷ unless (arms_have_kinds locals arms t.cons) fault.Kind
     ∷ unless (list_all (λ a. are_distinct (bound_by a)) arms) fault.Header
+    ∷ unless (list_all (λ a. are_not_lent locals (bound_anew a.cell (bound_by a))) arms) fault.Lent
     ∷ arms_jump_fault f (spend locals marks x) arms ∷ [])
 
 abbrev pub case_fault : Func → List Local → ℕ → List Mark → ℕ → Option DataType → List CaseArm → Option CodeKind
@@ -343,7 +387,7 @@ abbrev pub lets_fault : Code → List Local → ℕ → ℕ → ℕ → List Mar
 lets_fault p locals func number place marks [] = None
 lets_fault p locals func number place marks (l ∷ ls) = option_or
     (at_place func number place (let_fault p locals marks l))
-    (lets_fault p locals func number (suc place) (after_let locals marks l) ls)
+    (lets_fault p locals func number (suc place) (after_let p locals marks l) ls)
 
 -- at a block's beginning its parameters are bound
 abbrev pub at_start : List Local → Block → List Mark
@@ -353,7 +397,7 @@ abbrev pub block_fault : Code → Func → List Local → ℕ → ℕ → Block 
 block_fault p f locals func number b = first_of (
     at_place func number 0 (block_header_fault f locals number b.params)
     ∷ lets_fault p locals func number 1 (at_start locals b) b.lets
-    ∷ at_place func number (suc (length b.lets)) (term_fault p f locals number (after_lets locals (at_start locals b) b.lets) b.term) ∷ [])
+    ∷ at_place func number (suc (length b.lets)) (term_fault p f locals number (after_lets p locals (at_start locals b) b.lets) b.term) ∷ [])
 
 -- the blocks from this number on
 abbrev pub blocks_fault : Code → Func → List Local → ℕ → ℕ → List Block → Option CodeFault
@@ -362,12 +406,24 @@ blocks_fault p f locals func number (b ∷ bs) = option_or (block_fault p f loca
 
 -- ---- functions, types and programs
 
--- a function's name must be new, and no parameter may be marked as one that is only looked at
+-- a parameter that is lent is marked, and then the result has no cells
+abbrev pub param_lends : List DataType → Func → ℕ → Bool
+param_lends types f x = not (is_lent_at (locals_of types f) x) || (is_marked f x && not (is_heap types f.result))
+
+-- the parameters from this one on, of these kinds
+abbrev pub lends_from : List DataType → Func → ℕ → List Kind → Bool
+lends_from types f x [] = true
+lends_from types f x (q ∷ qs) = param_lends types f x && lends_from types f (suc x) qs
+
+abbrev pub lends_rightly : List DataType → Func → Bool
+lends_rightly types f = lends_from types f 0 f.params
+
+-- a function's name must be new
 abbrev pub header_fault : List DataType → Bool → Func → Option CodeKind
 header_fault types new f = first_of (
     unless new fault.Name
     ∷ unless (list_all (is_known types) f.params && is_known types f.result && list_all (is_known types) f.locals) fault.NoSuchEntry
-    ∷ unless (list_all not f.reads) fault.Lent ∷ [])
+    ∷ unless (lends_rightly types f) fault.Lent ∷ [])
 
 abbrev pub function_fault : Code → ℕ → Bool → Func → Option CodeFault
 function_fault p func new f = first_of (

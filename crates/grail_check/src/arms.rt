@@ -2,11 +2,12 @@ ghost use Rattle.std.specs.Prelude.{◌≡◌, ◌++◌, nat_lt, map};
 ghost use Rattle.std.specs.List.{list_all};
 ghost use Rattle.camelot_values.specs.Kinds.{constructor_of};
 ghost use Rattle.grail_code.specs.Code.{arm_of, func_of};
-ghost use Rattle.grail_code.specs.WellFormed.{kept_diamond, bound_by};
-ghost use Rattle.grail_check.specs.Faulting.{is_local, is_among, have_kinds, is_block, arm_is_there, fields_count, arms_count, takes, cell_fits, cells_fit, kept_fits, arms_have_kinds, are_distinct};
+ghost use Rattle.grail_code.specs.WellFormed.{bound_anew, kept_diamond, bound_by};
+ghost use Rattle.grail_check.specs.Marked.{is_look};
+ghost use Rattle.grail_check.specs.Faulting.{is_local, is_among, have_kinds, is_block, arm_is_there, fields_count, arms_count, looks_where, look_where, are_not_lent, cell_fits, cells_fit, kept_fits, arms_have_kinds, are_distinct};
 
 use super::lets::are_locals;
-use super::locals::{Local, has_kind, is_local};
+use super::locals::{Local, are_not_lent, has_kind, is_lent_at, is_local};
 use camelot_values::{Con, Kind};
 use grail_code::{CaseArm, CaseCell, Func};
 
@@ -84,26 +85,65 @@ pub(crate) fn arms_count(arms: &[CaseArm], cons: &[Con]) -> bool
     arms.len() == cons.len() && fields_count(arms, cons)
 }
 
-/// Whether no arm only looks at its cell.
-pub(crate) fn arms_take(arms: &[CaseArm]) -> bool
-    ensures { result ≡ list_all (λ a. takes a.cell) (map arm_of arms.now) }
+// Whether the cell stays as it is.
+fn is_look(cell: CaseCell) -> bool
+    ensures { result ≡ is_look cell }
 {
-    'arms: for arm in arms {
-        if !takes(arm.cell) {
+    match cell {
+        CaseCell::Look => true,
+        CaseCell::Inline | CaseCell::Free | CaseCell::Keep(_) => false,
+    }
+}
+
+// Whether the cell of a value that is lent, or isn't, stays as it is where it has to.
+fn looks_where(lent: bool, inline: bool, cell: CaseCell) -> bool
+    ensures { result ≡ looks_where lent inline cell }
+{
+    if lent {
+        inline || is_look(cell)
+    } else {
+        !is_look(cell)
+    }
+}
+
+/// Whether a value that is lent is only looked at, in the arm of each constructor that has a cell, and another one in
+/// no arm.
+pub(crate) fn look_where(lent: bool, arms: &[CaseArm], cons: &[Con]) -> bool
+    ensures { result ≡ look_where lent (map arm_of arms.now) (map constructor_of cons.now) }
+{
+    'arms: for (index, arm) in arms.iter().enumerate() {
+        if index >= cons.len() {
+            return true;
+        }
+        if !looks_where(lent, cons[index].inline, arm.cell) {
             return false;
         }
     }
     true
 }
 
-// Whether a cell isn't only looked at.
-fn takes(cell: CaseCell) -> bool
-    ensures { result ≡ takes cell }
+// Whether an arm binds no local that is lent, but for the fields of a cell that stays as it is.
+fn binds_own(locals: &[Local], fields: &[u32], cell: CaseCell) -> bool
+    ensures { result ≡ are_not_lent locals.now (bound_anew cell (fields.now ++ kept_diamond cell)) }
 {
     match cell {
-        CaseCell::Look => false,
-        CaseCell::Inline | CaseCell::Free | CaseCell::Keep(_) => true,
+        CaseCell::Look => true,
+        CaseCell::Keep(diamond) => are_not_lent(locals, fields)
+            && !is_lent_at(locals, diamond as usize),
+        CaseCell::Inline | CaseCell::Free => are_not_lent(locals, fields),
     }
+}
+
+/// Whether no arm binds a local that is lent, but for the fields of a cell that stays as it is.
+pub(crate) fn arms_bind_own(locals: &[Local], arms: &[CaseArm]) -> bool
+    ensures { result ≡ list_all (λ a. are_not_lent locals.now (bound_anew a.cell (bound_by a))) (map arm_of arms.now) }
+{
+    'arms: for arm in arms {
+        if !binds_own(locals, &arm.fields, arm.cell) {
+            return false;
+        }
+    }
+    true
 }
 
 // Whether a constructor is matched inline exactly where it is inline.
@@ -112,8 +152,7 @@ fn cell_fits(inline: bool, cell: CaseCell) -> bool
 {
     match cell {
         CaseCell::Inline => inline,
-        CaseCell::Free | CaseCell::Keep(_) => !inline,
-        CaseCell::Look => false,
+        CaseCell::Free | CaseCell::Keep(_) | CaseCell::Look => !inline,
     }
 }
 

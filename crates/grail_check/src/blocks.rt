@@ -64,7 +64,7 @@ fn check_lets(
 ) -> Result<(), CodeFault>
     requires { length lets.now ≤ 256 }
     ensures found { Finds result (lets_fault (code_of code.now) locals.now func number 1 marks.old (map let_of lets.now)) }
-    ensures marks { OnOk result (marks.new ≡ after_lets locals.now marks.old (map let_of lets.now)) }
+    ensures marks { OnOk result (marks.new ≡ after_lets (code_of code.now) locals.now marks.old (map let_of lets.now)) }
 {
     let mut place = 1;
     'lets: for binding in lets {

@@ -8,15 +8,16 @@ ghost use Rattle.grail_check.specs.Sets.{AreUsable};
 ghost use Rattle.grail_check.specs.Faulting.{uses_fault, jump_fault, arms_jump_fault, tail_fault, arms_fault, case_fault, ret_fault, goto_fault, if_fault, term_fault};
 
 use super::arms::{
-    arms_are_there, arms_bind_once, arms_count, arms_go_on, arms_have_kinds, arms_take, cells_fit,
-    is_block, keeps,
+    arms_are_there, arms_bind_once, arms_bind_own, arms_count, arms_go_on, arms_have_kinds,
+    cells_fit, is_block, keeps, look_where,
 };
 use super::body::{Body, is_covered};
 use super::fault::CodeKind;
 use super::lets::are_locals;
 use super::local_set::LocalSet;
 use super::locals::{
-    Local, check_arguments, check_mark, check_operand, is_local, kind_at, require, same_kind, spend,
+    Local, check_arguments, check_mark, check_operand, is_lent_at, is_local, kind_at, require,
+    same_kind, spend,
 };
 use super::marks::Marks;
 use camelot_values::{Kind, TypeDef, Types};
@@ -134,7 +135,7 @@ fn check_tail(
     let Some(callee) = callee else {
         return Err(CodeKind::NoSuchEntry);
     };
-    check_arguments(locals, marks, args, &callee.params)?;
+    check_arguments(locals, marks, &callee.reads, args, &callee.params)?;
     require(same_kind(callee.result, func.result), CodeKind::Kind)
 }
 
@@ -153,10 +154,12 @@ fn check_arms(
 {
     require(arms_count(arms, &def.cons), CodeKind::Arms)?;
     check_mark(marks, on)?;
-    require(arms_take(arms), CodeKind::Lent)?;
+    let lent = is_lent_at(locals, on as usize);
+    require(look_where(lent, arms, &def.cons), CodeKind::Lent)?;
     require(cells_fit(arms, &def.cons), CodeKind::Place)?;
     require(arms_have_kinds(locals, arms, &def.cons), CodeKind::Kind)?;
     require(arms_bind_once(arms), CodeKind::Header)?;
+    require(arms_bind_own(locals, arms), CodeKind::Lent)?;
     spend(locals, marks, on);
     check_arm_jumps(body, marks, arms)
 }

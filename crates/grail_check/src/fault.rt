@@ -16,7 +16,7 @@ pub enum CodeKind {
     /// A local is used that isn't bound there.
     #[error("unbound")]
     Unbound,
-    /// A local of a heap kind is used that was used since it was bound.
+    /// A local that the function owns is used, and was used since it was bound.
     #[error("spent")]
     Spent,
     /// A local is of another kind than is needed, as that of a case which is of no data type.
@@ -35,7 +35,7 @@ pub enum CodeKind {
     /// A type, constructor or function has the name of an earlier one.
     #[error("name")]
     Name,
-    /// A parameter is marked as one that is only looked at, or an arm only looks at its cell.
+    /// What is lent is taken, bound or given back, or an arm looks at a cell that isn't lent.
     #[error("lent")]
     Lent,
 }

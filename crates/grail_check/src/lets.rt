@@ -4,13 +4,13 @@ ghost use Rattle.std.specs.Option.{option_map};
 ghost use Rattle.camelot_values.specs.Value.{is_int32};
 ghost use Rattle.camelot_values.specs.Kinds.{constructor_of};
 ghost use Rattle.grail_code.specs.Code.{operator_of, op_of, let_of, func_of, code_of};
-ghost use Rattle.grail_code.specs.WellFormed.{operator_kind, operands_of, taken};
+ghost use Rattle.grail_code.specs.WellFormed.{operator_kind, operands_of, taken, taken_by, takes};
 ghost use Rattle.grail_check.specs.Finding.{Finds};
 ghost use Rattle.grail_check.specs.Faulting.{is_local, place_fits, copy_fault, operator_fault, target_fault, taken_fault, make_fault, call_fault, op_fault, let_fault, spend_all, after_let};
 
 use super::fault::CodeKind;
 use super::locals::{
-    Local, bind, check_arguments, check_mark, check_operand, is_local, kind_at, require,
+    Local, bind, check_arguments, check_mark, check_operand, check_own, is_local, kind_at, require,
     same_kinds, spend,
 };
 use super::marks::Marks;
@@ -63,11 +63,12 @@ fn has_operands(locals: &[Local], op: &Op) -> bool
     }
 }
 
-// Refuses a local whose kind isn't this one.
+// Refuses a local whose kind isn't this one, or that is lent.
 fn check_target(locals: &[Local], target: u32, kind: Option<Kind>) -> Result<(), CodeKind>
     ensures { Finds result (target_fault locals.now target kind) }
 {
-    require(same_kinds(kind_at(locals, target), kind), CodeKind::Kind)
+    require(same_kinds(kind_at(locals, target), kind), CodeKind::Kind)?;
+    check_own(locals, target)
 }
 
 // Whether a constructor is built inline exactly where it is inline.
@@ -105,7 +106,7 @@ fn check_make(
     ensures found { Finds result (make_fault locals.now marks.old target (Some (constructor_of con.now)) owner args.now place) }
     ensures marks { OnOk result (marks.new ≡ spend_all locals.now marks.old (args.now ++ taken place)) }
 {
-    check_arguments(locals, marks, args, &con.fields)?;
+    check_arguments(locals, marks, &[], args, &con.fields)?;
     check_taken(locals, marks, place)?;
     require(place_fits(con.inline, place), CodeKind::Place)?;
     check_target(locals, target, owner)
@@ -120,9 +121,9 @@ fn check_call(
     args: &[u32],
 ) -> Result<(), CodeKind>
     ensures found { Finds result (call_fault locals.now marks.old target (Some (func_of callee.now)) args.now) }
-    ensures marks { OnOk result (marks.new ≡ spend_all locals.now marks.old args.now) }
+    ensures marks { OnOk result (marks.new ≡ spend_all locals.now marks.old (taken_by (func_of callee.now).reads args.now)) }
 {
-    check_arguments(locals, marks, args, &callee.params)?;
+    check_arguments(locals, marks, &callee.reads, args, &callee.params)?;
     check_target(locals, target, Some(callee.result))
 }
 
@@ -149,6 +150,7 @@ fn check_copy(locals: &[Local], marks: &mut Marks, target: u32, source: u32) -> 
     ensures marks { OnOk result (marks.new ≡ spend_all locals.now marks.old (source ∷ [])) }
 {
     check_mark(marks, source)?;
+    check_own(locals, source)?;
     check_target(locals, target, kind_at(locals, source))?;
     spend(locals, marks, source);
     Ok(())
@@ -181,7 +183,7 @@ fn check_operation(
     op: &Op,
 ) -> Result<(), CodeKind>
     ensures found { Finds result (op_fault (code_of code.now) locals.now marks.old target (op_of op.now)) }
-    ensures marks { OnOk result (marks.new ≡ spend_all locals.now marks.old (operands_of (op_of op.now))) }
+    ensures marks { OnOk result (marks.new ≡ spend_all locals.now marks.old (takes (code_of code.now) (op_of op.now))) }
 {
     match op {
         Op::Lit(value) => {
@@ -215,7 +217,7 @@ pub(crate) fn check_let(
     binding: &Let,
 ) -> Result<(), CodeKind>
     ensures found { Finds result (let_fault (code_of code.now) locals.now marks.old (let_of binding.now)) }
-    ensures marks { OnOk result (marks.new ≡ after_let locals.now marks.old (let_of binding.now)) }
+    ensures marks { OnOk result (marks.new ≡ after_let (code_of code.now) locals.now marks.old (let_of binding.now)) }
 {
     let there = is_local(locals, binding.target) && has_operands(locals, &binding.op);
     require(there, CodeKind::NoSuchEntry)?;

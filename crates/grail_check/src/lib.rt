@@ -9,6 +9,7 @@ mod exits;
 mod fault;
 mod functions;
 pub mod laws;
+mod lent;
 mod lets;
 mod local_set;
 mod locals;
@@ -18,3 +19,4 @@ mod types;
 
 pub use check::check_code;
 pub use fault::{CodeFault, CodeKind};
+pub use lent::mark_looked;

@@ -1,14 +1,14 @@
 -- The reader of a function's parameters reads their spelling. A list of kinds and a list of marks, taken together and
 -- apart again.
-use Rattle.std.proofs.Common.{◌≡◌, ℕ, zero, suc, ◌+◌, ◌-◌, ◌<◌, ◌≤◌, Bool, true, false, List, [], ◌∷◌, ◌++◌, length, append_assoc, refl, sym, ap, ◌∙◌, subst, lit≤, inl, inr, arith}
-use Rattle.std.specs.Prelude.{nat_lt, if◌then◌else◌, flat_map, ◌⊎◌}
+use Rattle.std.proofs.Common.{◌≡◌, ℕ, suc, ◌+◌, ◌-◌, ◌<◌, ◌≤◌, Bool, true, false, List, [], ◌∷◌, ◌++◌, length, append_assoc, refl, sym, ap, ◌∙◌, subst, lit≤, inl, inr, arith}
+use Rattle.std.specs.Prelude.{if◌then◌else◌, flat_map, ◌⊎◌}
 use Rattle.std.specs.List.{AllByRecursion}
 use Rattle.std.proofs.lemmas.Bool.{lt-ltb, le-ltb, cases_lt}
 use Rattle.std.proofs.lemmas.List.{length-map}
 use Rattle.camelot_values.specs.declared.kinds.Kind.{Kind}
 use Rattle.grail_code.specs.Spelling as s
 use Rattle.grail_code.specs.Spelling.{Format, First, Second, number, counted, AreCounted, FitsKind, MarkIsOfFormat, marked, param_code}
-use Rattle.grail_code.specs.Reader.{Read, leb_at, counted_at}
+use Rattle.grail_code.specs.Reader.{leb_at, counted_at}
 use Rattle.grail_code.specs.CodeReader.{numbered_kind, numbered_param, most_param, param_at, kinds_of, marks_of}
 use Rattle.grail_code.proofs.SpellingParts.{Lawful, Made, made, counted_law}
 use Rattle.grail_code.proofs.SpellingTypes.{code_back, kind_back, upto_law}

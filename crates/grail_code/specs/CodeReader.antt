@@ -1,6 +1,6 @@
 -- Private: words for functions of this crate.
 -- Reading the spelling of code from the left, part by part in the order of the spelling. The format, which the first
--- four bytes tell, says which operators there are.
+-- four bytes tell, says which operators, marks and arms there are.
 use Rattle.std.specs.Prelude.{◌≡◌, ℕ, zero, suc, ◌-◌, ◌==◌, ◌||◌, nat_lt, if◌then◌else◌, Bool, true, false, List, [], ◌∷◌, length, map, Result, Ok, Err}
 use Rattle.std.specs.Int.{w32, cast_signed}
 use Rattle.camelot_values.specs.Names.{is_lower, is_upper, is_tail}

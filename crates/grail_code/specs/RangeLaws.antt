@@ -1,7 +1,7 @@
 -- Laws, for the proofs of this crate and of those above it.
 -- Well-formed code within the limits whose names have their forms is within the ranges of the spelling. Which code is
 -- within those of which format.
-use Rattle.std.proofs.Common.{◌≡◌, ℕ, zero, suc, ◌*◌, ◌-◌, ◌<◌, ◌≤◌, Bool, false, List, [], ◌∷◌, ◌++◌, length, Option, Some, None, refl, sym, ap, ◌∙◌, subst, arith, length-append}
+use Rattle.std.proofs.Common.{◌≡◌, ℕ, zero, suc, ◌*◌, ◌-◌, ◌<◌, ◌≤◌, Bool, List, [], ◌∷◌, ◌++◌, length, Option, Some, None, refl, sym, ap, ◌∙◌, subst, arith, length-append}
 use Rattle.std.specs.Prelude.{slice_get, IsSomeAnd}
 use Rattle.std.specs.List.{AllByRecursion}
 use Rattle.std.specs.Option.{option_map}
@@ -198,12 +198,16 @@ blocks_fit : (p : Code) → IsWithinLimits p → (f : Func) → FuncIsWithin f �
 blocks_fit p l f w number [] few h = tt
 blocks_fit p l f w number (b ∷ bs) few h = (block_fits p l f w number b few.0 h.0, blocks_fit p l f w (suc number) bs few.1 h.1)
 
+any_marks : (marks : List Bool) → AllByRecursion (MarkIsOfFormat Second) marks
+any_marks [] = tt
+any_marks (mark ∷ marks) = (tt, any_marks marks)
+
 func_fits : (p : Code) → IsWithinLimits p → (f : Func) → FuncIsWithin f → FuncFits p f → 1 ≤ length f.params → IsLowerName f.name → FitsFunc Second f
 func_fits p l f w h some named = let kinds = all_front (IsKnownKind p.types) f.params f.locals h.kinds in record {
   name = named;
   params = record { enough = some; few = w.few_params; each = known_all p.types f.params l.types.few_types kinds.0 };
   as_many = w.as_many;
-  marks = all_of (λ mark. mark ≡ false) (MarkIsOfFormat Second) f.reads (λ mark k. tt) h.unread;
+  marks = any_marks f.reads;
   result = known_fits p.types f.result l.types.few_types h.result;
   locals = record { enough = omega arith; few = w.few_locals; each = known_all p.types f.locals l.types.few_types kinds.1 };
   blocks = record { enough = w.some_blocks; few = w.few_blocks; each = blocks_fit p l f w 0 f.blocks w.few_lets h.blocks };

@@ -35,15 +35,16 @@ pub fn law_of_ranges()
     ensures { (p : Code) → IsWellFormed p → IsWithinLimits p → HaveParams p → IsNamed p → FitsCode Second p }
 {}
 
-/// Code within the ranges has exactly one spelling as `GRL2`, and one as `GRL1` exactly where it has no division. It
-/// has no others, and other code has none.
+/// Code within the ranges has exactly one spelling as `GRL2`, and one as `GRL1` exactly where it has nothing that the
+/// first format lacks: no division, no mark of a parameter, and no arm that only looks at its cell. It has no others, and
+/// other code has none.
 #[tactic(auto, using(crate::proofs::SpellingMeans::spelled_second, crate::proofs::SpellingMeans::spelled_first))]
 pub fn law_of_formats()
     // Code within the ranges has a spelling in the second format.
     ensures second { (p : Code) → FitsCode Second p → Means (spelling Second p) (Spelled p) }
-    // Where it has no division, it has one in the first format too.
+    // Where it has nothing that the first format lacks, it has one there too.
     ensures first { (p : Code) → FitsCode Second p → IsOld p → Means (spelling First p) (Spelled p) }
-    // Bytes that spell the code are the former, or the latter where it has no division.
+    // Bytes that spell the code are the former, or the latter where it has nothing that the first format lacks.
     ensures only { (p : Code) (bytes : List ℕ) → Means bytes (Spelled p)
         → (bytes ≡ spelling Second p) ⊎ ((bytes ≡ spelling First p) × IsOld p) }
     // The code that bytes spell is within the ranges.

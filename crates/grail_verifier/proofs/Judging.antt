@@ -22,6 +22,7 @@ use Rattle.grail_verifier.specs.Verdicts.{IsShort, IsRefused, IsJudged, VerdictI
 use Rattle.grail_verifier.proofs.Facts.{Known}
 use Rattle.grail_verifier.proofs.Walking.{walk_found}
 use Rattle.licence.specs.CheckLaws.{pays_by_checks, rule_fails}
+use Rattle.licence.specs.PotentialLaws.{fits_free}
 
 -- ---- what the walk finds
 
@@ -40,7 +41,7 @@ module _ (p : Code) (c : Cert) (well : IsWellFormed p) (fits : Fits p c) (limits
   pub all_found : (none : Vector) → none ≡ [] → funcs_short p c none 0 p.funcs ≡ None → Grants p c
   all_found none z d = let e : funcs_short p c [] 0 p.funcs ≡ None = subst (λ n. funcs_short p c n 0 p.funcs ≡ None) z d in record {
     fits = fits;
-    pays = (pays_by_checks p (book_of c)).1 (right.formed.some_units, none_holds (checks_of integers p (in_integers (book_of c))) (subst (Found (checks_of integers p (in_integers (book_of c)))) e (walk_found p c known)));
+    pays = (pays_by_checks p (book_of c)).1 (right.formed.some_units, fits_free p c fits, none_holds (checks_of integers p (in_integers (book_of c))) (subst (Found (checks_of integers p (in_integers (book_of c)))) e (walk_found p c known)));
   }
 
   fails : (k : Check ℕ) → funcs_short p c [] 0 p.funcs ≡ Some k → IsShort p c k
@@ -97,7 +98,7 @@ shorts_same : (p : Code) (c : Cert) (k l : Check ℕ) → IsShort p c k → IsSh
 shorts_same p c k l h m = one_first h.first.before h.first.after m.first.before m.first.after (in_numbers k) (in_numbers l) (sym h.first.parts ∙ m.first.parts) h.first.good h.first.wrong m.first.good m.first.wrong
 
 granted_short : (p : Code) (c : Cert) (k : Check ℕ) → Grants p c → IsShort p c k → ⊥
-granted_short p c k g h = none_fails h.first.before h.first.after (in_numbers k) (subst AllHold h.first.parts ((pays_by_checks p (book_of c)).0 g.pays).1) h.first.wrong
+granted_short p c k g h = none_fails h.first.before h.first.after (in_numbers k) (subst AllHold h.first.parts ((pays_by_checks p (book_of c)).0 g.pays).2) h.first.wrong
 
 misfits_same : (p : Code) (c : Cert) (f b f' b' : ℕ) → IsMisfit p c f b → IsMisfit p c f' b' → (f ≡ f') × (b ≡ b')
 misfits_same p c f b f' b' h k = by_funcs (cases_lt f f') (cases_lt f' f)

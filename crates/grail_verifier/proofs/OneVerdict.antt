@@ -125,7 +125,7 @@ one_way p c r q (inr (m, is, h)) (inr (l, also, k)) = is ∙ one_short p c m l h
 
 no_way : (p : Code) (c : Cert) (r : Refusal) → Grants p c → Way p c r → ⊥
 no_way p c r granted (inl (f, b, is, h)) = not_both p c f b granted.fits h
-no_way p c r granted (inr (k, is, h)) = none_fails h.first.before h.first.after (in_numbers k) (subst AllHold h.first.parts ((pays_by_checks p (book_of c)).0 granted.pays).1) h.first.wrong
+no_way p c r granted (inr (k, is, h)) = none_fails h.first.before h.first.after (in_numbers k) (subst AllHold h.first.parts ((pays_by_checks p (book_of c)).0 granted.pays).2) h.first.wrong
 
 one_judged : (p : Code) (c : Cert) (v w : Verdict) → IsJudged p c v → IsJudged p c w → v ≡ w
 one_judged p c (Ok l) (Ok m) h k = ap Ok (h.0 ∙ sym k.0)

@@ -3,7 +3,7 @@
 -- many units are left, and each local's value carries some. A build takes what its value's node is to carry, and a
 -- cell's price where it takes a new cell; a case finds what the matched node carries, and a cell's price where it gives
 -- the cell back. There is no order of checks here, and no solver.
-use Rattle.std.specs.Prelude.{◌≡◌, ℕ, zero, suc, ◌+◌, ◌-◌, ◌≤◌, ◌==◌, if◌then◌else◌, List, [], ◌∷◌, length, map, take, slice_get, Option, Some, IfSome, cond}
+use Rattle.std.specs.Prelude.{◌≡◌, true, ℕ, zero, suc, ◌+◌, ◌-◌, ◌≤◌, ◌==◌, if◌then◌else◌, List, [], ◌∷◌, length, map, take, slice_get, Option, Some, IfSome, cond}
 use Rattle.std.specs.List.{AllByRecursion}
 use Rattle.camelot_values.specs.Kinds.{DataType, constructors}
 use Rattle.camelot_values.specs.declared.kinds.Kind.{Kind}
@@ -14,7 +14,7 @@ use Rattle.grail_blocks.specs.declared.blocks.CaseCell.{CaseCell}
 use Rattle.grail_blocks.specs.declared.blocks.CaseCell.TheVariants as cell
 use Rattle.grail_blocks.specs.Events.{params_at}
 use Rattle.grail_code.specs.Code.{Op, Lit, Flag, Copy, Prim, Make, Call, Let, CaseArm, Term, Ret, Tail, Goto, If, Case, Block, Func, Code}
-use Rattle.grail_code.specs.WellFormed.{kind_of}
+use Rattle.grail_code.specs.WellFormed.{kind_of, is_lent}
 use Rattle.annotations.specs.Vectors.{AtLeast, is_heap_con}
 use Rattle.licence.specs.Books.{Units, Carried, Book}
 
@@ -85,7 +85,7 @@ opened amounts types account on con fields = record {
 }
 
 -- What a case finds in an arm, by what becomes of the matched cell: the node is taken apart, and a cell's price is left
--- where the cell is given back.
+-- where the cell is given back. An arm that looks is one on a value that is lent, which carries nothing.
 abbrev pub found : {A : Type 0} → Amounts A → List DataType → (unit : A) → Account A → (on con : ℕ) → (fields : List ℕ) → CaseCell → Account A
 found amounts types unit account on con fields cell.Free = record {
   left = amounts.plus (opened amounts types account on con fields).left unit;
@@ -174,9 +174,18 @@ pub record BlockPays (p : Code) (f : Func) (book : Book ℕ) (func number : ℕ)
   pub lets : (n : ℕ) (l : Let) → slice_get b.lets n ≡ Some l → LetPays p f book func number (suc n) (account_before naturals p.types book func number b n) l.op
   pub term : TermPays p f book func (account_before naturals p.types book func number b (length b.lets)) b.term
 
--- The amounts of this book pay for every run of this code: a cell costs something, and each rule holds in every block,
--- also in one that no jump leads to.
+-- What is lent carries nothing: the value is the caller's, who keeps what it carries.
+abbrev pub LentCarryNothing : List DataType → Func → Carried ℕ → Type 0
+LentCarryNothing types f carried = (x : ℕ) → is_lent types f x ≡ true → (con : ℕ) → carried x con ≡ 0
+
+-- Nor do parameters that are lent, of functions and blocks.
+abbrev pub LentAreFree : Code → Book ℕ → Type 0
+LentAreFree p book = (func number : ℕ) (f : Func) → slice_get p.funcs func ≡ Some f → LentCarryNothing p.types f (account_at book func number).carried
+
+-- The amounts of this book pay for every run of this code: a cell costs something, parameters that are lent carry
+-- nothing, and each rule holds in every block, also in one that no jump leads to.
 pub record Pays (p : Code) (book : Book ℕ) : Type 0 where
   pub some : 1 ≤ book.unit
+  pub lent : LentAreFree p book
   pub blocks : (func number : ℕ) (f : Func) (b : Block) → slice_get p.funcs func ≡ Some f → slice_get f.blocks number ≡ Some b
       → BlockPays p f book func number b

@@ -12,7 +12,7 @@ ghost use Rattle.grail_code.specs.Soundness.{HaveBlocks};
 ghost use Rattle.grail_code.specs.WellFormed.{IsWellFormed};
 ghost use Rattle.annotations.specs.Vectors.{potential};
 ghost use Rattle.licence.specs.Books.{Book};
-ghost use Rattle.licence.specs.Rules.{Pays};
+ghost use Rattle.licence.specs.Rules.{LentAreFree, Pays};
 ghost use Rattle.licence.specs.Checks.{Check, AllHold, FirstFails, checks_of, in_integers, integers};
 ghost use Rattle.licence.specs.Failing.{RuleFails};
 ghost use Rattle.licence.specs.Bound.{units_at};
@@ -41,10 +41,12 @@ pub fn law_of_worth()
         (from_place p.types (entering (bodies p) limit) f b number place env fuel waits) }
 {}
 
-/// The rules, which have no order, hold exactly where a cell costs something and every check of the list holds.
+/// The rules, which have no order, hold exactly where a cell costs something, what is lent carries nothing, and every
+/// check of the list holds.
 #[tactic(auto, using(crate::specs::CheckLaws::pays_by_checks))]
 pub fn law_of_checks()
-    ensures { (p : Code) (book : Book ℕ) → Pays p book ↔ ((1 ≤ book.unit) × AllHold (checks_of integers p (in_integers book))) }
+    ensures { (p : Code) (book : Book ℕ) → Pays p book
+        ↔ ((1 ≤ book.unit) × LentAreFree p book × AllHold (checks_of integers p (in_integers book))) }
 {}
 
 /// At the place of the first check that fails, the rule of that let or end fails.

@@ -21,7 +21,8 @@ use Rattle.grail_blocks.specs.Blocks.{Op, CaseArm, Term}
 use Rattle.grail_blocks.specs.Events.{bound_by}
 use Rattle.grail_code.specs.Code.{Func, Code}
 use Rattle.grail_code.specs.WellFormed as code
-use Rattle.grail_code.specs.WellFormed.{local_kinds, kind_of, LetFits, Gives, JumpFits, ArmFits, ArmsFit, data_type, TermFits}
+use Rattle.grail_code.specs.WellFormed.{local_kinds, kind_of, LetFits, Gives, JumpFits, data_type}
+use Rattle.grail_code.specs.Unread.{CellOwned, ArmOwned, ArmsOwned, TermOwned}
 use Rattle.normal_form.specs.Normal.{NormalBlock, Line, Bind, Close, in_first, cut, place_in, cell_in, case_arm, made, local_of, locals_of, diamond_kinds, kinds, all_kinds}
 use Rattle.normal_form.specs.Facts.{BodyFits}
 use Rattle.normal_form.proofs.Lines.{closes}
@@ -41,7 +42,7 @@ pub record Coding (F : Frame) : Type 0 where
 abbrev pub LinesFit : Code → Func → ℕ → List Line → Type 0
 LinesFit p f number [] = Unit {0}
 LinesFit p f number (Bind l ∷ lines) = LetFits p f l × LinesFit p f number lines
-LinesFit p f number (Close t ∷ lines) = TermFits p f number t × LinesFit p f (suc number) lines
+LinesFit p f number (Close t ∷ lines) = TermOwned p f number t × LinesFit p f (suc number) lines
 
 pub fit_append : (p : Code) (f : Func) (number m : ℕ) (xs ys : List Line) → m ≡ number + closes xs → LinesFit p f number xs → LinesFit p f m ys
     → LinesFit p f number (xs ++ ys)
@@ -162,7 +163,7 @@ numbered_kinds F C n (f ∷ fs) (k ∷ ks) full at =
     ap (λ o. o ∷ map (kind_of C.func) (numbered (suc n) fs)) (kind_at F C n k (at_head F.kinds n k ks at)) ∙ ap (λ l. Some k ∷ l) (numbered_kinds F C (suc n) fs ks (omega (arith, full)) (at_rest F.kinds n k ks at))
 
 cell_fits : (F : Frame) (C : Coding F) (x : ArmCell) (m : ℕ) (inline : Bool) → typing.CellFits inline x → (inline ≡ false → has_cell x ≡ true)
-    → At F.kinds m (diamond_kinds x) → code.CellFits C.func inline (cell_in x m)
+    → At F.kinds m (diamond_kinds x) → CellOwned C.func inline (cell_in x m)
 cell_fits F C cell.Plain m true fit taken at = refl
 cell_fits F C cell.Plain m false fit taken at = let e : false ≡ true = taken refl in absurd cc
 cell_fits F C cell.Free m inline fit taken at = fit
@@ -171,7 +172,7 @@ cell_fits F C (cell.Keep d) m inline fit taken at = (fit, kind_at F C m kind.Dia
 -- an arm for its constructor
 pub arm_fits : (F : Frame) (C : Coding F) (number con : ℕ) (c : Constructor) (name : Name) (fs : List (Option Name)) (x : ArmCell) (b : Expression) (n target : ℕ) → ArmFor F.source name fs con → constructor (types_of F.source) con ≡ Some c
     → typing.CellFits (is_inline (types_of F.source) con) x → (is_inline (types_of F.source) con ≡ false → has_cell x ≡ true) → At F.kinds n (bound_of F.source con x) → JumpFits C.func number target
-    → ArmFits C.func number c (case_arm (Some (record { con = name; fields = fs; cell = x; body = b })) n target)
+    → ArmOwned C.func number c (case_arm (Some (record { con = name; fields = fs; cell = x; body = b })) n target)
 arm_fits F C number con c name fs x b n target a is fit taken at jump =
     let types = types_of F.source in
     let full = a.full in
@@ -179,7 +180,7 @@ arm_fits F C number con c name fs x b n target a is fit taken at jump =
     let inline = inline_is types con c is in
     record {
       fields = subst (code.HaveKinds C.func (numbered n fs)) fields (numbered_kinds F C n fs (fields_of types con) full (at_front F.kinds n (fields_of types con) (diamond_kinds x) at));
-      cell = subst (λ i. code.CellFits C.func i (cell_in x (n + length fs))) inline
+      cell = subst (λ i. CellOwned C.func i (cell_in x (n + length fs))) inline
           (cell_fits F C x (n + length fs) (is_inline types con) fit taken (at_back F.kinds n (n + length fs) (fields_of types con) (diamond_kinds x) (omega (arith, full)) at));
       distinct = bound_distinct name fs x b n target;
       jump = jump;

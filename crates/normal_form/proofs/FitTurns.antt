@@ -10,7 +10,8 @@ use Rattle.camelot_typing.specs.Kinds.{types_of, numbered, numbers_from, numbers
 use Rattle.grail_blocks.specs.Blocks as block
 use Rattle.grail_blocks.specs.Blocks.{CaseArm}
 use Rattle.grail_code.specs.Code.{Func, Code}
-use Rattle.grail_code.specs.WellFormed.{ArmFits, ArmsFit, data_type, TermFits}
+use Rattle.grail_code.specs.WellFormed.{data_type}
+use Rattle.grail_code.specs.Unread.{ArmOwned, ArmsOwned, TermOwned}
 use Rattle.normal_form.specs.Normal.{Line, case_arm, total, in_turn, all_of}
 use Rattle.normal_form.proofs.Lines.{closes}
 use Rattle.normal_form.proofs.KindsAt.{Frame, At, at_front, at_back}
@@ -72,7 +73,7 @@ type_at (d ∷ ds) first (suc t) h =
 -- ---- arms in turn
 
 pub record ArmGoes (p : Code) (f : Func) (number : ℕ) (c : Constructor) (a : CaseArm) (i : ℕ) (lines : List Line) : Type 0 where
-  pub arm : ArmFits f number c a
+  pub arm : ArmOwned f number c a
   pub fit : LinesFit p f i lines
 
 -- one of two arms, by the test on its constructor
@@ -82,7 +83,7 @@ goes_split p f number c true first other n i xs ys one rest = one refl
 goes_split p f number c false first other n i xs ys one rest = rest refl
 
 pub record TurnsFit (p : Code) (f : Func) (number : ℕ) (cs : List Constructor) (arms : List CaseArm) (i : ℕ) (lines : List Line) : Type 0 where
-  pub each : ArmsFit f number cs arms
+  pub each : ArmsOwned f number cs arms
   pub fit : LinesFit p f i lines
 
 pub turns_fit : (p : Code) (f : Func) (types : List DataType) (all : List Kind) (number low end : ℕ) (arms_of : ℕ → Option Branch) (locals blocks : ℕ → ℕ) (part : ℕ → ℕ → ℕ → List Line) (kinds : ℕ → List Kind) (Covered : ℕ → Type 0)
@@ -105,7 +106,7 @@ turns_fit p f types all number low end arms_of locals blocks part kinds Covered 
 
 -- a case on a value of type t, whose arms are these
 pub record CaseGoes (p : Code) (f : Func) (number : ℕ) (x : ℕ) (arms : List CaseArm) (i : ℕ) (lines : List Line) : Type 0 where
-  pub term : TermFits p f number (block.Case x arms)
+  pub term : TermOwned p f number (block.Case x arms)
   pub fit : LinesFit p f i lines
 
 pub case_goes : (F : Frame) (C : Coding F) (number low end x t : ℕ) (arms_of : ℕ → Option Branch) (locals blocks : ℕ → ℕ) (part : ℕ → ℕ → ℕ → List Line) (kinds : ℕ → List Kind) (Covered : ℕ → Type 0)
@@ -123,9 +124,9 @@ case_goes F C number low end x t arms_of locals blocks part kinds Covered count 
     let r = turns_fit C.program C.func types F.kinds number low end arms_of locals blocks part kinds Covered count lengths each T.d.cons T.k n i T.at (subst (AllByRecursion Covered) numbers covered)
     (subst (λ cs. At F.kinds n (all_of kinds cs)) numbers at) least more (subst (λ cs. i + total blocks cs ≤ end) numbers room) in
     let back = sym numbers in
-    let arms = subst (λ cs. ArmsFit C.func number T.d.cons (in_turn locals blocks (λ con n b. case_arm (arms_of con) n b ∷ []) cs n i)) back r.each in
+    let arms = subst (λ cs. ArmsOwned C.func number T.d.cons (in_turn locals blocks (λ con n b. case_arm (arms_of con) n b ∷ []) cs n i)) back r.each in
     record {
-      term = subst (λ o. IsSomeAnd o (λ t. ArmsFit C.func number t.cons (in_turn locals blocks (λ con n b. case_arm (arms_of con) n b ∷ []) cons n i)))
+      term = subst (λ o. IsSomeAnd o (λ t. ArmsOwned C.func number t.cons (in_turn locals blocks (λ con n b. case_arm (arms_of con) n b ∷ []) cons n i)))
           (sym (ap (λ o. data_type C.program.types o) (kind_at F C x (kind.Of t) of_type) ∙ ap (λ ts. slice_get ts t) C.types_are ∙ T.is)) arms;
       fit = subst (λ cs. LinesFit C.program C.func i (in_turn locals blocks part cs n i)) back r.fit;
     }

@@ -23,7 +23,8 @@ use Rattle.grail_blocks.specs.Blocks as block
 use Rattle.grail_blocks.specs.Blocks.{Term}
 use Rattle.grail_code.specs.Code.{Func, Code}
 use Rattle.grail_code.specs.WellFormed as code
-use Rattle.grail_code.specs.WellFormed.{kind_of, Gives, LetFits, JumpFits, TermFits}
+use Rattle.grail_code.specs.WellFormed.{kind_of, Gives, LetFits, JumpFits}
+use Rattle.grail_code.specs.Unread.{TermOwned}
 use Rattle.normal_form.specs.Normal.{Line, Close, new, con_of, fun_of, place_in, cons_of, arm_for, bound_count, in_arm, case_arm, case_arms, total, in_turn, made, all_made, arm_made, ends, all_ends, arm_ends, local_of, locals_of, joining, value, values, arm_value, bound_kinds, kind_in, all_of, kinds, all_kinds, arm_kinds}
 use Rattle.normal_form.proofs.Lines.{closes}
 use Rattle.normal_form.proofs.Ends.{closes_value, closes_values, closes_joining, closes_arm}
@@ -65,7 +66,7 @@ call_gives F C f h args q e result fit =
 
 pub tail_call_fits : (F : Frame) (C : Coding F) (f : Name) (h : Signature) (args : List ℕ) (number : ℕ) → typed.head_of F.sigs f.word ≡ Some h
     → h.result ≡ C.func.result → code.HaveKinds C.func args h.params
-    → TermFits C.program C.func number (block.Tail (fun_of F.source f) args)
+    → TermOwned C.program C.func number (block.Tail (fun_of F.source f) args)
 tail_call_fits F C f h args number e result fit =
     let c = called F C f h e in
     subst (λ o. IsSomeAnd o (λ callee. code.HaveKinds C.func args callee.params × (callee.result ≡ C.func.result))) (sym c.is) (subst (code.HaveKinds C.func args) (sym c.params) fit, c.result ∙ result)

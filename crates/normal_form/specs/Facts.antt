@@ -7,7 +7,8 @@ use Rattle.camelot_values.specs.Kinds.{DataType, constructors}
 use Rattle.camelot_values.specs.Names.{AreDistinct}
 use Rattle.camelot_values.specs.Heap.{is_heap}
 use Rattle.grail_code.specs.Code.{Func, Code}
-use Rattle.grail_code.specs.WellFormed.{IsKnownKind, LetFits, TermFits}
+use Rattle.grail_code.specs.WellFormed.{IsKnownKind, LetFits}
+use Rattle.grail_code.specs.Unread.{TermOwned}
 use Rattle.camelot_tree.specs.Tree.{Function, Source}
 use Rattle.normal_form.specs.Normal.{NormalBlock, NormalFunction, NormalProgram, tail_made, tail_ends}
 use Rattle.normal_form.specs.Coded.{BlockParams, coded, code_with}
@@ -28,7 +29,7 @@ pub record UsesFairly (types : List DataType) (f : NormalFunction) : Type 0 wher
 -- the lets and ends of these blocks, of which the first has this number, fit in this function of this code
 abbrev pub BodyFits : Code → Func → ℕ → List NormalBlock → Type 0
 BodyFits p f number [] = Unit {0}
-BodyFits p f number (b ∷ bs) = AllByRecursion (LetFits p f) b.lets × TermFits p f number b.term × BodyFits p f (suc number) bs
+BodyFits p f number (b ∷ bs) = AllByRecursion (LetFits p f) b.lets × TermOwned p f number b.term × BodyFits p f (suc number) bs
 
 -- As code, whatever the parameters of blocks: each kind's type is there, each let and each end of a block has operands
 -- that are there and of their kinds, constructors are built and matched in place exactly where they are inline, and

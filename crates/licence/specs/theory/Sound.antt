@@ -1,14 +1,16 @@
 -- Laws, for the proofs of this crate and of those above it.
 -- Potential soundness: runs of annotated code are paid for.
 use Rattle.std.proofs.Common.{◌≡◌, ℕ, zero, suc, ◌+◌, ◌-◌, ◌<◌, ◌≤◌, Bool, true, false, List, [], ◌∷◌, ◌++◌, length, map, Option, Some, None, refl, sym, ap, ◌∙◌, subst, arith, append_assoc, length-append, inl, inr}
-use Rattle.std.specs.Prelude.{◌==◌, ◌||◌, if◌then◌else◌, slice_get, nat_lt, IsSomeAnd, IfSome, cond, take}
+use Rattle.std.specs.Prelude.{◌==◌, ◌&&◌, ◌||◌, IsTrue, if◌then◌else◌, slice_get, nat_lt, IsSomeAnd, IfSome, cond, take}
 use Rattle.std.specs.List.{AllByRecursion, range_with_len}
 use Rattle.std.specs.Option.{option_map, option_map_or}
 use Rattle.std.proofs.lemmas.Bool.Decides.{nat_tests}
+use Rattle.std.proofs.lemmas.Option.{slice_get_within}
 use Rattle.camelot_values.specs.Value as value
 use Rattle.camelot_values.specs.Value.{Value, Values, parts}
+use Rattle.camelot_values.specs.Heap.{is_heap}
 use Rattle.camelot_values.specs.Kinds.{DataType, AreTypes, constructors, type_of, type_from, place_of}
-use Rattle.camelot_values.specs.KindLaws.{slice_get_behind}
+use Rattle.camelot_values.specs.KindLaws.{slice_get_behind, slice_get_front}
 use Rattle.camelot_values.specs.Typing.{Fits, ArgumentsFit, IsSafe}
 use Rattle.camelot_values.specs.Outcome.{Outcome, Done, Deep, entered, first_then}
 use Rattle.camelot_values.specs.Bounds.{IsPaidBy}
@@ -18,12 +20,12 @@ use Rattle.camelot_values.specs.declared.kinds.Kind.{Kind}
 use Rattle.camelot_values.specs.declared.kinds.Kind.TheVariants as kind
 use Rattle.grail_blocks.specs.declared.blocks.CaseCell.{CaseCell}
 use Rattle.grail_blocks.specs.declared.blocks.CaseCell.TheVariants as cell
-use Rattle.grail_blocks.specs.Events.{Use, Bind, uses_of, term_events, bound_by, kept_diamond, params_at, jump_events, ways}
+use Rattle.grail_blocks.specs.Events.{Use, Bind, argument_events, uses_of, term_events, bound_by, kept_diamond, params_at, jump_events, ways}
 use Rattle.camelot_values.specs.Lists.{is_among}
 use Rattle.grail_blocks.specs.States.{Ready, State, nothing_bound, bind, after, AreReady, at_start, state_at}
-use Rattle.grail_blocks.specs.StateLaws.{after_append, ready_first, ready_second, state_next, state_last, ready_at}
-use Rattle.grail_code.specs.Code.{Let, CaseArm, Term, Ret, Tail, Goto, If, Case, Block, Func, Code}
-use Rattle.grail_code.specs.WellFormed.{HaveKinds, Gives, LetFits, kind_of, is_owned, reads_of, TermFits, BlockFits, BlocksFit, FuncFits, IsWellFormed}
+use Rattle.grail_blocks.specs.StateLaws.{after_append, ready_first, ready_second, state_next, state_last, ready_at, all_first}
+use Rattle.grail_code.specs.Code.{Op, Lit, Flag, Copy, Prim, Make, Call, Let, CaseArm, Term, Ret, Tail, Goto, If, Case, Block, Func, Code}
+use Rattle.grail_code.specs.WellFormed.{HaveKinds, Gives, LetFits, kind_of, is_read, is_lent, is_owned, looked_in, reads_of, AreNotLent, bound_anew, CellLends, LetLends, ArmLends, TermLends, TermFits, BlockFits, BlocksFit, FuncFits, IsWellFormed}
 use Rattle.grail_code.specs.Meaning.{Locals, put, narrowed, arguments, values_of, op_run, narrow, body_run, bodies, from_block, from_place, run_of}
 use Rattle.grail_code.specs.Places.{Holds, LocalsFit, FitAt, FitsTarget, CallsSafe, JumpsTo, with_cell, cell_effect, TakesArm, Claim, IsKept}
 use Rattle.grail_code.specs.PlaceLaws.{fit_used, all_at, holds_from_block, holds_from_place}
@@ -32,14 +34,14 @@ use Rattle.grail_code.specs.Soundness.{HaveBlocks}
 use Rattle.annotations.specs.Vectors.{potential, potential_all, node_units, is_heap_con}
 use Rattle.annotations.specs.PotentialLaws.{potential_at_least}
 use Rattle.licence.specs.Books.{Units, Carried, Book}
-use Rattle.licence.specs.Rules.{Amounts, naturals, Account, account_at, all_carrying, after_op, after_lets, account_before, opened, found, in_arm, first_con, first_con_of, Asks, call_asks, AllCarry, JumpPays, ArmsPay, TermPays, BlockPays, Pays}
+use Rattle.licence.specs.Rules.{Amounts, naturals, Account, account_at, all_carrying, build_cost, carrying, after_op, after_lets, account_before, opened, found, in_arm, first_con, first_con_of, Asks, call_asks, AllCarry, JumpPays, ArmsPay, TermPays, BlockPays, LentCarryNothing, LentAreFree, Pays}
 use Rattle.licence.specs.Worth.{worth_at}
 use Rattle.licence.specs.Bound.{arguments_carry}
-use Rattle.licence.specs.theory.Asking.{each_locals, arguments_locals}
+use Rattle.licence.specs.theory.Asking.{each_locals}
 use Rattle.licence.specs.theory.Paying.{paid_more, paid_beside, paid_in_turn, paid_at_once, paid_behind_free, paid_behind_entry}
 use Rattle.licence.specs.theory.Totals.{total, value_units, nothing_total, bind_plain}
-use Rattle.licence.specs.theory.Carrying.{AllHold, all_held, asked_units, use_total, uses_total, no_more, arguments_units, params_total, narrowed_asked, fields_total}
-use Rattle.licence.specs.theory.Steps.{CallsPaid, worth, op_paid}
+use Rattle.licence.specs.theory.Carrying.{ReadFree, AllHold, all_held, asked_units, use_total, uses_total, no_more, call_total, params_total, narrowed_asked, fields_total, quiet_behind, quiet_anew, quiet_nothing}
+use Rattle.licence.specs.theory.Steps.{CallsPaid, ReadsFree, worth, op_paid}
 
 -- ---- blocks of a function that fits
 
@@ -71,6 +73,83 @@ next_account amounts types book func block at account (m ∷ ls) (suc n) l e =
     let there : suc at + n ≡ at + suc n = omega arith in
     next_account amounts types book func block (suc at) (after_op amounts types book func block at account m.target m.op) ls n l e
     ∙ ap (λ i. after_op amounts types book func block i (after_lets amounts types book func block (suc at) (after_op amounts types book func block at account m.target m.op) (take n ls)) l.target l.op) there
+
+-- ---- what is lent carries nothing, at each place
+
+op_quiet : (p : Code) (f : Func) (book : Book ℕ) (func block at : ℕ) (account : Account ℕ) (t : ℕ) (op : Op) → LentCarryNothing p.types f account.carried
+    → is_lent p.types f t ≡ false → LentCarryNothing p.types f (after_op naturals p.types book func block at account t op).carried
+op_quiet p f book func block at account t (Lit z) quiet apart = quiet
+op_quiet p f book func block at account t (Flag z) quiet apart = quiet
+op_quiet p f book func block at account t (Copy x) quiet apart = quiet_behind p.types f account.carried t (account.carried x) quiet apart
+op_quiet p f book func block at account t (Prim op x y) quiet apart = quiet
+op_quiet p f book func block at account t (Make con args place) quiet apart = by_heap (is_heap_con p.types con)
+  where
+    behind : Account ℕ
+    behind = record { left = account.left - build_cost naturals book.unit place (book.make func block at con); carried = carrying account.carried t (book.make func block at) }
+
+    by_heap : (b : Bool) → LentCarryNothing p.types f (cond b behind account).carried
+    by_heap true = quiet_behind p.types f account.carried t (book.make func block at) quiet apart
+    by_heap false = quiet
+op_quiet p f book func block at account t (Call callee args) quiet apart = quiet_behind p.types f account.carried t (book.result callee) quiet apart
+
+lets_quiet : (p : Code) (f : Func) (book : Book ℕ) (func block at : ℕ) (account : Account ℕ) (ls : List Let) (n : ℕ) → LentCarryNothing p.types f account.carried
+    → AllByRecursion (LetLends p f) ls → LentCarryNothing p.types f (after_lets naturals p.types book func block at account (take n ls)).carried
+lets_quiet p f book func block at account [] zero quiet lend = quiet
+lets_quiet p f book func block at account [] (suc n) quiet lend = quiet
+lets_quiet p f book func block at account (l ∷ ls) zero quiet lend = quiet
+lets_quiet p f book func block at account (l ∷ ls) (suc n) quiet lend =
+    lets_quiet p f book func block (suc at) (after_op naturals p.types book func block at account l.target l.op) ls n (op_quiet p f book func block at account l.target l.op quiet lend.0.target) lend.1
+
+quiet_before : (p : Code) (f : Func) (book : Book ℕ) (func number : ℕ) (b : Block) (n : ℕ) → LentCarryNothing p.types f (account_at book func number).carried
+    → AllByRecursion (LetLends p f) b.lets → LentCarryNothing p.types f (account_before naturals p.types book func number b n).carried
+quiet_before p f book func number b n quiet lend = lets_quiet p f book func number 1 (account_at book func number) b.lets n quiet lend
+
+found_quiet : (types : List DataType) (f : Func) (unit : ℕ) (account : Account ℕ) (on con : ℕ) (fields : List ℕ) (c : CaseCell) → LentCarryNothing types f account.carried
+    → CellLends (is_lent types f on) c → AreNotLent types f (bound_anew c (fields ++ kept_diamond c))
+    → LentCarryNothing types f (found naturals types unit account on con fields c).carried
+found_quiet types f unit account on con fields cell.Inline quiet lends apart = quiet_anew types f account.carried fields (account.carried on) quiet (all_first (λ x. is_lent types f x ≡ false) fields [] apart)
+found_quiet types f unit account on con fields cell.Free quiet lends apart = quiet_anew types f account.carried fields (account.carried on) quiet (all_first (λ x. is_lent types f x ≡ false) fields [] apart)
+found_quiet types f unit account on con fields (cell.Keep d) quiet lends apart =
+    quiet_anew types f account.carried fields (account.carried on) quiet (all_first (λ x. is_lent types f x ≡ false) fields (d ∷ []) apart)
+found_quiet types f unit account on con fields cell.Look quiet lends apart = quiet_nothing types f account.carried fields (account.carried on) quiet (quiet on (is_true (is_lent types f on) lends))
+  where
+    is_true : (b : Bool) → IsTrue b → b ≡ true
+    is_true true t = refl
+    is_true false t = absurd cc
+
+-- marked parameters of heap kinds are lent
+reads_free : (p : Code) (book : Book ℕ) → LentAreFree p book → ReadsFree p book
+reads_free p book lent callee g there = subst (λ marks. ReadFree p.types (book.param callee) 0 marks g.params) (sym marks_are) (each 0 g.reads g.params (λ i m e. first g.reads i e) (λ i q e. first g.params i e))
+  where
+    marks_are : reads_of p callee ≡ g.reads
+    marks_are = ap (λ o. option_map_or (λ f. f.reads) o []) there
+
+    next : (number : ℕ) {A : Type 0} (xs : List A) (i : ℕ) {x : A} → slice_get xs (number + suc i) ≡ Some x → slice_get xs (suc number + i) ≡ Some x
+    next number xs i h = let same : suc number + i ≡ number + suc i = omega arith in ap (slice_get xs) same ∙ h
+
+    first : {A : Type 0} (xs : List A) (i : ℕ) {x : A} → slice_get xs i ≡ Some x → slice_get xs (0 + i) ≡ Some x
+    first xs i h = let same : 0 + i ≡ i = omega arith in ap (slice_get xs) same ∙ h
+
+    one : (number : ℕ) (q : Kind) → slice_get g.reads number ≡ Some true → slice_get g.params number ≡ Some q → is_heap p.types q ≡ true → (con : ℕ) → book.param callee number con ≡ 0
+    one number q marked here heap = lent callee 0 g there number both
+      where
+        kind_is : kind_of g number ≡ Some q
+        kind_is = slice_get_front g.params g.locals number (slice_get_within g.params number q here) ∙ here
+
+        both : is_lent p.types g number ≡ true
+        both = ap (λ b. b && is_read g number) (ap (λ o. option_map_or (is_heap p.types) o false) kind_is ∙ heap) ∙ ap (λ o. option_map_or (λ mark. mark) o false || is_among (looked_in g) number) marked
+
+    each : (number : ℕ) (marks : List Bool) (qs : List Kind) → ((i : ℕ) (m : Bool) → slice_get marks i ≡ Some m → slice_get g.reads (number + i) ≡ Some m)
+        → ((i : ℕ) (q : Kind) → slice_get qs i ≡ Some q → slice_get g.params (number + i) ≡ Some q) → ReadFree p.types (book.param callee) number marks qs
+    each number [] qs ms ks = tt
+    each number (true ∷ marks) [] ms ks = tt
+    each number (false ∷ marks) [] ms ks = tt
+    each number (true ∷ marks) (q ∷ qs) ms ks =
+        (λ heap. one number q (at_once g.reads (ms 0 true refl)) (at_once g.params (ks 0 q refl)) heap, each (suc number) marks qs (λ i m e. next number g.reads i (ms (suc i) m e)) (λ i r e. next number g.params i (ks (suc i) r e)))
+      where
+        at_once : {A : Type 0} (xs : List A) {x : A} → slice_get xs (number + 0) ≡ Some x → slice_get xs number ≡ Some x
+        at_once xs h = let same : number + 0 ≡ number = omega arith in ap (slice_get xs) (sym same) ∙ h
+    each number (false ∷ marks) (q ∷ qs) ms ks = each (suc number) marks qs (λ i m e. next number g.reads i (ms (suc i) m e)) (λ i r e. next number g.params i (ks (suc i) r e))
 
 -- ---- where arms stand
 
@@ -119,18 +198,18 @@ numbered first (d ∷ ds) c t i h e = by_test (numbered (suc first) ds (c - leng
 -- ---- jumps
 
 -- What the target's parameters carry there is no more than what was carried where the jump begins.
-jump_worth : (p : Code) (f : Func) (book : Book ℕ) (func to : ℕ) (target : Block) (s : State) (env : Locals) (account : Account ℕ) → AreTypes p.types
+jump_worth : (p : Code) (f : Func) (book : Book ℕ) (func to : ℕ) (target : Block) (s : State) (env : Locals) (account : Account ℕ) → AreTypes p.types → LentCarryNothing p.types f account.carried
     → AllHold p.types f env (params_at f.blocks to) → slice_get f.blocks to ≡ Some target
     → AreReady (is_owned p.types f) s (jump_events f.blocks to) → JumpPays p f book func account to → 0 < to
     → worth p.types f (at_start (is_owned p.types f) target) (narrowed target.params env) (account_at book func to) ≤ worth p.types f s env account
-jump_worth p f book func zero target s env account well held is r pays later = absurd (omega (arith, later))
-jump_worth p f book func (suc n) target s env account well held is r pays later =
+jump_worth p f book func zero target s env account well quiet held is r pays later = absurd (omega (arith, later))
+jump_worth p f book func (suc n) target s env account well quiet held is r pays later =
     let h : ℕ → Bool = is_owned p.types f in
     let here : params_at f.blocks (suc n) ≡ target.params = ap (λ o. option_map_or (λ block. block.params) o []) is in
     let ready : AreReady h s (map Use target.params) = subst (λ ps. AreReady h s (map Use ps)) here r in
     let asks : Asks ℕ = map (λ x. (x, book.block_var func (suc n) x)) target.params in
     let carry : AllCarry p.types f account.carried asks = subst (λ ps. AllCarry p.types f account.carried (map (λ x. (x, book.block_var func (suc n) x)) ps)) here pays.0 in
-    let spent = uses_total p.types f s env account.carried target.params asks (each_locals (book.block_var func (suc n)) target.params) well (subst (AllHold p.types f env) here held) ready carry in
+    let spent = uses_total p.types f s env account.carried target.params asks (each_locals (book.block_var func (suc n)) target.params) well quiet (subst (AllHold p.types f env) here held) ready carry in
     let bound = params_total p.types f h nothing_bound (narrowed target.params env) (book.block_var func (suc n)) target.params in
     let less = narrowed_asked p.types env target.params asks in
     let none = nothing_total p.types f (narrowed target.params env) (book.block_var func (suc n)) in
@@ -152,17 +231,17 @@ one_block f number b c is there = some_is b c (sym is ∙ there)
     some_is x y k = cc
 
 -- a let
-let_paid : (p : Code) (f : Func) (book : Book ℕ) (func : ℕ) (enter : Enter) → AreTypes p.types → CallsSafe p enter → CallsPaid p book enter
+let_paid : (p : Code) (f : Func) (book : Book ℕ) (func : ℕ) (enter : Enter) → AreTypes p.types → ReadsFree p book → CallsSafe p enter → CallsPaid p book enter
     → (number n : ℕ) (b : Block) (l : Let) (q : Kind) (env : Locals) (k w : ℕ) (next : ℕ → Value → Outcome Value)
-    → BlockFits p f number b → BlockPays p f book func number b → slice_get b.lets n ≡ Some l → kind_of f l.target ≡ Some q → FitAt p f b n env → IsSafe p.types q (op_run enter k w env l.op)
+    → LentCarryNothing p.types f (account_at book func number).carried → BlockFits p f number b → BlockPays p f book func number b → slice_get b.lets n ≡ Some l → kind_of f l.target ≡ Some q → FitAt p f b n env → IsSafe p.types q (op_run enter k w env l.op)
     → ((j : ℕ) (v : Value) → Fits p.types q v → IsPaidBy book.unit (worth p.types f (state_at (reads_of p) (is_owned p.types f) b (n + 1)) (put env l.target v) (account_before naturals p.types book func number b (n + 1)))
     (λ v. book.back func + potential p.types (book.result func) v) (next j v))
     → IsPaidBy book.unit (worth p.types f (state_at (reads_of p) (is_owned p.types f) b n) env (account_before naturals p.types book func number b n)) (λ v. book.back func + potential p.types (book.result func) v)
     (first_then k (op_run enter k w env l.op) next)
-let_paid p f book func enter well safe paid number n b l q env k w next fits pays here kind fit sound go =
+let_paid p f book func enter well free safe paid number n b l q env k w next quiet fits pays here kind fit sound go =
     paid_in_turn (Fits p.types q) book.unit (worth p.types f s env account) (λ v. worth p.types f (bind (after h s (uses_of (reads_of p) l.op)) l.target) (put env l.target v) behind)
     (λ v. book.back func + potential p.types (book.result func) v) k (op_run enter k w env l.op) next sound
-    (op_paid p f book enter well safe paid func number (suc n) s env account fit l.target l.op q k w ready gives (pays.lets n l here) sound)
+    (op_paid p f book enter well free safe paid func number (suc n) s env account (quiet_before p f book func number b n quiet fits.lets_lend) fit l.target l.op q k w ready gives (pays.lets n l here) sound)
     (λ j v good. subst (λ m. IsPaidBy book.unit m (λ v. book.back func + potential p.types (book.result func) v) (next j v)) (sym (after_one v)) (go j v good))
   where
     h : ℕ → Bool
@@ -206,6 +285,8 @@ let_paid p f book func enter well safe paid number n b l q env k w next fits pay
 -- at the end of a block, before its own uses
 record AtEnd (p : Code) (f : Func) (book : Book ℕ) (func number : ℕ) (b : Block) (env : Locals) (s : State) (account : Account ℕ) : Type 0 where
   well : AreTypes p.types
+  free : ReadsFree p book
+  quiet : LentCarryNothing p.types f account.carried
   block : slice_get f.blocks number ≡ Some b
   fits : BlockFits p f number b
   pays : TermPays p f book func account b.term
@@ -220,12 +301,12 @@ result_paid p f book func number b env s account e x v is here =
     let h : ℕ → Bool = is_owned p.types f in
     let ready : AreReady h s (map Use (x ∷ [])) = subst (λ t. AreReady h s (term_events (reads_of p) t)) is e.term in
     let pays : TermPays p f book func account (Ret x) = subst (TermPays p f book func account) is e.pays in
-    let spent = uses_total p.types f s env account.carried (x ∷ []) ((x, book.result func) ∷ []) refl e.well (all_held p.types f s env (x ∷ []) e.fit ready) ready (pays.0, tt) in
+    let spent = uses_total p.types f s env account.carried (x ∷ []) ((x, book.result func) ∷ []) refl e.well e.quiet (all_held p.types f s env (x ∷ []) e.fit ready) ready (pays.0, tt) in
     let units : value_units p.types (book.result func) (env x) ≡ potential p.types (book.result func) v = ap (value_units p.types (book.result func)) here in
     paid_at_once book.unit (worth p.types f s env account) (λ v. book.back func + potential p.types (book.result func) v) v 0 (omega (arith, spent, units, pays.1))
 
-tail_sum : (left need carried spent whole asked : ℕ) → spent + asked ≤ whole → carried ≤ asked → need ≤ left → need + carried + (left - need) ≤ left + whole
-tail_sum left need carried spent whole asked a b c = omega (arith, a, b, c)
+tail_sum : (left need carried spent whole : ℕ) → spent + carried ≤ whole → need ≤ left → need + carried + (left - need) ≤ left + whole
+tail_sum left need carried spent whole a b = omega (arith, a, b)
 
 tail_back : (left need back own result asked : ℕ) → own ≤ left - need + back → asked ≤ result → own + asked ≤ back + result + (left - need)
 tail_back left need back own result asked a b = omega (arith, a, b)
@@ -240,7 +321,7 @@ tail_paid p f book func number b env s account enter safe paid e callee args vs 
     h : ℕ → Bool
     h = is_owned p.types f
 
-    ready : AreReady h s (map Use args)
+    ready : AreReady h s (argument_events (reads_of p callee) args)
     ready = subst (λ t. AreReady h s (term_events (reads_of p) t)) is e.term
 
     pays_tail : TermPays p f book func account (Tail callee args)
@@ -255,12 +336,12 @@ tail_paid p f book func number b env s account enter safe paid e callee args vs 
     by_rule : TermPays p f book func account (Tail callee args)
         → IsPaidBy book.unit (worth p.types f s env account) (λ v. book.back func + potential p.types (book.result func) v) (enter k w true callee vs)
     by_rule pays =
-        let spent = uses_total p.types f s env account.carried args (call_asks book callee g args) (arguments_locals (book.param callee) f 0 g.params args kinds.0) e.well (all_held p.types f s env args e.fit ready) ready arguments in
-        let asked = arguments_units p.types env (book.param callee) 0 g.params args vs fit here in
+        let read = e.free callee g there in
+        let spent = call_total p.types f s env account.carried (book.param callee) (reads_of p callee) g.params args vs e.well e.quiet e.fit ready kinds.0 read arguments fit here in
         let rest : ℕ = account.left - book.need callee in
         paid_more (Fits p.types f.result) book.unit (book.need callee + arguments_carry p.types (book.param callee) 0 vs + rest) (worth p.types f s env account)
         (λ v. book.back callee + potential p.types (book.result callee) v + rest) (λ v. book.back func + potential p.types (book.result func) v) (enter k w true callee vs)
-        (tail_sum account.left (book.need callee) (arguments_carry p.types (book.param callee) 0 vs) (total p.types f (after h s (map Use args)) env account.carried) (total p.types f s env account.carried) (asked_units p.types env (call_asks book callee g args)) spent asked pays.1)
+        (tail_sum account.left (book.need callee) (arguments_carry p.types (book.param callee) 0 vs) (total p.types f (after h s (argument_events (reads_of p callee) args)) env account.carried) (total p.types f s env account.carried) spent pays.1)
         (λ v good. tail_back account.left (book.need callee) (book.back callee) (book.back func) (potential p.types (book.result callee) v) (potential p.types (book.result func) v) pays.3
         (potential_at_least p.types f.result (book.result callee) (book.result func) pays.2 v good))
         (subst (λ q. IsSafe p.types q (enter k w true callee vs)) result (safe k w true callee vs g there fit))
@@ -280,13 +361,13 @@ jump_paid p f book func number b env s account e to target jumps less there = by
 
     from : (u : State) → LocalsFit p.types f u env → AreReady h u (jump_events f.blocks to) → JumpPays p f book func account to
         → worth p.types f (at_start h target) (narrowed target.params env) (account_at book func to) ≤ worth p.types f u env account
-    from u fit r pays = jump_worth p f book func to target u env account e.well (all_held p.types f u env (params_at f.blocks to) fit r) there r pays later
+    from u fit r pays = jump_worth p f book func to target u env account e.well e.quiet (all_held p.types f u env (params_at f.blocks to) fit r) there r pays later
 
     behind : (x : ℕ) → AreReady h s (map Use (x ∷ [])) → AreReady h (after h s (Use x ∷ [])) (jump_events f.blocks to) → JumpPays p f book func account to
         → worth p.types f (at_start h target) (narrowed target.params env) (account_at book func to) ≤ worth p.types f s env account
     behind x ready r pays =
         let jump = from (after h s (Use x ∷ [])) (fit_used p.types f h s (x ∷ []) env e.fit) r pays in
-        let used = no_more p.types f s env account.carried (x ∷ []) e.well e.fit ready in
+        let used = no_more p.types f s env account.carried (x ∷ []) e.well e.quiet e.fit ready in
         omega (arith, jump, used)
 
     by_term : (t : Term) → b.term ≡ t → JumpsTo t to → TermPays p f book func account t → AreReady h s (term_events (reads_of p) t)
@@ -428,8 +509,14 @@ arm_worth p f book func number b env s account e con vs a bound target t less th
         let arms : ArmsPay p f book func account t.on (first_con_of p.types (kind_of f t.on)) t.arms = subst (TermPays p f book func account) t.is e.pays in
         subst (λ c. JumpPays p f book func (in_arm naturals p.types book account t.on c a) a.target) (sym con_is) (arms_pay_at p f book func account t.on (first_con_of p.types (kind_of f t.on)) t.arms t.place a arms t.arm_is)
 
+    lends : ArmLends p.types f (is_lent p.types f t.on) a
+    lends = all_at (ArmLends p.types f (is_lent p.types f t.on)) t.arms t.place a (subst (TermLends p f) t.is e.fits.term_lends) t.arm_is
+
+    inner_quiet : LentCarryNothing p.types f inner.carried
+    inner_quiet = found_quiet p.types f book.unit account t.on con a.fields a.cell e.quiet lends.cell lends.bound
+
     jump : worth p.types f (at_start h target) (narrowed target.params (with_cell a.cell bound)) (account_at book func a.target) ≤ worth p.types f s3 (with_cell a.cell bound) inner
-    jump = jump_worth p f book func a.target target s3 (with_cell a.cell bound) inner e.well (held_at_target p f a.target target (with_cell a.cell bound) there hand) there
+    jump = jump_worth p f book func a.target target s3 (with_cell a.cell bound) inner e.well inner_quiet (held_at_target p f a.target target (with_cell a.cell bound) there hand) there
         (ready_second h s1 (map Bind (bound_by a)) (jump_events f.blocks a.target) (way_of f h s1 t.arms t.place a onward t.arm_is)) pays (omega (arith, less))
 
     diamond : total p.types f s3 (with_cell a.cell bound) (all_carrying account.carried a.fields units) ≤ total p.types f s2 bound (all_carrying account.carried a.fields units)
@@ -440,7 +527,7 @@ arm_worth p f book func number b env s account e con vs a bound target t less th
     fields = fields_total p.types f h s1 env bound account.carried a.fields vs units t.bound_is
 
     matched : total p.types f s1 env account.carried + value_units p.types units (env t.on) ≤ total p.types f s env account.carried
-    matched = use_total p.types f s env account.carried t.on e.well holds ready.0
+    matched = use_total p.types f s env account.carried t.on e.well e.quiet holds ready.0
 
     node : value_units p.types units (env t.on) ≡ node_units p.types units con + potential_all p.types units vs
     node = ap (value_units p.types units) t.value_is
@@ -479,15 +566,15 @@ effect_paid q types u top middle left (cell.Keep d) o less safe h = paid_more (F
 
 -- ---- the whole of a function
 
-both_kept : (p : Code) (f : Func) (book : Book ℕ) (func : ℕ) (enter : Enter) → AreTypes p.types → CallsSafe p enter → CallsPaid p book enter
-    → FuncFits p f → ((number : ℕ) (b : Block) → slice_get f.blocks number ≡ Some b → BlockPays p f book func number b)
+both_kept : (p : Code) (f : Func) (book : Book ℕ) (func : ℕ) (enter : Enter) → AreTypes p.types → ReadsFree p book → CallsSafe p enter → CallsPaid p book enter
+    → FuncFits p f → ((number : ℕ) → LentCarryNothing p.types f (account_at book func number).carried) → ((number : ℕ) (b : Block) → slice_get f.blocks number ≡ Some b → BlockPays p f book func number b)
     → IsKept p f enter (λ number n env o. IsSafe p.types f.result o × Paid p f book func number n env o)
-both_kept p f book func enter well safe paid fits pays = record {
+both_kept p f book func enter well free safe paid fits quiet pays = record {
   by_let = λ number n b l q env k w next at here kind fit sound go. (
     yields_then (Fits p.types q) (Fits p.types f.result) k (op_run enter k w env l.op) next sound (λ j v good. (go j v good).0),
     λ c there. subst (λ d. IsPaidBy book.unit (worth p.types f (state_at (reads_of p) (is_owned p.types f) d n) env (account_before naturals p.types book func number d n)) (λ v. book.back func + potential p.types (book.result func) v) (first_then k (op_run enter k w env l.op) next))
         (one_block f number b c at there)
-        (let_paid p f book func enter well safe paid number n b l q env k w next (fits_at p f number b fits at) (pays number b at) here kind fit sound (λ j v good. (go j v good).1 b at)),
+        (let_paid p f book func enter well free safe paid number n b l q env k w next (quiet number) (fits_at p f number b fits at) (pays number b at) here kind fit sound (λ j v good. (go j v good).1 b at)),
   );
   by_result = λ number b x v env at is fit here good. (
     good,
@@ -528,6 +615,8 @@ both_kept p f book func enter well safe paid fits pays = record {
         let block = fits_at p f number b fits at in
         record {
           well = well;
+          free = free;
+          quiet = quiet_before p f book func number b (length b.lets) (quiet number) block.lets_lend;
           block = at;
           fits = block;
           pays = (pays number b at).term;
@@ -587,7 +676,7 @@ body_paid p book enter well safe paid pays func f k w args is fits some fit =
         both : IsSafe p.types f.result (from_block p.types enter (map narrow f.blocks) 0 k w (arguments args))
             × Paid p f book func 0 0 (arguments args) (from_block p.types enter (map narrow f.blocks) 0 k w (arguments args))
         both = holds_from_block p f enter safe fits (λ number n env o. IsSafe p.types f.result o × Paid p f book func number n env o)
-            (both_kept p f book func enter well safe paid fits (λ number c there. pays.blocks func number f c is there)) 0 b at k w (arguments args) starts
+            (both_kept p f book func enter well (reads_free p book pays.lent) safe paid fits (λ number. pays.lent func number f is) (λ number c there. pays.blocks func number f c is there)) 0 b at k w (arguments args) starts
 
         entry : worth p.types f (state_at (reads_of p) (is_owned p.types f) b 0) (arguments args) (account_before naturals p.types book func 0 b 0) ≤ book.need func + arguments_carry p.types (book.param func) 0 args
         entry =
@@ -647,4 +736,4 @@ place_paid p book well some types pays limit func number place fuel waits f b en
     claim : (number place : ℕ) (b : Block) → slice_get f.blocks number ≡ Some b → place ≤ length b.lets → (k w : ℕ) (env : Locals) → FitAt p f b place env
         → IsSafe p.types f.result (from_place p.types (entering (bodies p) limit) f b number place env k w) × Paid p f book func number place env (from_place p.types (entering (bodies p) limit) f b number place env k w)
     claim = holds_from_place p f (entering (bodies p) limit) safe fits (λ number n env o. IsSafe p.types f.result o × Paid p f book func number n env o)
-        (both_kept p f book func (entering (bodies p) limit) types safe paid fits (λ number c there. pays.blocks func number f c is there))
+        (both_kept p f book func (entering (bodies p) limit) types (reads_free p book pays.lent) safe paid fits (λ number. pays.lent func number f is) (λ number c there. pays.blocks func number f c is there))

@@ -13,16 +13,16 @@ use Rattle.camelot_values.specs.Kinds.{Constructor, DataType, AreTypes, construc
 use Rattle.camelot_values.specs.Heap.{has_boxed, is_heap, is_heap_type}
 use Rattle.camelot_values.specs.KindLaws.{located}
 use Rattle.camelot_values.specs.Typing.{Fits, FitAll, ArgumentsFit, IsSafe, operator_kind}
-use Rattle.camelot_values.specs.Outcome.{Outcome, Trap, known, given, at_once}
+use Rattle.camelot_values.specs.Outcome.{Trap, known, given, at_once}
 use Rattle.camelot_values.specs.Bounds.{IsPaidBy}
 use Rattle.camelot_values.specs.Runs.{Enter, on_diamond}
 use Rattle.camelot_values.specs.declared.kinds.Kind.{Kind}
 use Rattle.camelot_values.specs.declared.kinds.Kind.TheVariants as kind
 use Rattle.grail_blocks.specs.declared.blocks.Place.{Place}
 use Rattle.grail_blocks.specs.declared.blocks.Place.TheVariants as place
-use Rattle.grail_blocks.specs.Events.{Use, taken, uses_of}
+use Rattle.grail_blocks.specs.Events.{Use, taken, argument_events, uses_of}
 use Rattle.grail_blocks.specs.States.{State, bind, after, AreReady}
-use Rattle.grail_blocks.specs.StateLaws.{after_append, ready_first, ready_second, all_used_ready}
+use Rattle.grail_blocks.specs.StateLaws.{after_append, ready_first, ready_second, all_used_ready, arguments_ready}
 use Rattle.grail_code.specs.Code.{Op, Lit, Flag, Copy, Prim, Make, Call, Func, Code}
 use Rattle.grail_code.specs.WellFormed.{HaveKinds, PlaceFits, Gives, is_owned, reads_of}
 use Rattle.grail_code.specs.Meaning.{Locals, put, values_of, operands, built, op_run}
@@ -31,18 +31,22 @@ use Rattle.grail_code.specs.PlaceLaws.{fit_used, found_all}
 use Rattle.annotations.specs.Vectors.{potential, potential_all, node_units, is_heap_con}
 use Rattle.annotations.specs.PotentialLaws.{nothing_of_heap_free}
 use Rattle.licence.specs.Books.{Units, Book}
-use Rattle.licence.specs.Rules.{naturals, Account, carrying, build_cost, after_op, Asks, call_asks, build_asks, AllCarry, LetPays}
+use Rattle.licence.specs.Rules.{naturals, Account, carrying, build_cost, after_op, Asks, call_asks, build_asks, AllCarry, LetPays, LentCarryNothing}
 use Rattle.licence.specs.Bound.{arguments_carry}
 pub use Rattle.licence.specs.Worth.{worth}
-use Rattle.licence.specs.theory.Asking.{each_locals, arguments_locals}
+use Rattle.licence.specs.theory.Asking.{each_locals}
 use Rattle.licence.specs.theory.Paying.{paid_more, paid_beside, paid_at_once, paid_for_cell}
 use Rattle.licence.specs.theory.Totals.{total, value_units, bind_total, bind_plain}
-use Rattle.licence.specs.theory.Carrying.{asked_units, all_held, use_total, uses_total, no_more, arguments_units, parts_units}
+use Rattle.licence.specs.theory.Carrying.{ReadFree, asked_units, all_held, use_total, uses_total, no_more, call_total, parts_units}
 
 -- calls of the code's functions on fitting arguments are paid for by what they need and their arguments carry
 abbrev pub CallsPaid : Code → Book ℕ → Enter → Type 0
 CallsPaid p book enter = (k w : ℕ) (t : Bool) (g : ℕ) (args : List Value) (callee : Func) → slice_get p.funcs g ≡ Some callee → ArgumentsFit p.types callee.params args
     → IsPaidBy book.unit (book.need g + arguments_carry p.types (book.param g) 0 args) (λ v. book.back g + potential p.types (book.result g) v) (enter k w t g args)
+
+-- a marked parameter of a heap kind carries nothing, in any function
+abbrev pub ReadsFree : Code → Book ℕ → Type 0
+ReadsFree p book = (callee : ℕ) (g : Func) → slice_get p.funcs callee ≡ Some g → ReadFree p.types (book.param callee) 0 (reads_of p callee) g.params
 
 map_append : {A B : Type 0} (f : A → B) (xs ys : List A) → map f (xs ++ ys) ≡ map f xs ++ map f ys
 map_append f [] ys = refl
@@ -173,9 +177,8 @@ heap_sum : (left cost bound used behind spent whole node units parts asked : ℕ
     → (left - cost) + bound + cost ≤ left + whole + units
 heap_sum left cost bound used behind spent whole node units parts asked a b c d e g k = omega (arith, a, b, c, d, e, g, k)
 
-call_sum : (left need carried spent whole asked : ℕ) → spent + asked ≤ whole → carried ≤ asked → need ≤ left
-    → need + carried + (left - need + spent) ≤ left + whole
-call_sum left need carried spent whole asked a b c = omega (arith, a, b, c)
+call_sum : (left need carried spent whole : ℕ) → spent + carried ≤ whole → need ≤ left → need + carried + (left - need + spent) ≤ left + whole
+call_sum left need carried spent whole a b = omega (arith, a, b)
 
 back_sum : (left need back result spent bound : ℕ) → bound ≤ spent + result → (left - need + back) + bound ≤ back + result + (left - need + spent)
 back_sum left need back result spent bound a = omega (arith, a)
@@ -199,32 +202,32 @@ free_build u top left con vs (place.Reuse x) env old less = by_value (env x)
 
 -- a value that carries nothing, bound behind some uses
 plain_bound : (types : List DataType) (f : Func) (s : State) (env : Locals) (account : Account ℕ) (uses : List ℕ) (t : ℕ) (v : Value) (q : Kind)
-    → AreTypes types → LocalsFit types f s env
+    → AreTypes types → LentCarryNothing types f account.carried → LocalsFit types f s env
     → AreReady (is_owned types f) s (map Use uses) → is_heap types q ≡ false → Fits types q v
     → worth types f (bind (after (is_owned types f) s (map Use uses)) t) (put env t v) account ≤ worth types f s env account
-plain_bound types f s env account uses t v q well fit r plain fits =
+plain_bound types f s env account uses t v q well quiet fit r plain fits =
     let none = nothing_of_heap_free types well (account.carried t) q plain v fits in
     let bound = bind_plain types f (after (is_owned types f) s (map Use uses)) env account.carried t v none in
-    let used = no_more types f s env account.carried uses well fit r in
+    let used = no_more types f s env account.carried uses well quiet fit r in
     omega (arith, bound, used)
 
 -- ---- each let
 
 -- The let at this place is paid for by what is left and what ready locals carry, and leaves the account that follows.
-pub op_paid : (p : Code) (f : Func) (book : Book ℕ) (enter : Enter) → AreTypes p.types → CallsSafe p enter → CallsPaid p book enter
-    → (func block at : ℕ) (s : State) (env : Locals) (account : Account ℕ) → LocalsFit p.types f s env
+pub op_paid : (p : Code) (f : Func) (book : Book ℕ) (enter : Enter) → AreTypes p.types → ReadsFree p book → CallsSafe p enter → CallsPaid p book enter
+    → (func block at : ℕ) (s : State) (env : Locals) (account : Account ℕ) → LentCarryNothing p.types f account.carried → LocalsFit p.types f s env
     → (t : ℕ) (op : Op) (q : Kind) (k w : ℕ) → AreReady (is_owned p.types f) s (uses_of (reads_of p) op) → Gives p f op q
     → LetPays p f book func block at account op
     → IsSafe p.types q (op_run enter k w env op)
     → IsPaidBy book.unit (worth p.types f s env account)
     (λ v. worth p.types f (bind (after (is_owned p.types f) s (uses_of (reads_of p) op)) t) (put env t v) (after_op naturals p.types book func block at account t op)) (op_run enter k w env op)
-op_paid p f book enter well safe paid func block at s env account fit t (Lit z) q k w r g pays sound =
+op_paid p f book enter well free safe paid func block at s env account quiet fit t (Lit z) q k w r g pays sound =
     paid_at_once book.unit (worth p.types f s env account) (λ v. worth p.types f (bind s t) (put env t v) account) (value.Int z) 0
-    (plain_bound p.types f s env account [] t (value.Int z) q well fit tt (subst (λ c. is_heap p.types c ≡ false) (sym g.0) refl) sound)
-op_paid p f book enter well safe paid func block at s env account fit t (Flag z) q k w r g pays sound =
+    (plain_bound p.types f s env account [] t (value.Int z) q well quiet fit tt (subst (λ c. is_heap p.types c ≡ false) (sym g.0) refl) sound)
+op_paid p f book enter well free safe paid func block at s env account quiet fit t (Flag z) q k w r g pays sound =
     paid_at_once book.unit (worth p.types f s env account) (λ v. worth p.types f (bind s t) (put env t v) account) (value.Flag z) 0
-    (plain_bound p.types f s env account [] t (value.Flag z) q well fit tt (subst (λ c. is_heap p.types c ≡ false) (sym g) refl) sound)
-op_paid p f book enter well safe paid func block at s env account fit t (Copy x) q k w r g pays sound = by_value (env x) refl
+    (plain_bound p.types f s env account [] t (value.Flag z) q well quiet fit tt (subst (λ c. is_heap p.types c ≡ false) (sym g) refl) sound)
+op_paid p f book enter well free safe paid func block at s env account quiet fit t (Copy x) q k w r g pays sound = by_value (env x) refl
   where
     h : ℕ → Bool
     h = is_owned p.types f
@@ -234,10 +237,10 @@ op_paid p f book enter well safe paid func block at s env account fit t (Copy x)
     by_value None e = tt
     by_value (Some v) e =
         let bound = bind_total p.types f (after h s (Use x ∷ [])) env account.carried t v (account.carried x) in
-        let used = use_total p.types f s env account.carried x well (fit.holds x r.0) r.0 in
+        let used = use_total p.types f s env account.carried x well quiet (fit.holds x r.0) r.0 in
         let here : value_units p.types (account.carried x) (env x) ≡ potential p.types (account.carried x) v = ap (value_units p.types (account.carried x)) e in
         paid_at_once book.unit (worth p.types f s env account) (λ v. account.left + total p.types f (bind (after h s (Use x ∷ [])) t) (put env t v) (carrying account.carried t (account.carried x))) v 0 (omega (arith, bound, used, here))
-op_paid p f book enter well safe paid func block at s env account fit t (Prim op x y) q k w r g pays sound = by_values (env x) (env y) sound
+op_paid p f book enter well free safe paid func block at s env account quiet fit t (Prim op x y) q k w r g pays sound = by_values (env x) (env y) sound
   where
     h : ℕ → Bool
     h = is_owned p.types f
@@ -252,8 +255,8 @@ op_paid p f book enter well safe paid func block at s env account fit t (Prim op
     by_values None l i = tt
     by_values (Some u) None i = tt
     by_values (Some u) (Some v) i = operator_free book.unit (worth p.types f s env account) left op u v
-        (λ c e. plain_bound p.types f s env account (x ∷ y ∷ []) t c q well fit r plain (subst (IsSafe p.types q) e i))
-op_paid p f book enter well safe paid func block at s env account fit t (Make con args at_) q k w r g pays sound = by_con (constructor p.types con) refl g
+        (λ c e. plain_bound p.types f s env account (x ∷ y ∷ []) t c q well quiet fit r plain (subst (IsSafe p.types q) e i))
+op_paid p f book enter well free safe paid func block at s env account quiet fit t (Make con args at_) q k w r g pays sound = by_con (constructor p.types con) refl g
   where
     h : ℕ → Bool
     h = is_owned p.types f
@@ -281,7 +284,7 @@ op_paid p f book enter well safe paid func block at s env account fit t (Make co
 
     -- the diamond carries nothing
     taken_total : total p.types f behind env account.carried ≤ total p.types f (after h s (map Use args)) env account.carried
-    taken_total = no_more p.types f (after h s (map Use args)) env account.carried (taken at_) well (fit_used p.types f h s args env fit) (ready_second h s (map Use args) (map Use (taken at_)) both)
+    taken_total = no_more p.types f (after h s (map Use args)) env account.carried (taken at_) well quiet (fit_used p.types f h s args env fit) (ready_second h s (map Use args) (map Use (taken at_)) both)
 
     of_heap : (vs : List Value) → values_of env args ≡ Some vs → is_heap_con p.types con ≡ true
         → AllCarry p.types f account.carried asks × (cost ≤ account.left)
@@ -289,7 +292,7 @@ op_paid p f book enter well safe paid func block at s env account fit t (Make co
     of_heap vs is heap pay =
         let bound = bind_total p.types f used env account.carried t (value.Con con (parts vs)) units in
         let node : node_units p.types units con ≡ units con = ap (λ b. cond b (units con) 0) heap in
-        let spent = uses_total p.types f s env account.carried args asks (each_locals (λ x. units) args) well
+        let spent = uses_total p.types f s env account.carried args asks (each_locals (λ x. units) args) well quiet
         (all_held p.types f s env args fit (ready_first h s (map Use args) (map Use (taken at_)) both)) (ready_first h s (map Use args) (map Use (taken at_)) both) pay.0 in
         let parts_less = parts_units p.types env units args vs is in
         let same : total p.types f used env account.carried ≡ total p.types f behind env account.carried = ap (λ u. total p.types f u env account.carried) same_uses in
@@ -303,7 +306,7 @@ op_paid p f book enter well safe paid func block at s env account fit t (Make co
         → IsPaidBy book.unit (worth p.types f s env account) (λ v. worth p.types f (bind used t) (put env t v) account) (built con vs where_ env)
     plain_place vs fits plain c is e where_ fine =
         let none = kind_of_con p.types con q e plain in
-        let bound = plain_bound p.types f s env account (args ++ taken at_) t (value.Con con (parts vs)) q well fit r none fits in
+        let bound = plain_bound p.types f s env account (args ++ taken at_) t (value.Con con (parts vs)) q well quiet fit r none fits in
         free_build book.unit (worth p.types f s env account) (λ v. worth p.types f (bind used t) (put env t v) account) con vs where_ env (not_new where_ fine) bound
       where
         not_new : (at : Place) → PlaceFits f c.inline at → at ≡ place.New → ⊥
@@ -329,28 +332,34 @@ op_paid p f book enter well safe paid func block at s env account fit t (Make co
         let fits : Fits p.types q (value.Con con (parts vs.values)) = (m.2, subst (λ o. IsSomeAnd o (λ d. FitAll p.types d.fields (parts vs.values))) (sym there) vs.fit) in
         subst (λ o. IsPaidBy book.unit (worth p.types f s env account) (λ v. worth p.types f (bind used t) (put env t v) (after_op naturals p.types book func block at account t (Make con args at_))) (given o (λ us. built con us at_ env))) (sym vs.is)
         (by_heap vs.values vs.is fits c there m.1 m.2 (is_heap_con p.types con) refl pays)
-op_paid p f book enter well safe paid func block at s env account fit t (Call callee args) q k w r g pays sound = by_func (slice_get p.funcs callee) refl g pays
+op_paid p f book enter well free safe paid func block at s env account quiet fit t (Call callee args) q k w r g pays sound = by_func (slice_get p.funcs callee) refl g pays
   where
     h : ℕ → Bool
     h = is_owned p.types f
 
+    marks : List Bool
+    marks = reads_of p callee
+
+    used : State
+    used = after h s (argument_events marks args)
+
     by_func : (o : Option Func) → slice_get p.funcs callee ≡ o → IsSomeAnd o (λ g. HaveKinds f args g.params × (q ≡ g.result))
         → IfSome o (λ g. AllCarry p.types f account.carried (call_asks book callee g args)) × (book.need callee ≤ account.left)
         → IsPaidBy book.unit (worth p.types f s env account)
-        (λ v. worth p.types f (bind (after h s (map Use args)) t) (put env t v) (after_op naturals p.types book func block at account t (Call callee args))) (op_run enter k w env (Call callee args))
+        (λ v. worth p.types f (bind used t) (put env t v) (after_op naturals p.types book func block at account t (Call callee args))) (op_run enter k w env (Call callee args))
     by_func None there m pay = absurd m
     by_func (Some g) there m pay =
-        let vs = found_all p.types f s env args g.params fit (all_used_ready h s args r) m.0 in
-        let spent = uses_total p.types f s env account.carried args (call_asks book callee g args) (arguments_locals (book.param callee) f 0 g.params args m.0) well (all_held p.types f s env args fit r) r pay.0 in
-        let asked = arguments_units p.types env (book.param callee) 0 g.params args vs.values vs.fit vs.is in
+        let vs = found_all p.types f s env args g.params fit (arguments_ready h s marks args r) m.0 in
+        let read = free callee g there in
+        let spent = call_total p.types f s env account.carried (book.param callee) marks g.params args vs.values well quiet fit r m.0 read pay.0 vs.fit vs.is in
         let run = paid k w false callee vs.values g there vs.fit in
         let safe_run = safe k w false callee vs.values g there vs.fit in
-        let rest : ℕ = account.left - book.need callee + total p.types f (after h s (map Use args)) env account.carried in
+        let rest : ℕ = account.left - book.need callee + total p.types f used env account.carried in
         subst (λ o. IsPaidBy book.unit (worth p.types f s env account)
-        (λ v. worth p.types f (bind (after h s (map Use args)) t) (put env t v) (after_op naturals p.types book func block at account t (Call callee args))) (given o (λ us. enter k w false callee us))) (sym vs.is)
+        (λ v. worth p.types f (bind used t) (put env t v) (after_op naturals p.types book func block at account t (Call callee args))) (given o (λ us. enter k w false callee us))) (sym vs.is)
         (paid_more (Fits p.types g.result) book.unit (book.need callee + arguments_carry p.types (book.param callee) 0 vs.values + rest) (worth p.types f s env account) _ _ (enter k w false callee vs.values)
-        (call_sum account.left (book.need callee) (arguments_carry p.types (book.param callee) 0 vs.values) (total p.types f (after h s (map Use args)) env account.carried) (total p.types f s env account.carried) _ spent asked pay.1)
-        (λ v fits. back_sum account.left (book.need callee) (book.back callee) (potential p.types (book.result callee) v) (total p.types f (after h s (map Use args)) env account.carried) _
-        (bind_total p.types f (after h s (map Use args)) env account.carried t v (book.result callee)))
+        (call_sum account.left (book.need callee) (arguments_carry p.types (book.param callee) 0 vs.values) (total p.types f used env account.carried) (total p.types f s env account.carried) spent pay.1)
+        (λ v fits. back_sum account.left (book.need callee) (book.back callee) (potential p.types (book.result callee) v) (total p.types f used env account.carried) _
+        (bind_total p.types f used env account.carried t v (book.result callee)))
         safe_run
         (paid_beside book.unit (book.need callee + arguments_carry p.types (book.param callee) 0 vs.values) rest _ (enter k w false callee vs.values) run))

@@ -19,7 +19,7 @@ use Rattle.grail_code.specs.Code.{Op, Lit, Flag, Copy, Prim, Make, Call, Let, Ca
 use Rattle.grail_code.specs.WellFormed.{kind_of}
 use Rattle.annotations.specs.Vectors.{AtLeast, is_heap_con}
 use Rattle.licence.specs.Books.{Units, Carried, Book}
-use Rattle.licence.specs.Rules.{naturals, Account, account_at, carrying, all_carrying, build_cost, after_op, after_lets, account_before, opened, found, in_arm, first_con_of, Asks, call_asks, jump_asks, build_asks, Carries, AllCarry, LetPays, JumpPays, ArmsPay, TermPays, BlockPays, Pays}
+use Rattle.licence.specs.Rules.{naturals, Account, account_at, carrying, all_carrying, build_cost, after_op, after_lets, account_before, opened, found, in_arm, first_con_of, Asks, call_asks, jump_asks, build_asks, Carries, AllCarry, LetPays, JumpPays, ArmsPay, TermPays, BlockPays, Pays, LentAreFree}
 use Rattle.licence.specs.Checks.{Check, Site, left_check, value_checks, local_checks, arguments_checks, op_checks, jump_checks, arms_checks, term_checks, lets_checks, blocks_checks, funcs_checks, checks_of, integers, in_integers, AllHold}
 use Rattle.licence.specs.theory.Asking.{AreLike, each_like, arguments_like}
 
@@ -443,12 +443,13 @@ funcs_same p book first (g ∷ fs) = join (funcs_same p book (suc first) fs)
       λ h. at (blocks.1 (all_first now rest h)) (others.1 (all_second now rest h)),
     )
 
--- The book pays for the code exactly where a cell costs something and every check holds.
-pub pays_by_checks : (p : Code) (book : Book ℕ) → Pays p book ↔ ((1 ≤ book.unit) × AllHold (checks_of integers p (in_integers book)))
+-- The book pays for the code exactly where a cell costs something, what is lent carries nothing, and every check holds.
+pub pays_by_checks : (p : Code) (book : Book ℕ) → Pays p book ↔ ((1 ≤ book.unit) × LentAreFree p book × AllHold (checks_of integers p (in_integers book)))
 pays_by_checks p book = (
-  λ h. (h.some, (funcs_same p book 0 p.funcs).0 (λ i number f b e d. let here : i ≡ 0 + i = omega arith in subst (λ n. BlockPays p f book n number b) here (h.blocks i number f b e d))),
+  λ h. (h.some, h.lent, (funcs_same p book 0 p.funcs).0 (λ i number f b e d. let here : i ≡ 0 + i = omega arith in subst (λ n. BlockPays p f book n number b) here (h.blocks i number f b e d))),
   λ h. record {
     some = h.0;
-    blocks = λ func number f b e d. let here : 0 + func ≡ func = omega arith in subst (λ n. BlockPays p f book n number b) here ((funcs_same p book 0 p.funcs).1 h.1 func number f b e d);
+    lent = h.1;
+    blocks = λ func number f b e d. let here : 0 + func ≡ func = omega arith in subst (λ n. BlockPays p f book n number b) here ((funcs_same p book 0 p.funcs).1 h.2 func number f b e d);
   },
 )

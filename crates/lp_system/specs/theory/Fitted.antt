@@ -12,6 +12,9 @@ use Rattle.camelot_values.specs.ReachLaws.{reached_is}
 use Rattle.camelot_values.specs.declared.kinds.Kind.{Kind}
 use Rattle.camelot_values.specs.declared.kinds.Kind.TheVariants as kind
 use Rattle.grail_blocks.specs.Events.{params_at}
+use Rattle.grail_code.specs.PlaceLaws.{all_at}
+use Rattle.grail_code.specs.Unread.{IsUnread, AreUnread}
+use Rattle.grail_code.specs.UnreadLaws.{not_lent}
 use Rattle.grail_code.specs.Code.{Op, Lit, Flag, Copy, Prim, Make, Call, Let, Block, Func, Code}
 use Rattle.grail_code.specs.WellFormed.{kind_of}
 use Rattle.annotations.specs.Vectors.{Vector, is_heap_con}
@@ -111,9 +114,9 @@ first_reached types q v e es is h = let k : IsOfKind types q (e ∷ es) = subst 
 
 -- ---- lines of locals
 
-line_fits : (types : List DataType) (f : Func) (ps : List ℕ) (x : ℕ) (units : ℕ → ℕ) → AreTypes types → IsTrue (is_among ps x)
+line_fits : (types : List DataType) (f : Func) (ps : List ℕ) (x : ℕ) (units : ℕ → ℕ) → AreTypes types → IsUnread f → IsTrue (is_among ps x)
     → AllByRecursion (VarFits types f ps) (line_of x (units_on (carriers types (kind_of f x)) units))
-line_fits types f ps x units well there = by_kind (kind_of f x) refl
+line_fits types f ps x units well own there = by_kind (kind_of f x) refl
   where
     by_vector : (q : Kind) (v : Vector) → kind_of f x ≡ Some q → v ≡ units_on (carriers types (Some q)) units
         → AllByRecursion (VarFits types f ps) (line_of x v)
@@ -123,6 +126,7 @@ line_fits types f ps x units well there = by_kind (kind_of f x) refl
           record {
             there = there;
             heap = subst (λ o. IsSomeAnd o (IsHeapData types)) (sym k) (reaches_heap types q p.0 well of_kind.0);
+            owned = not_lent types f own x;
             cons = subst (λ o. IsSomeAnd o (λ q. IsOfKind types q (p ∷ v))) (sym k) of_kind;
           },
           tt,
@@ -136,13 +140,13 @@ vars_append : (P : VarCert → Type 0) (xs ys : List VarCert) → AllByRecursion
 vars_append P [] ys h k = k
 vars_append P (x ∷ xs) ys h k = (h.0, vars_append P xs ys h.1 k)
 
-lines_fit : (types : List DataType) (f : Func) (ps xs : List ℕ) (units : ℕ → ℕ → ℕ) → AreTypes types
+lines_fit : (types : List DataType) (f : Func) (ps xs : List ℕ) (units : ℕ → ℕ → ℕ) → AreTypes types → IsUnread f
     → ((x : ℕ) → IsTrue (is_among xs x) → IsTrue (is_among ps x))
     → AllByRecursion (VarFits types f ps) (lines_of (λ x. units_on (carriers types (kind_of f x)) (units x)) xs)
-lines_fit types f ps [] units well h = tt
-lines_fit types f ps (x ∷ xs) units well h =
+lines_fit types f ps [] units well own h = tt
+lines_fit types f ps (x ∷ xs) units well own h =
     vars_append (VarFits types f ps) (line_of x (units_on (carriers types (kind_of f x)) (units x))) (lines_of (λ y. units_on (carriers types (kind_of f y)) (units y)) xs)
-    (line_fits types f ps x (units x) well (h x (among_here x xs))) (lines_fit types f ps xs units well (λ y m. h y (among_later y x xs m)))
+    (line_fits types f ps x (units x) well own (h x (among_here x xs))) (lines_fit types f ps xs units well own (λ y m. h y (among_later y x xs m)))
 
 -- ---- builds
 
@@ -232,33 +236,33 @@ range_is k number = by_test (is_among (range_with_len 1 (k - 1)) number) refl
         e ∙ sym (ap (λ a. a && nat_lt number k) low ∙ high)
     by_test false e = e ∙ sym (off (nat_le 1 number) (nat_lt number k) refl refl (by_order e))
 
-blocks_fit : (types : List DataType) (f : Func) (func number : ℕ) (value : Assignment) (xs : List ℕ) → AreTypes types
+blocks_fit : (types : List DataType) (f : Func) (func number : ℕ) (value : Assignment) (xs : List ℕ) → AreTypes types → IsUnread f
     → AllByRecursion (λ b. b.block ≡ number → AllByRecursion (VarFits types f (params_at f.blocks number)) b.vars) (map (block_by types f func value) xs)
-blocks_fit types f func number value [] well = tt
-blocks_fit types f func number value (x ∷ xs) well = (
+blocks_fit types f func number value [] well own = tt
+blocks_fit types f func number value (x ∷ xs) well own = (
   λ same. subst (λ n. AllByRecursion (VarFits types f (params_at f.blocks n)) (lines_of (λ y. units_on (carriers types (kind_of f y)) (λ c. value (BlockVar func x y c))) (params_at f.blocks x))) same
-      (lines_fit types f (params_at f.blocks x) (params_at f.blocks x) (λ y c. value (BlockVar func x y c)) well (λ y m. m)),
-  blocks_fit types f func number value xs well,
+      (lines_fit types f (params_at f.blocks x) (params_at f.blocks x) (λ y c. value (BlockVar func x y c)) well own (λ y m. m)),
+  blocks_fit types f func number value xs well own,
 )
 
 -- ---- functions
 
-func_right : (p : Code) (f : Func) (func number : ℕ) (value : Assignment) → AreTypes p.types → IsRightAt p f (func_by p.types value func f) number
-func_right p f func number value well = record {
+func_right : (p : Code) (f : Func) (func number : ℕ) (value : Assignment) → AreTypes p.types → IsUnread f → IsRightAt p f (func_by p.types value func f) number
+func_right p f func number value well own = record {
   own = λ first. record {
     name = refl;
-    params = lines_fit p.types f (range_with_len 0 (length f.params)) (range_with_len 0 (length f.params)) (λ x c. value (Param func x c)) well (λ x m. m);
+    params = lines_fit p.types f (range_with_len 0 (length f.params)) (range_with_len 0 (length f.params)) (λ x c. value (Param func x c)) well own (λ x m. m);
     result = carried_of_kind p.types f.result (λ c. value (Result func c));
   };
   line = ap (λ xs. is_among xs number) (same_numbers (block_by p.types f func value) (range_with_len 1 (length f.blocks - 1)) (λ x. refl)) ∙ range_is (length f.blocks) number;
-  vars = blocks_fit p.types f func number value (range_with_len 1 (length f.blocks - 1)) well;
+  vars = blocks_fit p.types f func number value (range_with_len 1 (length f.blocks - 1)) well own;
   makes = builds_fit p f func 0 number value f.blocks (λ i. let e : 0 + i ≡ i = omega arith in ap (slice_get f.blocks) e);
 }
 
 -- The certificate of an assignment fits.
-pub certificate_fits : (p : Code) (unit : ℕ) (value : Assignment) → AreTypes p.types → Fits p (certificate_by p unit value)
-certificate_fits p unit value well = λ func number. subst (λ o. Right p number (slice_get p.funcs func) o) (sym (func_got p unit value func)) (by_func func number (slice_get p.funcs func))
+pub certificate_fits : (p : Code) (unit : ℕ) (value : Assignment) → AreTypes p.types → AreUnread p → Fits p (certificate_by p unit value)
+certificate_fits p unit value well unread = λ func number. subst (λ o. Right p number (slice_get p.funcs func) o) (sym (func_got p unit value func)) (by_func func number (slice_get p.funcs func) refl)
   where
-    by_func : (func number : ℕ) (o : Option Func) → Right p number o (option_map (func_by p.types value func) o)
-    by_func func number None = tt
-    by_func func number (Some f) = func_right p f func number value well
+    by_func : (func number : ℕ) (o : Option Func) → slice_get p.funcs func ≡ o → Right p number o (option_map (func_by p.types value func) o)
+    by_func func number None is = tt
+    by_func func number (Some f) is = func_right p f func number value well (all_at IsUnread p.funcs func f unread is)

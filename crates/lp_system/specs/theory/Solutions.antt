@@ -11,6 +11,8 @@ use Rattle.certificate.specs.Certificates.{Cert}
 use Rattle.licence.specs.Books.{book_of}
 use Rattle.licence.specs.Rules.{Pays}
 use Rattle.licence.specs.CheckLaws.{pays_by_checks}
+use Rattle.licence.specs.PotentialLaws.{unread_free}
+use Rattle.grail_code.specs.Unread.{AreUnread}
 use Rattle.licence.specs.Fitting.{Fits, Grants}
 use Rattle.lp_system.specs.Unknowns.{Unknown, Need, Back, Param, Result, BlockNeed, BlockVar, Made, unknowns_of}
 use Rattle.lp_system.specs.Forms.{rows_of, system_of}
@@ -43,10 +45,10 @@ amount_by unit value (Made func block place con) = refl
 -- ---- books and points
 
 -- A point that has these values is a solution exactly where their book pays.
-pub feasible_pays : (p : Code) (unit : ℕ) (value : Assignment) → IsWellFormed p → IsZeroOff (unknowns_of p) value
+pub feasible_pays : (p : Code) (unit : ℕ) (value : Assignment) → IsWellFormed p → AreUnread p → IsZeroOff (unknowns_of p) value
     → IsFeasible (system_of p) unit (map value (unknowns_of p)) → Pays p (book_by unit value)
-feasible_pays p unit value w off h =
-    (pays_by_checks p (book_by unit value)).1 (h.unit_positive, (rows_met p unit value (unknowns_distinct p w) off).0 (subst (λ rows. All (IsMet unit (map value (unknowns_of p))) rows) (system_rows p) h.rows))
+feasible_pays p unit value w none off h =
+    (pays_by_checks p (book_by unit value)).1 (h.unit_positive, unread_free p (book_by unit value) none, (rows_met p unit value (unknowns_distinct p w) off).0 (subst (λ rows. All (IsMet unit (map value (unknowns_of p))) rows) (system_rows p) h.rows))
 
 pub pays_feasible : (p : Code) (unit : ℕ) (value : Assignment) → IsWellFormed p → IsZeroOff (unknowns_of p) value → Pays p (book_by unit value)
     → IsFeasible (system_of p) unit (map value (unknowns_of p))
@@ -54,7 +56,7 @@ pays_feasible p unit value w off h = record {
   unit_positive = h.some;
   numbers = length-map (unknowns_of p) value ∙ sym (system_unknowns p);
   rows = subst (λ rows. All (IsMet unit (map value (unknowns_of p))) rows) (sym (system_rows p))
-      ((rows_met p unit value (unknowns_distinct p w) off).1 ((pays_by_checks p (book_by unit value)).0 h).1);
+      ((rows_met p unit value (unknowns_distinct p w) off).1 ((pays_by_checks p (book_by unit value)).0 h).2);
 }
 
 -- what the point with these values costs
@@ -79,7 +81,7 @@ cost_is p c = refl
 
 -- where a certificate that is made of values says just them and fits, and where no fitting certificate says anything of
 -- other unknowns
-module _ (p : Code) (w : IsWellFormed p) (says : (unit : ℕ) (value : Assignment) → IsZeroOff (unknowns_of p) value → book_of (certificate_by p unit value) ≡ book_by unit value)
+module _ (p : Code) (w : IsWellFormed p) (none : AreUnread p) (says : (unit : ℕ) (value : Assignment) → IsZeroOff (unknowns_of p) value → book_of (certificate_by p unit value) ≡ book_by unit value)
     (fits : (unit : ℕ) (value : Assignment) → Fits p (certificate_by p unit value)) (off : (c : Cert) → Fits p c → IsZeroOff (unknowns_of p) (amount (book_of c))) where
   values_say : (unit : ℕ) (values : List ℕ) → book_of (certificate_of p unit values) ≡ book_by unit (value_in (unknowns_of p) values)
   values_say unit values = says unit (value_in (unknowns_of p) values) (value_off (unknowns_of p) values)
@@ -88,7 +90,7 @@ module _ (p : Code) (w : IsWellFormed p) (says : (unit : ℕ) (value : Assignmen
   solution_grants unit values h = record {
     fits = fits unit (value_in (unknowns_of p) values);
     pays = subst (Pays p) (sym (values_say unit values))
-        (feasible_pays p unit (value_in (unknowns_of p) values) w (value_off (unknowns_of p) values) (subst (λ point. IsFeasible (system_of p) unit point) (sym (values_again p unit values w h)) h));
+        (feasible_pays p unit (value_in (unknowns_of p) values) w none (value_off (unknowns_of p) values) (subst (λ point. IsFeasible (system_of p) unit point) (sym (values_again p unit values w h)) h));
   }
 
   pub certificate_solves : (c : Cert) → Grants p c → IsFeasible (system_of p) c.unit (values_of p c)

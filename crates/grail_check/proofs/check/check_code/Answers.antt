@@ -1,5 +1,5 @@
 use Rattle.grail_code.specs.Code.{code_of}
-use Rattle.grail_check.proofs.ProgramLaws.{right_answer, right_refusal}
+use Rattle.grail_check.proofs.WalkLaws.{right_answer, right_refusal}
 use Rattle.grail_check.proofs.check.check_code.Goals as goal
 
 pub returns-in-Ok-clause-well_formed : goal.returns-in-Ok-clause-well_formed
