@@ -86,7 +86,7 @@ pub fn law_of_dead_words()
 {}
 
 /// Plans of licensed code, as plain data: an entry, fitting arguments, fuel, and just as many cells as the licence
-/// says. The run ends as the code means, each state in which it goes on has a step, so that none finds its free list
+/// says. The run ends as the code means. Each state in which it goes on has a step, so that none finds its free list
 /// empty, and each has just that number of cells.
 pub fn law_of_plans()
     ensures { (l : Licensed) (entry : ℕ) (f : Func) (args : List Value) (fuel cells : ℕ) → IsLicensed l → IsPlan l entry args fuel cells
@@ -113,9 +113,9 @@ pub fn law_of_words()
         → length (cells_from types 0 (parts args)) ≡ cells_among types args }
 {}
 
-/// Each owned cell has one owner. A state is not sound where two ready locals own the same cell, where the value of one,
-/// owned or lent, takes a cell twice, or where it takes a cell of the free list. Nor is it where a value that is lent to
-/// a frame shares a cell with what this frame or a younger one owns.
+/// Each owned cell has one owner. A state is not sound where two ready locals own the same cell, or where the value of
+/// one, owned or lent, takes a cell twice or takes a cell of the free list. Nor is it where a value that is lent to a
+/// frame shares a cell with what this frame or a younger one owns.
 pub fn law_of_owners()
     // No sound state has two ready locals that own one cell.
     ensures two { (program : Code) (s : Configuration) → AreTypes program.types → TwoTake program s → ¬ (IsSound program s) }
