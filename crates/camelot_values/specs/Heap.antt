@@ -1,7 +1,8 @@
 -- Cited by contracts.
 -- Which kinds have values that take cells, and which constructors of heap types belong to a kind or to its fields,
 -- followed to the end. A type with no boxed constructor needs no cell; every other type, and the diamond, is a heap
--- type (Hofmann 2000), whose values are used at most once. A kind reaches no constructor of a type that needs no cell.
+-- type (Hofmann 2000), whose values are used at most once where they are owned. A kind reaches no constructor of a
+-- type that needs no cell.
 use Rattle.std.specs.Prelude.{◌≡◌, ℕ, zero, suc, not, Bool, true, false, List, [], ◌∷◌, length, flat_map, slice_get, ◌==◌, ◌&&◌, ◌||◌, Option, Some, None, IsTrue}
 use Rattle.std.specs.List.{list_any, filter, range_with_len}
 use Rattle.std.specs.Option.{option_map_or}

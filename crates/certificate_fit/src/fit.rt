@@ -79,9 +79,10 @@ fn find_misfit(code: &Code, cert: &Cert, table: &ReachTable) -> Result<(), Misfi
 }
 
 /// Whether the certificate fits the code: it has the code's functions in order, a line for each block after the first,
-/// and annotations only of parameters that aren't lent and of builds, of heap types, on constructors that their kinds
-/// reach. Else the first misfit. The code is well formed, and the table is that of its types. Code and certificate are
-/// walked once, side by side, and it takes no memory.
+/// and annotations only of parameters that aren't lent and of builds. These are of heap types, on constructors that
+/// their kinds reach. Else the first misfit. The code is well formed, and the table is that of its types. For each
+/// function the ends of its blocks are walked for what is looked at, and then code and certificate side by side. It
+/// takes 256 bytes.
 pub fn check_fit(code: &Code, cert: &Cert, table: &ReachTable) -> Result<(), Misfit>
     requires well { IsWellFormed (code_of code.now) }
     requires table { table.now ≡ table_of code.now.types }

@@ -30,7 +30,7 @@ pub enum Place {
 }
 
 /// What a let binds. Locals, constructors and functions go by their numbers. Operands are used in the order in which
-/// they stand; an operand of a heap kind is spent by its use.
+/// they stand; an operand that is owned and of a heap kind is spent by its use.
 #[derive(Debug, Drop)]
 pub enum Op {
     /// Uses nothing; gives this int.
@@ -52,8 +52,8 @@ pub enum Op {
         args: SmallVec<u32, 4>,
         place: Place,
     },
-    /// Uses one local for each parameter of the function; gives its result. It takes one unit of fuel, and waits while
-    /// the function runs.
+    /// Has one local for each parameter of the function, and gives its result. It uses those at parameters without a
+    /// mark, and reads the others. It takes one unit of fuel, and waits while the function runs.
     Call {
         func: u32,
         args: SmallVec<u32, 4>,
@@ -94,14 +94,14 @@ pub struct CaseArm {
 pub enum Term {
     /// Uses a local of the function's result kind, which is the function's result.
     Ret(u32),
-    /// Uses one local for each parameter of another function, which takes the place of this one: it takes one unit of
-    /// fuel, and nothing waits.
+    /// Has one local for each parameter of another function, as a call has, and that takes the place of this one: it
+    /// takes one unit of fuel, and nothing waits.
     Tail { func: u32, args: SmallVec<u32, 4> },
     /// Uses nothing; goes on in this block.
     Goto(u32),
     /// Uses a truth value; goes on in block `yes` where it is true, and in `no` where it is false.
     If { cond: u32, yes: u32, no: u32 },
-    /// Uses a value of a data type, and goes on with the arm of its constructor; there is one arm for each constructor
-    /// of the type, in order.
+    /// Uses a value of a data type that is owned, or looks at one that is lent, and goes on with the arm of its
+    /// constructor; there is one arm for each constructor of the type, in order.
     Case { on: u32, arms: Vec<CaseArm> },
 }

@@ -4,12 +4,16 @@
 -- every local is unbound, ready or spent. That is the bookkeeping by which a checker keeps to the affine rule of LFPL
 -- (Hofmann 2000). All blocks are walked, also those that no jump leads to.
 --
--- At a let and at the end of a block the checks come in this order: what is named is there; jumps go forward; numbers
--- of arguments, arms and fields are right (a case on what is no data type is of the wrong kind here); each operand in
--- turn is bound, unspent, not lent where it isn't only read, and of its kind, and then each argument that is only read is
--- still unspent; a value that is lent is only looked at, and another one isn't; constructors are built or matched inline
--- where they are inline; what is bound has its kind; an arm binds distinct locals; what is bound isn't lent; and each
--- jump in turn finds the parameters of its target bound and unspent.
+-- At a let and at the end of a block the checks come in this order:
+-- 1. What is named is there.
+-- 2. Jumps go forward.
+-- 3. Numbers of arguments, arms and fields are right; a case on what is no data type is of the wrong kind here.
+-- 4. Each operand in turn is bound, unspent, not lent where it isn't only read, and of its kind. Behind them each
+--    argument that is only read is still unspent.
+-- 5. A value that is lent is only looked at, and another one isn't.
+-- 6. Constructors are built or matched inline exactly where they are inline.
+-- 7. What is bound has its kind; an arm binds distinct locals; what is bound isn't lent.
+-- 8. Each jump in turn finds the parameters of its target bound and unspent.
 -- What speaks of arms goes over all of them before the next check.
 use Rattle.std.specs.Prelude.{ℕ, zero, suc, nat_lt, nat_le, ◌==◌, ◌&&◌, ◌||◌, not, Bool, true, false, if◌then◌else◌, List, [], ◌∷◌, ◌++◌, length, map, replicate, slice_get, slice_set, Option, Some, None}
 use Rattle.std.specs.List.{list_all}

@@ -4,12 +4,16 @@
 -- by function its header, and then its blocks, each with its header, its lets and its end; all blocks are walked, also
 -- those that no jump leads to.
 --
--- At a let and at the end of a block the checks come in this order: what is named is there; jumps go forward; numbers
--- of arguments, arms and fields are right (a case on what is no data type is of the wrong kind here); each operand in
--- turn is bound, unspent, not lent where it isn't only read, and of its kind, and then each argument that is only read is
--- still unspent; a value that is lent is only looked at, and another one isn't; constructors are built or matched inline
--- where they are inline; what is bound has its kind; an arm binds distinct locals; what is bound isn't lent; and each
--- jump in turn finds the parameters of its target bound and unspent.
+-- At a let and at the end of a block the checks come in this order:
+-- 1. What is named is there.
+-- 2. Jumps go forward.
+-- 3. Numbers of arguments, arms and fields are right; a case on what is no data type is of the wrong kind here.
+-- 4. Each operand in turn is bound, unspent, not lent where it isn't only read, and of its kind. Behind them each
+--    argument that is only read is still unspent.
+-- 5. A value that is lent is only looked at, and another one isn't.
+-- 6. Constructors are built or matched inline exactly where they are inline.
+-- 7. What is bound has its kind; an arm binds distinct locals; what is bound isn't lent.
+-- 8. Each jump in turn finds the parameters of its target bound and unspent.
 -- What speaks of arms goes over all of them before the next check.
 use Rattle.std.specs.Prelude.{◌≡◌, ℕ, suc, ◌<◌, Bool, false, List, [], ◌∷◌, ◌++◌, ◌||◌, true, length, map, slice_get, Option, Some, None, IsTrue, ◌⊎◌}
 use Rattle.std.specs.List.{AllByRecursion, range_with_len}
@@ -139,7 +143,7 @@ let_checks p f s l = Must (AreThere f (l.target ∷ operands_of l.op)) fault.NoS
 abbrev pub IsBlock : Func → ℕ → Type 0
 IsBlock f b = b < length f.blocks
 
--- a jump uses the parameters of its target, and spends none of them
+-- A jump uses the parameters of its target. It ends the way, so that nothing asks behind it what it spends.
 abbrev pub jump_checks : State → List ℕ → Checks → Checks
 jump_checks s [] rest = rest
 jump_checks s (x ∷ xs) rest = use_checks s x (jump_checks s xs rest)
@@ -192,7 +196,8 @@ abbrev pub arms_jump_checks : List DataType → Func → State → List CaseArm 
 arms_jump_checks types f s [] = NoMore
 arms_jump_checks types f s (a ∷ arms) = jump_checks (after (is_owned types f) s (map Bind (bound_by a))) (params_at f.blocks a.target) (arms_jump_checks types f s arms)
 
--- the arms of a case on a local of this type; what they bind isn't lent, but for the fields of a cell that stays as it is
+-- The arms of a case on a local of this type. What they bind isn't lent, but for the fields of a cell that stays as it
+-- is.
 abbrev pub arms_checks : List DataType → Func → State → ℕ → List CaseArm → DataType → Checks
 arms_checks types f s x arms t =
     Must (ArmsCount arms t.cons) fault.Arms

@@ -13,10 +13,10 @@ pub enum CodeKind {
     /// A jump leads to its own block or an earlier one.
     #[error("backward")]
     Backward,
-    /// A local is used that isn't bound there.
+    /// A local is used or looked at that isn't bound there.
     #[error("unbound")]
     Unbound,
-    /// A local that the function owns is used, and was used since it was bound.
+    /// A local that the function owns is used or looked at, and was used since it was bound.
     #[error("spent")]
     Spent,
     /// A local is of another kind than is needed, as that of a case which is of no data type.
@@ -35,7 +35,8 @@ pub enum CodeKind {
     /// A type, constructor or function has the name of an earlier one.
     #[error("name")]
     Name,
-    /// What is lent is taken, bound or given back, or an arm looks at a cell that isn't lent.
+    /// What is lent is taken, bound or given back, or an arm looks at a cell that isn't lent. In a function's header:
+    /// it has a lent parameter and a result of a heap kind, or a looked-at field is a parameter without the mark.
     #[error("lent")]
     Lent,
 }

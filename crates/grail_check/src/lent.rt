@@ -61,8 +61,8 @@ fn mark_blocks(reads: &mut [bool], blocks: &[Block])
     }
 }
 
-/// Marks by its number each local that is a field of an arm which only looks at its cell, where the list has it. What is
-/// marked stays so.
+/// Marks by its number each local that is a field of an arm which only looks at its cell, where the list has it. What
+/// is marked stays so.
 #[tactic(auto, using(crate::proofs::LentLaws::marked, crate::proofs::LentLaws::marked_count))]
 pub fn mark_looked(reads: &mut [bool], func: &Func)
     // There are as many marks as before.

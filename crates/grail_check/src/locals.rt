@@ -8,8 +8,8 @@ use super::fault::CodeKind;
 use super::marks::Marks;
 use camelot_values::Kind;
 
-/// A local of a function: its kind, and, where values of that kind take cells, whether the function owns them or is lent
-/// them.
+/// A local of a function: its kind, and, where values of that kind take cells, whether the function owns them or is
+/// lent them.
 #[derive(Clone, Copy, Debug)]
 pub(crate) struct Local {
     pub(crate) kind: Kind,

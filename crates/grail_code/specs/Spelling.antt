@@ -1,8 +1,8 @@
 -- Cited by contracts.
 -- The spelling of Grail code in bytes, in each of two formats: four bytes that name the format, then the types and the
 -- functions. It is a function of the format and the code, and each count is followed by exactly so many things. What
--- stands behind the four bytes is the same in both formats, but the first has no division, no mark of a parameter and no
--- arm that only looks at its cell. `docs/GRAIL.md` tells it in words.
+-- stands behind the four bytes is the same in both formats. But the first has no division, no mark of a parameter and
+-- no arm that only looks at its cell. `docs/GRAIL.md` tells it in words.
 use Rattle.std.specs.Prelude.{◌≡◌, ℕ, zero, suc, ◌+◌, ◌/◌, ◌%◌, ◌≤◌, ◌<◌, nat_lt, if◌then◌else◌, Bool, true, false, List, [], ◌∷◌, ◌++◌, length, take, flat_map, FitsSigned}
 use Rattle.std.specs.List.{AllByRecursion}
 use Rattle.std.specs.Int.{w32, cast_unsigned}

@@ -1,6 +1,6 @@
 -- Cited by contracts.
--- Well-formed code in which nothing is lent: no parameter is marked as one that is only read, and no arm only looks at its
--- cell. There every local of a heap kind is owned, and every argument is used.
+-- Well-formed code in which nothing is lent: no parameter is marked as one that is only read, and no arm only looks at
+-- its cell. There every local of a heap kind is owned, and every argument is used.
 use Rattle.std.specs.Prelude.{◌≡◌, ℕ, suc, ◌<◌, Bool, false, List, [], ◌∷◌, length, map, slice_get, Some, IsTrue, IsSomeAnd}
 use Rattle.std.specs.List.{AllByRecursion, range_with_len}
 use Rattle.camelot_values.specs.Kinds.{Constructor, constructors}

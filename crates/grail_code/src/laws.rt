@@ -36,8 +36,8 @@ pub fn law_of_ranges()
 {}
 
 /// Code within the ranges has exactly one spelling as `GRL2`, and one as `GRL1` exactly where it has nothing that the
-/// first format lacks: no division, no mark of a parameter, and no arm that only looks at its cell. It has no others, and
-/// other code has none.
+/// first format lacks: no division, no mark of a parameter, and no arm that only looks at its cell. It has no others,
+/// and other code has none.
 #[tactic(auto, using(crate::proofs::SpellingMeans::spelled_second, crate::proofs::SpellingMeans::spelled_first))]
 pub fn law_of_formats()
     // Code within the ranges has a spelling in the second format.

@@ -1,8 +1,8 @@
 -- Cited by contracts.
--- The rules of annotated code (`CERTIFICATES.md`), as the annotated typing of Hofmann and Jost (2003): at each place so
--- many units are left, and each local's value carries some. A build takes what its value's node is to carry, and a
--- cell's price where it takes a new cell; a case finds what the matched node carries, and a cell's price where it gives
--- the cell back. There is no order of checks here, and no solver.
+-- The rules of annotated code (`CERTIFICATES.md`), as the annotated typing of Hofmann and Jost (2003). At each place so
+-- many units are left, and each owned local's value carries some; what is lent carries nothing. A build takes what its
+-- value's node is to carry, and a cell's price where it takes a new cell. A case finds what the matched node carries,
+-- and a cell's price where it gives the cell back. There is no order of checks here, and no solver.
 use Rattle.std.specs.Prelude.{◌≡◌, true, ℕ, zero, suc, ◌+◌, ◌-◌, ◌≤◌, ◌==◌, if◌then◌else◌, List, [], ◌∷◌, length, map, take, slice_get, Option, Some, IfSome, cond}
 use Rattle.std.specs.List.{AllByRecursion}
 use Rattle.camelot_values.specs.Kinds.{DataType, constructors}
@@ -178,7 +178,7 @@ pub record BlockPays (p : Code) (f : Func) (book : Book ℕ) (func number : ℕ)
 abbrev pub LentCarryNothing : List DataType → Func → Carried ℕ → Type 0
 LentCarryNothing types f carried = (x : ℕ) → is_lent types f x ≡ true → (con : ℕ) → carried x con ≡ 0
 
--- Nor do parameters that are lent, of functions and blocks.
+-- Nor does anything lent at the start of a block, the function's parameters in the first one.
 abbrev pub LentAreFree : Code → Book ℕ → Type 0
 LentAreFree p book = (func number : ℕ) (f : Func) → slice_get p.funcs func ≡ Some f → LentCarryNothing p.types f (account_at book func number).carried
 

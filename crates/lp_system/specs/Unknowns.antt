@@ -1,7 +1,7 @@
 -- Cited by contracts.
--- What is unknown of a code before its certificate is found: each number that a fitting certificate may say of it, in
--- the order of a certificate's lines (Hofmann and Jost 2003). The unit isn't among them: amounts are counted in cells,
--- and may be fractions.
+-- What is unknown of code that lends nothing before its certificate is found: each number that a fitting certificate
+-- may say of it, in the order of a certificate's lines (Hofmann and Jost 2003). The unit isn't among them: amounts are
+-- counted in cells, and may be fractions.
 use Rattle.std.specs.Prelude.{◌≡◌, ℕ, suc, ◌-◌, Bool, false, List, [], ◌∷◌, ◌++◌, map, flat_map, length, Option, Some, cond}
 use Rattle.std.specs.List.{range_with_len, list_any}
 use Rattle.std.specs.Option.{option_map, option_map_or}

@@ -25,8 +25,8 @@ pub fn law_of_solutions()
     ensures solves { (p : Code) (c : Cert) → IsWellFormed p → AreUnread p → IsWithinLimits p → Grants p c → IsFeasible (system_of p) c.unit (values_of p c) }
 {}
 
-/// Of code that lends nothing: a solution of least cost is a certificate of least cost among all that grant the code; and
-/// where there is no solution, there is no certificate.
+/// Of code that lends nothing: a solution of least cost is a certificate of least cost among all that grant the code;
+/// and where there is no solution, there is no certificate.
 #[tactic(auto, using(crate::specs::SystemLaws::least_is_least, crate::specs::SystemLaws::none_grants))]
 pub fn law_of_least()
     // A solution of least cost is a certificate than which none that grants the code costs less.
