@@ -10,7 +10,6 @@ use Rattle.grail_code.specs.Code.{Func, Code}
 use Rattle.grail_code.specs.Limits.{IsWithinLimits}
 use Rattle.grail_code.specs.Meaning.{run_of}
 use Rattle.grail_code.specs.WellFormed.{IsWellFormed}
-use Rattle.grail_code.specs.Unread.{AreUnread}
 use Rattle.licence.specs.Bound.{lease}
 use Rattle.licence.specs.Licensed.{Licensed, IsLicensed, FitsEntry}
 use Rattle.licence.specs.PotentialLaws.{lease_suffices}

@@ -5,8 +5,6 @@ pub mod Reader
 pub mod CodeReader
 pub mod Decoding
 pub mod WellFormed
-pub mod Unread
-pub mod UnreadLaws
 pub mod Meaning
 pub mod Soundness
 pub mod Places

@@ -14,7 +14,6 @@ mod limits;
 pub mod meaning;
 mod migration;
 mod of_func;
-mod unread;
 
 pub use code::{Block, Code, Func};
 pub use decoder::decode;
