@@ -1,6 +1,5 @@
 -- The blocks of code, one by one.
 use Rattle.std.proofs.Common.{◌≡◌, ℕ, zero, suc, ◌+◌, ◌≤◌, Bool, false, List, [], ◌∷◌, ◌++◌, length, map, refl, sym, ap, ◌∙◌, arith}
-use Rattle.std.specs.Prelude.{replicate}
 use Rattle.std.specs.List.{AllByRecursion, filter, range_with_len}
 use Rattle.grail_code.specs.Code as code
 use Rattle.grail_code.specs.declared.code.Block.{Block as DeclaredCodeBlock}
@@ -8,7 +7,7 @@ use Rattle.normal_form.specs.declared.program.NormalBlock.{NormalBlock as Declar
 use Rattle.normal_form.specs.declared.program.NormalFunction.{NormalFunction as DeclaredFunction}
 use Rattle.normal_form.specs.Normal.{NormalBlock}
 use Rattle.normal_form.specs.Programs.{block_of, normal_function_of}
-use Rattle.normal_form.specs.Coded.{unmarked, coded, coded_blocks}
+use Rattle.normal_form.specs.Coded.{coded, coded_blocks}
 use Rattle.code_gen.specs.Generated.{live_params}
 use Rattle.grail_code.specs.Limits.{FuncIsWithin}
 use Rattle.code_gen.specs.declared.local_set.LocalSet.{LocalSet}
@@ -64,16 +63,15 @@ pub few_locals_of : (f : DeclaredFunction) → FuncIsWithin (code_for f) → len
 few_locals_of f w = let params = w.few_params in let locals = w.few_locals in omega (arith, params, locals)
 
 -- the function with these blocks is its code
-pub is_coded : (f : DeclaredFunction) (reads : List Bool) (blocks : List code.Block) (seen : List LocalSet) (own size : ℕ) → reads ≡ replicate own false → own ≡ length f.params.items
+pub is_coded : (f : DeclaredFunction) (blocks : List code.Block) (seen : List LocalSet) (own size : ℕ) → own ≡ length f.params.items
     → size ≡ length f.params.items + length f.locals.items → FuncIsWithin (code_for f)
     → AreSeen (map block_of f.blocks.items) 0 seen → blocks ≡ coded_blocks (told_params own size seen) 0 (map block_of f.blocks.items)
-    → ◌≡◌ {A = code.Func} (record { name = f.name; params = f.params.items; reads = reads; result = f.result; locals = f.locals.items; blocks = blocks }) (code_for f)
-is_coded f reads blocks seen own size marks first all within s e =
+    → ◌≡◌ {A = code.Func} (record { name = f.name; params = f.params.items; reads = f.reads.items; result = f.result; locals = f.locals.items; blocks = blocks }) (code_for f)
+is_coded f blocks seen own size first all within s e =
     let n = normal_function_of f in
     let same : blocks ≡ coded_blocks (live_params n) 0 n.blocks =
     e ∙ ap (λ k. coded_blocks (told_params k size seen) 0 n.blocks) first ∙ ap (λ k. coded_blocks (told_params (length f.params.items) k seen) 0 n.blocks) all ∙ blocks_same n seen (few_locals_of f within) s in
-    let none : reads ≡ unmarked n = marks ∙ ap (λ k. replicate k false) first in
-    λ i. record { name = f.name; params = f.params.items; reads = none i; result = f.result; locals = f.locals.items; blocks = same i }
+    λ i. record { name = f.name; params = f.params.items; reads = f.reads.items; result = f.result; locals = f.locals.items; blocks = same i }
 
 -- how many blocks are made
 pub as_many : (blocks : List DeclaredCodeBlock) (takes : ℕ → List ℕ) (bs : List DeclaredBlock)

@@ -1,8 +1,8 @@
 -- The blocks of generated code are well formed.
 use Rattle.std.proofs.Common.{◌≡◌, ℕ, zero, suc, ◌+◌, ◌≤◌, ◌<◌, Bool, true, false, List, [], ◌∷◌, ◌++◌, length, map, Option, Some, None, refl, sym, ap, ◌∙◌, subst, arith, inl, inr, length-append}
-use Rattle.std.specs.Prelude.{◌==◌, ◌||◌, ◌&&◌, not, if◌then◌else◌, slice_get, replicate, IsSomeAnd, ◌⊎◌}
+use Rattle.std.specs.Prelude.{◌==◌, ◌||◌, ◌&&◌, not, if◌then◌else◌, flat_map, slice_get, IsSomeAnd, ◌⊎◌}
 use Rattle.std.specs.List.{AllByRecursion, list_any}
-use Rattle.std.specs.Option.{option_map}
+use Rattle.std.specs.Option.{option_map, option_map_or}
 use Rattle.std.proofs.lemmas.Bool.Decides.{nat_tests}
 use Rattle.camelot_values.specs.Kinds.{Constructor, DataType, constructor, type_of}
 use Rattle.camelot_values.specs.Lists.{Ascend, is_among}
@@ -13,12 +13,12 @@ use Rattle.grail_blocks.specs.declared.blocks.Place.TheVariants as place
 use Rattle.grail_blocks.specs.Blocks.{Op, Lit, Flag, Copy, Prim, Make, Call, Let, CaseArm, Term, Ret, Tail, Goto, If, Case}
 use Rattle.grail_blocks.specs.Events.{taken, operands_of, term_uses, bound_by, params_at}
 use Rattle.grail_code.specs.Code.{Func, Code}
-use Rattle.grail_code.specs.WellFormed.{local_kinds, kind_of, HaveKinds, PlaceFits, Gives, LetFits, JumpFits, data_type, is_of_heap}
-use Rattle.grail_code.specs.Unread.{ArmsOwned, TermOwned, BlockOwned, BlocksOwned, FuncOwned}
+use Rattle.grail_blocks.specs.Events.{Reads}
+use Rattle.grail_code.specs.WellFormed.{local_kinds, kind_of, HaveKinds, PlaceFits, Gives, LetFits, ArmsFit, TermFits, JumpFits, data_type, is_owned, is_marked, is_of_heap, looked_at, reads_of, LetLends, TermLends, BlockFits, BlocksFit, FuncFits}
 use Rattle.normal_form.specs.Normal.{NormalBlock, NormalFunction, NormalProgram}
 use Rattle.normal_form.specs.Live.{Marks, LaterMarks, unless_bound, lets_live, onward_live, term_live, block_live, live_from, times, BlocksOnce}
 use Rattle.normal_form.specs.Coded.{coded_blocks, coded}
-use Rattle.normal_form.specs.Facts.{UsesFairly, BodyFits, FitsAsCode}
+use Rattle.normal_form.specs.Facts.{is_owned_in, reads_in, UsesFairly, BodyFits, BodyLends, FitsAsCode}
 use Rattle.code_gen.specs.Generated.{local_count, live_params, code_of_normal}
 use Rattle.code_gen.proofs.Sorted.{among_passing, times_passing, among_times, passing_ascend, passing_below, range_passes}
 use Rattle.code_gen.proofs.Ready.{or_split, Ahead, ParamsLive, block_ready}
@@ -109,7 +109,7 @@ lets_there p f (l ∷ ls) after x fit rest e =
     either f g (inl a) = f a
     either f g (inr b) = g b
 
-term_there : (p : Code) (f : Func) (n : ℕ) (t : Term) (x : ℕ) → TermOwned p f n t → is_among (term_uses t) x ≡ true → IsThere f x
+term_there : (p : Code) (f : Func) (n : ℕ) (t : Term) (x : ℕ) → TermFits p f n t → is_among (term_uses t) x ≡ true → IsThere f x
 term_there p f n (Ret y) x fit e = one_there f y x f.result fit (or_none (y == x) e)
 term_there p f n (Tail func args) x fit e = by_callee (slice_get p.funcs func) fit
   where
@@ -120,7 +120,7 @@ term_there p f n (Goto b) x fit e = absurd cc
 term_there p f n (If y first second) x fit e = one_there f y x kind.Flag fit.0 (or_none (y == x) e)
 term_there p f n (Case y arms) x fit e = by_kind (kind_of f y) refl fit
   where
-    by_kind : (o : Option Kind) → kind_of f y ≡ o → IsSomeAnd (data_type p.types o) (λ t. ArmsOwned f n t.cons arms) → IsThere f x
+    by_kind : (o : Option Kind) → kind_of f y ≡ o → IsSomeAnd (data_type p.types o) (λ t. ArmsFit f n t.cons arms) → IsThere f x
     by_kind None is h = absurd h
     by_kind (Some k) is h = one_there f y x k is (or_none (y == x) e)
 
@@ -147,7 +147,7 @@ onward_there later x Q h (If y first second) e = either (or_split (later first x
 onward_there later x Q h (Case y arms) e = arms_there later x Q h arms e
 
 block_there : (p : Code) (f : Func) (n : ℕ) (b : NormalBlock) (later : LaterMarks) (x : ℕ) → AllByRecursion (LetFits p f) b.lets
-    → TermOwned p f n b.term → ((m : ℕ) → later m x ≡ true → IsThere f x) → block_live later b x ≡ true → IsThere f x
+    → TermFits p f n b.term → ((m : ℕ) → later m x ≡ true → IsThere f x) → block_live later b x ≡ true → IsThere f x
 block_there p f n b later x lets term h e = lets_there p f b.lets (term_live later b.term) x lets (λ k. either (or_split (is_among (term_uses b.term) x) (onward_live later b.term x) k)) e
   where
     either : (is_among (term_uses b.term) x ≡ true) ⊎ (onward_live later b.term x ≡ true) → IsThere f x
@@ -166,20 +166,20 @@ live_there p f first (body ∷ bs) b x fit e = by_test (b == first) (λ m k. liv
 
 -- ---- jumps
 
-arms_ahead : (f : Func) (n : ℕ) (cs : List Constructor) (arms : List CaseArm) → ArmsOwned f n cs arms → AllByRecursion (λ a. JumpFits f n a.target) arms
+arms_ahead : (f : Func) (n : ℕ) (cs : List Constructor) (arms : List CaseArm) → ArmsFit f n cs arms → AllByRecursion (λ a. JumpFits f n a.target) arms
 arms_ahead f n [] [] h = tt
 arms_ahead f n [] (a ∷ arms) h = absurd h
 arms_ahead f n (c ∷ cs) [] h = absurd h
 arms_ahead f n (c ∷ cs) (a ∷ arms) h = (h.0.jump, arms_ahead f n cs arms h.1)
 
-term_ahead : (p : Code) (f : Func) (n : ℕ) (t : Term) → TermOwned p f n t → Ahead f n t
+term_ahead : (p : Code) (f : Func) (n : ℕ) (t : Term) → TermFits p f n t → Ahead f n t
 term_ahead p f n (Ret y) fit = tt
 term_ahead p f n (Tail func args) fit = tt
 term_ahead p f n (Goto b) fit = fit
 term_ahead p f n (If y first second) fit = (fit.1, fit.2)
 term_ahead p f n (Case y arms) fit = by_type (data_type p.types (kind_of f y)) fit
   where
-    by_type : (o : Option DataType) → IsSomeAnd o (λ t. ArmsOwned f n t.cons arms) → AllByRecursion (λ a. JumpFits f n a.target) arms
+    by_type : (o : Option DataType) → IsSomeAnd o (λ t. ArmsFit f n t.cons arms) → AllByRecursion (λ a. JumpFits f n a.target) arms
     by_type None h = absurd h
     by_type (Some t) h = arms_ahead f n t.cons arms h
 
@@ -227,11 +227,11 @@ params_live f n bs rest (suc b) jump =
     }
 
 -- what is live at a block is among its parameters
-holds_live : (p : Code) (f : NormalFunction) (types : List DataType) (n : ℕ) (x : ℕ) → UsesFairly types f
+holds_live : (p : Code) (f : NormalFunction) (np : NormalProgram) (n : ℕ) (x : ℕ) → UsesFairly np f
     → BodyFits p (coded live_params f) 0 f.blocks → live_from 0 f.blocks n x ≡ true → is_among (live_params f n) x ≡ true
-holds_live p f types zero x fair fit e =
+holds_live p f np zero x fair fit e =
     ap (λ l. is_among l x) (sym (range_passes 0 (length f.params))) ∙ among_passing (λ y. true) 0 (length f.params) x (omega arith) (let less = fair.bound x e in omega (arith, less)) refl
-holds_live p f types (suc n) x fair fit e =
+holds_live p f np (suc n) x fair fit e =
     let there = live_there p (coded live_params f) 0 f.blocks (suc n) x fit e in
     let size = length-append f.params f.locals in
     among_passing (live_from 0 f.blocks (suc n)) 0 (local_count f) x (omega arith) (omega (arith, there, size)) e
@@ -248,40 +248,72 @@ params_ascend : (f : NormalFunction) (n : ℕ) → Ascend (live_params f n)
 params_ascend f zero = subst Ascend (range_passes 0 (length f.params)) (passing_ascend (λ y. true) 0 (length f.params))
 params_ascend f (suc n) = passing_ascend (live_from 0 f.blocks (suc n)) 0 (local_count f)
 
+-- ---- what is owned
+
+looked_same : (takes : ℕ → List ℕ) (number : ℕ) (bs : List NormalBlock)
+    → flat_map (λ b. looked_at b.term) (coded_blocks takes number bs) ≡ flat_map (λ b. looked_at b.term) bs
+looked_same takes number [] = refl
+looked_same takes number (b ∷ bs) = ap (λ xs. looked_at b.term ++ xs) (looked_same takes (suc number) bs)
+
+-- the code owns the same locals
+owned_same : (p : NormalProgram) (f : NormalFunction) → is_owned_in p.types f ≡ is_owned p.types (coded live_params f)
+owned_same p f i x =
+    is_of_heap p.types (coded live_params f) x && not (is_marked (coded live_params f) x || is_among (sym (looked_same (live_params f) 0 f.blocks) i) x)
+
+-- and has the same marks
+marks_same : (fs : List NormalFunction) (func : ℕ)
+    → option_map_or (λ f. f.reads) (slice_get fs func) [] ≡ option_map_or (λ f. f.reads) (slice_get (map (coded live_params) fs) func) []
+marks_same [] func = refl
+marks_same (f ∷ fs) zero = refl
+marks_same (f ∷ fs) (suc func) = marks_same fs func
+
+pub reads_same : (p : NormalProgram) → reads_in p ≡ reads_of (code_of_normal p)
+reads_same p i func = marks_same p.functions func i
+
 -- ---- blocks
 
-block_fits : (p : NormalProgram) (f : NormalFunction) (n : ℕ) (body : NormalBlock) (bs : List NormalBlock) → UsesFairly p.types f
+block_fits : (p : NormalProgram) (f : NormalFunction) (n : ℕ) (body : NormalBlock) (bs : List NormalBlock) → UsesFairly p f
     → BodyFits (code_of_normal p) (coded live_params f) 0 f.blocks
-    → AllByRecursion (LetFits (code_of_normal p) (coded live_params f)) body.lets → TermOwned (code_of_normal p) (coded live_params f) n body.term → BlocksOnce (is_of_heap p.types (coded live_params f)) n (body ∷ bs) → IsRest f n (body ∷ bs)
-    → BlockOwned (code_of_normal p) (coded live_params f) n (record { params = live_params f n; lets = body.lets; term = body.term })
-block_fits p f n body bs fair fit lets term once rest = record {
+    → AllByRecursion (LetFits (code_of_normal p) (coded live_params f)) body.lets → TermFits (code_of_normal p) (coded live_params f) n body.term
+    → AllByRecursion (LetLends (code_of_normal p) (coded live_params f)) body.lets → TermLends (code_of_normal p) (coded live_params f) body.term
+    → BlocksOnce (reads_of (code_of_normal p)) (is_owned p.types (coded live_params f)) n (body ∷ bs) → IsRest f n (body ∷ bs)
+    → BlockFits (code_of_normal p) (coded live_params f) n (record { params = live_params f n; lets = body.lets; term = body.term })
+block_fits p f n body bs fair fit lets term lets_lend term_lends once rest = record {
   params = params_below f n;
   ascending = params_ascend f n;
   entry = λ is. ap (live_params f) is;
   lets = lets;
   term = term;
-  uses = block_ready (is_of_heap p.types (coded live_params f)) (coded_blocks (live_params f) 0 f.blocks) (live_from (suc n) bs) (coded live_params f) n (live_params f n) body once.0
+  lets_lend = lets_lend;
+  term_lends = term_lends;
+  uses = block_ready (reads_of (code_of_normal p)) (is_owned p.types (coded live_params f)) (coded_blocks (live_params f) 0 f.blocks) (live_from (suc n) bs) (coded live_params f) n (live_params f n) body once.0
       (params_live f n bs (rest_next f n body bs rest)) (term_ahead (code_of_normal p) (coded live_params f) n body.term term)
-      (λ x e. holds_live (code_of_normal p) f p.types n x fair fit (rest_here f n body bs rest x ∙ e));
+      (λ x e. holds_live (code_of_normal p) f p n x fair fit (rest_here f n body bs rest x ∙ e));
 }
 
-blocks_fit : (p : NormalProgram) (f : NormalFunction) (n : ℕ) (bs : List NormalBlock) → UsesFairly p.types f
+blocks_fit : (p : NormalProgram) (f : NormalFunction) (n : ℕ) (bs : List NormalBlock) → UsesFairly p f
     → BodyFits (code_of_normal p) (coded live_params f) 0 f.blocks → BodyFits (code_of_normal p) (coded live_params f) n bs
-    → BlocksOnce (is_of_heap p.types (coded live_params f)) n bs → IsRest f n bs → BlocksOwned (code_of_normal p) (coded live_params f) n (coded_blocks (live_params f) n bs)
-blocks_fit p f n [] fair whole fit once rest = tt
-blocks_fit p f n (body ∷ bs) fair whole fit once rest =
-    (block_fits p f n body bs fair whole fit.0 fit.1 once rest, blocks_fit p f (suc n) bs fair whole fit.2 once.1 (rest_next f n body bs rest))
-
-none_marked : (n : ℕ) → AllByRecursion (λ mark. mark ≡ false) (replicate n false)
-none_marked zero = tt
-none_marked (suc n) = (refl, none_marked n)
+    → BodyLends (code_of_normal p) (coded live_params f) bs
+    → BlocksOnce (reads_of (code_of_normal p)) (is_owned p.types (coded live_params f)) n bs → IsRest f n bs
+    → BlocksFit (code_of_normal p) (coded live_params f) n (coded_blocks (live_params f) n bs)
+blocks_fit p f n [] fair whole fit lends once rest = tt
+blocks_fit p f n (body ∷ bs) fair whole fit lends once rest =
+    (block_fits p f n body bs fair whole fit.0 fit.1 lends.0 lends.1 once rest, blocks_fit p f (suc n) bs fair whole fit.2 lends.2 once.1 (rest_next f n body bs rest))
 
 -- A function that uses its locals fairly, and fits as code, is well formed with its live locals as parameters.
-pub function_well_formed : (p : NormalProgram) (f : NormalFunction) → UsesFairly p.types f → FitsAsCode live_params p f
-    → FuncOwned (code_of_normal p) (coded live_params f)
-function_well_formed p f fair fit = record { unread = none_marked (length f.params); kinds = fit.kinds; result = fit.result; blocks = blocks_fit p f 0 f.blocks fair fit.body fit.body fair.once (λ b x more. refl) }
+pub function_well_formed : (p : NormalProgram) (f : NormalFunction) → UsesFairly p f → FitsAsCode live_params p f
+    → FuncFits (code_of_normal p) (coded live_params f)
+function_well_formed p f fair fit = record {
+  marked = fit.marked;
+  keeps = fit.keeps;
+  kinds = fit.kinds;
+  result = fit.result;
+  blocks = blocks_fit p f 0 f.blocks fair fit.body fit.body fit.lends
+      (subst (λ reads. BlocksOnce reads (is_owned p.types (coded live_params f)) 0 f.blocks) (reads_same p)
+      (subst (λ h. BlocksOnce (reads_in p) h 0 f.blocks) (owned_same p f) fair.once)) (λ b x more. refl);
+}
 
-pub functions_well_formed : (p : NormalProgram) (fs : List NormalFunction) → AllByRecursion (UsesFairly p.types) fs
-    → AllByRecursion (FitsAsCode live_params p) fs → AllByRecursion (FuncOwned (code_of_normal p)) (map (coded live_params) fs)
+pub functions_well_formed : (p : NormalProgram) (fs : List NormalFunction) → AllByRecursion (UsesFairly p) fs
+    → AllByRecursion (FitsAsCode live_params p) fs → AllByRecursion (FuncFits (code_of_normal p)) (map (coded live_params) fs)
 functions_well_formed p [] fair fit = tt
 functions_well_formed p (f ∷ fs) fair fit = (function_well_formed p f fair.0 fit.0, functions_well_formed p fs fair.1 fit.1)

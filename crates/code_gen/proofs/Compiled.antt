@@ -14,8 +14,7 @@ use Rattle.camelot_typing.specs.Typed.{Typing}
 use Rattle.grail_code.specs.declared.code.Code.{Code as DeclaredCode}
 use Rattle.grail_code.specs.Code.{Func, Code, code_of}
 use Rattle.grail_code.specs.Meaning as code
-use Rattle.grail_code.specs.WellFormed.{is_of_heap, no_reads}
-use Rattle.grail_code.specs.Unread.{BlocksOwned, FuncOwned, IsOwned}
+use Rattle.grail_code.specs.WellFormed.{is_owned, reads_of, BlocksFit, FuncFits, IsWellFormed}
 use Rattle.normal_form.specs.Normal.{NormalBlock, NormalFunction, NormalProgram, normal_form}
 use Rattle.normal_form.specs.Running as normal
 use Rattle.normal_form.specs.Running.{everything}
@@ -30,8 +29,8 @@ names_coded : (takes : BlockParams) (fs : List NormalFunction) → map (λ f. f.
 names_coded takes [] = refl
 names_coded takes (f ∷ fs) = ap (λ l. f.name ∷ l) (names_coded takes fs)
 
-pub well_formed : (p : NormalProgram) → TablesFit p → AllByRecursion (UsesFairly p.types) p.functions
-    → AllByRecursion (FitsAsCode live_params p) p.functions → IsOwned (code_of_normal p)
+pub well_formed : (p : NormalProgram) → TablesFit p → AllByRecursion (UsesFairly p) p.functions
+    → AllByRecursion (FitsAsCode live_params p) p.functions → IsWellFormed (code_of_normal p)
 well_formed p tables fair fit = record {
   type_names = tables.type_names;
   con_names = tables.con_names;
@@ -47,32 +46,32 @@ wholes_are takes number [] = refl
 wholes_are takes number (b ∷ bs) = ap (λ l. everything b ∷ l) (wholes_are takes (suc number) bs)
 
 -- each block of well-formed code has its uses ready
-block_uses : (p : Code) (f : Func) (first : ℕ) (bs : List Block) (i : ℕ) (b : Block) → BlocksOwned p f first bs → slice_get bs i ≡ Some b
-    → UsesReady no_reads (is_of_heap p.types f) f.blocks b
+block_uses : (p : Code) (f : Func) (first : ℕ) (bs : List Block) (i : ℕ) (b : Block) → BlocksFit p f first bs → slice_get bs i ≡ Some b
+    → UsesReady (reads_of p) (is_owned p.types f) f.blocks b
 block_uses p f first [] i b fit e = let k : None ≡ Some b = e in absurd cc
-block_uses p f first (x ∷ bs) zero b fit e = let same : x ≡ b = cc in subst (UsesReady no_reads (is_of_heap p.types f) f.blocks) same fit.0.uses
+block_uses p f first (x ∷ bs) zero b fit e = let same : x ≡ b = cc in subst (UsesReady (reads_of p) (is_owned p.types f) f.blocks) same fit.0.uses
 block_uses p f first (x ∷ bs) (suc i) b fit e = block_uses p f (suc first) bs i b fit.1 e
 
-blocks_mean : (p : NormalProgram) (f : NormalFunction) (enter : Enter) (k w : ℕ) (args : List Value) → FuncOwned (code_of_normal p) (coded live_params f)
+blocks_mean : (p : NormalProgram) (f : NormalFunction) (enter : Enter) (k w : ℕ) (args : List Value) → FuncFits (code_of_normal p) (coded live_params f)
     → blocks_run p.types enter (map narrow (coded_blocks (live_params f) 0 f.blocks)) k w (arguments args) ≡ blocks_run p.types enter (map everything f.blocks) k w (arguments args)
 blocks_mean p f enter k w args fit =
-    narrowing_is_free no_reads (is_of_heap p.types (coded live_params f)) p.types enter (coded_blocks (live_params f) 0 f.blocks)
+    narrowing_is_free (reads_of (code_of_normal p)) (is_owned p.types (coded live_params f)) p.types enter (coded_blocks (live_params f) 0 f.blocks)
     (λ number b e. block_uses (code_of_normal p) (coded live_params f) 0 (coded_blocks (live_params f) 0 f.blocks) number b fit.blocks e) k w (arguments args)
     ∙ ap (λ bodies. blocks_run p.types enter bodies k w (arguments args)) (wholes_are (live_params f) 0 f.blocks)
 
 body_means : (p : NormalProgram) (fs : List NormalFunction) (enter : Enter) (i k w : ℕ) (args : List Value)
-    → AllByRecursion (FuncOwned (code_of_normal p)) (map (coded live_params) fs)
+    → AllByRecursion (FuncFits (code_of_normal p)) (map (coded live_params) fs)
     → code.body_run p.types enter (slice_get (map (coded live_params) fs) i) k w args ≡ normal.body_run p.types enter (slice_get fs i) k w args
 body_means p [] enter i k w args fit = refl
 body_means p (f ∷ fs) enter zero k w args fit = ap (λ o. if length args == length f.params then o else Stuck) (blocks_mean p f enter k w args fit.0)
 body_means p (f ∷ fs) enter (suc i) k w args fit = body_means p fs enter i k w args fit.1
 
-bodies_mean : (p : NormalProgram) → AllByRecursion (FuncOwned (code_of_normal p)) (map (coded live_params) p.functions)
+bodies_mean : (p : NormalProgram) → AllByRecursion (FuncFits (code_of_normal p)) (map (coded live_params) p.functions)
     → code.bodies (code_of_normal p) ≡ normal.bodies p
 bodies_mean p fit = λ i enter func k w args. body_means p p.functions enter func k w args fit i
 
 -- Well-formed code of a normal form means what the normal form means.
-pub code_means : (p : NormalProgram) (limit func fuel : ℕ) (args : List Value) → IsOwned (code_of_normal p)
+pub code_means : (p : NormalProgram) (limit func fuel : ℕ) (args : List Value) → IsWellFormed (code_of_normal p)
     → code.run_of (code_of_normal p) limit func fuel args ≡ normal.run_of p limit func fuel args
 code_means p limit func fuel args well = ap (λ bodies. run_from bodies limit func fuel args) (bodies_mean p well.funcs)
 

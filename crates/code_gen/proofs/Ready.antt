@@ -1,17 +1,17 @@
 -- Where the live locals are handed on, each use finds its local ready.
-use Rattle.std.proofs.Common.{◌≡◌, ℕ, ◌+◌, ◌≤◌, Bool, true, false, List, [], ◌∷◌, ◌++◌, map, refl, sym, ap, ◌∙◌, subst, arith, inl, inr}
+use Rattle.std.proofs.Common.{◌≡◌, ℕ, ◌+◌, ◌≤◌, Bool, true, false, List, [], ◌∷◌, ◌++◌, map, refl, sym, ap, ◌∙◌, subst, arith, inl, inr, append-nil}
 use Rattle.std.specs.Prelude.{◌==◌, ◌||◌, ◌&&◌, not, if◌then◌else◌, ◌⊎◌}
 use Rattle.std.specs.List.{AllByRecursion, list_any}
 use Rattle.std.proofs.lemmas.Bool.Decides.{nat_tests}
 use Rattle.camelot_values.specs.Lists.{is_among}
-use Rattle.grail_blocks.specs.Blocks.{Let, CaseArm, Term, Ret, Tail, Goto, If, Case, Block}
-use Rattle.grail_blocks.specs.Events.{Event, Use, Bind, no_reads, operands_of, uses_of, let_events, term_uses, term_events, bound_by, params_at, jump_events, ways}
+use Rattle.grail_blocks.specs.Blocks.{Op, Lit, Flag, Copy, Prim, Make, Call, Let, CaseArm, Term, Ret, Tail, Goto, If, Case, Block}
+use Rattle.grail_blocks.specs.Events.{Event, Use, Look, Bind, Reads, taken_by, read_by, argument_events, operands_of, uses_of, let_events, term_uses, term_events, bound_by, params_at, jump_events, ways}
 use Rattle.grail_blocks.specs.States.{State, Ready, Spent, nothing_bound, bind, use_of, after, AreReady, after_let, after_lets, LetsReady, UsesReady}
-use Rattle.grail_blocks.specs.StateLaws.{after_append, ready_binds, ready_both, uses_none, term_uses_none}
+use Rattle.grail_blocks.specs.StateLaws.{after_append, ready_binds, ready_both}
 use Rattle.grail_code.specs.Code.{Func}
 use Rattle.grail_code.specs.WellFormed.{JumpFits}
 use Rattle.normal_form.specs.Normal.{NormalBlock}
-use Rattle.normal_form.specs.Live.{Marks, LaterMarks, unless_bound, lets_live, onward_live, term_live, block_live, times, bit, Once, LetsOnce, BlockOnce}
+use Rattle.normal_form.specs.Live.{Marks, LaterMarks, unless_bound, lets_live, onward_live, term_live, block_live, times, bit, op_taken, op_read, term_taken, term_read, Once, LetsOnce, BlockOnce}
 use Rattle.code_gen.proofs.Sorted.{among_times, or_second}
 
 -- what is live is ready
@@ -28,7 +28,11 @@ or_split false b h = inr h
 
 -- ---- uses
 
-used_holds : (h : ℕ → Bool) (s : State) (x : ℕ) (xs : List ℕ) (live : Marks) → Once h (x ∷ xs) live → Holds s (λ y. is_among (x ∷ xs) y || live y)
+-- of these locals none that is owned is used twice, or live behind
+abbrev Single : (ℕ → Bool) → List ℕ → Marks → Type 0
+Single h xs live = (x : ℕ) → h x ≡ true → times x xs + bit (live x) ≤ 1
+
+used_holds : (h : ℕ → Bool) (s : State) (x : ℕ) (xs : List ℕ) (live : Marks) → Single h (x ∷ xs) live → Holds s (λ y. is_among (x ∷ xs) y || live y)
     → Holds (use_of h s x) (λ y. is_among xs y || live y)
 used_holds h s x xs live once holds y e = by_test (x == y) (h x) refl refl
   where
@@ -58,18 +62,97 @@ used_holds h s x xs live once holds y e = by_test (x == y) (h x) refl refl
     by_test true false t q = before
     by_test false b t q = before
 
-rest_once : (h : ℕ → Bool) (x : ℕ) (xs : List ℕ) (live : Marks) → Once h (x ∷ xs) live → Once h xs live
+rest_once : (h : ℕ → Bool) (x : ℕ) (xs : List ℕ) (live : Marks) → Single h (x ∷ xs) live → Single h xs live
 rest_once h x xs live once y heap = let k = once y heap in omega (arith, k)
 
 pub record Went (h : ℕ → Bool) (s : State) (events : List Event) (live : Marks) : Type 0 where
   pub ready : AreReady h s events
   pub holds : Holds (after h s events) live
 
-pub uses_went : (h : ℕ → Bool) (s : State) (xs : List ℕ) (live : Marks) → Once h xs live → Holds s (λ y. is_among xs y || live y) → Went h s (map Use xs) live
+uses_went : (h : ℕ → Bool) (s : State) (xs : List ℕ) (live : Marks) → Single h xs live → Holds s (λ y. is_among xs y || live y) → Went h s (map Use xs) live
 uses_went h s [] live once holds = record { ready = tt; holds = holds }
 uses_went h s (x ∷ xs) live once holds =
     let r = uses_went h (use_of h s x) xs live (rest_once h x xs live once) (used_holds h s x xs live once holds) in
     record { ready = (holds x (or_first ((x == x) || is_among xs x) (live x) (or_first (x == x) (is_among xs x) (let t : (x == x) ≡ true = grind (arith, nat_tests) in t))), r.ready); holds = r.holds }
+
+-- ---- looks
+
+looks_went : (h : ℕ → Bool) (s : State) (xs : List ℕ) (live : Marks) → Holds s (λ y. is_among xs y || live y) → Went h s (map Look xs) live
+looks_went h s [] live holds = record { ready = tt; holds = holds }
+looks_went h s (x ∷ xs) live holds =
+    let r = looks_went h s xs live (λ y e. holds y (behind (x == y) (is_among xs y) (live y) e)) in
+    let own : (x == x) ≡ true = grind (arith, nat_tests) in
+    record { ready = (holds x (or_first ((x == x) || is_among xs x) (live x) (or_first (x == x) (is_among xs x) own)), r.ready); holds = r.holds }
+  where
+    behind : (a b c : Bool) → (b || c) ≡ true → ((a || b) || c) ≡ true
+    behind true b c e = refl
+    behind false b c e = e
+
+-- what is taken, and behind that what is read
+abbrev events_by : (taken read : List ℕ) → List Event
+events_by taken read = map Use taken ++ map Look read
+
+events_went : (h : ℕ → Bool) (s : State) (taken read : List ℕ) (live : Marks) → Once h taken read live
+    → Holds s (λ y. is_among taken y || (is_among read y || live y)) → Went h s (events_by taken read) live
+events_went h s taken read live once holds =
+    let first = uses_went h s taken (λ y. is_among read y || live y) once holds in
+    let second = looks_went h (after h s (map Use taken)) read live first.holds in
+    record {
+      ready = ready_both h s (map Use taken) (map Look read) first.ready second.ready;
+      holds = subst (λ u. Holds u live) (sym (after_append h s (map Use taken) (map Look read))) second.holds;
+    }
+
+argument_events_are : (marks : List Bool) (xs : List ℕ) → argument_events marks xs ≡ events_by (taken_by marks xs) (read_by marks xs)
+argument_events_are [] xs = sym (append-nil (map Use xs))
+argument_events_are (mark ∷ marks) xs = refl
+
+op_events_are : (reads : Reads) (op : Op) → uses_of reads op ≡ events_by (op_taken reads op) (op_read reads op)
+op_events_are reads (Lit z) = refl
+op_events_are reads (Flag b) = refl
+op_events_are reads (Copy x) = refl
+op_events_are reads (Prim op x y) = refl
+op_events_are reads (Make con args at) = sym (append-nil (map Use (operands_of (Make con args at))))
+op_events_are reads (Call func args) = argument_events_are (reads func) args
+
+term_events_are : (reads : Reads) (t : Term) → term_events reads t ≡ events_by (term_taken reads t) (term_read reads t)
+term_events_are reads (Ret x) = refl
+term_events_are reads (Tail func args) = argument_events_are (reads func) args
+term_events_are reads (Goto b) = refl
+term_events_are reads (If x first second) = refl
+term_events_are reads (Case x arms) = refl
+
+-- what a call takes and what it reads are among its arguments
+argument_among : (marks : List Bool) (xs : List ℕ) (y : ℕ) (l : Bool) → (is_among (taken_by marks xs) y || (is_among (read_by marks xs) y || l)) ≡ true
+    → (is_among xs y || l) ≡ true
+argument_among [] xs y l e = e
+argument_among (mark ∷ marks) [] y l e = e
+argument_among (true ∷ marks) (x ∷ xs) y l e = second (x == y) (is_among (taken_by marks xs) y) (is_among (read_by marks xs) y) (is_among xs y) l e (argument_among marks xs y l)
+  where
+    second : (a t r m l : Bool) → (t || ((a || r) || l)) ≡ true → ((t || (r || l)) ≡ true → (m || l) ≡ true) → ((a || m) || l) ≡ true
+    second true t r m l e next = refl
+    second false t r m l e next = next e
+argument_among (false ∷ marks) (x ∷ xs) y l e = first (x == y) (is_among (taken_by marks xs) y) (is_among (read_by marks xs) y) (is_among xs y) l e (argument_among marks xs y l)
+  where
+    first : (a t r m l : Bool) → ((a || t) || (r || l)) ≡ true → ((t || (r || l)) ≡ true → (m || l) ≡ true) → ((a || m) || l) ≡ true
+    first true t r m l e next = refl
+    first false t r m l e next = next e
+
+op_among : (reads : Reads) (op : Op) (y : ℕ) (l : Bool) → (is_among (op_taken reads op) y || (is_among (op_read reads op) y || l)) ≡ true
+    → (is_among (operands_of op) y || l) ≡ true
+op_among reads (Lit z) y l e = e
+op_among reads (Flag b) y l e = e
+op_among reads (Copy x) y l e = e
+op_among reads (Prim op x z) y l e = e
+op_among reads (Make con args at) y l e = e
+op_among reads (Call func args) y l e = argument_among (reads func) args y l e
+
+term_among : (reads : Reads) (t : Term) (y : ℕ) (l : Bool) → (is_among (term_taken reads t) y || (is_among (term_read reads t) y || l)) ≡ true
+    → (is_among (term_uses t) y || l) ≡ true
+term_among reads (Ret x) y l e = e
+term_among reads (Tail func args) y l e = argument_among (reads func) args y l e
+term_among reads (Goto b) y l e = e
+term_among reads (If x first second) y l e = e
+term_among reads (Case x arms) y l e = e
 
 -- ---- lets
 
@@ -80,26 +163,27 @@ bound_holds s t live holds y e = by_test (t == y) refl
     by_test true k = refl
     by_test false k = holds y (ap (λ b. not b && live y) k ∙ e)
 
-let_went : (h : ℕ → Bool) (s : State) (l : Let) (live : Marks) → Once h (operands_of l.op) (unless_bound l.target live)
+let_went : (reads : Reads) (h : ℕ → Bool) (s : State) (l : Let) (live : Marks) → Once h (op_taken reads l.op) (op_read reads l.op) (unless_bound l.target live)
     → Holds s (λ y. is_among (operands_of l.op) y || unless_bound l.target live y)
-    → Went h s (let_events no_reads l) live
-let_went h s l live once holds =
+    → Went h s (let_events reads l) live
+let_went reads h s l live once holds =
     let behind = unless_bound l.target live in
-    let r = subst (λ es. Went h s es behind) (sym (uses_none l.op)) (uses_went h s (operands_of l.op) behind once holds) in
+    let r = subst (λ es. Went h s es behind) (sym (op_events_are reads l.op))
+        (events_went h s (op_taken reads l.op) (op_read reads l.op) behind once (λ y e. holds y (op_among reads l.op y (behind y) e))) in
     record {
-      ready = ready_both h s (uses_of no_reads l.op) (Bind l.target ∷ []) r.ready tt;
-      holds = subst (λ u. Holds u live) (sym (after_append h s (uses_of no_reads l.op) (Bind l.target ∷ []))) (bound_holds (after h s (uses_of no_reads l.op)) l.target live r.holds);
+      ready = ready_both h s (uses_of reads l.op) (Bind l.target ∷ []) r.ready tt;
+      holds = subst (λ u. Holds u live) (sym (after_append h s (uses_of reads l.op) (Bind l.target ∷ []))) (bound_holds (after h s (uses_of reads l.op)) l.target live r.holds);
     }
 
-record LetsWent (h : ℕ → Bool) (s : State) (ls : List Let) (live : Marks) : Type 0 where
-  ready : LetsReady no_reads h s ls
-  holds : Holds (after_lets no_reads h s ls) live
+record LetsWent (reads : Reads) (h : ℕ → Bool) (s : State) (ls : List Let) (live : Marks) : Type 0 where
+  ready : LetsReady reads h s ls
+  holds : Holds (after_lets reads h s ls) live
 
-lets_went : (h : ℕ → Bool) (s : State) (ls : List Let) (live : Marks) → LetsOnce h ls live → Holds s (lets_live ls live) → LetsWent h s ls live
-lets_went h s [] live once holds = record { ready = tt; holds = holds }
-lets_went h s (l ∷ ls) live once holds =
-    let first = let_went h s l (lets_live ls live) once.0 holds in
-    let rest = lets_went h (after_let no_reads h s l) ls live once.1 first.holds in
+lets_went : (reads : Reads) (h : ℕ → Bool) (s : State) (ls : List Let) (live : Marks) → LetsOnce reads h ls live → Holds s (lets_live ls live) → LetsWent reads h s ls live
+lets_went reads h s [] live once holds = record { ready = tt; holds = holds }
+lets_went reads h s (l ∷ ls) live once holds =
+    let first = let_went reads h s l (lets_live ls live) once.0 holds in
+    let rest = lets_went reads h (after_let reads h s l) ls live once.1 first.holds in
     record { ready = (first.ready, rest.ready); holds = rest.holds }
 
 -- ---- jumps
@@ -174,16 +258,18 @@ start_holds h params live has = binds_hold h nothing_bound params live (λ y e. 
     none y p = let clash : false ≡ true = sym p.0 ∙ has y p.1 in absurd cc
 
 -- A block's uses find their locals ready, where its parameters hold what is live there.
-pub block_ready : (h : ℕ → Bool) (blocks : List Block) (later : LaterMarks) (f : Func) (n : ℕ) (params : List ℕ) (b : NormalBlock)
-    → BlockOnce h later b → ((b : ℕ) → JumpFits f n b → ParamsLive blocks later b) → Ahead f n b.term
-    → ((x : ℕ) → block_live later b x ≡ true → is_among params x ≡ true) → UsesReady no_reads h blocks (record { params = params; lets = b.lets; term = b.term })
-block_ready h blocks later f n params b once live ahead has =
+pub block_ready : (reads : Reads) (h : ℕ → Bool) (blocks : List Block) (later : LaterMarks) (f : Func) (n : ℕ) (params : List ℕ) (b : NormalBlock)
+    → BlockOnce reads h later b → ((b : ℕ) → JumpFits f n b → ParamsLive blocks later b) → Ahead f n b.term
+    → ((x : ℕ) → block_live later b x ≡ true → is_among params x ≡ true) → UsesReady reads h blocks (record { params = params; lets = b.lets; term = b.term })
+block_ready reads h blocks later f n params b once live ahead has =
     let s = after h nothing_bound (map Bind params) in
-    let lets = lets_went h s b.lets (term_live later b.term) once.lets (start_holds h params (block_live later b) has) in
-    let end = after_lets no_reads h s b.lets in
-    let term = subst (λ es. Went h end es (onward_live later b.term)) (sym (term_uses_none b.term)) (uses_went h end (term_uses b.term) (onward_live later b.term) once.term lets.holds) in
+    let lets = lets_went reads h s b.lets (term_live later b.term) once.lets (start_holds h params (block_live later b) has) in
+    let end = after_lets reads h s b.lets in
+    let term = subst (λ es. Went h end es (onward_live later b.term)) (sym (term_events_are reads b.term))
+        (events_went h end (term_taken reads b.term) (term_read reads b.term) (onward_live later b.term) once.term
+        (λ y e. lets.holds y (term_among reads b.term y (onward_live later b.term y) e))) in
     record {
       lets = lets.ready;
       term = term.ready;
-      onward = onward_ready h (after h end (term_events no_reads b.term)) blocks later f n b.term live ahead term.holds;
+      onward = onward_ready h (after h end (term_events reads b.term)) blocks later f n b.term live ahead term.holds;
     }

@@ -1,7 +1,6 @@
 -- The code of a program within the limits is within those of code, and has a spelling.
 use Rattle.std.proofs.Common.{◌≡◌, ℕ, suc, ◌≤◌, Bool, true, false, List, [], ◌∷◌, ◌++◌, length, map, Option, Some, None, refl, sym, ap, subst, arith}
 use Rattle.std.specs.Prelude.{◌||◌, not, nat_lt, if◌then◌else◌, flat_map, IsTrue}
-use Rattle.std.proofs.lemmas.List.{length-replicate}
 use Rattle.std.specs.List.{AllByRecursion, list_all}
 use Rattle.std.specs.Option.{option_or}
 use Rattle.std.proofs.lemmas.Bool.Decides.{nat_tests}
@@ -120,7 +119,7 @@ function_within p f n counted small few =
     let most_blocks = small.blocks in
     record {
       few_params = omega (arith, params, few);
-      as_many = length-replicate (length n.params) false;
+      as_many = (let marks = counted.reads in omega (arith, params, marks));
       few_locals = omega (arith, locals, most_locals);
       some_blocks = omega (arith, size, some);
       few_blocks = omega (arith, size, blocks, most_blocks);

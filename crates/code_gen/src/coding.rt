@@ -1,5 +1,5 @@
 //! The code of functions in normal form.
-ghost use Rattle.std.specs.Prelude.{◌≡◌, ℕ, ◌≤◌, false, length, map, replicate, IfOk};
+ghost use Rattle.std.specs.Prelude.{◌≡◌, ℕ, ◌≤◌, length, map, IfOk};
 ghost use Rattle.std.specs.List.{AllByRecursion, range_with_len};
 ghost use Rattle.grail_code.specs.Code as code;
 ghost use Rattle.grail_code.specs.Limits.{FuncIsWithin};
@@ -77,13 +77,6 @@ fn code_blocks(
     Ok(all)
 }
 
-// So many marks of parameters, none of which is only looked at.
-fn unmarked(alloc: Global, count: usize) -> Result<Vec<bool>, AllocError>
-    ensures { IfOk result (λ reads. reads.items ≡ replicate count false) }
-{
-    vec![in alloc; false; count]
-}
-
 /// The code of a function in normal form that is within the limits of code.
 pub fn code_function(alloc: Global, function: NormalFunction) -> Result<Func, AllocError>
     requires { FuncIsWithin (coded live_params (normal_function_of function)) }
@@ -91,13 +84,12 @@ pub fn code_function(alloc: Global, function: NormalFunction) -> Result<Func, Al
 {
     let own = function.params.len();
     let size = (own + function.locals.len()) as u32;
-    let reads = unmarked(alloc, own)?;
     let live = live_at_blocks(alloc, &function.blocks)?;
     let blocks = code_blocks(alloc, own, size, &live, function.blocks)?;
     Ok(Func {
         name: function.name,
         params: function.params,
-        reads,
+        reads: function.reads,
         result: function.result,
         locals: function.locals,
         blocks,

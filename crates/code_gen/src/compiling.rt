@@ -12,7 +12,6 @@ ghost use Rattle.grail_code.specs.Code.{code_of, func_of};
 ghost use Rattle.grail_code.specs.Meaning.{run_of};
 ghost use Rattle.grail_code.specs.Spelling.{FitsCode, Second};
 ghost use Rattle.grail_code.specs.WellFormed.{IsWellFormed};
-ghost use Rattle.grail_code.specs.Unread.{AreUnread};
 ghost use Rattle.normal_form.specs.declared.fault.NormalFault.{NormalFault};
 ghost use Rattle.normal_form.specs.Answers.{Finds, Refuses, Takes, fault_of, program_fault};
 ghost use Rattle.normal_form.specs.Normal.{normal_function};
@@ -75,9 +74,6 @@ pub fn compile(alloc: Global, program: &Linear) -> Result<Code, Stop<NormalFault
 
     // It is well formed.
     ensures well_formed { IsTyping (typing_of program.now.typed) → KeepsRule (typing_of program.now.typed) → IfOk result (λ code. IsWellFormed (code_of code)) }
-
-    // No parameter of it is only read, and no arm only looks at its cell.
-    ensures unread { IsTyping (typing_of program.now.typed) → KeepsRule (typing_of program.now.typed) → IfOk result (λ code. AreUnread (code_of code)) }
 
     // It means what the program means, on fitting arguments: both come to the same value with the same calls, peak and
     // net, or both stop alike.

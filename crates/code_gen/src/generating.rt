@@ -13,7 +13,6 @@ ghost use Rattle.grail_code.specs.Limits.{IsWithinLimits};
 ghost use Rattle.grail_code.specs.Meaning.{run_of};
 ghost use Rattle.grail_code.specs.Spelling.{FitsCode, Second};
 ghost use Rattle.grail_code.specs.WellFormed.{IsWellFormed};
-ghost use Rattle.grail_code.specs.Unread.{AreUnread};
 ghost use Rattle.normal_form.specs.Answers.{program_fault};
 ghost use Rattle.normal_form.specs.Normal.{normal_form};
 ghost use Rattle.normal_form.specs.Programs.{normal_of};
@@ -50,9 +49,6 @@ pub fn generate(alloc: Global, program: Normal) -> Result<Code, AllocError>
 
     // That of a typed program that keeps the rule of use is well formed.
     ensures well_formed { (t : Typing) → IsTyping t → KeepsRule t → normal_of program ≡ normal_form t → IfOk result (λ code. IsWellFormed (code_of code)) }
-
-    // No parameter of it is only read, and no arm only looks at its cell.
-    ensures unread { (t : Typing) → IsTyping t → KeepsRule t → normal_of program ≡ normal_form t → IfOk result (λ code. AreUnread (code_of code)) }
 
     // It means what the program means, on fitting arguments: both come to the same value with the same calls, peak and
     // net, or both stop alike.

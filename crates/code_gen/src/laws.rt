@@ -14,7 +14,6 @@ ghost use Rattle.grail_code.specs.Limits.{IsWithinLimits};
 ghost use Rattle.grail_code.specs.Meaning.{run_of};
 ghost use Rattle.grail_code.specs.Spelling.{FitsCode, Second};
 ghost use Rattle.grail_code.specs.WellFormed.{IsWellFormed};
-ghost use Rattle.grail_code.specs.Unread.{AreUnread};
 ghost use Rattle.normal_form.specs.Answers.{program_fault};
 ghost use Rattle.code_gen.specs.Generated.{compiled};
 
@@ -29,8 +28,6 @@ use normal_form::laws::law_of_meaning;
 pub fn law_of_compiler()
     // The code of a typed program that keeps the rule of use is well formed.
     ensures well_formed { (t : Typing) → IsTyping t → KeepsRule t → IsWellFormed (compiled t) }
-    // No parameter of it is only read, and no arm only looks at its cell.
-    ensures unread { (t : Typing) → IsTyping t → KeepsRule t → AreUnread (compiled t) }
     // On fitting arguments it means what the program means: the same outcome with the same counts.
     ensures meaning { (t : Typing) (limit func fuel : ℕ) (args : List Value) (s : Signature) → IsTyping t → KeepsRule t → slice_get t.signatures func ≡ Some s
         → ArgumentsFit (types_of t.source) s.params args → run_of (compiled t) limit func fuel args ≡ source.run_of t.source limit func fuel args }

@@ -6,3 +6,4 @@ pub mod Tables
 pub mod TableLaws
 pub mod Walk
 pub mod Answers
+pub mod Fairness

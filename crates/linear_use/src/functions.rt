@@ -53,7 +53,7 @@ fn bind_params<'a>(
     while number > 0 {
         number -= 1;
         let kind = kinds[number];
-        scope.bind(params[number].name.word.bytes(), Variable { number, kind })?;
+        scope.bind(params[number].name.word.bytes(), Variable { number, kind, lent: false })?;
     }
     Ok(scope)
 }

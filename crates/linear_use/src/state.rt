@@ -31,7 +31,7 @@ impl<'a> State<'a> {
         self.spent.count(number)?;
         self.next = number + 1;
         self.scope
-            .bind(name.word.bytes(), Variable { number, kind })?;
+            .bind(name.word.bytes(), Variable { number, kind, lent: false })?;
         Ok(())
     }
 

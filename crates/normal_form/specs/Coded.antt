@@ -1,6 +1,6 @@
 -- Cited by contracts.
 -- A program in normal form as code, whose blocks have some parameters.
-use Rattle.std.specs.Prelude.{ℕ, suc, Bool, false, List, [], ◌∷◌, length, map, replicate}
+use Rattle.std.specs.Prelude.{ℕ, suc, List, [], ◌∷◌, map}
 use Rattle.grail_code.specs.Code.{Block, Func, Code}
 use Rattle.normal_form.specs.Normal.{NormalBlock, NormalFunction, NormalProgram}
 
@@ -12,12 +12,8 @@ abbrev pub coded_blocks : (ℕ → List ℕ) → ℕ → List NormalBlock → Li
 coded_blocks takes number [] = []
 coded_blocks takes number (b ∷ bs) = record { params = takes number; lets = b.lets; term = b.term } ∷ coded_blocks takes (suc number) bs
 
--- none of its parameters is one that is only looked at
-abbrev pub unmarked : NormalFunction → List Bool
-unmarked f = replicate (length f.params) false
-
 abbrev pub coded : BlockParams → NormalFunction → Func
-coded takes f = record { name = f.name; params = f.params; reads = unmarked f; result = f.result; locals = f.locals; blocks = coded_blocks (takes f) 0 f.blocks }
+coded takes f = record { name = f.name; params = f.params; reads = f.reads; result = f.result; locals = f.locals; blocks = coded_blocks (takes f) 0 f.blocks }
 
 abbrev pub code_with : BlockParams → NormalProgram → Code
 code_with takes p = record { types = p.types; funcs = map (coded takes) p.functions }

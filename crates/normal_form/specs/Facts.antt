@@ -1,14 +1,15 @@
 -- Cited by contracts.
 -- What is known of the normal form of a typed program that keeps the rule of use.
-use Rattle.std.specs.Prelude.{◌≡◌, ℕ, suc, ◌<◌, ◌≤◌, Bool, true, false, List, [], ◌∷◌, ◌++◌, length, map, slice_get}
+use Rattle.std.specs.Prelude.{◌≡◌, ℕ, suc, ◌<◌, ◌≤◌, ◌||◌, ◌&&◌, not, Bool, true, false, List, [], ◌∷◌, ◌++◌, length, map, flat_map, slice_get}
 use Rattle.std.specs.List.{AllByRecursion}
 use Rattle.std.specs.Option.{option_map_or}
 use Rattle.camelot_values.specs.Kinds.{DataType, constructors}
 use Rattle.camelot_values.specs.Names.{AreDistinct}
 use Rattle.camelot_values.specs.Heap.{is_heap}
+use Rattle.camelot_values.specs.Lists.{is_among}
+use Rattle.grail_blocks.specs.Events.{Reads}
 use Rattle.grail_code.specs.Code.{Func, Code}
-use Rattle.grail_code.specs.WellFormed.{IsKnownKind, LetFits}
-use Rattle.grail_code.specs.Unread.{TermOwned}
+use Rattle.grail_code.specs.WellFormed.{IsKnownKind, LetFits, TermFits, LetLends, TermLends, is_lent, is_marked, looked_at}
 use Rattle.camelot_tree.specs.Tree.{Function, Source}
 use Rattle.normal_form.specs.Normal.{NormalBlock, NormalFunction, NormalProgram, tail_made, tail_ends}
 use Rattle.normal_form.specs.Coded.{BlockParams, coded, code_with}
@@ -18,23 +19,48 @@ use Rattle.normal_form.specs.Live.{live_from, BlocksOnce}
 abbrev pub is_heap_in : List DataType → NormalFunction → ℕ → Bool
 is_heap_in types f x = option_map_or (is_heap types) (slice_get (f.params ++ f.locals) x) false
 
--- A function reads no local that isn't bound, and uses no heap local twice: at its beginning its parameters alone are
--- live, and no block uses a heap local that is used again, here or on some way on.
-pub record UsesFairly (types : List DataType) (f : NormalFunction) : Type 0 where
+-- the fields of arms that leave their cell as it is
+abbrev pub looked_in : NormalFunction → List ℕ
+looked_in f = flat_map (λ b. looked_at b.term) f.blocks
+
+-- the local is only read: a parameter with a mark, or such a field
+abbrev pub is_read_in : NormalFunction → ℕ → Bool
+is_read_in f x = option_map_or (λ mark. mark) (slice_get f.reads x) false || is_among (looked_in f) x
+
+-- the local is of a heap kind, and not lent
+abbrev pub is_owned_in : List DataType → NormalFunction → ℕ → Bool
+is_owned_in types f x = is_heap_in types f x && not (is_read_in f x)
+
+-- the marks of the program's functions, by number
+abbrev pub reads_in : NormalProgram → Reads
+reads_in p = λ func. option_map_or (λ f. f.reads) (slice_get p.functions func) []
+
+-- A function reads no local that isn't bound, and takes no owned local twice: at its beginning its parameters alone are
+-- live, and no block takes an owned local that is read or taken again, here or on some way on.
+pub record UsesFairly (p : NormalProgram) (f : NormalFunction) : Type 0 where
   pub bound : (x : ℕ) → live_from 0 f.blocks 0 x ≡ true → x < length f.params
-  pub once : BlocksOnce (is_heap_in types f) 0 f.blocks
+  pub once : BlocksOnce (reads_in p) (is_owned_in p.types f) 0 f.blocks
 
 -- ---- fitting
 
 -- the lets and ends of these blocks, of which the first has this number, fit in this function of this code
 abbrev pub BodyFits : Code → Func → ℕ → List NormalBlock → Type 0
 BodyFits p f number [] = Unit {0}
-BodyFits p f number (b ∷ bs) = AllByRecursion (LetFits p f) b.lets × TermOwned p f number b.term × BodyFits p f (suc number) bs
+BodyFits p f number (b ∷ bs) = AllByRecursion (LetFits p f) b.lets × TermFits p f number b.term × BodyFits p f (suc number) bs
+
+-- what is lent is only read by them
+abbrev pub BodyLends : Code → Func → List NormalBlock → Type 0
+BodyLends p f [] = Unit {0}
+BodyLends p f (b ∷ bs) = AllByRecursion (LetLends p f) b.lets × TermLends p f b.term × BodyLends p f bs
 
 -- As code, whatever the parameters of blocks: each kind's type is there, each let and each end of a block has operands
 -- that are there and of their kinds, constructors are built and matched in place exactly where they are inline, and
--- jumps go forward to blocks that are there.
+-- jumps go forward to blocks that are there. What is lent is only read, a parameter that is lent is marked, and beside
+-- one the result isn't of a heap kind.
 pub record FitsAsCode (takes : BlockParams) (p : NormalProgram) (f : NormalFunction) : Type 0 where
+  pub marked : (x : ℕ) → x < length f.params → is_lent p.types (coded takes f) x ≡ true → is_marked (coded takes f) x ≡ true
+  pub keeps : (x : ℕ) → x < length f.params → is_lent p.types (coded takes f) x ≡ true → is_heap p.types f.result ≡ false
+  pub lends : BodyLends (code_with takes p) (coded takes f) f.blocks
   pub kinds : AllByRecursion (IsKnownKind p.types) (f.params ++ f.locals)
   pub result : IsKnownKind p.types f.result
   pub body : BodyFits (code_with takes p) (coded takes f) 0 f.blocks

@@ -5,8 +5,8 @@
 use Rattle.std.specs.Prelude.{◌≡◌, ℕ, suc, ◌+◌, ◌≤◌, ◌==◌, ◌&&◌, ◌||◌, not, if◌then◌else◌, Bool, true, false, List, [], ◌∷◌}
 use Rattle.std.specs.List.{list_any}
 use Rattle.camelot_values.specs.Lists.{is_among}
-use Rattle.grail_blocks.specs.Blocks.{Let, Term, Ret, Tail, Goto, If, Case}
-use Rattle.grail_blocks.specs.Events.{operands_of, term_uses, bound_by}
+use Rattle.grail_blocks.specs.Blocks.{Op, Call, Let, Term, Ret, Tail, Goto, If, Case}
+use Rattle.grail_blocks.specs.Events.{Reads, taken_by, read_by, operands_of, term_uses, bound_by}
 use Rattle.normal_form.specs.Normal.{NormalBlock}
 
 -- the locals that are live at a place
@@ -57,19 +57,39 @@ abbrev pub bit : Bool → ℕ
 bit true = 1
 bit false = 0
 
--- of these uses, which stand in front of where `after` is live, none is of a heap local that is used again
-abbrev pub Once : (ℕ → Bool) → List ℕ → Marks → Type 0
-Once is_heap xs after = (x : ℕ) → is_heap x ≡ true → times x xs + bit (after x) ≤ 1
+-- the operands that a let takes: all but those that a call only reads
+abbrev pub op_taken : Reads → Op → List ℕ
+op_taken reads (Call func args) = taken_by (reads func) args
+op_taken reads op = operands_of op
 
-abbrev pub LetsOnce : (ℕ → Bool) → List Let → Marks → Type 0
-LetsOnce is_heap [] after = Unit {0}
-LetsOnce is_heap (l ∷ ls) after = Once is_heap (operands_of l.op) (unless_bound l.target (lets_live ls after)) × LetsOnce is_heap ls after
+abbrev pub op_read : Reads → Op → List ℕ
+op_read reads (Call func args) = read_by (reads func) args
+op_read reads op = []
 
-pub record BlockOnce (is_heap : ℕ → Bool) (later : LaterMarks) (b : NormalBlock) : Type 0 where
-  pub lets : LetsOnce is_heap b.lets (term_live later b.term)
-  pub term : Once is_heap (term_uses b.term) (onward_live later b.term)
+-- and those of the end of a block
+abbrev pub term_taken : Reads → Term → List ℕ
+term_taken reads (Tail func args) = taken_by (reads func) args
+term_taken reads t = term_uses t
 
--- no block of these, from block `first` on, uses a heap local that is used again before it is bound anew
-abbrev pub BlocksOnce : (ℕ → Bool) → ℕ → List NormalBlock → Type 0
-BlocksOnce is_heap first [] = Unit {0}
-BlocksOnce is_heap first (b ∷ bs) = BlockOnce is_heap (live_from (suc first) bs) b × BlocksOnce is_heap (suc first) bs
+abbrev pub term_read : Reads → Term → List ℕ
+term_read reads (Tail func args) = read_by (reads func) args
+term_read reads t = []
+
+-- Of these locals, which are taken in front of where those are read and `after` is live, none that is owned is taken
+-- twice, or is read or live behind that.
+abbrev pub Once : (ℕ → Bool) → (taken read : List ℕ) → Marks → Type 0
+Once is_owned taken read after = (x : ℕ) → is_owned x ≡ true → times x taken + bit (is_among read x || after x) ≤ 1
+
+abbrev pub LetsOnce : Reads → (ℕ → Bool) → List Let → Marks → Type 0
+LetsOnce reads is_owned [] after = Unit {0}
+LetsOnce reads is_owned (l ∷ ls) after =
+    Once is_owned (op_taken reads l.op) (op_read reads l.op) (unless_bound l.target (lets_live ls after)) × LetsOnce reads is_owned ls after
+
+pub record BlockOnce (reads : Reads) (is_owned : ℕ → Bool) (later : LaterMarks) (b : NormalBlock) : Type 0 where
+  pub lets : LetsOnce reads is_owned b.lets (term_live later b.term)
+  pub term : Once is_owned (term_taken reads b.term) (term_read reads b.term) (onward_live later b.term)
+
+-- no block of these, from block `first` on, takes an owned local that is read or taken again before it is bound anew
+abbrev pub BlocksOnce : Reads → (ℕ → Bool) → ℕ → List NormalBlock → Type 0
+BlocksOnce reads is_owned first [] = Unit {0}
+BlocksOnce reads is_owned first (b ∷ bs) = BlockOnce reads is_owned (live_from (suc first) bs) b × BlocksOnce reads is_owned (suc first) bs

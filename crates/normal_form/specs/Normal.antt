@@ -5,7 +5,7 @@
 -- in which they are begun, which is that in which they are written. How many locals and blocks come from an expression
 -- is known beforehand, so that a jump names its target at once. The code writes blocks, with those of a branch before
 -- the end that leads to it, and refuses a function that has too many.
-use Rattle.std.specs.Prelude.{ℕ, suc, ◌+◌, if◌then◌else◌, List, [], ◌∷◌, ◌++◌, length, Option, Some, None}
+use Rattle.std.specs.Prelude.{ℕ, suc, ◌+◌, if◌then◌else◌, Bool, List, [], ◌∷◌, ◌++◌, length, Option, Some, None}
 use Rattle.camelot_values.specs.Kinds.{DataType, type_of}
 use Rattle.camelot_values.specs.Names.{find}
 use Rattle.camelot_values.specs.Typing.{operator_kind}
@@ -19,6 +19,7 @@ use Rattle.camelot_tree.specs.Meaning.{constructor_number, function_number, is_t
 use Rattle.camelot_typing.specs.Kinds.{Scope, bind, or_else, types_of, fields_of, is_inline, numbered, numbers_of, arm_scope, atom_of}
 use Rattle.camelot_typing.specs.Typing.{Signature, known_kind, params_scope, globals_of}
 use Rattle.camelot_typing.specs.Typed.{Typing}
+use Rattle.linear_use.specs.Uses.{lent_params}
 use Rattle.grail_blocks.specs.declared.blocks.Place.{Place}
 use Rattle.grail_blocks.specs.declared.blocks.Place.TheVariants as place
 use Rattle.grail_blocks.specs.declared.blocks.CaseCell.{CaseCell}
@@ -33,10 +34,12 @@ pub record NormalBlock : Type 0 where
   pub lets : List block.Let
   pub term : Term
 
--- a function: its parameters are the locals from 0 on, and `locals` has the kinds of the further ones
+-- A function: its parameters are the locals from 0 on, with a mark for each that is only read, and `locals` has the
+-- kinds of the further ones.
 pub record NormalFunction : Type 0 where
   pub name : List ℕ
   pub params : List Kind
+  pub reads : List Bool
   pub result : Kind
   pub locals : List Kind
   pub blocks : List NormalBlock
@@ -118,14 +121,19 @@ with_cell x next s = s
 abbrev pub in_arm : List (Option Name) → ArmCell → ℕ → Scope ℕ → Scope ℕ
 in_arm fs x next s = with_cell x (next + length fs) (with_fields fs next s)
 
-abbrev pub cell_in : ArmCell → ℕ → CaseCell
-cell_in cell.Plain next = case_cell.Inline
-cell_in cell.Free next = case_cell.Free
-cell_in (cell.Keep d) next = case_cell.Keep next
+-- an arm of a boxed constructor without an `@` only looks at the cell
+abbrev pub cell_in : (inline : Bool) → ArmCell → ℕ → CaseCell
+cell_in inline cell.Plain next = if inline then case_cell.Inline else case_cell.Look
+cell_in inline cell.Free next = case_cell.Free
+cell_in inline (cell.Keep d) next = case_cell.Keep next
 
-abbrev pub case_arm : Option Branch → ℕ → ℕ → CaseArm
-case_arm None next target = record { fields = []; cell = case_cell.Inline; target = target }
-case_arm (Some a) next target = record { fields = numbered next a.fields; cell = cell_in a.cell (next + length a.fields); target = target }
+abbrev pub case_arm : Source → Option Branch → ℕ → ℕ → CaseArm
+case_arm p None next target = record { fields = []; cell = case_cell.Inline; target = target }
+case_arm p (Some a) next target = record {
+  fields = numbered next a.fields;
+  cell = cell_in (is_inline (types_of p) (con_of p a.con)) a.cell (next + length a.fields);
+  target = target;
+}
 
 -- the sum over these constructors
 abbrev pub total : (ℕ → ℕ) → List ℕ → ℕ
@@ -140,7 +148,7 @@ in_turn locals blocks part (con ∷ cons) next first = part con next first ++ in
 
 -- the arms of a case
 abbrev pub case_arms : Source → Arms → (locals blocks : ℕ → ℕ) → ℕ → ℕ → List CaseArm
-case_arms p as' locals blocks next first = in_turn locals blocks (λ con next first. case_arm (arm_for p as' con) next first ∷ []) (cons_of p as') next first
+case_arms p as' locals blocks next first = in_turn locals blocks (λ con next first. case_arm p (arm_for p as' con) next first ∷ []) (cons_of p as') next first
 
 -- ---- values
 
@@ -383,6 +391,7 @@ abbrev pub normal_function : Source → List Signature → Function → Signatur
 normal_function p sigs f s = record {
   name = f.name.word;
   params = s.params;
+  reads = lent_params (types_of p) f.params s.params;
   result = s.result;
   locals = tail_kinds p sigs (params_scope f.params s.params) f.body;
   blocks = cut (tail p f.body (params_scope f.params (numbered 0 f.params)) (length f.params) 0);

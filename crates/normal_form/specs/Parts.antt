@@ -116,8 +116,8 @@ body_and a b = record { cases = a.cases; bodies = a.bodies ++ record { lines = b
 
 -- the arm of one constructor, where there is one
 abbrev pub arm_and : Source → Scope ℕ → PlainArms → Option Branch → PlainArms
-arm_and p s a None = record { cases = a.cases ++ case_arm None 0 a.number ∷ []; bodies = a.bodies; next = a.next; number = a.number }
-arm_and p s a (Some b) = body_and (record { cases = a.cases ++ case_arm (Some b) a.next a.number ∷ []; bodies = a.bodies; next = a.next; number = a.number })
+arm_and p s a None = record { cases = a.cases ++ case_arm p None 0 a.number ∷ []; bodies = a.bodies; next = a.next; number = a.number }
+arm_and p s a (Some b) = body_and (record { cases = a.cases ++ case_arm p (Some b) a.next a.number ∷ []; bodies = a.bodies; next = a.next; number = a.number })
     (value_piece p (in_arm b.fields b.cell a.next s) (a.next + bound_count b.fields b.cell) a.number b.body)
 
 abbrev pub arms_and : Source → Scope ℕ → PlainArms → List (Option Branch) → PlainArms
@@ -185,8 +185,8 @@ divided_piece p s c a b =
     divided c first (tail_piece p s first.next first.number b)
 
 abbrev pub tail_arm_and : Source → Scope ℕ → PlainTails → Option Branch → PlainTails
-tail_arm_and p s a None = record { cases = a.cases ++ case_arm None 0 a.number ∷ []; lines = a.lines; next = a.next; number = a.number }
-tail_arm_and p s a (Some b) = tail_and (record { cases = a.cases ++ case_arm (Some b) a.next a.number ∷ []; lines = a.lines; next = a.next; number = a.number })
+tail_arm_and p s a None = record { cases = a.cases ++ case_arm p None 0 a.number ∷ []; lines = a.lines; next = a.next; number = a.number }
+tail_arm_and p s a (Some b) = tail_and (record { cases = a.cases ++ case_arm p (Some b) a.next a.number ∷ []; lines = a.lines; next = a.next; number = a.number })
     (tail_piece p (in_arm b.fields b.cell a.next s) (a.next + bound_count b.fields b.cell) a.number b.body)
 
 abbrev pub tail_arms_and : Source → Scope ℕ → PlainTails → List (Option Branch) → PlainTails

@@ -14,6 +14,7 @@ abbrev pub normal_function_of : NormalFunction → plain.NormalFunction
 normal_function_of f = record {
   name = f.name;
   params = f.params.items;
+  reads = f.reads.items;
   result = f.result;
   locals = f.locals.items;
   blocks = map block_of f.blocks.items;

@@ -12,10 +12,10 @@ ghost use Rattle.normal_form.specs.Facts.{AreCounted, FitsAsCode, TablesFit, Use
 use camelot_typing::Typed;
 use camelot_typing::laws::law_of_kinds;
 
-/// The normal form of a typed program that keeps the rule of use reads no local before it is bound, and uses none of a
-/// heap kind twice.
+/// The normal form of a typed program that keeps the rule of use reads no local before it is bound, and takes none that
+/// is owned twice, or in front of where it is read.
 pub fn law_of_use()
-    ensures { (t : Typing) → IsTyping t → KeepsRule t → AllByRecursion (UsesFairly (types_of t.source)) (normal_form t).functions }
+    ensures { (t : Typing) → IsTyping t → KeepsRule t → AllByRecursion (UsesFairly (normal_form t)) (normal_form t).functions }
 {
     law_of_kinds();
 }

@@ -8,11 +8,13 @@ pub struct NormalBlock {
     pub term: Term,
 }
 
-/// A function in normal form. Its parameters are the locals from 0 on, and `locals` has the kinds of the further ones.
+/// A function in normal form. Its parameters are the locals from 0 on, with a mark for each that is only read, and
+/// `locals` has the kinds of the further ones.
 #[derive(Debug, Drop)]
 pub struct NormalFunction {
     pub name: Word,
     pub params: Vec<Kind>,
+    pub reads: Vec<bool>,
     pub result: Kind,
     pub locals: Vec<Kind>,
     pub blocks: Vec<NormalBlock>,

@@ -34,7 +34,7 @@ returns c =
     let further = c.len.ensures in
     let first : c.len-own.result ≡ length f.params.items = omega (arith, own, params) in
     let all : c.len-own.result + c.len.result ≡ length f.params.items + length f.locals.items = omega (arith, own, params, further, locals) in
-    is_coded f c.in_ok-reads.reads.items (map block_of c.in_ok-blocks.blocks.items) c.deref-2.result.now c.len-own.result (c.len-own.result + c.len.result) c.in_ok-reads.ensures first all c.requires
+    is_coded f (map block_of c.in_ok-blocks.blocks.items) c.deref-2.result.now c.len-own.result (c.len-own.result + c.len.result) first all c.requires
     (subst (λ bs. AreSeen (map normal.block_of bs) 0 c.deref-2.result.now) c.deref.ensures.value
     (subst (λ vs. AreSeen (map normal.block_of c.deref.result.now) 0 vs) (sym c.deref-2.ensures.value) c.in_ok-live.ensures))
     c.in_ok-blocks.ensures

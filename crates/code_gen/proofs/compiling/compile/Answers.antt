@@ -5,7 +5,6 @@ use Rattle.camelot_typing.specs.TypedPrograms.{typing_of}
 use Rattle.grail_code.specs.Meaning.{run_of}
 use Rattle.grail_code.specs.Spelling.{FitsCode, Second}
 use Rattle.grail_code.specs.WellFormed.{IsWellFormed}
-use Rattle.grail_code.specs.Unread.{AreUnread}
 use Rattle.normal_form.specs.Answers.{program_fault}
 use Rattle.normal_form.specs.SetLaws.{outcome_set}
 use Rattle.code_gen.specs.Generated.{compiled}
@@ -30,11 +29,6 @@ pub returns-clause-well_formed : goal.returns-clause-well_formed
 returns-clause-well_formed c typing rule =
     let typed = c.args.program.now.typed in
     subst IsWellFormed (sym (is_code typed c.in_ok-known.known.typed.now c.in_ok-known.ensures _ c.in_ok-types.ensures c.in_ok-funcs.ensures.functions)) (c.law_of_compiler.ensures.well_formed (typing_of typed) typing rule)
-
-pub returns-clause-unread : goal.returns-clause-unread
-returns-clause-unread c typing rule =
-    let typed = c.args.program.now.typed in
-    subst AreUnread (sym (is_code typed c.in_ok-known.known.typed.now c.in_ok-known.ensures _ c.in_ok-types.ensures c.in_ok-funcs.ensures.functions)) (c.law_of_compiler.ensures.unread (typing_of typed) typing rule)
 
 pub returns-clause-meaning : goal.returns-clause-meaning
 returns-clause-meaning c limit func fuel args s known fit =

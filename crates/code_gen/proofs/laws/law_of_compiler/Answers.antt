@@ -1,18 +1,12 @@
 use Rattle.std.proofs.Common.{◌∙◌}
 use Rattle.normal_form.specs.Normal.{normal_form}
-use Rattle.grail_code.specs.UnreadLaws.{owned_is_unread, owned_is_well_formed}
-use Rattle.code_gen.specs.Generated.{live_params, code_of_normal}
+use Rattle.code_gen.specs.Generated.{live_params}
 use Rattle.code_gen.proofs.Compiled.{well_formed, code_means}
 use Rattle.code_gen.proofs.laws.law_of_compiler.Goals as goal
 
 pub returns-clause-well_formed : goal.returns-clause-well_formed
 returns-clause-well_formed c t typing rule =
-    let owned = well_formed (normal_form t) (c.law_of_tables.ensures t typing) (c.law_of_use.ensures t typing rule) (c.law_of_fits.ensures live_params t typing rule) in
-    owned_is_well_formed (code_of_normal (normal_form t)) (owned_is_unread (code_of_normal (normal_form t)) owned) owned
-
-pub returns-clause-unread : goal.returns-clause-unread
-returns-clause-unread c t typing rule = owned_is_unread (code_of_normal (normal_form t))
-    (well_formed (normal_form t) (c.law_of_tables.ensures t typing) (c.law_of_use.ensures t typing rule) (c.law_of_fits.ensures live_params t typing rule))
+    well_formed (normal_form t) (c.law_of_tables.ensures t typing) (c.law_of_use.ensures t typing rule) (c.law_of_fits.ensures live_params t typing rule)
 
 pub returns-clause-meaning : goal.returns-clause-meaning
 returns-clause-meaning c t limit func fuel args s typing rule is fit =
