@@ -17,7 +17,6 @@ use Rattle.grail_code.specs.Limits.{IsWithinLimits, IsNamed}
 use Rattle.grail_code.specs.Spelling.{Second, spelling}
 use Rattle.grail_code.specs.RangeLaws.{fits_second}
 use Rattle.grail_code.specs.WellFormed.{IsWellFormed}
-use Rattle.grail_code.specs.Unread.{AreUnread}
 use Rattle.certificate.specs.Certificates.{Cert, IsFormed}
 use Rattle.certificate.specs.Text.{text_of}
 use Rattle.licence.specs.Fitting.{Grants}
@@ -44,27 +43,24 @@ pub record Laws : Type 0 where
   pub whole : (tokens : List Lexeme) (source : Source) → IsProgram tokens source → IsTrue (is_whole source)
   pub typing : (t u : Typing) → t.source ≡ u.source → IsTyping t → IsSettled t → IsTyping u → IsSettled u → t ≡ u
   pub well_formed : (t : Typing) → IsTyping t → KeepsRule t → IsWellFormed (compiled t)
-  pub unread : (t : Typing) → IsTyping t → KeepsRule t → AreUnread (compiled t)
   pub within : (t : Typing) → IsTyping t → IsTrue (is_whole t.source) → program_fault t ≡ None → IsWithinLimits (compiled t)
   pub size : (p : Code) → IsWellFormed p → IsWithinLimits p → length (unknowns_of p) ≤ 512 → length (rows_of p) ≤ 1536 → IsProper (system_of p)
   pub run_least : (system : Inequalities) (o : Outcome) → IsProper system → IsOutcome system o → SaysLeast system o
   pub run_nothing : (system : Inequalities) (o : Outcome) → IsProper system → IsOutcome system o → SaysNothing system o
-  pub least : (p : Code) (unit : ℕ) (values : List ℕ) → IsWellFormed p → AreUnread p → IsWithinLimits p → IsLeast (system_of p) unit values
+  pub least : (p : Code) (unit : ℕ) (values : List ℕ) → IsWellFormed p → IsWithinLimits p → IsLeast (system_of p) unit values
       → IsLeastCertificate p (certificate_of p unit values)
-  pub none : (p : Code) → IsWellFormed p → AreUnread p → IsWithinLimits p → ((unit : ℕ) (values : List ℕ) → IsFeasible (system_of p) unit values → ⊥) → (c : Cert)
+  pub none : (p : Code) → IsWellFormed p → IsWithinLimits p → ((unit : ℕ) (values : List ℕ) → IsFeasible (system_of p) unit values → ⊥) → (c : Cert)
       → Grants p c → ⊥
   pub formed : (p : Code) (unit : ℕ) (values : List ℕ) → IsWellFormed p → IsWithinLimits p → IsNamed p → 1 ≤ unit → IsFormed (certificate_of p unit values)
 
 -- what is known of the code of a program
 record Coded (p : Code) : Type 0 where
   well : IsWellFormed p
-  unread : AreUnread p
   within : IsWithinLimits p
 
 coded : Laws → (text : List ℕ) (t : Typing) → HasProgram text t.source → IsTyping t → KeepsRule t → program_fault t ≡ None → Coded (compiled t)
 coded laws text t is typing rule none = record {
   well = laws.well_formed t typing rule;
-  unread = laws.unread t typing rule;
   within = laws.within t typing (laws.whole (lexemes text is.tokens) t.source is.program) none;
 }
 
@@ -76,7 +72,7 @@ least_values : Laws → (p : Code) (c : Cert) → Coded p → IsSmall p → (s :
 least_values laws p c coded small s = laws.run_least (system_of p) (Least s.unit s.values s.price_unit s.prices) (proper laws p coded small) s.outcome
 
 least_of : Laws → (p : Code) (c : Cert) → Coded p → IsSmall p → IsSolution p c → IsLeastCertificate p c
-least_of laws p c coded small s = subst (IsLeastCertificate p) (sym s.is) (laws.least p s.unit s.values coded.well coded.unread coded.within (least_values laws p c coded small s))
+least_of laws p c coded small s = subst (IsLeastCertificate p) (sym s.is) (laws.least p s.unit s.values coded.well coded.within (least_values laws p c coded small s))
 
 formed_of : Laws → (p : Code) (c : Cert) → Coded p → IsNamed p → IsSmall p → IsSolution p c → IsFormed c
 formed_of laws p c coded named small s =
@@ -130,6 +126,6 @@ none_grants laws text h = λ u is typed settled.
     let known : Coded (compiled t) = coded laws text t has h.says.typed h.says.says.0 h.says.says.1.0 in
     let run = h.says.says.1.1 in
     let nothing : NoneGrants (compiled t) =
-    laws.none (compiled t) known.well known.unread known.within (laws.run_nothing (system_of (compiled t)) (Nothing run.1.0) (proper laws (compiled t) known run.0) run.1.1) in
+    laws.none (compiled t) known.well known.within (laws.run_nothing (system_of (compiled t)) (Nothing run.1.0) (proper laws (compiled t) known run.0) run.1.1) in
     let same : t ≡ u = laws.typing t u (same_source laws text t.source u.source has is) h.says.typed h.says.settled typed settled in
     subst (λ x. NoneGrants (compiled x)) same nothing

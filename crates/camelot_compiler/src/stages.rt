@@ -10,7 +10,6 @@ ghost use Rattle.code_gen.specs.Generated.{compiled};
 ghost use Rattle.grail_code.specs.Code.{code_of};
 ghost use Rattle.grail_code.specs.Spelling.{Second, FitsCode, spelling};
 ghost use Rattle.grail_code.specs.WellFormed.{IsWellFormed};
-ghost use Rattle.grail_code.specs.Unread.{AreUnread};
 ghost use Rattle.certificate.specs.Text.{text_of};
 ghost use Rattle.stops.specs.declared.stop.Stop.TheVariants.{Memory};
 ghost use Rattle.camelot_compiler.specs.Compiled.{Compiled, compiled_of, IsCertified, IsGenerated, IsLinear, IsTyped, IsCompiled, IsSo, Answers};
@@ -91,7 +90,6 @@ fn bundle(alloc: Global, code: &Code, cert: &Cert) -> Result<Bundle, Stop<Cause>
 #[tactic(auto, using(crate::proofs::Named::fits_named))]
 fn certify(alloc: Global, code: &Code) -> Result<Bundle, Stop<Cause>>
     requires well { IsWellFormed (code_of code.now) }
-    requires unread { AreUnread (code_of code.now) }
     requires fits { FitsCode Second (code_of code.now) }
     ensures found { IsSo (IsCertified (code_of code.now)) (compiled_of result) }
     ensures exact { (answer : Compiled) → IsCertified (code_of code.now) answer → Answers (compiled_of result) answer }

@@ -43,6 +43,8 @@ bound_told (cause.Types (types.PlaceOnInline con line)) h = let e : 112 ≡ 110 
 bound_told (cause.Types (types.TooMany what have line)) h = let e : 116 ≡ 110 = ap first h in absurd (omega (arith, e))
 bound_told (cause.Uses (uses.Twice name line)) h = let e : 116 ≡ 110 = ap first h in absurd (omega (arith, e))
 bound_told (cause.Uses (uses.ReadMatch name line)) h = let e : 114 ≡ 110 = ap first h in absurd (omega (arith, e))
+bound_told (cause.Uses (uses.Lent name line)) h = let e : 108 ≡ 110 = ap first h in absurd (omega (arith, e))
+bound_told (cause.Uses (uses.ReadResult name line)) h = let e : 114 ≡ 110 = ap first h in absurd (omega (arith, e))
 bound_told (cause.Normal (normal.TooManyLocals name have)) h = let e : 116 ≡ 110 = ap first h in absurd (omega (arith, e))
 bound_told (cause.Normal (normal.TooManyBlocks name have)) h = let e : 116 ≡ 110 = ap first h in absurd (omega (arith, e))
 bound_told (cause.NoCert (no_cert.TooMany unknowns rows)) h = let e : 116 ≡ 110 = ap first h in absurd (omega (arith, e))

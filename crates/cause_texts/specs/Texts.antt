@@ -55,6 +55,8 @@ type_text (types.TooMany what have line) = codes "too-many " ++ what ++ codes " 
 unfoldable pub use_text : UseFault → List ℕ
 use_text (uses.Twice name line) = codes "twice " ++ name ++ codes " line " ++ decimal line
 use_text (uses.ReadMatch name line) = codes "read-match " ++ name ++ codes " line " ++ decimal line
+use_text (uses.Lent name line) = codes "lent " ++ name ++ codes " line " ++ decimal line
+use_text (uses.ReadResult name line) = codes "read-result " ++ name ++ codes " line " ++ decimal line
 
 unfoldable pub normal_text : NormalFault → List ℕ
 normal_text (normal.TooManyLocals name have) = codes "too-many-locals " ++ name ++ codes " have " ++ decimal have

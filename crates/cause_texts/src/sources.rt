@@ -127,6 +127,8 @@ pub(crate) fn use_text(alloc: Global, fault: &UseFault) -> Result<Vec<u8>, Alloc
     match fault {
         UseFault::Twice { name, line } => named_at(alloc, b"twice ", name, *line),
         UseFault::ReadMatch { name, line } => named_at(alloc, b"read-match ", name, *line),
+        UseFault::Lent { name, line } => named_at(alloc, b"lent ", name, *line),
+        UseFault::ReadResult { name, line } => named_at(alloc, b"read-result ", name, *line),
     }
 }
 

@@ -9,7 +9,6 @@ laws c = record {
   whole = c.tokens_give_form.ensures.whole;
   typing = c.law_of_one_typing.ensures.typing;
   well_formed = c.law_of_compiler.ensures.well_formed;
-  unread = c.law_of_compiler.ensures.unread;
   within = c.law_of_limits.ensures.within;
   size = c.law_of_size.ensures;
   run_least = c.law_of_outcomes.ensures.least;
