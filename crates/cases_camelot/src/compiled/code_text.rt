@@ -118,9 +118,20 @@ pub(crate) fn show_block(out: &mut String, block: &Block) -> Result<(), AllocErr
     show_term(out, &block.term)
 }
 
+// The kinds of parameters, with a word in front of one that is only read.
+fn show_params(out: &mut String, kinds: &[Kind], reads: &[bool]) -> Result<(), AllocError> {
+    for (kind, read) in kinds.iter().zip(reads) {
+        if *read {
+            out.push_str(" read")?;
+        }
+        show_kind(out, *kind)?;
+    }
+    Ok(())
+}
+
 /// The kinds of a function's parameters, its result and its further locals.
 pub(crate) fn show_head(out: &mut String, func: &Func) -> Result<(), AllocError> {
-    show_kinds(out, &func.params)?;
+    show_params(out, &func.params, &func.reads)?;
     out.push_str(" ->")?;
     show_kind(out, func.result)?;
     out.push_str(" |")?;
