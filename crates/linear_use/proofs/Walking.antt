@@ -1,27 +1,15 @@
 -- Laws of the walk's steps.
-use Rattle.std.proofs.Common.{◌≡◌, ℕ, zero, suc, ◌+◌, ◌-◌, ◌<◌, List, [], ◌∷◌, ◌++◌, length, Option, Some, None, refl, sym, ap, ◌∙◌, subst, arith, slice_get, append_assoc, length-append}
-use Rattle.std.specs.Prelude.{Result, Ok, Err, IsErrAnd}
+use Rattle.std.proofs.Common.{◌≡◌, ℕ, zero, suc, ◌+◌, ◌-◌, ◌<◌, List, [], ◌∷◌, ◌++◌, length, Option, Some, None, refl, sym, ap, ◌∙◌, subst, arith, slice_get, append_assoc, append-nil, length-append}
 use Rattle.std.specs.Option.{option_or}
-use Rattle.stops.specs.declared.stop.Stop.{Stop}
-use Rattle.stops.specs.declared.stop.Stop.TheVariants.{Fault, Memory}
 use Rattle.camelot_values.specs.declared.kinds.Kind.{Kind}
 use Rattle.camelot_values.specs.declared.kinds.Kind.TheVariants as kind
 use Rattle.camelot_tree.specs.Tree.{Expression, Num, Truth, Var, Prim, If, Let, Match, Build, Call}
 use Rattle.camelot_typing.specs.Kinds.{Globals, Scope, bind, or_else, atom_of, atoms_of, arms_atoms}
 use Rattle.camelot_typing.specs.Typing.{known_kind}
-use Rattle.linear_use.specs.declared.fault.UseFault.{UseFault}
 use Rattle.linear_use.specs.declared.variable.Variable.{Variable}
 use Rattle.linear_use.specs.declared.state.State.{State}
-use Rattle.linear_use.specs.Flow.{Flow, After, used}
-use Rattle.linear_use.specs.Walk.{first_of, StopsAt, AreAt, Walked, Walks, parts_kinds}
-
--- what an answer says that isn't Ok: unless memory ran out, it is the first fault
-abbrev pub Tells : Stop UseFault → List ℕ → Flow → Type 0
-Tells stop spent f = StopsAt (first_of spent f) stop
-
--- another flow with the same first fault
-pub tells_by : (stop : Stop UseFault) (s t : List ℕ) (f g : Flow) → first_of t g ≡ first_of s f → Tells stop s f → Tells stop t g
-tells_by stop s t f g e h = subst (λ found. StopsAt found stop) (sym e) h
+use Rattle.linear_use.specs.Flow.{Flow, Nothing, After, used}
+use Rattle.linear_use.specs.Walk.{first_of, AreAt, Walked, parts_kinds}
 
 -- ---- kinds in the list
 
@@ -83,20 +71,16 @@ pub or_some : {A : Type 0} (a b : Option A) (x : A) → a ≡ Some x → option_
 or_some None b x h = cc
 or_some (Some y) b x h = h
 
-pub tells_first : (stop : Stop UseFault) (spent : List ℕ) (a b : Flow) → Tells stop spent a → Tells stop spent (After a b)
-tells_first (Fault fault) spent a b h = or_some (first_of spent a) (first_of (spent ++ used a) b) fault h
-tells_first Memory spent a b h = tt
+pub or_nothing : {A : Type 0} (a : Option A) → option_or a None ≡ a
+or_nothing None = refl
+or_nothing (Some x) = refl
 
--- A step behind another is told of by what is known after the first: F, N and K give its flow, the number behind it and
--- its kinds.
-pub seq_tells : (stop : Stop UseFault) (F : ℕ → Scope Variable → Flow) (f : Flow) (free count : ℕ) (s0 s1 : State) → Walked f free count s0 s1
-    → Tells stop s1.spent (F s1.next s1.scope) → Tells stop s0.spent (After f (F free s0.scope))
-seq_tells stop F f free count s0 s1 w h =
-    tells_by stop s1.spent s0.spent (F s1.next s1.scope) (After f (F free s0.scope))
-    (or_none (first_of s0.spent f) (first_of (s0.spent ++ used f) (F free s0.scope)) w.none
-    ∙ ap (λ l. first_of l (F free s0.scope)) (sym w.spent) ∙ ap (λ n. first_of s1.spent (F n s0.scope)) (sym w.next) ∙ ap (λ s. first_of s1.spent (F s1.next s)) (sym w.scope))
-    h
+pub or_assoc : {A : Type 0} (a b c : Option A) → option_or (option_or a b) c ≡ option_or a (option_or b c)
+or_assoc None b c = refl
+or_assoc (Some x) b c = refl
 
+-- A step behind another is known by what stands after the first: F, N and K give its flow, the number behind it and its
+-- kinds.
 pub seq_at : (ex : List Kind) (K : Scope Variable → List Kind) (f : Flow) (free count : ℕ) (xs : List Kind) (s0 s1 : State)
     → Walked f free count s0 s1 → count ≡ length xs
     → AreAt ex s0.position (xs ++ K s0.scope) → AreAt ex s1.position (K s1.scope)
@@ -106,18 +90,22 @@ seq_at ex K f free count xs s0 s1 w e h =
 pub seq_walked : (F : ℕ → Scope Variable → Flow) (N : ℕ → ℕ) (K : Scope Variable → List Kind) (f : Flow) (free count : ℕ) (s0 s1 s2 : State)
     → Walked f free count s0 s1
     → Walked (F s1.next s1.scope) (N s1.next) (length (K s1.scope)) s1 s2 → Walked (After f (F free s0.scope)) (N free) (count + length (K s0.scope)) s0 s2
-seq_walked F N K f free count s0 s1 s2 w v = record {
-  none =
-      or_none (first_of s0.spent f) (first_of (s0.spent ++ used f) (F free s0.scope)) w.none
-      ∙ ap (λ l. first_of l (F free s0.scope)) (sym w.spent) ∙ ap (λ n. first_of s1.spent (F n s0.scope)) (sym w.next) ∙ ap (λ s. first_of s1.spent (F s1.next s)) (sym w.scope) ∙ v.none;
-  spent =
-      v.spent ∙ ap (λ l. l ++ used (F s1.next s1.scope)) w.spent ∙ ap (λ n. (s0.spent ++ used f) ++ used (F n s1.scope)) w.next ∙ ap (λ s. (s0.spent ++ used f) ++ used (F free s)) w.scope
-      ∙ append_assoc s0.spent (used f) (used (F free s0.scope));
-  next = v.next ∙ ap N w.next;
-  scope = v.scope ∙ w.scope;
-  position =
-      let a = v.position in let b = w.position in let c : length (K s1.scope) ≡ length (K s0.scope) = ap (λ s. length (K s)) w.scope in omega (arith, a, b, c);
-}
+seq_walked F N K f free count s0 s1 s2 w v =
+    let same : F s1.next s1.scope ≡ F free s0.scope = ap (λ n. F n s1.scope) w.next ∙ ap (F free) w.scope in
+    record {
+      fault =
+          λ called. v.fault called ∙ ap (λ x. option_or s1.fault (first_of s1.spent called x)) same
+          ∙ ap (λ l. option_or s1.fault (first_of l called (F free s0.scope))) w.spent
+          ∙ ap (λ o. option_or o (first_of (s0.spent ++ used f) called (F free s0.scope))) (w.fault called)
+          ∙ or_assoc s0.fault (first_of s0.spent called f) (first_of (s0.spent ++ used f) called (F free s0.scope));
+      spent =
+          v.spent ∙ ap (λ l. l ++ used (F s1.next s1.scope)) w.spent ∙ ap (λ x. (s0.spent ++ used f) ++ used x) same
+          ∙ append_assoc s0.spent (used f) (used (F free s0.scope));
+      next = v.next ∙ ap N w.next;
+      scope = v.scope ∙ w.scope;
+      position =
+          let a = v.position in let b = w.position in let c : length (K s1.scope) ≡ length (K s0.scope) = ap (λ s. length (K s)) w.scope in omega (arith, a, b, c);
+    }
 
 pub walked_count : (f : Flow) (free m n : ℕ) (s0 s1 : State) → m ≡ n → Walked f free m s0 s1 → Walked f free n s0 s1
 walked_count f free m n s0 s1 e w = subst (λ k. Walked f free k s0 s1) e w
@@ -125,21 +113,25 @@ walked_count f free m n s0 s1 e w = subst (λ k. Walked f free k s0 s1) e w
 -- the end of an expression
 pub finished : (f : Flow) (free m n : ℕ) (s0 s1 s2 : State) → Walked f free m s0 s1 → s2 ≡ record s1 { position = s1.position + 1 } → n ≡ m + 1 → Walked f free n s0 s2
 finished f free m n s0 s1 s2 w e q = record {
-  none = w.none;
+  fault = λ called. ap (λ s. s.fault) e ∙ w.fault called;
   spent = ap (λ s. s.spent) e ∙ w.spent;
   next = ap (λ s. s.next) e ∙ w.next;
   scope = ap (λ s. s.scope) e ∙ w.scope;
   position = let a : s2.position ≡ s1.position + 1 = ap (λ s. s.position) e in let b = w.position in omega (arith, a, b, q);
 }
 
--- ---- answers of the code
+-- where nothing is used
+pub nothing_walked : (free count : ℕ) (s0 s1 : State) → s1.fault ≡ s0.fault → s1.spent ≡ s0.spent → s1.next ≡ free → s1.scope ≡ s0.scope
+    → s1.position ≡ s0.position + count → Walked Nothing free count s0 s1
+nothing_walked free count s0 s1 f sp ne sc po = record {
+  fault = λ called. f ∙ sym (or_nothing s0.fault);
+  spent = sp ∙ sym (append-nil s0.spent);
+  next = ne;
+  scope = sc;
+  position = po;
+}
 
--- an error that is handed on
-pub err_walks : {A : Type 0} (r : Result A (Stop UseFault)) (stop : Stop UseFault) (f : Flow) (free count : ℕ) (s0 s1 : State)
-    → IsErrAnd r (λ e. e ≡ stop) → Tells stop s0.spent f
-    → Walks f free count s0 r s1
-err_walks (Ok x) stop f free count s0 s1 h t = absurd h
-err_walks (Err e) stop f free count s0 s1 h t = subst (StopsAt (first_of s0.spent f)) (sym h) t
+-- ---- answers of the code
 
 pub with_scope : (s : State) (a b : Scope Variable) → a ≡ b → let x : State = record s { scope = a } in let y : State = record s { scope = b } in x ≡ y
 with_scope s a b e = ap (λ c. record s { scope = c }) e

@@ -1,4 +1,5 @@
-//! The rule of use: no variable of a heap kind is used twice on a path.
+//! The rule of use: on each path an owned variable of a heap kind is taken at most once, and not used behind that; what
+//! is lent is only read.
 #![tactic(auto)]
 
 mod check;
@@ -6,8 +7,10 @@ mod fault;
 mod functions;
 mod known;
 pub mod laws;
+mod marks;
 pub mod names;
 mod parts;
+mod reads;
 mod spent;
 mod state;
 mod variable;

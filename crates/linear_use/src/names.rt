@@ -1,6 +1,7 @@
 //! The names of all constructors, for this crate and those above it.
 ghost use Rattle.std.specs.Prelude.{◌≡◌, ◌≤◌, map, length, IfOk, OnOk};
 ghost use Rattle.camelot_values.specs.Kinds.{constructor_of, constructors};
+ghost use Rattle.camelot_tree.specs.Programs.{program_of};
 ghost use Rattle.linear_use.specs.Tables.{with_names};
 
 use camelot_names::Names;
@@ -26,6 +27,21 @@ pub fn constructor_names<'a>(alloc: Global, typed: &'a Typed) -> Result<Names<'a
     let mut names = Names::new(alloc);
     'types: for def in typed.types.defs() {
         add_names(&mut names, &def.cons)?;
+    }
+    Ok(names)
+}
+
+/// The names of a program's functions, which have their numbers in it; `AllocError` where memory runs out.
+pub(crate) fn function_names<'a>(
+    alloc: Global,
+    typed: &'a Typed,
+) -> Result<Names<'a>, AllocError>
+    // They are in the order of the functions.
+    ensures { IfOk result (λ names. names ≡ map (λ f. f.name.word) (program_of typed.now.program).funs) }
+{
+    let mut names = Names::new(alloc);
+    'funs: for decl in &typed.program.funs {
+        let _added = names.add(decl.name.word.bytes())?;
     }
     Ok(names)
 }
