@@ -1,14 +1,16 @@
 -- Functions one by one.
-use Rattle.std.proofs.Common.{◌≡◌, ℕ, zero, suc, ◌≤◌, List, [], ◌∷◌, ◌++◌, map, length, drop, Option, None, refl, sym, ◌∙◌, arith, append-nil, ◌⊎◌, inl, inr}
+use Rattle.std.proofs.Common.{◌≡◌, ℕ, zero, suc, ◌≤◌, Bool, List, [], ◌∷◌, ◌++◌, map, length, drop, Option, None, refl, sym, ◌∙◌, arith, append-nil, ◌⊎◌, inl, inr}
 use Rattle.std.specs.Prelude.{min}
 use Rattle.std.specs.List.{AllByRecursion}
 use Rattle.std.specs.Coded.{×_prop, Unit-prop, le_prop}
 use Rattle.std.proofs.Math.Logic.{∥∥₁_elim}
+use Rattle.camelot_values.specs.Kinds.{DataType}
 use Rattle.camelot_values.specs.declared.kinds.Kind.{Kind}
 use Rattle.camelot_tree.specs.declared.tree.Param.{Param}
 use Rattle.camelot_tree.specs.Tree.{Function, Source}
 use Rattle.camelot_typing.specs.Typing.{Signature, params_scope}
 use Rattle.camelot_typing.specs.Typed.{FunctionKinds, Typing, IsTyping, signatures_of}
+use Rattle.linear_use.specs.Uses.{lent_params}
 use Rattle.normal_form.specs.declared.fault.NormalFault.{NormalFault}
 use Rattle.normal_form.specs.Answers.{first_fault}
 use Rattle.normal_form.specs.Normal.{NormalFunction, normal_functions}
@@ -20,6 +22,14 @@ params_over zero (x ∷ xs) (k ∷ ks) e = absurd (omega (arith, e))
 params_over (suc n) [] ks e = absurd (omega (arith, e))
 params_over (suc n) (x ∷ xs) [] e = absurd (omega (arith, e))
 params_over (suc n) (x ∷ xs) (k ∷ ks) e = params_over n xs ks (omega (arith, e))
+
+-- no marks are left where the parameters or their kinds are at their end
+pub marks_over : (types : List DataType) (xs : List Param) (ks : List Kind) (marks whole : List Bool) → (length xs ≡ 0) ⊎ (length ks ≡ 0)
+    → marks ++ lent_params types xs ks ≡ whole → marks ≡ whole
+marks_over types [] ks marks whole over w = sym (append-nil marks) ∙ w
+marks_over types (x ∷ xs) [] marks whole over w = sym (append-nil marks) ∙ w
+marks_over types (x ∷ xs) (k ∷ ks) marks whole (inl h) w = absurd (omega (arith, h))
+marks_over types (x ∷ xs) (k ∷ ks) marks whole (inr h) w = absurd (omega (arith, h))
 
 -- ---- parameters are few
 

@@ -47,7 +47,7 @@ joined_last to target (c ∷ bs) b = ap (λ l. joining c.lines c.local to target
 
 -- what one arm more adds
 pub record OneMore (p : Source) (s : Scope ℕ) (a : PlainArms) (o : Option Branch) (result join : ℕ) : Type 0 where
-  pub cases : (arm_and p s a o).cases ≡ a.cases ++ case_arm o a.next a.number ∷ []
+  pub cases : (arm_and p s a o).cases ≡ a.cases ++ case_arm p o a.next a.number ∷ []
   pub lines : joined_bodies result join (arm_and p s a o).bodies ≡ joined_bodies result join a.bodies ++ branch_value p s o a.next a.number result join
   pub next : (arm_and p s a o).next ≡ a.next + branch_made p o
   pub number : (arm_and p s a o).number ≡ a.number + branch_ends p o
@@ -67,7 +67,7 @@ one_more p s a (Some b) result join = record {
 -- all of them
 record AllTold (p : Source) (s : Scope ℕ) (as' : Arms) (a : PlainArms) (cons : List ℕ) (result join : ℕ) : Type 0 where
   cases : (arms_and p s a (map (arm_for p as') cons)).cases ≡ a.cases
-      ++ in_turn (arm_made p as') (arm_ends p as') (λ con n b. case_arm (arm_for p as' con) n b ∷ []) cons a.next a.number
+      ++ in_turn (arm_made p as') (arm_ends p as') (λ con n b. case_arm p (arm_for p as' con) n b ∷ []) cons a.next a.number
   lines : joined_bodies result join (arms_and p s a (map (arm_for p as') cons)).bodies
       ≡ joined_bodies result join a.bodies ++ in_turn (arm_made p as') (arm_ends p as') (λ con n b. arm_value p as' con s n b result join) cons a.next a.number
   next : (arms_and p s a (map (arm_for p as') cons)).next ≡ a.next + total (arm_made p as') cons
@@ -83,12 +83,12 @@ all_told p s as' a (con ∷ cons) result join =
     let ends_is = branch_ends_for p as' con in
     let next_is : (arm_and p s a o).next ≡ a.next + arm_made p as' con = one.next ∙ ap (λ n. a.next + n) made_is in
     let number_is : (arm_and p s a o).number ≡ a.number + arm_ends p as' con = one.number ∙ ap (λ n. a.number + n) ends_is in
-    let heads = λ (n b : ℕ). in_turn (arm_made p as') (arm_ends p as') (λ con n b. case_arm (arm_for p as' con) n b ∷ []) cons n b in
+    let heads = λ (n b : ℕ). in_turn (arm_made p as') (arm_ends p as') (λ con n b. case_arm p (arm_for p as' con) n b ∷ []) cons n b in
     let parts = λ (n b : ℕ). in_turn (arm_made p as') (arm_ends p as') (λ con n b. arm_value p as' con s n b result join) cons n b in
     record {
-      cases = r.cases ∙ ap (λ l. l ++ heads (arm_and p s a o).next (arm_and p s a o).number) one.cases ∙ ap (λ n. (a.cases ++ case_arm o a.next a.number ∷ []) ++ heads n (arm_and p s a o).number) next_is
-          ∙ ap (λ b. (a.cases ++ case_arm o a.next a.number ∷ []) ++ heads (a.next + arm_made p as' con) b) number_is
-          ∙ append_assoc a.cases (case_arm o a.next a.number ∷ []) (heads (a.next + arm_made p as' con) (a.number + arm_ends p as' con));
+      cases = r.cases ∙ ap (λ l. l ++ heads (arm_and p s a o).next (arm_and p s a o).number) one.cases ∙ ap (λ n. (a.cases ++ case_arm p o a.next a.number ∷ []) ++ heads n (arm_and p s a o).number) next_is
+          ∙ ap (λ b. (a.cases ++ case_arm p o a.next a.number ∷ []) ++ heads (a.next + arm_made p as' con) b) number_is
+          ∙ append_assoc a.cases (case_arm p o a.next a.number ∷ []) (heads (a.next + arm_made p as' con) (a.number + arm_ends p as' con));
       lines = r.lines ∙ ap (λ l. l ++ parts (arm_and p s a o).next (arm_and p s a o).number) (one.lines ∙ ap (λ l. joined_bodies result join a.bodies ++ l) (sym (value_for p s as' con a.next a.number result join)))
           ∙ ap (λ n. (joined_bodies result join a.bodies ++ arm_value p as' con s a.next a.number result join) ++ parts n (arm_and p s a o).number) next_is
           ∙ ap (λ b. (joined_bodies result join a.bodies ++ arm_value p as' con s a.next a.number result join) ++ parts (a.next + arm_made p as' con) b) number_is
@@ -113,7 +113,7 @@ match_whole p s next number l e as' =
     let next_is = r.next in
     let number_is = r.number in
     let join_is : all.number ≡ join = omega (arith, number_is) in
-    let heads = λ (n b : ℕ). in_turn (arm_made p as') (arm_ends p as') (λ con n b. case_arm (arm_for p as' con) n b ∷ []) (cons_of p as') n b in
+    let heads = λ (n b : ℕ). in_turn (arm_made p as') (arm_ends p as') (λ con n b. case_arm p (arm_for p as' con) n b ∷ []) (cons_of p as') n b in
     let parts = λ (n b : ℕ). in_turn (arm_made p as') (arm_ends p as') (λ con n b. arm_value p as' con s n b result join) (cons_of p as') n b in
     piece_are ((V ++ Close (block.Case xe all.cases) ∷ []) ++ joined_bodies result all.number all.bodies) (V ++ Close (block.Case xe (heads (suc result) (suc b0))) ∷ parts (suc result) (suc b0))
     all.next (next + suc (made p e + total (arm_made p as') (cons_of p as'))) all.number (number + suc (ends p e + total (arm_ends p as') (cons_of p as'))) result result

@@ -218,34 +218,35 @@ fields_stand types s l env locals n (Some name ∷ fs) (k ∷ ks) (value.And v v
     }
 
 -- what becomes of the cell, before what follows
-pub cell_agrees : (types : List DataType) (s : Scope Kind) (l : Scope ℕ) (x : ArmCell) (env : Environment) (locals : Locals) (d : ℕ) (code : Locals → Outcome Value) (source : Environment → Outcome Value)
+pub cell_agrees : (types : List DataType) (s : Scope Kind) (l : Scope ℕ) (x : ArmCell) (inline : Bool) (env : Environment) (locals : Locals) (d : ℕ) (code : Locals → Outcome Value) (source : Environment → Outcome Value)
     → Stands types s l env locals d
     → ((bound : Environment) (last : Locals) → Stands types (bind_cell known_kind x s) (with_cell x d l) bound last (d + diamonds x) → ((y : ℕ) → y < d → last y ≡ locals y) → code last ≡ source bound)
-    → cell_run (cell_in x d) locals code ≡ meaning.cell_run x env source
-cell_agrees types s l cell.Plain env locals d code source st go = go env locals (stands_kept types s l env locals locals d (d + 0) st (λ y h. refl) (omega arith)) (λ y h. refl)
-cell_agrees types s l cell.Free env locals d code source st go =
+    → cell_run (cell_in inline x d) locals code ≡ meaning.cell_run x env source
+cell_agrees types s l cell.Plain true env locals d code source st go = go env locals (stands_kept types s l env locals locals d (d + 0) st (λ y h. refl) (omega arith)) (λ y h. refl)
+cell_agrees types s l cell.Plain false env locals d code source st go = go env locals (stands_kept types s l env locals locals d (d + 0) st (λ y h. refl) (omega arith)) (λ y h. refl)
+cell_agrees types s l cell.Free inline env locals d code source st go =
     ap (λ o. after 0 0 1 o) (go env locals (stands_kept types s l env locals locals d (d + 0) st (λ y h. refl) (omega arith)) (λ y h. refl))
-cell_agrees types s l (cell.Keep n) env locals d code source st go =
+cell_agrees types s l (cell.Keep n) inline env locals d code source st go =
     let one = stands_kept types s l env locals (put locals d value.Dia) d (d + 1) st (λ y h. put_other locals d value.Dia y h) (omega arith) in
     go (meaning.put env n.word value.Dia) (put locals d value.Dia) (stands_bind types s l env (put locals d value.Dia) (d + 1) n.word kind.Dia value.Dia d one refl (put_own locals d value.Dia) (omega arith))
     (λ y h. put_other locals d value.Dia y h)
 
 -- The arm of the value's constructor: code and source go on with the same names.
-pub arm_agrees : (types : List DataType) (s : Scope Kind) (l : Scope ℕ) (c : Name) (fs : List (Option Name)) (x : ArmCell) (t con : ℕ) (def : values.Constructor) (vs : Values) (env : Environment) (locals : Locals) (n : ℕ)
+pub arm_agrees : (types : List DataType) (s : Scope Kind) (l : Scope ℕ) (c : Name) (fs : List (Option Name)) (x : ArmCell) (inline : Bool) (t con : ℕ) (def : values.Constructor) (vs : Values) (env : Environment) (locals : Locals) (n : ℕ)
     (code : Locals → Outcome Value) (source : Environment → Outcome Value) → HeadFits types t c fs x → constructor_number types c.word ≡ Some con
     → constructor types con ≡ Some def → FitAll types def.fields vs
     → Stands types s l env locals n
     → ((bound : Environment) (last : Locals) → Stands types (arm_scope known_kind types c fs x s) (in_arm fs x n l) bound last (n + bound_count fs x) → ((y : ℕ) → y < n → last y ≡ locals y) → code last ≡ source bound)
-    → given (put_all locals (numbered n fs) vs) (λ last. cell_run (cell_in x (n + length fs)) last code) ≡ given (put_fields env fs vs) (λ bound. meaning.cell_run x bound source)
-arm_agrees types s l c fs x t con def vs env locals n code source head number is fit st go =
+    → given (put_all locals (numbered n fs) vs) (λ last. cell_run (cell_in inline x (n + length fs)) last code) ≡ given (put_fields env fs vs) (λ bound. meaning.cell_run x bound source)
+arm_agrees types s l c fs x inline t con def vs env locals n code source head number is fit st go =
     let same : head.con ≡ con = number_one head.con con (sym head.is ∙ number) in
     let fields : fields_of types con ≡ def.fields = ap (λ o. option_map_or (λ c. c.fields) o []) is in
     let full : length fs ≡ length def.fields = head.full ∙ ap (λ n. length (fields_of types n)) same ∙ ap length fields in
     let kinds : def.fields ≡ fields_of types (or_else (constructor_number types c.word) 0) = sym (ap (λ o. fields_of types (or_else o 0)) number ∙ fields) in
     let r = fields_stand types s l env locals n fs def.fields vs st full fit in
     let count : (n + length fs) + diamonds x ≡ n + bound_count fs x = omega arith in
-    ap (λ o. given o (λ last. cell_run (cell_in x (n + length fs)) last code)) r.locals_are
-    ∙ cell_agrees types (bind_fields known_kind fs def.fields s) (with_fields fs n l) x r.bound r.last (n + length fs) code source r.stands
+    ap (λ o. given o (λ last. cell_run (cell_in inline x (n + length fs)) last code)) r.locals_are
+    ∙ cell_agrees types (bind_fields known_kind fs def.fields s) (with_fields fs n l) x inline r.bound r.last (n + length fs) code source r.stands
     (λ bound last stands kept. go bound last
     (subst (λ ks. Stands types (bind_cell known_kind x (bind_fields known_kind fs ks s)) (in_arm fs x n l) bound last (n + bound_count fs x)) kinds
     (subst (Stands types (bind_cell known_kind x (bind_fields known_kind fs def.fields s)) (in_arm fs x n l) bound last) count stands))

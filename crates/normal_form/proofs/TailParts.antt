@@ -30,7 +30,7 @@ tail_for p s (AndArm c fs x b as') con n number = by_test (is_that (constructor_
 
 -- what one arm more adds
 record OneMore (p : Source) (s : Scope ℕ) (a : PlainTails) (o : Option Branch) : Type 0 where
-  cases : (tail_arm_and p s a o).cases ≡ a.cases ++ case_arm o a.next a.number ∷ []
+  cases : (tail_arm_and p s a o).cases ≡ a.cases ++ case_arm p o a.next a.number ∷ []
   lines : (tail_arm_and p s a o).lines ≡ a.lines ++ branch_tail p s o a.next a.number
   next : (tail_arm_and p s a o).next ≡ a.next + branch_tail_made p o
   number : (tail_arm_and p s a o).number ≡ a.number + branch_tail_ends p o
@@ -41,7 +41,7 @@ one_more p s a (Some b) = record { cases = refl; lines = refl; next = omega arit
 
 record AllTold (p : Source) (s : Scope ℕ) (as' : Arms) (a : PlainTails) (cons : List ℕ) : Type 0 where
   cases : (tail_arms_and p s a (map (arm_for p as') cons)).cases ≡ a.cases
-      ++ in_turn (arm_tail_made p as') (arm_tail_ends p as') (λ con n b. case_arm (arm_for p as' con) n b ∷ []) cons a.next a.number
+      ++ in_turn (arm_tail_made p as') (arm_tail_ends p as') (λ con n b. case_arm p (arm_for p as' con) n b ∷ []) cons a.next a.number
   lines : (tail_arms_and p s a (map (arm_for p as') cons)).lines ≡ a.lines
       ++ in_turn (arm_tail_made p as') (arm_tail_ends p as') (λ con n b. arm_tail p as' con s n b) cons a.next a.number
   next : (tail_arms_and p s a (map (arm_for p as') cons)).next ≡ a.next + total (arm_tail_made p as') cons
@@ -55,12 +55,12 @@ all_told p s as' a (con ∷ cons) =
     let r = all_told p s as' (tail_arm_and p s a o) cons in
     let next_is : (tail_arm_and p s a o).next ≡ a.next + arm_tail_made p as' con = one.next ∙ ap (λ n. a.next + n) (branch_tail_made_for p as' con) in
     let number_is : (tail_arm_and p s a o).number ≡ a.number + arm_tail_ends p as' con = one.number ∙ ap (λ n. a.number + n) (branch_tail_ends_for p as' con) in
-    let heads = λ (n b : ℕ). in_turn (arm_tail_made p as') (arm_tail_ends p as') (λ con n b. case_arm (arm_for p as' con) n b ∷ []) cons n b in
+    let heads = λ (n b : ℕ). in_turn (arm_tail_made p as') (arm_tail_ends p as') (λ con n b. case_arm p (arm_for p as' con) n b ∷ []) cons n b in
     let parts = λ (n b : ℕ). in_turn (arm_tail_made p as') (arm_tail_ends p as') (λ con n b. arm_tail p as' con s n b) cons n b in
     record {
-      cases = r.cases ∙ ap (λ l. l ++ heads (tail_arm_and p s a o).next (tail_arm_and p s a o).number) one.cases ∙ ap (λ n. (a.cases ++ case_arm o a.next a.number ∷ []) ++ heads n (tail_arm_and p s a o).number) next_is
-          ∙ ap (λ b. (a.cases ++ case_arm o a.next a.number ∷ []) ++ heads (a.next + arm_tail_made p as' con) b) number_is
-          ∙ append_assoc a.cases (case_arm o a.next a.number ∷ []) (heads (a.next + arm_tail_made p as' con) (a.number + arm_tail_ends p as' con));
+      cases = r.cases ∙ ap (λ l. l ++ heads (tail_arm_and p s a o).next (tail_arm_and p s a o).number) one.cases ∙ ap (λ n. (a.cases ++ case_arm p o a.next a.number ∷ []) ++ heads n (tail_arm_and p s a o).number) next_is
+          ∙ ap (λ b. (a.cases ++ case_arm p o a.next a.number ∷ []) ++ heads (a.next + arm_tail_made p as' con) b) number_is
+          ∙ append_assoc a.cases (case_arm p o a.next a.number ∷ []) (heads (a.next + arm_tail_made p as' con) (a.number + arm_tail_ends p as' con));
       lines = r.lines ∙ ap (λ l. l ++ parts (tail_arm_and p s a o).next (tail_arm_and p s a o).number) (one.lines ∙ ap (λ l. a.lines ++ l) (sym (tail_for p s as' con a.next a.number)))
           ∙ ap (λ n. (a.lines ++ arm_tail p as' con s a.next a.number) ++ parts n (tail_arm_and p s a o).number) next_is
           ∙ ap (λ b. (a.lines ++ arm_tail p as' con s a.next a.number) ++ parts (a.next + arm_tail_made p as' con) b) number_is
@@ -81,7 +81,7 @@ tail_match_whole p s next number l e as' =
     let e2 : b0 + 1 ≡ suc b0 = omega arith in
     let next_is = r.next in
     let number_is = r.number in
-    let heads = λ (b : ℕ). in_turn (arm_tail_made p as') (arm_tail_ends p as') (λ con n b. case_arm (arm_for p as' con) n b ∷ []) (cons_of p as') n1 b in
+    let heads = λ (b : ℕ). in_turn (arm_tail_made p as') (arm_tail_ends p as') (λ con n b. case_arm p (arm_for p as' con) n b ∷ []) (cons_of p as') n1 b in
     let parts = λ (b : ℕ). in_turn (arm_tail_made p as') (arm_tail_ends p as') (λ con n b. arm_tail p as' con s n b) (cons_of p as') n1 b in
     tail_are (V ++ Close (block.Case xe all.cases) ∷ all.lines) (V ++ Close (block.Case xe (heads (suc b0))) ∷ parts (suc b0)) all.next (next + (made p e + total (arm_tail_made p as') (cons_of p as')))
     all.number (number + suc (ends p e + total (arm_tail_ends p as') (cons_of p as')))

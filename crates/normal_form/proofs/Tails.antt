@@ -17,13 +17,13 @@ use Rattle.camelot_tree.specs.Meaning as meaning
 use Rattle.camelot_tree.specs.Meaning.{Environment, constructor_number, function_number, put_fields, is_that, on_constructor, eval, eval_all, arms_run}
 use Rattle.camelot_tree.specs.Tokens.{expression_has_ints, arms_have_ints}
 use Rattle.camelot_typing.specs.Kinds as typed
-use Rattle.camelot_typing.specs.Kinds.{Scope, bind, arm_scope, or_else, types_of, numbered}
+use Rattle.camelot_typing.specs.Kinds.{Scope, bind, arm_scope, or_else, types_of, is_inline, numbered}
 use Rattle.camelot_typing.specs.Typing.{known_kind, globals_of, HasKind, ArmsHaveKind, arms_with}
 use Rattle.camelot_typing.specs.NumberLaws.{number_same, head_number, among_numbers}
 use Rattle.camelot_typing.specs.TypingLaws.{both_hold}
 use Rattle.grail_blocks.specs.Blocks as block
 use Rattle.grail_blocks.specs.Running.{Locals, put_all, cell_run}
-use Rattle.normal_form.specs.Normal.{Line, Close, fun_of, cons_of, arm_for, bound_count, in_arm, cell_in, case_arm, case_arms, in_turn, made, ends, local_of, locals_of, value, values, tail_made, arm_tail_made, tail_ends, arm_tail_ends, tail, arm_tail}
+use Rattle.normal_form.specs.Normal.{Line, Close, con_of, fun_of, cons_of, arm_for, bound_count, in_arm, cell_in, case_arm, case_arms, in_turn, made, ends, local_of, locals_of, value, values, tail_made, arm_tail_made, tail_ends, arm_tail_ends, tail, arm_tail}
 use Rattle.normal_form.proofs.Lines.{here, behind, jump_in, ends_is_closed}
 use Rattle.normal_form.proofs.Ends.{closes_tail, tail_closed, closes_arm_tail, closed_arm_tail, closes_turn, closed_turn}
 use Rattle.normal_form.proofs.Stands.{Setting, Stands, stands_kept, stands_bind, is_built, arm_agrees}
@@ -41,14 +41,14 @@ returned S e s l env locals next number q k w rest st ints has =
 
 abbrev ArmEnds : (S : Setting) → Arms → (l : Scope ℕ) (env : Environment) (locals : Locals) (n number con : ℕ) → Values → (j w : ℕ) → List Line → Type 0
 ArmEnds S as' l env locals n number con vs j w follow =
-    given (put_all locals (case_arm (arm_for S.source as' con) n number).fields vs)
-    (λ bound. cell_run (case_arm (arm_for S.source as' con) n number).cell bound (λ last. here (types_of S.source) S.code number (arm_tail S.source as' con l n number ++ follow) j w last))
+    given (put_all locals (case_arm S.source (arm_for S.source as' con) n number).fields vs)
+    (λ bound. cell_run (case_arm S.source (arm_for S.source as' con) n number).cell bound (λ last. here (types_of S.source) S.code number (arm_tail S.source as' con l n number ++ follow) j w last))
     ≡ arms_run S.source S.enter as' con vs j w true env
 
 tail_split : (S : Setting) (c : Name) (fs : List (Option Name)) (x : ArmCell) (b : Expression) (as' : Arms) (l : Scope ℕ) (env : Environment) (locals : Locals) (n number con : ℕ) (vs : Values) (j w : ℕ) (follow : List Line)
     → (is_that (constructor_number S.source c) con ≡ true
     → given (put_all locals (numbered n fs) vs)
-    (λ last. cell_run (cell_in x (n + length fs)) last (λ last. here (types_of S.source) S.code number (tail S.source b (in_arm fs x n l) (n + bound_count fs x) number ++ follow) j w last))
+    (λ last. cell_run (cell_in (is_inline (types_of S.source) (con_of S.source c)) x (n + length fs)) last (λ last. here (types_of S.source) S.code number (tail S.source b (in_arm fs x n l) (n + bound_count fs x) number ++ follow) j w last))
     ≡ given (put_fields env fs vs) (λ bound. meaning.cell_run x bound (λ last. eval S.source S.enter b j w true last)))
     → (is_that (constructor_number S.source c) con ≡ false → ArmEnds S as' l env locals n number con vs j w follow) → ArmEnds S (AndArm c fs x b as') l env locals n number con vs j w follow
 tail_split S c fs x b as' l env locals n number con vs j w follow first later = by_test (is_that (constructor_number S.source c) con) first later
@@ -56,11 +56,11 @@ tail_split S c fs x b as' l env locals n number con vs j w follow first later = 
     by_test : (t : Bool)
         → (t ≡ true
         → given (put_all locals (numbered n fs) vs)
-        (λ last. cell_run (cell_in x (n + length fs)) last (λ last. here (types_of S.source) S.code number (tail S.source b (in_arm fs x n l) (n + bound_count fs x) number ++ follow) j w last))
+        (λ last. cell_run (cell_in (is_inline (types_of S.source) (con_of S.source c)) x (n + length fs)) last (λ last. here (types_of S.source) S.code number (tail S.source b (in_arm fs x n l) (n + bound_count fs x) number ++ follow) j w last))
         ≡ given (put_fields env fs vs) (λ bound. meaning.cell_run x bound (λ last. eval S.source S.enter b j w true last)))
         → (t ≡ false → ArmEnds S as' l env locals n number con vs j w follow)
-        → given (put_all locals (case_arm (if t then Some (record { con = c; fields = fs; cell = x; body = b }) else arm_for S.source as' con) n number).fields vs)
-        (λ bound. cell_run (case_arm (if t then Some (record { con = c; fields = fs; cell = x; body = b }) else arm_for S.source as' con) n number).cell bound
+        → given (put_all locals (case_arm S.source (if t then Some (record { con = c; fields = fs; cell = x; body = b }) else arm_for S.source as' con) n number).fields vs)
+        (λ bound. cell_run (case_arm S.source (if t then Some (record { con = c; fields = fs; cell = x; body = b }) else arm_for S.source as' con) n number).cell bound
         (λ last. here (types_of S.source) S.code number ((if t then tail S.source b (in_arm fs x n l) (n + bound_count fs x) number else arm_tail S.source as' con l n number) ++ follow) j w last))
         ≡ (if t then given (put_fields env fs vs) (λ bound. meaning.cell_run x bound (λ last. eval S.source S.enter b j w true last)) else arms_run S.source S.enter as' con vs j w true env)
     by_test true first later = first refl
@@ -143,12 +143,12 @@ mutual
       let bt = is_built types has.0 v c0.fits in
       let pl = placed types bt.con has.0 bt.owned in
       let at : slice_get (cons_of p arms) pl.i ≡ Some bt.con = ap (λ cs. slice_get cs pl.i) (cons_are p has.0 c fs x b as' has.3.0) ∙ pl.at ∙ ap Some (omega arith) in
-      let turn = turn_at (arm_tail_made p arms) (arm_tail_ends p arms) part (λ con n i. case_arm (arm_for p arms con) n i) (λ con n i. closes_arm_tail p arms con l n i) (λ con n i. closed_arm_tail p arms con l n i)
+      let turn = turn_at (arm_tail_made p arms) (arm_tail_ends p arms) part (λ con n i. case_arm p (arm_for p arms con) n i) (λ con n i. closes_arm_tail p arms con l n i) (λ con n i. closed_arm_tail p arms con l n i)
       (closes_turn (arm_tail_made p arms) (arm_tail_ends p arms) part (λ con n i. closes_arm_tail p arms con l n i)) (closed_turn (arm_tail_made p arms) (arm_tail_ends p arms) part (λ con n i. closed_arm_tail p arms con l n i))
       (cons_of p arms) n1 first pl.i bt.con at in
       let one : arms_with types bt.con arms ≡ 1 = among_numbers (λ con. arms_with types con arms ≡ 1) types bt.con has.0 bt.owned has.2 in
       let above = turn.above in
-      case_runs types S.code (arm_for p arms) (arm_tail_made p arms) (arm_tail_ends p arms) part (cons_of p arms) n1 b0 first pl.i bt.con xe bt.vs rest j w mid refl pl.is (c0.holds ∙ ap Some bt.is) turn
+      case_runs p types S.code (arm_for p arms) (arm_tail_made p arms) (arm_tail_ends p arms) part (cons_of p arms) n1 b0 first pl.i bt.con xe bt.vs rest j w mid refl pl.is (c0.holds ∙ ap Some bt.is) turn
       ∙ arm_tail_runs S (AndArm c fs x b as') s l env mid turn.n turn.b bt.con has.0 bt.def bt.vs q j w (turn.back ++ rest) (stands_kept types s l env locals mid next turn.n st c0.kept (omega (arith, above))) both.1 has.3 (omega (arith, one))
       bt.declared bt.fits
       ∙ ap (λ u. on_constructor u (λ con vs. arms_run p S.enter arms con vs j w true env)) (sym bt.is))
@@ -165,7 +165,7 @@ mutual
       let both = both_hold (expression_has_ints b) (arms_have_ints as') ints in
       tail_split S c fs x b as' l env locals n number con vs j w follow
       (λ test.
-      arm_agrees types s l c fs x t con def vs env locals n (λ last. here types S.code number (tail p b (in_arm fs x n l) n1 number ++ follow) j w last) (λ bound. eval p S.enter b j w true bound) kinds.0
+      arm_agrees types s l c fs x (is_inline types (con_of p c)) t con def vs env locals n (λ last. here types S.code number (tail p b (in_arm fs x n l) n1 number ++ follow) j w last) (λ bound. eval p S.enter b j w true bound) kinds.0
       (number_same p c ∙ number_found (constructor_number p c) con test) is fit st
       (λ bound last stands own. tail_runs S b inner (in_arm fs x n l) bound last n1 number q j w follow stands both.0 kinds.1))
       (λ test.

@@ -7,7 +7,7 @@ use Rattle.camelot_values.specs.Value.{Value, Values}
 use Rattle.camelot_values.specs.Kinds.{DataType, type_from, type_of, place_of}
 use Rattle.camelot_values.specs.Outcome.{given}
 use Rattle.camelot_values.specs.Runs.{Enter}
-use Rattle.camelot_tree.specs.Tree.{Branch}
+use Rattle.camelot_tree.specs.Tree.{Branch, Source}
 use Rattle.camelot_typing.specs.Kinds.{numbered, numbers_from}
 use Rattle.grail_blocks.specs.Blocks as block
 use Rattle.grail_blocks.specs.Blocks.{CaseArm, Term}
@@ -127,22 +127,22 @@ turn_at locals blocks part arm count closed all_count all_closed (c ∷ cs) next
 
 -- ---- a case
 
-target_is : (o : Option Branch) (n b : ℕ) → (case_arm o n b).target ≡ b
-target_is None n b = refl
-target_is (Some a) n b = refl
+target_is : (p : Source) (o : Option Branch) (n b : ℕ) → (case_arm p o n b).target ≡ b
+target_is p None n b = refl
+target_is p (Some a) n b = refl
 
 -- A case of a constructor's value goes on in the lines of that constructor's arm.
-pub case_runs : (types : List DataType) (code : Enter) (arms_of : ℕ → Option Branch) (locals blocks : ℕ → ℕ) (part : ℕ → ℕ → ℕ → List Line) (cons : List ℕ) (next b0 first i con x : ℕ) (vs : Values) (rest : List Line) (j w : ℕ) (env : Locals)
+pub case_runs : (p : Source) (types : List DataType) (code : Enter) (arms_of : ℕ → Option Branch) (locals blocks : ℕ → ℕ) (part : ℕ → ℕ → ℕ → List Line) (cons : List ℕ) (next b0 first i con x : ℕ) (vs : Values) (rest : List Line) (j w : ℕ) (env : Locals)
     → first ≡ suc b0 → place_of types con ≡ Some i → env x ≡ Some (value.Con con vs)
-    → (turn : Turn locals blocks part (λ c n b. case_arm (arms_of c) n b) cons next first i con)
-    → here types code b0 (Close (block.Case x (in_turn locals blocks (λ c n b. case_arm (arms_of c) n b ∷ []) cons next first)) ∷ (in_turn locals blocks part cons next first ++ rest)) j w env
-    ≡ given (put_all env (case_arm (arms_of con) turn.n turn.b).fields vs)
-    (λ bound. cell_run (case_arm (arms_of con) turn.n turn.b).cell bound (λ last. here types code turn.b (part con turn.n turn.b ++ (turn.back ++ rest)) j w last))
-case_runs types code arms_of locals blocks part cons next b0 first i con x vs rest j w env is place holds turn =
-    let arms = in_turn locals blocks (λ c n b. case_arm (arms_of c) n b ∷ []) cons next first in
+    → (turn : Turn locals blocks part (λ c n b. case_arm p (arms_of c) n b) cons next first i con)
+    → here types code b0 (Close (block.Case x (in_turn locals blocks (λ c n b. case_arm p (arms_of c) n b ∷ []) cons next first)) ∷ (in_turn locals blocks part cons next first ++ rest)) j w env
+    ≡ given (put_all env (case_arm p (arms_of con) turn.n turn.b).fields vs)
+    (λ bound. cell_run (case_arm p (arms_of con) turn.n turn.b).cell bound (λ last. here types code turn.b (part con turn.n turn.b ++ (turn.back ++ rest)) j w last))
+case_runs p types code arms_of locals blocks part cons next b0 first i con x vs rest j w env is place holds turn =
+    let arms = in_turn locals blocks (λ c n b. case_arm p (arms_of c) n b ∷ []) cons next first in
     let lines = in_turn locals blocks part cons next first ++ rest in
     let later = λ (b j u : ℕ) (e : Locals). behind types code b0 (Close (block.Case x arms) ∷ lines) b j u e in
-    let a = case_arm (arms_of con) turn.n turn.b in
+    let a = case_arm p (arms_of con) turn.n turn.b in
     ap (λ o. given o (λ v. case_run types later v arms j w env)) holds
     ∙ ap (λ o. arm_run later (arm_at arms o) vs j w env) place
     ∙ ap (λ o. arm_run later o vs j w env) turn.arm_is
@@ -154,10 +154,10 @@ case_runs types code arms_of locals blocks part cons next b0 first i con x vs re
         ∙ ap (λ l. turn.front ++ l) (append_assoc (part con turn.n turn.b) turn.back rest)
 
     jumps : (last : Locals)
-        → behind types code b0 (Close (block.Case x (in_turn locals blocks (λ c n b. case_arm (arms_of c) n b ∷ []) cons next first)) ∷ (in_turn locals blocks part cons next first ++ rest)) (case_arm (arms_of con) turn.n turn.b).target j w last
+        → behind types code b0 (Close (block.Case x (in_turn locals blocks (λ c n b. case_arm p (arms_of c) n b ∷ []) cons next first)) ∷ (in_turn locals blocks part cons next first ++ rest)) (case_arm p (arms_of con) turn.n turn.b).target j w last
         ≡ here types code turn.b (part con turn.n turn.b ++ (turn.back ++ rest)) j w last
     jumps last =
-        let t = block.Case x (in_turn locals blocks (λ c n b. case_arm (arms_of c) n b ∷ []) cons next first) in
-        ap (λ b. behind types code b0 (Close t ∷ (in_turn locals blocks part cons next first ++ rest)) b j w last) (target_is (arms_of con) turn.n turn.b)
+        let t = block.Case x (in_turn locals blocks (λ c n b. case_arm p (arms_of c) n b ∷ []) cons next first) in
+        ap (λ b. behind types code b0 (Close t ∷ (in_turn locals blocks part cons next first ++ rest)) b j w last) (target_is p (arms_of con) turn.n turn.b)
         ∙ ap (λ l. behind types code b0 (Close t ∷ l) turn.b j w last) grouped
         ∙ jump_in types code b0 (Close t ∷ turn.front) (part con turn.n turn.b ++ (turn.back ++ rest)) turn.b j w last turn.front_closed (omega (arith, is, turn.begins))

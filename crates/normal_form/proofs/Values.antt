@@ -142,8 +142,8 @@ abbrev pub ArmRuns : (S : Setting) → Arms
     → (s : Scope Kind) (l : Scope ℕ) (env : Environment) (locals : Locals) (n number result join follow_end con : ℕ) → Values → (j w : ℕ) → List Line
     → (ℕ → Value → Outcome Value) → Type 0
 ArmRuns S as' s l env locals n number result join m con vs j w follow go =
-    given (put_all locals (case_arm (arm_for S.source as' con) n number).fields vs)
-    (λ bound. cell_run (case_arm (arm_for S.source as' con) n number).cell bound (λ last. here (types_of S.source) S.code number (arm_value S.source as' con l n number result join ++ follow) j w last))
+    given (put_all locals (case_arm S.source (arm_for S.source as' con) n number).fields vs)
+    (λ bound. cell_run (case_arm S.source (arm_for S.source as' con) n number).cell bound (λ last. here (types_of S.source) S.code number (arm_value S.source as' con l n number result join ++ follow) j w last))
     ≡ first_then j (arms_run S.source S.enter as' con vs j w false env) go
 
 -- the jump at the end of an arm
@@ -156,7 +156,7 @@ arm_split : (S : Setting) (c : Name) (fs : List (Option Name)) (x : ArmCell) (b 
     → (is_that (constructor_number S.source c) con ≡ true
     → ((mid : ℕ) → suc mid ≡ number + suc (ends S.source b) → (i : ℕ) (e : Locals) → behind (types_of S.source) S.code mid (Close (block.Goto join) ∷ follow) join i w e ≡ here (types_of S.source) S.code m rest i w e)
     → given (put_all locals (numbered n fs) vs)
-    (λ last. cell_run (cell_in x (n + length fs)) last
+    (λ last. cell_run (cell_in (is_inline (types_of S.source) (con_of S.source c)) x (n + length fs)) last
     (λ last. here (types_of S.source) S.code number (branch S.source b (in_arm fs x n l) (n + bound_count fs x) number result join ++ follow) j w last))
     ≡ first_then j (given (put_fields env fs vs) (λ bound. meaning.cell_run x bound (λ last. eval S.source S.enter b j w false last))) go)
     → (is_that (constructor_number S.source c) con ≡ false → ArmJumps S as' number join m con w follow rest → ArmRuns S as' s l env locals n number result join m con vs j w follow go)
@@ -167,14 +167,14 @@ arm_split S c fs x b as' s l env locals n number result join m con vs j w follow
         → (t ≡ true
         → ((mid : ℕ) → suc mid ≡ number + suc (ends S.source b) → (i : ℕ) (e : Locals) → behind (types_of S.source) S.code mid (Close (block.Goto join) ∷ follow) join i w e ≡ here (types_of S.source) S.code m rest i w e)
         → given (put_all locals (numbered n fs) vs)
-        (λ last. cell_run (cell_in x (n + length fs)) last
+        (λ last. cell_run (cell_in (is_inline (types_of S.source) (con_of S.source c)) x (n + length fs)) last
         (λ last. here (types_of S.source) S.code number (branch S.source b (in_arm fs x n l) (n + bound_count fs x) number result join ++ follow) j w last))
         ≡ first_then j (given (put_fields env fs vs) (λ bound. meaning.cell_run x bound (λ last. eval S.source S.enter b j w false last))) go)
         → (t ≡ false → ArmJumps S as' number join m con w follow rest → ArmRuns S as' s l env locals n number result join m con vs j w follow go)
         → ((mid : ℕ) → suc mid ≡ number + (if t then suc (ends S.source b) else arm_ends S.source as' con) → (i : ℕ) (e : Locals)
         → behind (types_of S.source) S.code mid (Close (block.Goto join) ∷ follow) join i w e ≡ here (types_of S.source) S.code m rest i w e)
-        → given (put_all locals (case_arm (if t then Some (record { con = c; fields = fs; cell = x; body = b }) else arm_for S.source as' con) n number).fields vs)
-        (λ bound. cell_run (case_arm (if t then Some (record { con = c; fields = fs; cell = x; body = b }) else arm_for S.source as' con) n number).cell bound
+        → given (put_all locals (case_arm S.source (if t then Some (record { con = c; fields = fs; cell = x; body = b }) else arm_for S.source as' con) n number).fields vs)
+        (λ bound. cell_run (case_arm S.source (if t then Some (record { con = c; fields = fs; cell = x; body = b }) else arm_for S.source as' con) n number).cell bound
         (λ last. here (types_of S.source) S.code number ((if t then branch S.source b (in_arm fs x n l) (n + bound_count fs x) number result join else arm_value S.source as' con l n number result join) ++ follow) j w last))
         ≡ first_then j (if t then given (put_fields env fs vs) (λ bound. meaning.cell_run x bound (λ last. eval S.source S.enter b j w false last)) else arms_run S.source S.enter as' con vs j w false env) go
     by_test true first later jumps = first refl jumps
@@ -350,13 +350,13 @@ mutual
       let bt = is_built types has.0 v c0.fits in
       let pl = placed types bt.con has.0 bt.owned in
       let at : slice_get (cons_of p arms) pl.i ≡ Some bt.con = ap (λ cs. slice_get cs pl.i) (cons_are p has.0 c fs x b as' has.3.0) ∙ pl.at ∙ ap Some (omega arith) in
-      let turn = turn_at (arm_made p arms) (arm_ends p arms) part (λ con n i. case_arm (arm_for p arms con) n i) (λ con n i. closes_arm p arms con l n i result join) (λ con n i. closed_arm p arms con l n i result join)
+      let turn = turn_at (arm_made p arms) (arm_ends p arms) part (λ con n i. case_arm p (arm_for p arms con) n i) (λ con n i. closes_arm p arms con l n i result join) (λ con n i. closed_arm p arms con l n i result join)
       (closes_turn (arm_made p arms) (arm_ends p arms) part (λ con n i. closes_arm p arms con l n i result join)) (closed_turn (arm_made p arms) (arm_ends p arms) part (λ con n i. closed_arm p arms con l n i result join))
       (cons_of p arms) (suc result) first pl.i bt.con at in
       let one : arms_with types bt.con arms ≡ 1 = among_numbers (λ con. arms_with types con arms ≡ 1) types bt.con has.0 bt.owned has.2 in
       let above = turn.above in
       let finishes = turn.finishes in
-      case_runs types S.code (arm_for p arms) (arm_made p arms) (arm_ends p arms) part (cons_of p arms) (suc result) b0 first pl.i bt.con xe bt.vs rest j w mid refl pl.is (c0.holds ∙ ap Some bt.is) turn
+      case_runs p types S.code (arm_for p arms) (arm_made p arms) (arm_ends p arms) part (cons_of p arms) (suc result) b0 first pl.i bt.con xe bt.vs rest j w mid refl pl.is (c0.holds ∙ ap Some bt.is) turn
       ∙ arm_runs S (AndArm c fs x b as') s l env mid turn.n turn.b result join m next (next + made p (Match e arms l0)) bt.con has.0 bt.def bt.vs q j w locals (turn.back ++ rest) rest go
       (stands_kept types s l env locals mid next turn.n st c0.kept (omega (arith, above))) both.1 has.3 (omega (arith, one)) bt.declared bt.fits (omega arith) (omega (arith, above)) (omega arith) c0.kept goes
       (λ n h i u. jump_in types S.code n (Close (block.Goto join) ∷ turn.back) rest join i w u turn.back_closed (omega (arith, h, finishes))
@@ -408,7 +408,7 @@ mutual
       let both = both_hold (expression_has_ints b) (arms_have_ints as') ints in
       arm_split S c fs x b as' s l env locals n number result join m con vs j w follow rest go
       (λ test jump.
-      arm_agrees types s l c fs x t con def vs env locals n (λ last. here types S.code number (branch p b (in_arm fs x n l) n1 number result join ++ follow) j w last)
+      arm_agrees types s l c fs x (is_inline types (con_of p c)) t con def vs env locals n (λ last. here types S.code number (branch p b (in_arm fs x n l) n1 number result join ++ follow) j w last)
       (λ bound. first_then j (eval p S.enter b j w false bound) go) kinds.0 (number_same p c ∙ number_found (constructor_number p c) con test) is fit st
       (λ bound last stands own.
       branch_runs S (value p b (in_arm fs x n l) n1 number) (eval p S.enter b j w false bound) q n1 (n1 + made p b) (local_of p b (in_arm fs x n l) n1) (number + ends p b) join result next top m w j base last follow rest go number

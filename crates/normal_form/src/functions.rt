@@ -2,6 +2,7 @@
 ghost use Rattle.std.specs.Prelude.{◌≡◌, ◌≤◌, length, IfOk};
 ghost use Rattle.camelot_tree.specs.Tree.{expression_of, function_of};
 ghost use Rattle.camelot_typing.specs.Kinds.{numbered};
+ghost use Rattle.linear_use.specs.Uses.{lent_params};
 ghost use Rattle.camelot_typing.specs.Typing.{params_scope};
 ghost use Rattle.camelot_typing.specs.Typed.{kinds_of, signature_of};
 ghost use Rattle.camelot_typing.specs.TypedPrograms.{typing_of};
@@ -21,7 +22,7 @@ use crate::tail_kinds::tail_kinds;
 use camelot_names::Scope;
 use camelot_tree::{FunDecl, Param};
 use camelot_typing::FunKinds;
-use camelot_values::Kind;
+use camelot_values::{Kind, Types};
 use std::alloc::{AllocError, Global};
 use stops::Stop;
 
@@ -76,6 +77,22 @@ fn bind_kinds<'a>(
     Ok(scope)
 }
 
+// The marks of parameters: those that are marked in the source and of a heap kind.
+fn lent_params(
+    alloc: Global,
+    types: &Types,
+    params: &[Param],
+    kinds: &[Kind],
+) -> Result<Vec<bool>, AllocError>
+    ensures { IfOk result (λ marks. marks.items ≡ lent_params types.now params.now kinds.now) }
+{
+    let mut marks = Vec::new(alloc);
+    'params: for (param, kind) in params.iter().zip(kinds) {
+        marks.push(param.read && types.is_heap(*kind))?;
+    }
+    Ok(marks)
+}
+
 // A function that isn't too large.
 fn make_function(
     known: &Known<'_>,
@@ -100,6 +117,7 @@ fn make_function(
     Ok(NormalFunction {
         name: decl.name.word.copy(known.alloc)?,
         params: Vec::from_slice(known.alloc, &kinds.params)?,
+        reads: lent_params(known.alloc, &known.typed.types, &decl.params, &kinds.params)?,
         result: kinds.result,
         locals,
         blocks: cut_lines(known.alloc, code.lines, code.end.number as usize)?,

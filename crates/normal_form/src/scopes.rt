@@ -4,7 +4,7 @@ ghost use Rattle.camelot_tree.specs.Tree.{branch_of};
 ghost use Rattle.camelot_tree.specs.Tree as tree;
 ghost use Rattle.grail_blocks.specs.Blocks.{arm_of};
 ghost use Rattle.grail_blocks.specs.Blocks as block;
-ghost use Rattle.camelot_typing.specs.Kinds.{numbered};
+ghost use Rattle.camelot_typing.specs.Kinds.{is_inline, numbered, types_of};
 ghost use Rattle.normal_form.specs.Normal.{bound_count, case_arm, cell_in, con_of, fun_of, in_arm, local, place_in, with_cell, with_fields};
 ghost use Rattle.normal_form.specs.Tables.{branch_at, source_in};
 
@@ -116,25 +116,37 @@ fn field_locals(alloc: Global, fields: &[Option<Name>], next: u32) -> Result<Vec
     Ok(locals)
 }
 
+// Whether this constructor is inline.
+fn is_inline(known: &Known<'_>, con: u32) -> bool
+    ensures { result ≡ is_inline (types_of (source_in known.now.typed.now)) con }
+{
+    match known.typed.types.con(con) {
+        Some(con) => con.inline,
+        None => false,
+    }
+}
+
 // What becomes of the cell of an arm, whose diamond would be this local.
-fn cell_of(cell: &ArmCell, local: u32) -> CaseCell
-    ensures { result ≡ cell_in cell.now local }
+fn cell_of(inline: bool, cell: &ArmCell, local: u32) -> CaseCell
+    ensures { result ≡ cell_in inline cell.now local }
 {
     match cell {
-        ArmCell::Plain => CaseCell::Inline,
+        ArmCell::Plain if inline => CaseCell::Inline,
+        ArmCell::Plain => CaseCell::Look,
         ArmCell::Free => CaseCell::Free,
         ArmCell::Keep(_) => CaseCell::Keep(local),
     }
 }
 
 /// An arm of a case that begins here.
-pub(crate) fn case_of(alloc: Global, arm: &Arm, at: At) -> Result<CaseArm, AllocError>
+pub(crate) fn case_of(known: &Known<'_>, arm: &Arm, at: At) -> Result<CaseArm, AllocError>
     requires { let a = branch_of arm.now in at.next + bound_count a.fields a.cell ≤ 256 }
-    ensures { IfOk result (λ case. arm_of case ≡ case_arm (branch_at arm.now) at.next at.number) }
+    ensures { IfOk result (λ case. arm_of case ≡ case_arm (source_in known.now.typed.now) (branch_at arm.now) at.next at.number) }
 {
+    let inline = is_inline(known, con_of(known, &arm.con));
     Ok(CaseArm {
-        fields: field_locals(alloc, &arm.fields, at.next)?,
-        cell: cell_of(&arm.cell, at.next + arm.fields.len() as u32),
+        fields: field_locals(known.alloc, &arm.fields, at.next)?,
+        cell: cell_of(inline, &arm.cell, at.next + arm.fields.len() as u32),
         target: at.number,
     })
 }

@@ -175,7 +175,7 @@ fn tail_arm<'a>(
         arms.cases.push(missing(known.alloc, arms.end.number))?;
         return Ok(arms);
     };
-    arms.cases.push(case_of(known.alloc, arm, arms.end)?)?;
+    arms.cases.push(case_of(known, arm, arms.end)?)?;
     let len = scope.len();
     bind_arm(scope, arm, arms.end.next)?;
     let body_at = At {
