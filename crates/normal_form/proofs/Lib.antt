@@ -12,6 +12,7 @@ pub mod Naming
 pub mod Counting
 pub mod Trees
 pub mod LiveLines
+pub mod Loans
 pub mod UsedNames
 pub mod KindsAt
 pub mod NamedUses
