@@ -5,8 +5,9 @@
 --
 -- Functions come in order, and in each its blocks, lets in order and then the end. A let first looks at its operands in
 -- order, and then at what is left. A tail call looks at its arguments, at what is left for its callee, at the result,
--- and at what is given back. An end looks at its targets in order: at the target's parameters in order, and then at
--- what it needs. What is asked of a value is asked of each constructor that its kind reaches, ascending.
+-- and at what is given back. Of a call's arguments those at marked parameters are left out. An end looks at its targets
+-- in order: at the target's parameters in order, and then at what it needs. What is asked of a value is asked of each
+-- constructor that its kind reaches, ascending.
 use Rattle.std.specs.Prelude.{◌≡◌, ℕ, suc, ℤ, pos, ◌+ℤ◌, ◌-ℤ◌, ◌≤ℤ◌, List, [], ◌∷◌, ◌++◌, map, slice_get, Option, Some, None, cond}
 use Rattle.std.specs.List.{AllByRecursion}
 use Rattle.std.specs.Option.{option_map_or}

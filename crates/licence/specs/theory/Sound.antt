@@ -25,7 +25,7 @@ use Rattle.camelot_values.specs.Lists.{is_among}
 use Rattle.grail_blocks.specs.States.{Ready, State, nothing_bound, bind, after, AreReady, at_start, state_at}
 use Rattle.grail_blocks.specs.StateLaws.{after_append, ready_first, ready_second, state_next, state_last, ready_at, all_first}
 use Rattle.grail_code.specs.Code.{Op, Lit, Flag, Copy, Prim, Make, Call, Let, CaseArm, Term, Ret, Tail, Goto, If, Case, Block, Func, Code}
-use Rattle.grail_code.specs.WellFormed.{HaveKinds, Gives, LetFits, kind_of, is_read, is_lent, is_owned, looked_in, reads_of, AreNotLent, bound_anew, CellLends, LetLends, ArmLends, TermLends, TermFits, BlockFits, BlocksFit, FuncFits, IsWellFormed}
+use Rattle.grail_code.specs.WellFormed.{HaveKinds, Gives, LetFits, kind_of, is_marked, is_read, is_lent, is_owned, looked_in, reads_of, AreNotLent, bound_anew, CellLends, LetLends, ArmLends, TermLends, TermFits, BlockFits, BlocksFit, FuncFits, IsWellFormed}
 use Rattle.grail_code.specs.Meaning.{Locals, put, narrowed, arguments, values_of, op_run, narrow, body_run, bodies, from_block, from_place, run_of}
 use Rattle.grail_code.specs.Places.{Holds, LocalsFit, FitAt, FitsTarget, CallsSafe, JumpsTo, with_cell, cell_effect, TakesArm, Claim, IsKept}
 use Rattle.grail_code.specs.PlaceLaws.{fit_used, all_at, holds_from_block, holds_from_place}
@@ -41,7 +41,7 @@ use Rattle.licence.specs.theory.Asking.{each_locals}
 use Rattle.licence.specs.theory.Paying.{paid_more, paid_beside, paid_in_turn, paid_at_once, paid_behind_free, paid_behind_entry}
 use Rattle.licence.specs.theory.Totals.{total, value_units, nothing_total, bind_plain}
 use Rattle.licence.specs.theory.Carrying.{ReadFree, AllHold, all_held, asked_units, use_total, uses_total, no_more, call_total, params_total, narrowed_asked, fields_total, quiet_behind, quiet_anew, quiet_nothing}
-use Rattle.licence.specs.theory.Steps.{CallsPaid, ReadsFree, worth, op_paid}
+use Rattle.licence.specs.theory.Steps.{CallsPaid, ReadsFree, marks_of, worth, op_paid}
 
 -- ---- blocks of a function that fits
 
@@ -337,7 +337,7 @@ tail_paid p f book func number b env s account enter safe paid e callee args vs 
         → IsPaidBy book.unit (worth p.types f s env account) (λ v. book.back func + potential p.types (book.result func) v) (enter k w true callee vs)
     by_rule pays =
         let read = e.free callee g there in
-        let spent = call_total p.types f s env account.carried (book.param callee) (reads_of p callee) g.params args vs e.well e.quiet e.fit ready kinds.0 read arguments fit here in
+        let spent = call_total p.types f s env account.carried (book.param callee) (is_marked g) (reads_of p callee) g.params args vs e.well e.quiet e.fit ready kinds.0 read (marks_of p callee g there) arguments fit here in
         let rest : ℕ = account.left - book.need callee in
         paid_more (Fits p.types f.result) book.unit (book.need callee + arguments_carry p.types (book.param callee) 0 vs + rest) (worth p.types f s env account)
         (λ v. book.back callee + potential p.types (book.result callee) v + rest) (λ v. book.back func + potential p.types (book.result func) v) (enter k w true callee vs)

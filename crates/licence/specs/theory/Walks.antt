@@ -16,7 +16,7 @@ use Rattle.grail_blocks.specs.declared.blocks.CaseCell.{CaseCell}
 use Rattle.grail_blocks.specs.declared.blocks.CaseCell.TheVariants as cell
 use Rattle.grail_blocks.specs.Events.{params_at}
 use Rattle.grail_code.specs.Code.{Op, Lit, Flag, Copy, Prim, Make, Call, Let, CaseArm, Term, Ret, Tail, Goto, If, Case, Block, Func, Code}
-use Rattle.grail_code.specs.WellFormed.{kind_of}
+use Rattle.grail_code.specs.WellFormed.{kind_of, is_marked}
 use Rattle.annotations.specs.Vectors.{AtLeast, is_heap_con}
 use Rattle.licence.specs.Books.{Units, Carried, Book}
 use Rattle.licence.specs.Rules.{naturals, Account, account_at, carrying, all_carrying, build_cost, after_op, after_lets, account_before, opened, found, in_arm, first_con_of, Asks, call_asks, jump_asks, build_asks, Carries, AllCarry, LetPays, JumpPays, ArmsPay, TermPays, BlockPays, Pays, LentAreFree}
@@ -185,7 +185,7 @@ arguments_same p f book s a b callee args e = by_func (slice_get p.funcs callee)
         ↔ AllHold (option_map_or (λ g. local_checks p.types f s b.carried (call_asks (in_integers book) callee g args)) o [])
     by_func None = (λ h. tt, λ h. tt)
     by_func (Some g) = locals_same p.types f s a.carried b.carried (call_asks book callee g args) (call_asks (in_integers book) callee g args) e.carried
-        (arguments_like SameUnits (book.param callee) ((in_integers book).param callee) (λ x c. refl) 0 (length g.params) args)
+        (arguments_like SameUnits (book.param callee) ((in_integers book).param callee) (λ x c. refl) (is_marked g) 0 (length g.params) args)
 
 pub op_same : (p : Code) (f : Func) (book : Book ℕ) (s : Site) (a : Account ℕ) (b : Account ℤ) (op : Op) → Same a b
     → LetPays p f book s.func s.block s.place a op ↔ AllHold (op_checks integers p f (in_integers book) s b op)
