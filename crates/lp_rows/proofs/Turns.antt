@@ -10,14 +10,14 @@ use Rattle.camelot_values.specs.Kinds.{DataType}
 use Rattle.camelot_values.specs.declared.kinds.Kind.{Kind}
 use Rattle.grail_code.specs.Code.{Func, func_of}
 use Rattle.grail_code.specs.declared.code.Func.{Func as DeclaredFunc}
-use Rattle.grail_code.specs.WellFormed.{kind_of}
+use Rattle.grail_code.specs.WellFormed.{kind_of, is_marked}
 use Rattle.licence.specs.Books.{Units, Carried}
-use Rattle.licence.specs.Rules.{arguments_asks}
-use Rattle.lp_system.specs.Unknowns.{Unknown, Param, same, carriers, params_unknowns, block_unknowns, func_unknowns, funcs_unknowns}
+use Rattle.licence.specs.Rules.{Asks, arguments_asks}
+use Rattle.lp_system.specs.Unknowns.{Unknown, Param, same, carriers, local_carriers, params_unknowns, block_unknowns, func_unknowns, funcs_unknowns}
 use Rattle.lp_system.specs.Forms.{is_zero, asks}
 use Rattle.lp_rows.specs.Dense.{more, less, sums, differences, tick, ticks, term_at, terms_less}
 use Rattle.lp_rows.specs.Plain.{plain, units_of}
-use Rattle.lp_rows.specs.Walk.{cons_rows, value_rows, local_rows, unknown_rows}
+use Rattle.lp_rows.specs.Walk.{cons_rows, value_rows, local_rows, unknown_rows, argument_rows_at}
 use Rattle.lp_rows.specs.declared.unknown.Origin.{Origin}
 use Rattle.lp_rows.specs.declared.unknown.Unknown.{Unknown as DeclaredUnknown}
 
@@ -125,10 +125,10 @@ same_value rows types us q have need e = sym (ap (λ rs. rows ++ rs) (ap (λ o. 
 
 pub one_param : (types : List DataType) (f : Func) (func : ℕ) (old new whole : List Unknown) (v n : ℕ) → v < n
     → old ++ params_unknowns types f func (range_with_len v (n - v)) ≡ whole
-    → new ≡ old ++ map (Param func v) (carriers types (kind_of f v)) → new ++ params_unknowns types f func (range_with_len (v + 1) (n - (v + 1))) ≡ whole
+    → new ≡ old ++ map (Param func v) (local_carriers types f v) → new ++ params_unknowns types f func (range_with_len (v + 1) (n - (v + 1))) ≡ whole
 one_param types f func old new whole v n h e d =
     let s : n - v ≡ suc (n - (v + 1)) = omega (arith, h) in
-    turn old new (map (Param func v) (carriers types (kind_of f v))) (params_unknowns types f func (range_with_len (v + 1) (n - (v + 1)))) whole
+    turn old new (map (Param func v) (local_carriers types f v)) (params_unknowns types f func (range_with_len (v + 1) (n - (v + 1)))) whole
     (sym (ap (λ k. old ++ params_unknowns types f func (range_with_len v k)) s) ∙ e) d
 
 pub one_block : (types : List DataType) (f : Func) (func : ℕ) (old new whole : List Unknown) (v n : ℕ) → v < n
@@ -140,30 +140,40 @@ one_block types f func old new whole v n h e d =
     (sym (ap (λ k. old ++ flat_map (block_unknowns types f func) (range_with_len v k)) s) ∙ e) d
 
 -- arguments against the parameters from this number on
-abbrev argument_rows : List DataType → List Unknown → Func → Carried Unknown → (callee number count : ℕ) → List ℕ → List Inequality
-argument_rows types us f carried callee v k xs = local_rows types us f carried (arguments_asks (λ x con. Param callee x con) v k xs)
+abbrev argument_rows : List DataType → List Unknown → Func → Carried Unknown → (callee : ℕ) → Func → (number count : ℕ) → List ℕ → List Inequality
+argument_rows types us f carried callee g v k xs = local_rows types us f carried (arguments_asks (λ x con. Param callee x con) (is_marked g) v k xs)
 
-pub one_argument : (types : List DataType) (us : List Unknown) (f : Func) (carried : Carried Unknown) (callee x : ℕ) (xs : List ℕ) (old new whole : List Inequality) (v n : ℕ) → v < n
-    → old ++ local_rows types us f carried (arguments_asks (λ y con. Param callee y con) v (n - v) (x ∷ xs)) ≡ whole
-    → new ≡ old ++ value_rows types us (kind_of f x) (carried x) (λ con. Param callee v con)
-    → new ++ local_rows types us f carried (arguments_asks (λ y con. Param callee y con) (v + 1) (n - (v + 1)) xs) ≡ whole
-one_argument types us f carried callee x xs old new whole v n h e d =
+pub one_argument : (types : List DataType) (us : List Unknown) (f : Func) (carried : Carried Unknown) (callee : ℕ) (g : Func) (x : ℕ) (xs : List ℕ) (old new whole : List Inequality) (v n : ℕ) → v < n
+    → old ++ local_rows types us f carried (arguments_asks (λ y con. Param callee y con) (is_marked g) v (n - v) (x ∷ xs)) ≡ whole
+    → new ≡ old ++ argument_rows_at types us f carried callee g v x
+    → new ++ local_rows types us f carried (arguments_asks (λ y con. Param callee y con) (is_marked g) (v + 1) (n - (v + 1)) xs) ≡ whole
+one_argument types us f carried callee g x xs old new whole v n h e d =
     let s : n - v ≡ suc (n - (v + 1)) = omega (arith, h) in
     let next : suc v ≡ v + 1 = omega arith in
-    subst (λ w. new ++ argument_rows types us f carried callee w (n - (v + 1)) xs ≡ whole) next
-    (turn old new (value_rows types us (kind_of f x) (carried x) (λ con. Param callee v con)) (argument_rows types us f carried callee (suc v) (n - (v + 1)) xs) whole
-    (sym (ap (λ k. old ++ argument_rows types us f carried callee v k (x ∷ xs)) s) ∙ e) d)
+    subst (λ w. new ++ argument_rows types us f carried callee g w (n - (v + 1)) xs ≡ whole) next
+    (turn old new (argument_rows_at types us f carried callee g v x) (argument_rows types us f carried callee g (suc v) (n - (v + 1)) xs) whole
+    (ap (λ rs. old ++ rs) (sym (by_mark (is_marked g v))) ∙ sym (ap (λ k. old ++ argument_rows types us f carried callee g v k (x ∷ xs)) s) ∙ e) d)
+  where
+    rest : Asks Unknown
+    rest = arguments_asks (λ y con. Param callee y con) (is_marked g) (suc v) (n - (v + 1)) xs
 
-pub no_argument : (types : List DataType) (us : List Unknown) (f : Func) (carried : Carried Unknown) (callee : ℕ) (xs : List ℕ) (old whole : List Inequality) (v n : ℕ) → n ≤ v
-    → old ++ local_rows types us f carried (arguments_asks (λ y con. Param callee y con) v (n - v) xs) ≡ whole → old ≡ whole
-no_argument types us f carried callee xs old whole v n h e =
-    let s : n - v ≡ 0 = omega (arith, h) in sym (no_more old) ∙ sym (ap (λ k. old ++ argument_rows types us f carried callee v k xs) s) ∙ e
+    here : List Inequality
+    here = value_rows types us (kind_of f x) (carried x) (Param callee v)
 
-pub no_more_arguments : (types : List DataType) (us : List Unknown) (f : Func) (carried : Carried Unknown) (callee : ℕ) (xs : List ℕ) (old whole : List Inequality) (v n : ℕ) → length xs < 1
-    → old ++ local_rows types us f carried (arguments_asks (λ y con. Param callee y con) v n xs) ≡ whole → old ≡ whole
-no_more_arguments types us f carried callee [] old whole v zero h e = sym (no_more old) ∙ e
-no_more_arguments types us f carried callee [] old whole v (suc n) h e = sym (no_more old) ∙ e
-no_more_arguments types us f carried callee (x ∷ xs) old whole v n h e = absurd (omega (arith, h))
+    by_mark : (b : Bool) → local_rows types us f carried (cond b rest ((x, Param callee v) ∷ rest)) ≡ cond b [] here ++ local_rows types us f carried rest
+    by_mark true = refl
+    by_mark false = refl
+
+pub no_argument : (types : List DataType) (us : List Unknown) (f : Func) (carried : Carried Unknown) (callee : ℕ) (g : Func) (xs : List ℕ) (old whole : List Inequality) (v n : ℕ) → n ≤ v
+    → old ++ local_rows types us f carried (arguments_asks (λ y con. Param callee y con) (is_marked g) v (n - v) xs) ≡ whole → old ≡ whole
+no_argument types us f carried callee g xs old whole v n h e =
+    let s : n - v ≡ 0 = omega (arith, h) in sym (no_more old) ∙ sym (ap (λ k. old ++ argument_rows types us f carried callee g v k xs) s) ∙ e
+
+pub no_more_arguments : (types : List DataType) (us : List Unknown) (f : Func) (carried : Carried Unknown) (callee : ℕ) (g : Func) (xs : List ℕ) (old whole : List Inequality) (v n : ℕ) → length xs < 1
+    → old ++ local_rows types us f carried (arguments_asks (λ y con. Param callee y con) (is_marked g) v n xs) ≡ whole → old ≡ whole
+no_more_arguments types us f carried callee g [] old whole v zero h e = sym (no_more old) ∙ e
+no_more_arguments types us f carried callee g [] old whole v (suc n) h e = sym (no_more old) ∙ e
+no_more_arguments types us f carried callee g (x ∷ xs) old whole v n h e = absurd (omega (arith, h))
 
 -- ---- what is left of a list behind its first item
 
@@ -227,15 +237,13 @@ no_unknowns old whole n [] [] v h e = sym (no_more old) ∙ e
 no_unknowns old whole n (x ∷ xs) [] v h e = sym (no_more old) ∙ e
 no_unknowns old whole n xs (w ∷ us) v h e = absurd (omega (arith, h))
 
-pub argument_turn : (types : List DataType) (us : List Unknown) (f : Func) (carried : Carried Unknown) (callee : ℕ) (xs : List ℕ) (old new whole : List Inequality) (v n : ℕ) (q : Option Kind) (have : Units Unknown) → v < n → 1 ≤ length xs
-    → q ≡ kind_of f (get_or xs 0 0) → have ≡ carried (get_or xs 0 0)
-    → old ++ local_rows types us f carried (arguments_asks (λ y con. Param callee y con) v (n - v) xs) ≡ whole
-    → new ≡ old ++ value_rows types us q have (λ con. Param callee v con)
-    → new ++ local_rows types us f carried (arguments_asks (λ y con. Param callee y con) (v + 1) (n - (v + 1)) (take (length xs - 1) (drop 1 xs))) ≡ whole
-argument_turn types us f carried callee xs old new whole v n q have h k e d before pushed =
-    one_argument types us f carried callee (get_or xs 0 0) (take (length xs - 1) (drop 1 xs)) old new whole v n h
-    (ap (λ z. old ++ argument_rows types us f carried callee v (n - v) z) (sym (rest_is xs 0 k)) ∙ before)
-    (pushed ∙ (λ i. old ++ value_rows types us (e i) (d i) (λ con. Param callee v con)))
+pub argument_turn : (types : List DataType) (us : List Unknown) (f : Func) (carried : Carried Unknown) (callee : ℕ) (g : Func) (xs : List ℕ) (old new whole : List Inequality) (v n : ℕ) → v < n → 1 ≤ length xs
+    → old ++ local_rows types us f carried (arguments_asks (λ y con. Param callee y con) (is_marked g) v (n - v) xs) ≡ whole
+    → new ≡ old ++ argument_rows_at types us f carried callee g v (get_or xs 0 0)
+    → new ++ local_rows types us f carried (arguments_asks (λ y con. Param callee y con) (is_marked g) (v + 1) (n - (v + 1)) (take (length xs - 1) (drop 1 xs))) ≡ whole
+argument_turn types us f carried callee g xs old new whole v n h k before pushed =
+    one_argument types us f carried callee g (get_or xs 0 0) (take (length xs - 1) (drop 1 xs)) old new whole v n h
+    (ap (λ z. old ++ argument_rows types us f carried callee g v (n - v) z) (sym (rest_is xs 0 k)) ∙ before) pushed
 
 pub func_turn : (types : List DataType) (fs gs : List DeclaredFunc) (i n : ℕ) (item : DeclaredFunc) (old new whole : List Unknown) → fs ≡ gs
     → i < length fs → item ≡ get_or fs i item

@@ -16,7 +16,7 @@ use Rattle.grail_blocks.specs.declared.blocks.CaseCell.{CaseCell}
 use Rattle.grail_blocks.specs.declared.blocks.CaseCell.TheVariants as cell
 use Rattle.grail_blocks.specs.Events.{params_at}
 use Rattle.grail_code.specs.Code.{Op, Lit, Flag, Copy, Prim, Make, Call, Let, CaseArm, Term, Ret, Tail, Goto, If, Case, Block, Func, Code}
-use Rattle.grail_code.specs.WellFormed.{kind_of}
+use Rattle.grail_code.specs.WellFormed.{kind_of, is_marked}
 use Rattle.annotations.specs.Vectors.{is_heap_con}
 use Rattle.licence.specs.Books.{Units, Carried, Book}
 use Rattle.licence.specs.Rules.{Account, account_at, carrying, all_carrying, build_cost, after_op, in_arm, first_con_of, Asks, arguments_asks, call_asks, jump_asks, build_asks}
@@ -132,11 +132,21 @@ module _ (us : List Unknown) where
       locals_are types f s carried (map (λ x. (x, units x)) xs) ∙ ap (λ q. asked (local_checks types f s (form_carried carried) q)) (mapped (λ a. (a.0, form_units a.1)) (λ x. (x, units x)) xs)
 
   -- where arguments are asked for what parameters carry
-  arguments_forms : (units : Carried Unknown) (number count : ℕ) (args : List ℕ)
-      → form_asks (arguments_asks units number count args) ≡ arguments_asks (form_carried units) number count args
-  arguments_forms units number zero args = refl
-  arguments_forms units number (suc count) [] = refl
-  arguments_forms units number (suc count) (x ∷ xs) = ap (λ q. (x, form_units (units number)) ∷ q) (arguments_forms units (suc number) count xs)
+  arguments_forms : (units : Carried Unknown) (marked : ℕ → Bool) (number count : ℕ) (args : List ℕ)
+      → form_asks (arguments_asks units marked number count args) ≡ arguments_asks (form_carried units) marked number count args
+  arguments_forms units marked number zero args = refl
+  arguments_forms units marked number (suc count) [] = refl
+  arguments_forms units marked number (suc count) (x ∷ xs) = by_mark (marked number) (arguments_forms units marked (suc number) count xs)
+    where
+      rest : Asks Unknown
+      rest = arguments_asks units marked (suc number) count xs
+
+      others : Asks Dense
+      others = arguments_asks (form_carried units) marked (suc number) count xs
+
+      by_mark : (b : Bool) → form_asks rest ≡ others → form_asks (cond b rest ((x, units number) ∷ rest)) ≡ cond b others ((x, form_carried units number) ∷ others)
+      by_mark true e = e
+      by_mark false e = ap (λ q. (x, form_units (units number)) ∷ q) e
 
   carrying_is : (carried : Carried Unknown) (x : ℕ) (units : Units Unknown)
       → form_carried (carrying carried x units) ≡ carrying (form_carried carried) x (form_units units)
@@ -180,8 +190,8 @@ module _ (us : List Unknown) where
       where
         by_func : (o : Option Func) → argument_rows p.types us f carried callee args o ≡ asked (option_map_or (λ g. local_checks p.types f s (form_carried carried) (call_asks book callee g args)) o [])
         by_func None = refl
-        by_func (Some g) = locals_are p.types f s carried (arguments_asks (λ x con. Param callee x con) 0 (length g.params) args)
-            ∙ ap (λ q. asked (local_checks p.types f s (form_carried carried) q)) (arguments_forms (λ x con. Param callee x con) 0 (length g.params) args)
+        by_func (Some g) = locals_are p.types f s carried (arguments_asks (λ x con. Param callee x con) (is_marked g) 0 (length g.params) args)
+            ∙ ap (λ q. asked (local_checks p.types f s (form_carried carried) q)) (arguments_forms (λ x con. Param callee x con) (is_marked g) 0 (length g.params) args)
 
     call_is : (f : Func) (s : Site) (left : Dense) (carried : Carried Unknown) (callee : ℕ) (args : List ℕ)
         → call_rows p us f left carried callee args ≡ asked (arguments_checks p f book s (account left carried) callee args ++ left_check s left (book.need callee) ∷ [])

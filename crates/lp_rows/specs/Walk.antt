@@ -13,7 +13,7 @@ use Rattle.grail_blocks.specs.declared.blocks.CaseCell.{CaseCell}
 use Rattle.grail_blocks.specs.declared.blocks.CaseCell.TheVariants as cell
 use Rattle.grail_blocks.specs.Events.{params_at}
 use Rattle.grail_code.specs.Code.{Op, Lit, Flag, Copy, Prim, Make, Call, Let, CaseArm, Term, Ret, Tail, Goto, If, Case, Block, Func, Code}
-use Rattle.grail_code.specs.WellFormed.{kind_of}
+use Rattle.grail_code.specs.WellFormed.{kind_of, is_marked}
 use Rattle.annotations.specs.Vectors.{is_heap_con}
 use Rattle.licence.specs.Books.{Units, Carried}
 use Rattle.licence.specs.Rules.{carrying, first_con_of, Asks, arguments_asks}
@@ -49,10 +49,14 @@ abbrev pub local_rows : List DataType → List Unknown → Func → Carried Unkn
 local_rows types us f carried [] = []
 local_rows types us f carried (a ∷ asks) = value_rows types us (kind_of f a.0) (carried a.0) a.1 ++ local_rows types us f carried asks
 
--- of arguments; a function that isn't there asks nothing of them
+-- of an argument against the parameter of this number, unless that is marked
+abbrev pub argument_rows_at : List DataType → List Unknown → Func → Carried Unknown → (callee : ℕ) → Func → (number x : ℕ) → List Inequality
+argument_rows_at types us f carried callee g number x = cond (is_marked g number) [] (value_rows types us (kind_of f x) (carried x) (Param callee number))
+
+-- of arguments that are taken; a function that isn't there asks nothing of them
 abbrev pub argument_rows : List DataType → List Unknown → Func → Carried Unknown → (callee : ℕ) → List ℕ → Option Func → List Inequality
 argument_rows types us f carried callee args None = []
-argument_rows types us f carried callee args (Some g) = local_rows types us f carried (arguments_asks (λ x con. Param callee x con) 0 (length g.params) args)
+argument_rows types us f carried callee args (Some g) = local_rows types us f carried (arguments_asks (λ x con. Param callee x con) (is_marked g) 0 (length g.params) args)
 
 -- ---- lets
 

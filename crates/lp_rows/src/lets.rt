@@ -69,15 +69,7 @@ fn push_called(
         (slice_get (code_of books.entry.code.now).funcs callee)) }
 {
     match func_at(books, callee) {
-        Some(func) => push_arguments(
-            books,
-            here,
-            rows,
-            slots,
-            callee,
-            func.params.len() as u32,
-            args,
-        ),
+        Some(func) => push_arguments(books, here, rows, slots, callee, func, args),
         None => Ok(()),
     }
 }

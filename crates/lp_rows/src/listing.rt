@@ -6,6 +6,7 @@ ghost use Rattle.camelot_values.specs.declared.kinds.Kind.TheVariants as kind;
 ghost use Rattle.annotations.specs.Tables.{table_of};
 ghost use Rattle.grail_code.specs.Code.{op_of, let_of, block_of, func_of, code_of};
 ghost use Rattle.lp_system.specs.Unknowns.{params_unknowns, vars_unknowns, block_unknowns, blocks_unknowns, made_unknowns, lets_unknowns, builds_unknowns, func_unknowns, funcs_unknowns};
+ghost use Rattle.lp_system.specs.Looked.{AreLooked};
 ghost use Rattle.lp_rows.specs.Plain.{plain, units_of};
 
 use super::unknown::{Origin, Unknown, unit};
@@ -13,6 +14,7 @@ use super::values::carriers;
 use annotations::ReachTable;
 use camelot_values::{Kind, Types};
 use grail_code::{Block, Code, Func, Op};
+use lp_system::{local_carriers, looked_in};
 use std::alloc::{AllocError, Global};
 
 /// Types with their table.
@@ -33,37 +35,41 @@ fn push_units(list: &mut Vec<Unknown>, origin: Origin, cons: &[u32]) -> Result<(
     Ok(())
 }
 
-// Of the parameters of a function.
+// Of the parameters of a function. Nothing is unknown of those that are lent.
 fn push_params(
     reach: Reach<'_>,
     list: &mut Vec<Unknown>,
     func: u32,
     body: &Func,
+    looked: &[bool],
 ) -> Result<(), AllocError>
+    requires looked { AreLooked (func_of body.now) looked.now }
     ensures { OnOk result (map plain list.new.items ≡ map plain list.old.items
         ++ params_unknowns reach.entry.types.now (func_of body.now) func
         (range_with_len 0 (length body.now.params.items))) }
 {
     'params: for var in 0..body.params.len() as u32 {
-        let cons = carriers(reach.types, reach.table, body.kind_of(var));
+        let cons = local_carriers(reach.types, reach.table, body, looked, var);
         push_units(list, Origin::Param { func, var }, cons)?;
     }
     Ok(())
 }
 
-// Of the parameters of a block after the first.
+// Of the parameters of a block after the first, in the same way.
 fn push_vars(
     reach: Reach<'_>,
     list: &mut Vec<Unknown>,
     func: u32,
     body: &Func,
+    looked: &[bool],
     block: u32,
     vars: &[u32],
 ) -> Result<(), AllocError>
+    requires looked { AreLooked (func_of body.now) looked.now }
     ensures { OnOk result (map plain list.new.items ≡ map plain list.old.items ++ vars_unknowns reach.entry.types.now (func_of body.now) func block vars.now) }
 {
     'vars: for var in vars {
-        let cons = carriers(reach.types, reach.table, body.kind_of(*var));
+        let cons = local_carriers(reach.types, reach.table, body, looked, *var);
         let origin = Origin::BlockVar {
             func,
             block,
@@ -80,12 +86,22 @@ fn push_block(
     list: &mut Vec<Unknown>,
     func: u32,
     body: &Func,
+    looked: &[bool],
     block: u32,
 ) -> Result<(), AllocError>
+    requires looked { AreLooked (func_of body.now) looked.now }
     ensures { OnOk result (map plain list.new.items ≡ map plain list.old.items ++ block_unknowns reach.entry.types.now (func_of body.now) func block) }
 {
     list.push(Unknown::BlockNeed { func, block })?;
-    push_vars(reach, list, func, body, block, body.params_at(block))
+    push_vars(
+        reach,
+        list,
+        func,
+        body,
+        looked,
+        block,
+        body.params_at(block),
+    )
 }
 
 // Of the blocks after the first.
@@ -94,11 +110,13 @@ fn push_blocks(
     list: &mut Vec<Unknown>,
     func: u32,
     body: &Func,
+    looked: &[bool],
 ) -> Result<(), AllocError>
+    requires looked { AreLooked (func_of body.now) looked.now }
     ensures { OnOk result (map plain list.new.items ≡ map plain list.old.items ++ blocks_unknowns reach.entry.types.now (func_of body.now) func) }
 {
     'numbers: for block in 1..body.blocks.len() as u32 {
-        push_block(reach, list, func, body, block)?;
+        push_block(reach, list, func, body, looked, block)?;
     }
     Ok(())
 }
@@ -182,12 +200,13 @@ fn push_func(
 ) -> Result<(), AllocError>
     ensures { OnOk result (map plain list.new.items ≡ map plain list.old.items ++ func_unknowns reach.entry.types.now func (func_of body.now)) }
 {
+    let looked = looked_in(body);
     list.push(Unknown::Need { func })?;
     list.push(Unknown::Back { func })?;
-    push_params(reach, list, func, body)?;
+    push_params(reach, list, func, body, &looked)?;
     let cons = carriers(reach.types, reach.table, Some(body.result));
     push_units(list, Origin::Outcome { func }, cons)?;
-    push_blocks(reach, list, func, body)?;
+    push_blocks(reach, list, func, body, &looked)?;
     push_builds(reach, list, func, body)
 }
 

@@ -5,7 +5,8 @@ ghost use Rattle.annotations.specs.Tables.{table_of};
 ghost use Rattle.grail_code.specs.Code.{func_of, code_of};
 ghost use Rattle.lp_system.specs.Unknowns.{Param, BlockVar, carriers};
 ghost use Rattle.lp_rows.specs.Plain.{plain, units_of, names};
-ghost use Rattle.lp_rows.specs.Walk.{bound, cons_rows, value_rows, local_rows};
+ghost use Rattle.grail_code.specs.WellFormed.{is_marked};
+ghost use Rattle.lp_rows.specs.Walk.{bound, cons_rows, value_rows, local_rows, argument_rows_at};
 
 use super::books::{Books, Here};
 use super::rows::push_unknown;
@@ -15,6 +16,7 @@ use annotations::ReachTable;
 use camelot_values::{Kind, Types};
 use dual_simplex::Row;
 use grail_code::Func;
+use lp_system::is_marked;
 use std::alloc::AllocError;
 
 /// The constructors that values of the kind carry units on.
@@ -86,7 +88,33 @@ pub(crate) fn push_all(
     Ok(())
 }
 
-/// Adds the rows of arguments against so many parameters of a function.
+// Adds the rows of an argument against the parameter of this number. One that is only read is asked nothing.
+fn push_argument(
+    books: Books<'_>,
+    here: Here<'_>,
+    rows: &mut Vec<Row>,
+    slots: &[Origin],
+    callee: u32,
+    called: &Func,
+    number: u32,
+    local: u32,
+) -> Result<(), AllocError>
+    ensures { OnOk result (map plain_row rows.new.items ≡ map plain_row rows.old.items ++ argument_rows_at
+        (code_of books.entry.code.now).types (map plain books.entry.unknowns.now) (func_of here.entry.func.now)
+        (names here.entry.site.func here.entry.site.block slots.now) callee (func_of called.now) number local) }
+{
+    if is_marked(called, number as usize) {
+        return Ok(());
+    }
+    let have = origin_at(here.site, slots, local);
+    let need = Origin::Param {
+        func: callee,
+        var: number,
+    };
+    push_value(books, rows, here.func.kind_of(local), have, need)
+}
+
+/// Adds the rows of arguments against the parameters of a function.
 #[tactic(auto, using(crate::proofs::Turns::no_argument, crate::proofs::Turns::no_more_arguments))]
 pub(crate) fn push_arguments(
     books: Books<'_>,
@@ -94,23 +122,23 @@ pub(crate) fn push_arguments(
     rows: &mut Vec<Row>,
     slots: &[Origin],
     callee: u32,
-    count: u32,
+    called: &Func,
     args: &[u32],
 ) -> Result<(), AllocError>
     ensures { OnOk result (map plain_row rows.new.items ≡ map plain_row rows.old.items ++ local_rows
         (code_of books.entry.code.now).types (map plain books.entry.unknowns.now) (func_of here.entry.func.now)
         (names here.entry.site.func here.entry.site.block slots.now)
-        (arguments_asks (λ x con. Param callee x con) 0 count args.now)) }
+        (arguments_asks (λ x con. Param callee x con) (is_marked (func_of called.now)) 0
+        (length called.now.params.items) args.now)) }
 {
+    let count = called.params.len() as u32;
     let mut var = 0;
     let mut rest = args;
     'arguments: while let [local, others @ ..] = rest {
         if var >= count {
             break;
         }
-        let have = origin_at(here.site, slots, *local);
-        let need = Origin::Param { func: callee, var };
-        push_value(books, rows, here.func.kind_of(*local), have, need)?;
+        push_argument(books, here, rows, slots, callee, called, var, *local)?;
         rest = others;
         var += 1;
     }

@@ -55,7 +55,8 @@ abbrev pub terms_from : ℕ → List Unknown → (Unknown → ℤ) → List Summ
 terms_from number [] factor = []
 terms_from number (u ∷ us) factor = cond (is_zero (factor u)) (terms_from (suc number) us factor) (record { unknown = number; factor = factor u } ∷ terms_from (suc number) us factor)
 
--- at least as much is there as is asked: the unknowns on the left, and numbers on the right
+-- At least as much is there as is asked: the unknowns on the left, and numbers on the right. Units that aren't among
+-- the unknowns, as those of what is lent, are none, and leave no term.
 abbrev pub row_of : List Unknown → Check Form → Inequality
 row_of us check = record {
   terms = terms_from 0 us (λ u. check.have.factor u -ℤ check.need.factor u);

@@ -13,7 +13,7 @@ use Rattle.annotations.specs.Vectors.{Vector, is_heap_con}
 use Rattle.certificate.specs.Certificates.{VarCert, BlockCert, MakeCert, FuncCert, Cert}
 use Rattle.licence.specs.Books.{Book, book_of}
 use Rattle.licence.specs.Fitting.{Grants}
-use Rattle.lp_system.specs.Unknowns.{Unknown, Need, Back, Param, Result, BlockNeed, BlockVar, Made, same, is_listed, carriers, unknowns_of}
+use Rattle.lp_system.specs.Unknowns.{Unknown, Need, Back, Param, Result, BlockNeed, BlockVar, Made, same, is_listed, carriers, local_carriers, unknowns_of}
 
 -- ---- from a solution to a certificate
 
@@ -51,7 +51,7 @@ with_units con (suc n) = (con, suc n) ∷ []
 abbrev pub units_on : List ℕ → (ℕ → ℕ) → Vector
 units_on cons units = flat_map (λ c. with_units c (units c)) cons
 
--- a line for each local that carries units
+-- a line for each local that carries units; one that is lent carries none
 abbrev pub line_of : ℕ → Vector → List VarCert
 line_of x [] = []
 line_of x (e ∷ es) = record { var = x; vector = e ∷ es } ∷ []
@@ -60,14 +60,14 @@ abbrev pub lines_of : (ℕ → Vector) → List ℕ → List VarCert
 lines_of vector xs = flat_map (λ x. line_of x (vector x)) xs
 
 abbrev pub params_by : List DataType → Func → ℕ → Assignment → List VarCert
-params_by types f func value = lines_of (λ x. units_on (carriers types (kind_of f x)) (λ c. value (Param func x c))) (range_with_len 0 (length f.params))
+params_by types f func value = lines_of (λ x. units_on (local_carriers types f x) (λ c. value (Param func x c))) (range_with_len 0 (length f.params))
 
 -- a block after the first
 abbrev pub block_by : List DataType → Func → ℕ → Assignment → ℕ → BlockCert
 block_by types f func value block = record {
   block = block;
   need = value (BlockNeed func block);
-  vars = lines_of (λ x. units_on (carriers types (kind_of f x)) (λ c. value (BlockVar func block x c))) (params_at f.blocks block);
+  vars = lines_of (λ x. units_on (local_carriers types f x) (λ c. value (BlockVar func block x c))) (params_at f.blocks block);
 }
 
 -- a line for a build that carries units

@@ -1,4 +1,5 @@
 -- The system of a code, and what its solutions are.
+pub mod Looked
 pub mod Unknowns
 pub mod Forms
 pub mod Found

@@ -1,7 +1,7 @@
 -- Cited by contracts.
--- What is unknown of code that lends nothing before its certificate is found: each number that a fitting certificate
--- may say of it, in the order of a certificate's lines (Hofmann and Jost 2003). The unit isn't among them: amounts are
--- counted in cells, and may be fractions.
+-- What is unknown of code before its certificate is found: each number that a fitting certificate may say of it, in the
+-- order of a certificate's lines (Hofmann and Jost 2003). The unit isn't among them: amounts are counted in cells, and
+-- may be fractions. What is lent carries nothing, so that nothing is unknown of it.
 use Rattle.std.specs.Prelude.{◌≡◌, ℕ, suc, ◌-◌, Bool, false, List, [], ◌∷◌, ◌++◌, map, flat_map, length, Option, Some, cond}
 use Rattle.std.specs.List.{range_with_len, list_any}
 use Rattle.std.specs.Option.{option_map, option_map_or}
@@ -12,7 +12,7 @@ use Rattle.camelot_values.specs.declared.kinds.Kind.{Kind}
 use Rattle.camelot_values.specs.declared.kinds.Kind.TheVariants as kind
 use Rattle.grail_blocks.specs.Events.{params_at}
 use Rattle.grail_code.specs.Code.{Op, Prim, Make, Let, Block, Func, Code}
-use Rattle.grail_code.specs.WellFormed.{kind_of}
+use Rattle.grail_code.specs.WellFormed.{kind_of, is_lent}
 use Rattle.annotations.specs.Vectors.{is_heap_con}
 
 -- functions, blocks, locals, places of lets and constructors by their numbers
@@ -57,14 +57,18 @@ NoRepeats (u ∷ us) = (is_listed us u ≡ false) × NoRepeats us
 abbrev pub carriers : List DataType → Option Kind → List ℕ
 carriers types q = option_map_or (reached types) q []
 
--- of parameters: one for each constructor that the parameter's kind reaches
+-- the same of a local's value: on none where the local is lent
+unfoldable pub local_carriers : List DataType → Func → ℕ → List ℕ
+local_carriers types f x = cond (is_lent types f x) [] (carriers types (kind_of f x))
+
+-- of parameters that aren't lent: one for each constructor that the parameter's kind reaches
 abbrev pub params_unknowns : List DataType → Func → ℕ → List ℕ → List Unknown
-params_unknowns types f func xs = flat_map (λ x. map (Param func x) (carriers types (kind_of f x))) xs
+params_unknowns types f func xs = flat_map (λ x. map (Param func x) (local_carriers types f x)) xs
 
 abbrev pub vars_unknowns : List DataType → Func → (func block : ℕ) → List ℕ → List Unknown
-vars_unknowns types f func block xs = flat_map (λ x. map (BlockVar func block x) (carriers types (kind_of f x))) xs
+vars_unknowns types f func block xs = flat_map (λ x. map (BlockVar func block x) (local_carriers types f x)) xs
 
--- of a block after the first: its need, and its parameters
+-- of a block after the first: its need, and its parameters that aren't lent
 abbrev pub block_unknowns : List DataType → Func → (func block : ℕ) → List Unknown
 block_unknowns types f func block = BlockNeed func block ∷ vars_unknowns types f func block (params_at f.blocks block)
 

@@ -1,5 +1,6 @@
 -- Laws, for the proofs of this crate and of those above it.
 -- How the laws of systems are proved.
+pub mod Lent
 pub mod Listing
 pub mod Certified
 pub mod Fitted

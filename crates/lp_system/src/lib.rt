@@ -3,3 +3,6 @@
 #![tactic(auto)]
 
 pub mod laws;
+mod lent;
+
+pub use lent::{is_marked, local_carriers, looked_in};

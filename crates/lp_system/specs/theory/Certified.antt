@@ -10,11 +10,10 @@ use Rattle.camelot_values.specs.Lists.{is_among}
 use Rattle.camelot_values.specs.declared.kinds.Kind.TheVariants as kind
 use Rattle.grail_blocks.specs.Events.{params_at}
 use Rattle.grail_code.specs.Code.{Op, Lit, Flag, Copy, Prim, Make, Call, Let, Block, Func, Code}
-use Rattle.grail_code.specs.WellFormed.{kind_of}
 use Rattle.annotations.specs.Vectors.{Vector, at, is_heap_con}
 use Rattle.certificate.specs.Certificates.{BlockCert, MakeCert, FuncCert}
 use Rattle.licence.specs.Books.{vector_of, block_of, make_of, said, block_said, book_of}
-use Rattle.lp_system.specs.Unknowns.{Unknown, Need, Back, Param, Result, BlockNeed, BlockVar, Made, is_listed, carriers, unknowns_of}
+use Rattle.lp_system.specs.Unknowns.{Unknown, Need, Back, Param, Result, BlockNeed, BlockVar, Made, is_listed, carriers, local_carriers, unknowns_of}
 use Rattle.lp_system.specs.Found.{Assignment, IsZeroOff, book_by, with_units, units_on, line_of, lines_of, params_by, block_by, make_line, made_by, lets_by, builds_by, func_by, funcs_by, certificate_by}
 use Rattle.lp_system.specs.theory.Listing.{in_range, There, MadeHere, StandsIn, Stands, listed_stands}
 
@@ -222,7 +221,7 @@ by_func p unit value func say nothing see wanted there missing = ap (λ o. see (
     by_option (Some f) e = there f e
 
 -- an unknown that doesn't stand is nothing
-off : (p : Code) (value : Assignment) (u : Unknown) → IsZeroOff (unknowns_of p) value → (Stands p u → ⊥) → value u ≡ 0
+pub off : (p : Code) (value : Assignment) (u : Unknown) → IsZeroOff (unknowns_of p) value → (Stands p u → ⊥) → value u ≡ 0
 off p value u zero_off never = by_test (is_listed (unknowns_of p) u) refl
   where
     by_test : (b : Bool) → is_listed (unknowns_of p) u ≡ b → value u ≡ 0
@@ -234,7 +233,7 @@ no_func : (p : Code) (u : Unknown) (func : ℕ) (P : Func → Type 0) → slice_
 no_func p u func P e h = let c : None ≡ Some h.0 = sym e ∙ h.1 in absurd cc
 
 -- the same function
-the_func : (p : Code) (func : ℕ) (f : Func) (P : Func → Type 0) → slice_get p.funcs func ≡ Some f → There p.funcs func P → P f
+pub the_func : (p : Code) (func : ℕ) (f : Func) (P : Func → Type 0) → slice_get p.funcs func ≡ Some f → There p.funcs func P → P f
 the_func p func f P e h = let same : Some h.0 ≡ Some f = sym h.1 ∙ e in let is : h.0 ≡ f = cc in subst P is h.2
 
 -- a value that is looked up behind two tests is the assignment's, where this is nothing off them
@@ -267,12 +266,12 @@ param_is p unit value func x c zero_off = by_func p unit value func (λ f. vecto
 
     there : (f : Func) → slice_get p.funcs func ≡ Some f → at (vector_of (params_by p.types f func value) x) c ≡ value (Param func x c)
     there f e =
-        ap (λ v. at v c) (vector_at (λ y. units_on (carriers p.types (kind_of f y)) (λ d. value (Param func y d))) (range_with_len 0 (length f.params)) x)
-        ∙ at_tested (is_among (range_with_len 0 (length f.params)) x) (units_on (carriers p.types (kind_of f x)) (λ d. value (Param func x d))) c
-        ∙ ap (λ n. cond (is_among (range_with_len 0 (length f.params)) x) n 0) (units_at (carriers p.types (kind_of f x)) (λ d. value (Param func x d)) c ∙ tested (is_among (carriers p.types (kind_of f x)) c) (value (Param func x c)) no_con)
+        ap (λ v. at v c) (vector_at (λ y. units_on (local_carriers p.types f y) (λ d. value (Param func y d))) (range_with_len 0 (length f.params)) x)
+        ∙ at_tested (is_among (range_with_len 0 (length f.params)) x) (units_on (local_carriers p.types f x) (λ d. value (Param func x d))) c
+        ∙ ap (λ n. cond (is_among (range_with_len 0 (length f.params)) x) n 0) (units_at (local_carriers p.types f x) (λ d. value (Param func x d)) c ∙ tested (is_among (local_carriers p.types f x) c) (value (Param func x c)) no_con)
         ∙ tested (is_among (range_with_len 0 (length f.params)) x) (value (Param func x c)) no_param
       where
-        no_con : is_among (carriers p.types (kind_of f x)) c ≡ false → value (Param func x c) ≡ 0
+        no_con : is_among (local_carriers p.types f x) c ≡ false → value (Param func x c) ≡ 0
         no_con t = nothing (λ s. let h = the_func p func f (λ g. StandsIn p.types g (Param func x c)) e s in let k : true ≡ false = sym h.1 ∙ t in absurd cc)
 
         no_param : is_among (range_with_len 0 (length f.params)) x ≡ false → value (Param func x c) ≡ 0
@@ -340,9 +339,9 @@ block_var_is p unit value func b x c zero_off =
 
         inner : at (vector_of (block_by p.types f func value b).vars x) c ≡ value (BlockVar func b x c)
         inner =
-            ap (λ v. at v c) (vector_at (λ y. units_on (carriers p.types (kind_of f y)) (λ d. value (BlockVar func b y d))) (params_at f.blocks b) x)
-            ∙ at_tested (is_among (params_at f.blocks b) x) (units_on (carriers p.types (kind_of f x)) (λ d. value (BlockVar func b x d))) c
-            ∙ ap (λ n. cond (is_among (params_at f.blocks b) x) n 0) (units_at (carriers p.types (kind_of f x)) (λ d. value (BlockVar func b x d)) c ∙ tested (is_among (carriers p.types (kind_of f x)) c) (value (BlockVar func b x c))
+            ap (λ v. at v c) (vector_at (λ y. units_on (local_carriers p.types f y) (λ d. value (BlockVar func b y d))) (params_at f.blocks b) x)
+            ∙ at_tested (is_among (params_at f.blocks b) x) (units_on (local_carriers p.types f x) (λ d. value (BlockVar func b x d))) c
+            ∙ ap (λ n. cond (is_among (params_at f.blocks b) x) n 0) (units_at (local_carriers p.types f x) (λ d. value (BlockVar func b x d)) c ∙ tested (is_among (local_carriers p.types f x) c) (value (BlockVar func b x c))
             (λ t. nothing (λ s. let h = in_it s in let k : true ≡ false = sym h.3 ∙ t in absurd cc)))
             ∙ tested (is_among (params_at f.blocks b) x) (value (BlockVar func b x c)) (λ t. nothing (λ s. let h = in_it s in let k : true ≡ false = sym h.2 ∙ t in absurd cc))
 

@@ -1,7 +1,7 @@
 -- Laws, for the proofs of this crate and of those above it.
 -- What a point costs is what its book's functions cost.
 use Rattle.std.proofs.Common.{◌≡◌, ℕ, suc, ◌+◌, ◌-◌, Bool, true, false, pos, ◌+ℤ◌, ◌*ℤ◌, List, [], ◌∷◌, ◌++◌, length, map, refl, sym, ap, ◌∙◌, arith}
-use Rattle.std.specs.Prelude.{sum, flat_map, cond, Some}
+use Rattle.std.specs.Prelude.{sum, flat_map, cond, slice_get, Some}
 use Rattle.std.specs.List.{range_with_len}
 use Rattle.std.specs.Option.{option_map}
 use Rattle.std.proofs.lemmas.List.Sums.{sum_by-cons}
@@ -10,12 +10,14 @@ use Rattle.camelot_values.specs.Kinds.{DataType, type_of}
 use Rattle.camelot_values.specs.declared.kinds.Kind.TheVariants as kind
 use Rattle.grail_blocks.specs.Events.{params_at}
 use Rattle.grail_code.specs.Code.{Op, Lit, Flag, Copy, Prim, Make, Call, Let, Block, Func, Code}
-use Rattle.grail_code.specs.WellFormed.{kind_of}
+use Rattle.grail_code.specs.WellFormed.{kind_of, is_lent}
 use Rattle.annotations.specs.Vectors.{is_heap_con}
 use Rattle.licence.specs.Books.{Book}
-use Rattle.lp_system.specs.Unknowns.{Unknown, Need, Back, Param, Result, BlockNeed, BlockVar, Made, carriers, params_unknowns, vars_unknowns, block_unknowns, blocks_unknowns, made_unknowns, lets_unknowns, builds_unknowns, func_unknowns, funcs_unknowns, unknowns_of}
+use Rattle.licence.specs.Rules.{LentCarryNothing, LentAreFree}
+use Rattle.lp_system.specs.Unknowns.{Unknown, Need, Back, Param, Result, BlockNeed, BlockVar, Made, carriers, local_carriers, params_unknowns, vars_unknowns, block_unknowns, blocks_unknowns, made_unknowns, lets_unknowns, builds_unknowns, func_unknowns, funcs_unknowns, unknowns_of}
 use Rattle.lp_system.specs.Forms.{cost_of, system_of}
 use Rattle.lp_system.specs.Found.{Assignment, amount, param_cost, func_cost, funcs_cost}
+use Rattle.lp_system.specs.theory.Lent.{lent_none, owned_all}
 use Rattle.lp_system.specs.theory.Ring.{zero_times, one_times}
 
 -- what an unknown of this value costs
@@ -67,7 +69,7 @@ module _ (value : Assignment) where
   free_block : (types : List DataType) (f : Func) (func block : ℕ) → paid_by value (block_unknowns types f func block) ≡ 0
   free_block types f func block =
       let e : paid_by value (vars_unknowns types f func block (params_at f.blocks block)) ≡ 0 =
-      free_all (λ x. map (BlockVar func block x) (carriers types (kind_of f x))) (params_at f.blocks block) (λ x. free_each (BlockVar func block x) (carriers types (kind_of f x)) (λ c. refl)) in
+      free_all (λ x. map (BlockVar func block x) (local_carriers types f x)) (params_at f.blocks block) (λ x. free_each (BlockVar func block x) (local_carriers types f x) (λ c. refl)) in
       omega arith
 
   free_made : (types : List DataType) (func block place : ℕ) (op : Op) → paid_by value (made_unknowns types func block place op) ≡ 0
@@ -102,18 +104,36 @@ module _ (book : Book ℕ) where
   paid_param func x [] = refl
   paid_param func x (c ∷ cons) = ap (λ n. book.param func x c + n) (paid_param func x cons) ∙ sym (sum_first (book.param func x c) (map (book.param func x) cons))
 
-  paid_params : (types : List DataType) (f : Func) (func : ℕ) (xs : List ℕ)
+  -- what carries nothing costs nothing
+  nothing_sums : (func x : ℕ) (cons : List ℕ) → ((con : ℕ) → book.param func x con ≡ 0) → 0 ≡ sum (map (book.param func x) cons)
+  nothing_sums func x [] none = refl
+  nothing_sums func x (c ∷ cons) none =
+      let first = none c in
+      let rest = nothing_sums func x cons none in
+      let both = sum_first (book.param func x c) (map (book.param func x) cons) in
+      omega (arith, first, rest, both)
+
+  -- the unknowns of a parameter that isn't lent; one that is has none, and carries nothing
+  paid_local : (types : List DataType) (f : Func) (func x : ℕ) → LentCarryNothing types f (book.param func)
+      → paid_by (amount book) (map (Param func x) (local_carriers types f x)) ≡ param_cost types f book func x
+  paid_local types f func x quiet = by_lent (is_lent types f x) refl
+    where
+      by_lent : (b : Bool) → is_lent types f x ≡ b → paid_by (amount book) (map (Param func x) (local_carriers types f x)) ≡ param_cost types f book func x
+      by_lent true e = ap (λ cs. paid_by (amount book) (map (Param func x) cs)) (lent_none types f x e) ∙ nothing_sums func x (carriers types (kind_of f x)) (quiet x e)
+      by_lent false e = ap (λ cs. paid_by (amount book) (map (Param func x) cs)) (owned_all types f x e) ∙ paid_param func x (carriers types (kind_of f x))
+
+  paid_params : (types : List DataType) (f : Func) (func : ℕ) (xs : List ℕ) → LentCarryNothing types f (book.param func)
       → paid_by (amount book) (params_unknowns types f func xs) ≡ sum (map (param_cost types f book func) xs)
-  paid_params types f func [] = refl
-  paid_params types f func (x ∷ xs) =
-      paid_append (amount book) (map (Param func x) (carriers types (kind_of f x))) (params_unknowns types f func xs)
-      ∙ (λ i. paid_param func x (carriers types (kind_of f x)) i + paid_params types f func xs i)
+  paid_params types f func [] quiet = refl
+  paid_params types f func (x ∷ xs) quiet =
+      paid_append (amount book) (map (Param func x) (local_carriers types f x)) (params_unknowns types f func xs)
+      ∙ (λ i. paid_local types f func x quiet i + paid_params types f func xs quiet i)
       ∙ sym (sum_first (param_cost types f book func x) (map (param_cost types f book func) xs))
 
-  paid_func : (types : List DataType) (func : ℕ) (f : Func) → paid_by (amount book) (func_unknowns types func f) ≡ func_cost types book func f
-  paid_func types func f =
+  paid_func : (types : List DataType) (func : ℕ) (f : Func) → LentCarryNothing types f (book.param func) → paid_by (amount book) (func_unknowns types func f) ≡ func_cost types book func f
+  paid_func types func f quiet =
       let e = paid_append (amount book) params (results ++ (blocks ++ builds)) in
-      let d = paid_params types f func (range_with_len 0 (length f.params)) in
+      let d = paid_params types f func (range_with_len 0 (length f.params)) quiet in
       let r = free_each (amount book) (Result func) (carriers types (Some f.result)) (λ c. refl) in
       let b = free_all (amount book) (block_unknowns types f func) (range_with_len 1 (length f.blocks - 1)) (free_block (amount book) types f func) in
       let m = free_builds (amount book) types func 0 f.blocks in
@@ -136,12 +156,17 @@ module _ (book : Book ℕ) where
       add : (need all first later cost : ℕ) → all ≡ first + later → first ≡ cost → later ≡ 0 → need + (0 + all) ≡ need + cost
       add need all first later cost e d z = omega arith
 
-  paid_funcs : (types : List DataType) (func : ℕ) (fs : List Func) → paid_by (amount book) (funcs_unknowns types func fs) ≡ funcs_cost types book func fs
-  paid_funcs types func [] = refl
-  paid_funcs types func (f ∷ fs) =
-      paid_append (amount book) (func_unknowns types func f) (funcs_unknowns types (suc func) fs) ∙ (λ i. paid_func types func f i + paid_funcs types (suc func) fs i)
+  paid_funcs : (p : Code) (func : ℕ) (fs : List Func) → LentAreFree p book → ((i : ℕ) → slice_get p.funcs (func + i) ≡ slice_get fs i)
+      → paid_by (amount book) (funcs_unknowns p.types func fs) ≡ funcs_cost p.types book func fs
+  paid_funcs p func [] lent at = refl
+  paid_funcs p func (f ∷ fs) lent at =
+      let here : slice_get p.funcs func ≡ Some f = (let z : func ≡ func + 0 = omega arith in ap (slice_get p.funcs) z ∙ at 0) in
+      let later : (i : ℕ) → slice_get p.funcs (suc func + i) ≡ slice_get fs i = λ i. (let z : suc func + i ≡ func + suc i = omega arith in ap (slice_get p.funcs) z ∙ at (suc i)) in
+      paid_append (amount book) (func_unknowns p.types func f) (funcs_unknowns p.types (suc func) fs)
+      ∙ (λ i. paid_func p.types func f (lent func 0 f here) i + paid_funcs p (suc func) fs lent later i)
 
--- What a book costs, as a point of the system.
-pub costs_of : (p : Code) (book : Book ℕ) → cost_at (system_of p) (map (amount book) (unknowns_of p)) ≡ pos (funcs_cost p.types book 0 p.funcs)
+-- What a book costs, as a point of the system, where what is lent carries nothing.
+pub costs_of : (p : Code) (book : Book ℕ) → LentAreFree p book → cost_at (system_of p) (map (amount book) (unknowns_of p)) ≡ pos (funcs_cost p.types book 0 p.funcs)
 unfolding system_of unknowns_of
-costs_of p book = total_paid (amount book) (funcs_unknowns p.types 0 p.funcs) ∙ ap pos (paid_funcs book p.types 0 p.funcs)
+costs_of p book lent = total_paid (amount book) (funcs_unknowns p.types 0 p.funcs)
+    ∙ ap pos (paid_funcs book p 0 p.funcs lent (λ i. let z : 0 + i ≡ i = omega arith in ap (slice_get p.funcs) z))

@@ -12,9 +12,10 @@ use Rattle.camelot_values.specs.declared.kinds.Kind.{Kind}
 use Rattle.camelot_values.specs.declared.kinds.Kind.TheVariants as kind
 use Rattle.grail_blocks.specs.Events.{params_at}
 use Rattle.grail_code.specs.Code.{Op, Lit, Flag, Copy, Prim, Make, Call, Let, Block, Func, Code}
-use Rattle.grail_code.specs.WellFormed.{kind_of, BlocksFit, FuncFits, IsWellFormed}
+use Rattle.grail_code.specs.WellFormed.{BlocksFit, FuncFits, IsWellFormed}
 use Rattle.annotations.specs.Vectors.{is_heap_con}
-use Rattle.lp_system.specs.Unknowns.{Unknown, Need, Back, Param, Result, BlockNeed, BlockVar, Made, numbers_of, same, is_listed, NoRepeats, carriers, params_unknowns, vars_unknowns, block_unknowns, blocks_unknowns, made_unknowns, lets_unknowns, builds_unknowns, func_unknowns, funcs_unknowns, unknowns_of}
+use Rattle.lp_system.specs.Unknowns.{Unknown, Need, Back, Param, Result, BlockNeed, BlockVar, Made, numbers_of, same, is_listed, NoRepeats, carriers, local_carriers, params_unknowns, vars_unknowns, block_unknowns, blocks_unknowns, made_unknowns, lets_unknowns, builds_unknowns, func_unknowns, funcs_unknowns, unknowns_of}
+use Rattle.lp_system.specs.theory.Lent.{local_ascends}
 use Rattle.lp_system.specs.theory.Values.{same_is}
 
 -- ---- lists
@@ -187,12 +188,12 @@ module _ (types : List DataType) (func : ℕ) where
   -- parameters and results
 
   params_distinct : (f : Func) (xs : List ℕ) → Ascend xs → NoRepeats (params_unknowns types f func xs)
-  params_distinct f xs a = parts_distinct (λ x. map (Param func x) (carriers types (kind_of f x))) 2 (λ x. all_each (λ u. digit 2 u ≡ x) (Param func x) (λ c. refl) (carriers types (kind_of f x)))
-      (λ x. each_distinct (Param func x) 3 (λ c. refl) (carriers types (kind_of f x)) (carriers_ascend types (kind_of f x))) xs a
+  params_distinct f xs a = parts_distinct (λ x. map (Param func x) (local_carriers types f x)) 2 (λ x. all_each (λ u. digit 2 u ≡ x) (Param func x) (λ c. refl) (local_carriers types f x))
+      (λ x. each_distinct (Param func x) 3 (λ c. refl) (local_carriers types f x) (local_ascends types f x)) xs a
 
   params_part : (f : Func) (xs : List ℕ) → AllByRecursion (IsPart 2 2 func) (params_unknowns types f func xs)
-  params_part f xs = all_parts (IsPart 2 2 func) (λ x. map (Param func x) (carriers types (kind_of f x)))
-      (λ x. all_each (IsPart 2 2 func) (Param func x) (λ c. record { from = omega arith; to = omega arith; own = refl }) (carriers types (kind_of f x))) xs
+  params_part f xs = all_parts (IsPart 2 2 func) (λ x. map (Param func x) (local_carriers types f x))
+      (λ x. all_each (IsPart 2 2 func) (Param func x) (λ c. record { from = omega arith; to = omega arith; own = refl }) (local_carriers types f x)) xs
 
   results_distinct : (f : Func) → NoRepeats (map (Result func) (carriers types (Some f.result)))
   results_distinct f = each_distinct (Result func) 2 (λ c. refl) (carriers types (Some f.result)) (carriers_ascend types (Some f.result))
@@ -203,13 +204,13 @@ module _ (types : List DataType) (func : ℕ) where
   -- blocks
 
   vars_distinct : (f : Func) (block : ℕ) (xs : List ℕ) → Ascend xs → NoRepeats (vars_unknowns types f func block xs)
-  vars_distinct f block xs a = parts_distinct (λ x. map (BlockVar func block x) (carriers types (kind_of f x))) 3
-      (λ x. all_each (λ u. digit 3 u ≡ x) (BlockVar func block x) (λ c. refl) (carriers types (kind_of f x)))
-      (λ x. each_distinct (BlockVar func block x) 4 (λ c. refl) (carriers types (kind_of f x)) (carriers_ascend types (kind_of f x))) xs a
+  vars_distinct f block xs a = parts_distinct (λ x. map (BlockVar func block x) (local_carriers types f x)) 3
+      (λ x. all_each (λ u. digit 3 u ≡ x) (BlockVar func block x) (λ c. refl) (local_carriers types f x))
+      (λ x. each_distinct (BlockVar func block x) 4 (λ c. refl) (local_carriers types f x) (local_ascends types f x)) xs a
 
   vars_all : (P : Unknown → Type 0) (f : Func) (block : ℕ) → ((x c : ℕ) → P (BlockVar func block x c)) → (xs : List ℕ)
       → AllByRecursion P (vars_unknowns types f func block xs)
-  vars_all P f block h xs = all_parts P (λ x. map (BlockVar func block x) (carriers types (kind_of f x))) (λ x. all_each P (BlockVar func block x) (h x) (carriers types (kind_of f x))) xs
+  vars_all P f block h xs = all_parts P (λ x. map (BlockVar func block x) (local_carriers types f x)) (λ x. all_each P (BlockVar func block x) (h x) (local_carriers types f x)) xs
 
   block_distinct : (f : Func) (block : ℕ) → Ascend (params_at f.blocks block) → NoRepeats (block_unknowns types f func block)
   block_distinct f block a = (

@@ -12,16 +12,14 @@ use Rattle.camelot_values.specs.ReachLaws.{reached_is}
 use Rattle.camelot_values.specs.declared.kinds.Kind.{Kind}
 use Rattle.camelot_values.specs.declared.kinds.Kind.TheVariants as kind
 use Rattle.grail_blocks.specs.Events.{params_at}
-use Rattle.grail_code.specs.PlaceLaws.{all_at}
-use Rattle.grail_code.specs.Unread.{IsUnread, AreUnread}
-use Rattle.grail_code.specs.UnreadLaws.{not_lent}
 use Rattle.grail_code.specs.Code.{Op, Lit, Flag, Copy, Prim, Make, Call, Let, Block, Func, Code}
-use Rattle.grail_code.specs.WellFormed.{kind_of}
+use Rattle.grail_code.specs.WellFormed.{kind_of, is_lent}
 use Rattle.annotations.specs.Vectors.{Vector, is_heap_con}
 use Rattle.certificate.specs.Certificates.{VarCert, BlockCert, MakeCert}
 use Rattle.licence.specs.Fitting.{IsOfKind, IsHeapData, VarFits, BuildFits, MakeFits, IsRightAt, Right, Fits}
-use Rattle.lp_system.specs.Unknowns.{Param, Result, BlockVar, Made, carriers}
+use Rattle.lp_system.specs.Unknowns.{Param, Result, BlockVar, Made, carriers, local_carriers}
 use Rattle.lp_system.specs.Found.{Assignment, with_units, units_on, line_of, lines_of, block_by, make_line, made_by, lets_by, builds_by, func_by, certificate_by}
+use Rattle.lp_system.specs.theory.Lent.{lent_none, owned_all}
 use Rattle.lp_system.specs.theory.Listing.{among_here, among_later, in_range, range_has}
 use Rattle.lp_system.specs.theory.Certified.{func_got}
 
@@ -114,39 +112,43 @@ first_reached types q v e es is h = let k : IsOfKind types q (e ∷ es) = subst 
 
 -- ---- lines of locals
 
-line_fits : (types : List DataType) (f : Func) (ps : List ℕ) (x : ℕ) (units : ℕ → ℕ) → AreTypes types → IsUnread f → IsTrue (is_among ps x)
-    → AllByRecursion (VarFits types f ps) (line_of x (units_on (carriers types (kind_of f x)) units))
-line_fits types f ps x units well own there = by_kind (kind_of f x) refl
+line_fits : (types : List DataType) (f : Func) (ps : List ℕ) (x : ℕ) (units : ℕ → ℕ) → AreTypes types → IsTrue (is_among ps x)
+    → AllByRecursion (VarFits types f ps) (line_of x (units_on (local_carriers types f x) units))
+line_fits types f ps x units well there = by_lent (is_lent types f x) refl
   where
-    by_vector : (q : Kind) (v : Vector) → kind_of f x ≡ Some q → v ≡ units_on (carriers types (Some q)) units
+    by_vector : is_lent types f x ≡ false → (q : Kind) (v : Vector) → kind_of f x ≡ Some q → v ≡ units_on (carriers types (Some q)) units
         → AllByRecursion (VarFits types f ps) (line_of x v)
-    by_vector q [] k e = tt
-    by_vector q (p ∷ v) k e =
+    by_vector own q [] k e = tt
+    by_vector own q (p ∷ v) k e =
         let of_kind : IsOfKind types q (p ∷ v) = subst (IsOfKind types q) (sym e) (carried_of_kind types q units) in (
           record {
             there = there;
             heap = subst (λ o. IsSomeAnd o (IsHeapData types)) (sym k) (reaches_heap types q p.0 well of_kind.0);
-            owned = not_lent types f own x;
+            owned = own;
             cons = subst (λ o. IsSomeAnd o (λ q. IsOfKind types q (p ∷ v))) (sym k) of_kind;
           },
           tt,
         )
 
-    by_kind : (o : Option Kind) → kind_of f x ≡ o → AllByRecursion (VarFits types f ps) (line_of x (units_on (carriers types o) units))
-    by_kind None e = tt
-    by_kind (Some q) e = by_vector q (units_on (carriers types (Some q)) units) e refl
+    by_kind : is_lent types f x ≡ false → (o : Option Kind) → kind_of f x ≡ o → AllByRecursion (VarFits types f ps) (line_of x (units_on (carriers types o) units))
+    by_kind own None e = tt
+    by_kind own (Some q) e = by_vector own q (units_on (carriers types (Some q)) units) e refl
+
+    by_lent : (b : Bool) → is_lent types f x ≡ b → AllByRecursion (VarFits types f ps) (line_of x (units_on (local_carriers types f x) units))
+    by_lent true e = subst (λ cs. AllByRecursion (VarFits types f ps) (line_of x (units_on cs units))) (sym (lent_none types f x e)) tt
+    by_lent false e = subst (λ cs. AllByRecursion (VarFits types f ps) (line_of x (units_on cs units))) (sym (owned_all types f x e)) (by_kind e (kind_of f x) refl)
 
 vars_append : (P : VarCert → Type 0) (xs ys : List VarCert) → AllByRecursion P xs → AllByRecursion P ys → AllByRecursion P (xs ++ ys)
 vars_append P [] ys h k = k
 vars_append P (x ∷ xs) ys h k = (h.0, vars_append P xs ys h.1 k)
 
-lines_fit : (types : List DataType) (f : Func) (ps xs : List ℕ) (units : ℕ → ℕ → ℕ) → AreTypes types → IsUnread f
+lines_fit : (types : List DataType) (f : Func) (ps xs : List ℕ) (units : ℕ → ℕ → ℕ) → AreTypes types
     → ((x : ℕ) → IsTrue (is_among xs x) → IsTrue (is_among ps x))
-    → AllByRecursion (VarFits types f ps) (lines_of (λ x. units_on (carriers types (kind_of f x)) (units x)) xs)
-lines_fit types f ps [] units well own h = tt
-lines_fit types f ps (x ∷ xs) units well own h =
-    vars_append (VarFits types f ps) (line_of x (units_on (carriers types (kind_of f x)) (units x))) (lines_of (λ y. units_on (carriers types (kind_of f y)) (units y)) xs)
-    (line_fits types f ps x (units x) well own (h x (among_here x xs))) (lines_fit types f ps xs units well own (λ y m. h y (among_later y x xs m)))
+    → AllByRecursion (VarFits types f ps) (lines_of (λ x. units_on (local_carriers types f x) (units x)) xs)
+lines_fit types f ps [] units well h = tt
+lines_fit types f ps (x ∷ xs) units well h =
+    vars_append (VarFits types f ps) (line_of x (units_on (local_carriers types f x) (units x))) (lines_of (λ y. units_on (local_carriers types f y) (units y)) xs)
+    (line_fits types f ps x (units x) well (h x (among_here x xs))) (lines_fit types f ps xs units well (λ y m. h y (among_later y x xs m)))
 
 -- ---- builds
 
@@ -236,33 +238,33 @@ range_is k number = by_test (is_among (range_with_len 1 (k - 1)) number) refl
         e ∙ sym (ap (λ a. a && nat_lt number k) low ∙ high)
     by_test false e = e ∙ sym (off (nat_le 1 number) (nat_lt number k) refl refl (by_order e))
 
-blocks_fit : (types : List DataType) (f : Func) (func number : ℕ) (value : Assignment) (xs : List ℕ) → AreTypes types → IsUnread f
+blocks_fit : (types : List DataType) (f : Func) (func number : ℕ) (value : Assignment) (xs : List ℕ) → AreTypes types
     → AllByRecursion (λ b. b.block ≡ number → AllByRecursion (VarFits types f (params_at f.blocks number)) b.vars) (map (block_by types f func value) xs)
-blocks_fit types f func number value [] well own = tt
-blocks_fit types f func number value (x ∷ xs) well own = (
-  λ same. subst (λ n. AllByRecursion (VarFits types f (params_at f.blocks n)) (lines_of (λ y. units_on (carriers types (kind_of f y)) (λ c. value (BlockVar func x y c))) (params_at f.blocks x))) same
-      (lines_fit types f (params_at f.blocks x) (params_at f.blocks x) (λ y c. value (BlockVar func x y c)) well own (λ y m. m)),
-  blocks_fit types f func number value xs well own,
+blocks_fit types f func number value [] well = tt
+blocks_fit types f func number value (x ∷ xs) well = (
+  λ same. subst (λ n. AllByRecursion (VarFits types f (params_at f.blocks n)) (lines_of (λ y. units_on (local_carriers types f y) (λ c. value (BlockVar func x y c))) (params_at f.blocks x))) same
+      (lines_fit types f (params_at f.blocks x) (params_at f.blocks x) (λ y c. value (BlockVar func x y c)) well (λ y m. m)),
+  blocks_fit types f func number value xs well,
 )
 
 -- ---- functions
 
-func_right : (p : Code) (f : Func) (func number : ℕ) (value : Assignment) → AreTypes p.types → IsUnread f → IsRightAt p f (func_by p.types value func f) number
-func_right p f func number value well own = record {
+func_right : (p : Code) (f : Func) (func number : ℕ) (value : Assignment) → AreTypes p.types → IsRightAt p f (func_by p.types value func f) number
+func_right p f func number value well = record {
   own = λ first. record {
     name = refl;
-    params = lines_fit p.types f (range_with_len 0 (length f.params)) (range_with_len 0 (length f.params)) (λ x c. value (Param func x c)) well own (λ x m. m);
+    params = lines_fit p.types f (range_with_len 0 (length f.params)) (range_with_len 0 (length f.params)) (λ x c. value (Param func x c)) well (λ x m. m);
     result = carried_of_kind p.types f.result (λ c. value (Result func c));
   };
   line = ap (λ xs. is_among xs number) (same_numbers (block_by p.types f func value) (range_with_len 1 (length f.blocks - 1)) (λ x. refl)) ∙ range_is (length f.blocks) number;
-  vars = blocks_fit p.types f func number value (range_with_len 1 (length f.blocks - 1)) well own;
+  vars = blocks_fit p.types f func number value (range_with_len 1 (length f.blocks - 1)) well;
   makes = builds_fit p f func 0 number value f.blocks (λ i. let e : 0 + i ≡ i = omega arith in ap (slice_get f.blocks) e);
 }
 
 -- The certificate of an assignment fits.
-pub certificate_fits : (p : Code) (unit : ℕ) (value : Assignment) → AreTypes p.types → AreUnread p → Fits p (certificate_by p unit value)
-certificate_fits p unit value well unread = λ func number. subst (λ o. Right p number (slice_get p.funcs func) o) (sym (func_got p unit value func)) (by_func func number (slice_get p.funcs func) refl)
+pub certificate_fits : (p : Code) (unit : ℕ) (value : Assignment) → AreTypes p.types → Fits p (certificate_by p unit value)
+certificate_fits p unit value well = λ func number. subst (λ o. Right p number (slice_get p.funcs func) o) (sym (func_got p unit value func)) (by_func func number (slice_get p.funcs func) refl)
   where
     by_func : (func number : ℕ) (o : Option Func) → slice_get p.funcs func ≡ o → Right p number o (option_map (func_by p.types value func) o)
     by_func func number None is = tt
-    by_func func number (Some f) is = func_right p f func number value well (all_at IsUnread p.funcs func f unread is)
+    by_func func number (Some f) is = func_right p f func number value well

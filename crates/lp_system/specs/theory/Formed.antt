@@ -14,10 +14,11 @@ use Rattle.camelot_values.specs.declared.kinds.Kind.TheVariants as kind
 use Rattle.grail_blocks.specs.Events.{params_at}
 use Rattle.grail_code.specs.Code.{Op, Lit, Flag, Copy, Prim, Make, Call, Let, Block, Func, Code}
 use Rattle.grail_code.specs.Limits.{IsNamed}
-use Rattle.grail_code.specs.WellFormed.{kind_of, BlocksFit, FuncFits, IsWellFormed}
+use Rattle.grail_code.specs.WellFormed.{BlocksFit, FuncFits, IsWellFormed}
 use Rattle.annotations.specs.Vectors.{Vector, IsVector, is_heap_con}
 use Rattle.certificate.specs.Certificates.{MakeCert, IsNotZero, AreVars, MakesAscend, FuncIsFormed, IsFormed}
-use Rattle.lp_system.specs.Unknowns.{Param, Result, BlockVar, Made, carriers}
+use Rattle.lp_system.specs.Unknowns.{Param, Result, BlockVar, Made, carriers, local_carriers}
+use Rattle.lp_system.specs.theory.Lent.{local_ascends}
 use Rattle.lp_system.specs.Found.{Assignment, with_units, units_on, line_of, lines_of, block_by, make_line, made_by, lets_by, builds_by, func_by, funcs_by, certificate_by}
 
 -- ---- lists that ascend
@@ -101,7 +102,7 @@ blocks_vars : (types : List DataType) (f : Func) (func : ℕ) (value : Assignmen
     → AllByRecursion (λ b. AreVars b.vars) (map (block_by types f func value) xs)
 blocks_vars types f func value [] h = tt
 blocks_vars types f func value (x ∷ xs) h =
-    (lines_formed (λ y. units_on (carriers types (kind_of f y)) (λ c. value (BlockVar func x y c))) (params_at f.blocks x) (λ y. carried_formed types (kind_of f y) (λ c. value (BlockVar func x y c))) (h x), blocks_vars types f func value xs h)
+    (lines_formed (λ y. units_on (local_carriers types f y) (λ c. value (BlockVar func x y c))) (params_at f.blocks x) (λ y. units_formed (local_carriers types f y) (λ c. value (BlockVar func x y c)) (local_ascends types f y)) (h x), blocks_vars types f func value xs h)
 
 -- ---- builds
 
@@ -224,7 +225,7 @@ func_formed p value func f fits name =
     let builds = builds_lines p.types func 0 value f.blocks in
     record {
       name = name;
-      params = lines_formed (λ x. units_on (carriers p.types (kind_of f x)) (λ c. value (Param func x c))) (range_with_len 0 (length f.params)) (λ x. carried_formed p.types (kind_of f x) (λ c. value (Param func x c))) (range_ascends 0 (length f.params));
+      params = lines_formed (λ x. units_on (local_carriers p.types f x) (λ c. value (Param func x c))) (range_with_len 0 (length f.params)) (λ x. units_formed (local_carriers p.types f x) (λ c. value (Param func x c)) (local_ascends p.types f x)) (range_ascends 0 (length f.params));
       result = carried_formed p.types (Some f.result) (λ c. value (Result func c));
       blocks = subst Ascend (sym (blocks_ascend p.types f func value (range_with_len 1 (length f.blocks - 1)))) (range_ascends 1 (length f.blocks - 1));
       vars = blocks_vars p.types f func value (range_with_len 1 (length f.blocks - 1)) (params_ascend p f 0 f.blocks fits.blocks);

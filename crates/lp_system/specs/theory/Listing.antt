@@ -13,9 +13,8 @@ use Rattle.camelot_values.specs.declared.kinds.Kind.TheVariants as kind
 use Rattle.grail_blocks.specs.declared.blocks.Place.{Place}
 use Rattle.grail_blocks.specs.Events.{params_at}
 use Rattle.grail_code.specs.Code.{Op, Lit, Flag, Copy, Prim, Make, Call, Let, Block, Func, Code}
-use Rattle.grail_code.specs.WellFormed.{kind_of}
 use Rattle.annotations.specs.Vectors.{is_heap_con}
-use Rattle.lp_system.specs.Unknowns.{Unknown, Need, Back, Param, Result, BlockNeed, BlockVar, Made, numbers_of, same, is_listed, carriers, params_unknowns, vars_unknowns, block_unknowns, blocks_unknowns, made_unknowns, lets_unknowns, builds_unknowns, func_unknowns, funcs_unknowns, unknowns_of}
+use Rattle.lp_system.specs.Unknowns.{Unknown, Need, Back, Param, Result, BlockNeed, BlockVar, Made, numbers_of, same, is_listed, carriers, local_carriers, params_unknowns, vars_unknowns, block_unknowns, blocks_unknowns, made_unknowns, lets_unknowns, builds_unknowns, func_unknowns, funcs_unknowns, unknowns_of}
 
 -- ---- telling unknowns apart
 
@@ -165,10 +164,10 @@ MadeHere types op c = ⊥
 abbrev pub StandsIn : List DataType → Func → Unknown → Type 0
 StandsIn types f (Need func) = Unit {0}
 StandsIn types f (Back func) = Unit {0}
-StandsIn types f (Param func x c) = (x < length f.params) × IsTrue (is_among (carriers types (kind_of f x)) c)
+StandsIn types f (Param func x c) = (x < length f.params) × IsTrue (is_among (local_carriers types f x) c)
 StandsIn types f (Result func c) = IsTrue (is_among (carriers types (Some f.result)) c)
 StandsIn types f (BlockNeed func b) = (1 ≤ b) × (b < length f.blocks)
-StandsIn types f (BlockVar func b x c) = (1 ≤ b) × (b < length f.blocks) × IsTrue (is_among (params_at f.blocks b) x) × IsTrue (is_among (carriers types (kind_of f x)) c)
+StandsIn types f (BlockVar func b x c) = (1 ≤ b) × (b < length f.blocks) × IsTrue (is_among (params_at f.blocks b) x) × IsTrue (is_among (local_carriers types f x) c)
 StandsIn types f (Made func b n c) = There f.blocks b (λ k. (1 ≤ n) × There k.lets (n - 1) (λ l. MadeHere types l.op c))
 
 abbrev pub func_of : Unknown → ℕ
@@ -232,8 +231,8 @@ blocks_stand types f func = all_flat (Of types func f) (block_unknowns types f f
         let r = range_has 1 (length f.blocks - 1) b h in
         let there : b < length f.blocks = omega (arith, r.0, r.1) in (
           (refl, (r.0, there)),
-          all_flat (Of types func f) (λ x. map (BlockVar func b x) (carriers types (kind_of f x))) (params_at f.blocks b)
-              (λ x m. all_mapped (Of types func f) (BlockVar func b x) (carriers types (kind_of f x)) (λ c n. (refl, (r.0, there, m, n)))),
+          all_flat (Of types func f) (λ x. map (BlockVar func b x) (local_carriers types f x)) (params_at f.blocks b)
+              (λ x m. all_mapped (Of types func f) (BlockVar func b x) (local_carriers types f x) (λ c n. (refl, (r.0, there, m, n)))),
         )
 
 func_stands : (types : List DataType) (func : ℕ) (f : Func) → AllByRecursion (Of types func f) (func_unknowns types func f)
@@ -258,8 +257,8 @@ func_stands types func f = ((refl, tt), ((refl, tt), all_append P params (result
     builds_all = builds_stand types f func 0 f.blocks (λ i. let e : 0 + i ≡ i = omega arith in ap (slice_get f.blocks) e)
 
     params_stand : AllByRecursion P params
-    params_stand = all_flat P (λ x. map (Param func x) (carriers types (kind_of f x))) (range_with_len 0 (length f.params))
-        (λ x m. let r = range_has 0 (length f.params) x m in let few : x < length f.params = omega (arith, r.1) in all_mapped P (Param func x) (carriers types (kind_of f x)) (λ c n. (refl, (few, n))))
+    params_stand = all_flat P (λ x. map (Param func x) (local_carriers types f x)) (range_with_len 0 (length f.params))
+        (λ x m. let r = range_has 0 (length f.params) x m in let few : x < length f.params = omega (arith, r.1) in all_mapped P (Param func x) (local_carriers types f x) (λ c n. (refl, (few, n))))
 
     result_stands : AllByRecursion P result
     result_stands = all_mapped P (Result func) (carriers types (Some f.result)) (λ c n. (refl, n))
@@ -360,14 +359,14 @@ func_listed types f (Need func) h = listed_here (Need func) (Back func ∷ (para
 func_listed types f (Back func) h = listed_later (Back func) (Need func) (Back func ∷ (params_of types func f ++ (result_of types func f ++ (blocks_unknowns types f func ++ builds_of types func f))))
     (listed_here (Back func) (params_of types func f ++ (result_of types func f ++ (blocks_unknowns types f func ++ builds_of types func f))))
 func_listed types f (Param func x c) h = in_params (Param func x c) (Need func) (Back func) (params_of types func f) (result_of types func f) (blocks_unknowns types f func) (builds_of types func f)
-    (listed_flat (λ y. map (Param func y) (carriers types (kind_of f y))) (range_with_len 0 (length f.params)) x (Param func x c) (in_range 0 (length f.params) x (omega arith) (omega (arith, h.0))) (listed_mapped (Param func x) (carriers types (kind_of f x)) c h.1))
+    (listed_flat (λ y. map (Param func y) (local_carriers types f y)) (range_with_len 0 (length f.params)) x (Param func x c) (in_range 0 (length f.params) x (omega arith) (omega (arith, h.0))) (listed_mapped (Param func x) (local_carriers types f x) c h.1))
 func_listed types f (Result func c) h = in_result (Result func c) (Need func) (Back func) (params_of types func f) (result_of types func f) (blocks_unknowns types f func) (builds_of types func f)
     (listed_mapped (Result func) (carriers types (Some f.result)) c h)
 func_listed types f (BlockNeed func b) h = in_blocks (BlockNeed func b) (Need func) (Back func) (params_of types func f) (result_of types func f) (blocks_unknowns types f func) (builds_of types func f)
     (in_block types f func b (BlockNeed func b) h.0 h.1 (listed_here (BlockNeed func b) (vars_unknowns types f func b (params_at f.blocks b))))
 func_listed types f (BlockVar func b x c) h = in_blocks (BlockVar func b x c) (Need func) (Back func) (params_of types func f) (result_of types func f) (blocks_unknowns types f func) (builds_of types func f)
     (in_block types f func b (BlockVar func b x c) h.0 h.1 (listed_later (BlockVar func b x c) (BlockNeed func b) (vars_unknowns types f func b (params_at f.blocks b))
-    (listed_flat (λ y. map (BlockVar func b y) (carriers types (kind_of f y))) (params_at f.blocks b) x (BlockVar func b x c) h.2 (listed_mapped (BlockVar func b x) (carriers types (kind_of f x)) c h.3))))
+    (listed_flat (λ y. map (BlockVar func b y) (local_carriers types f y)) (params_at f.blocks b) x (BlockVar func b x c) h.2 (listed_mapped (BlockVar func b x) (local_carriers types f x) c h.3))))
 func_listed types f (Made func b n c) h = in_builds (Made func b n c) (Need func) (Back func) (params_of types func f) (result_of types func f) (blocks_unknowns types f func) (builds_of types func f)
     (let e : 0 + b ≡ b = omega arith in subst (λ j. IsTrue (is_listed (builds_unknowns types func 0 f.blocks) (Made func j n c))) e (builds_listed types func 0 n c f.blocks b h.0 h.1 h.2.0 h.2.1))
 

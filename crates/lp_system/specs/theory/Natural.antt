@@ -13,7 +13,7 @@ use Rattle.grail_blocks.specs.declared.blocks.CaseCell.{CaseCell}
 use Rattle.grail_blocks.specs.declared.blocks.CaseCell.TheVariants as cell
 use Rattle.grail_blocks.specs.Events.{params_at}
 use Rattle.grail_code.specs.Code.{Op, Lit, Flag, Copy, Prim, Make, Call, Let, CaseArm, Term, Ret, Tail, Goto, If, Case, Block, Func, Code}
-use Rattle.grail_code.specs.WellFormed.{kind_of}
+use Rattle.grail_code.specs.WellFormed.{kind_of, is_marked}
 use Rattle.annotations.specs.Vectors.{is_heap_con}
 use Rattle.licence.specs.Books.{Units, Carried, Book}
 use Rattle.licence.specs.Rules.{Amounts, Account, account_at, carrying, all_carrying, build_cost, after_op, opened, found, in_arm, first_con_of, Asks, call_asks, jump_asks, build_asks}
@@ -130,7 +130,7 @@ module _ {A B : Type 0} (R : A → B → Type 0) where
       by_func : (o : Option Func) → AllRelated R (option_map_or (λ g. local_checks p.types f s a.carried (call_asks book callee g args)) o []) (option_map_or (λ g. local_checks p.types f s b.carried (call_asks other callee g args)) o [])
       by_func None = tt
       by_func (Some g) = locals_related p.types f s a.carried b.carried (call_asks book callee g args) (call_asks other callee g args) e.carried
-          (arguments_like RelatedUnits (book.param callee) (other.param callee) (h.param callee) 0 (length g.params) args)
+          (arguments_like RelatedUnits (book.param callee) (other.param callee) (h.param callee) (is_marked g) 0 (length g.params) args)
 
   jump_related : (p : Code) (f : Func) (book : Book A) (other : Book B) → Related R book other → (s : Site) (a : Account A) (b : Account B)
       → RelatedAccount R a b → (to : ℕ)

@@ -18,8 +18,9 @@ use Rattle.annotations.specs.Vectors.{Vector, at}
 use Rattle.certificate.specs.Certificates.{VarCert, BlockCert, MakeCert, FuncCert, Cert}
 use Rattle.licence.specs.Books.{vector_of, block_of, make_of, book_of}
 use Rattle.licence.specs.Fitting.{IsOfKind, VarFits, BuildFits, MakeFits, IsRightAt, Right, Fits}
-use Rattle.lp_system.specs.Unknowns.{Unknown, Need, Back, Param, Result, BlockNeed, BlockVar, Made, is_listed, carriers, unknowns_of}
+use Rattle.lp_system.specs.Unknowns.{Unknown, Need, Back, Param, Result, BlockNeed, BlockVar, Made, is_listed, carriers, local_carriers, unknowns_of}
 use Rattle.lp_system.specs.Found.{IsZeroOff, amount}
+use Rattle.lp_system.specs.theory.Lent.{as_owned}
 use Rattle.lp_system.specs.theory.Listing.{range_has, There, MadeHere, Stands, stands_listed}
 
 -- ---- what is found has what all have
@@ -133,18 +134,18 @@ of_some_type types (Some t) v c h = of_kind types (kind.Of t) v c h
 
 -- a local of these, on whose units nothing else stands
 of_line : (types : List DataType) (f : Func) (ps : List ℕ) (vs : List VarCert) (x c : ℕ) → AllByRecursion (VarFits types f ps) vs
-    → (at (vector_of vs x) c ≡ 0) ⊎ (IsTrue (is_among ps x) × IsTrue (is_among (carriers types (kind_of f x)) c))
+    → (at (vector_of vs x) c ≡ 0) ⊎ (IsTrue (is_among ps x) × IsTrue (is_among (local_carriers types f x) c))
 of_line types f ps vs x c h = by_line (line_has (VarFits types f ps) vs x h)
   where
     by_line : (vector_of vs x ≡ []) ⊎ Line (VarFits types f ps) vs x
-        → (at (vector_of vs x) c ≡ 0) ⊎ (IsTrue (is_among ps x) × IsTrue (is_among (carriers types (kind_of f x)) c))
+        → (at (vector_of vs x) c ≡ 0) ⊎ (IsTrue (is_among ps x) × IsTrue (is_among (local_carriers types f x) c))
     by_line (inl e) = inl (ap (λ v. at v c) e)
     by_line (inr l) = by_units (of_some_kind types (kind_of f l.line.var) l.line.vector c l.has.cons)
       where
         by_units : (at l.line.vector c ≡ 0) ⊎ IsTrue (is_among (carriers types (kind_of f l.line.var)) c)
-            → (at (vector_of vs x) c ≡ 0) ⊎ (IsTrue (is_among ps x) × IsTrue (is_among (carriers types (kind_of f x)) c))
+            → (at (vector_of vs x) c ≡ 0) ⊎ (IsTrue (is_among ps x) × IsTrue (is_among (local_carriers types f x) c))
         by_units (inl e) = inl (ap (λ v. at v c) l.is ∙ e)
-        by_units (inr m) = inr (subst (λ y. IsTrue (is_among ps y)) l.var l.has.there, subst (λ y. IsTrue (is_among (carriers types (kind_of f y)) c)) l.var m)
+        by_units (inr m) = inr (subst (λ y. IsTrue (is_among ps y)) l.var l.has.there, subst (λ y. IsTrue (is_among (local_carriers types f y) c)) l.var (as_owned types f l.line.var c l.has.owned m))
 
 -- ---- functions
 
@@ -205,7 +206,7 @@ on_param p c func x con fits = of_func p c func (λ o. (at (option_map_or (λ f.
   where
     stand : (fc : FuncCert) (both : Both p func fc)
         → (at (vector_of fc.params x) con ≡ 0)
-        ⊎ (IsTrue (is_among (range_with_len 0 (length both.f.params)) x) × IsTrue (is_among (carriers p.types (kind_of both.f x)) con))
+        ⊎ (IsTrue (is_among (range_with_len 0 (length both.f.params)) x) × IsTrue (is_among (local_carriers p.types both.f x) con))
         → (at (vector_of fc.params x) con ≡ 0) ⊎ Stands p (Param func x con)
     stand fc both (inl e) = inl e
     stand fc both (inr h) = let r = range_has 0 (length both.f.params) x h.0 in inr (both.f, both.there, (omega (arith, r.1), h.1))
@@ -244,7 +245,7 @@ on_block_var p c func b x con fits = of_func p c func (λ o. (at (option_map_or 
     by_line fc both (inr l) = by_units (of_line p.types both.f (params_at both.f.blocks b) l.line.vars x con (l.has l.number))
       where
         by_units : (at (vector_of l.line.vars x) con ≡ 0)
-            ⊎ (IsTrue (is_among (params_at both.f.blocks b) x) × IsTrue (is_among (carriers p.types (kind_of both.f x)) con))
+            ⊎ (IsTrue (is_among (params_at both.f.blocks b) x) × IsTrue (is_among (local_carriers p.types both.f x) con))
             → (at (option_map_or (λ k. vector_of k.vars x) (block_of fc.blocks b) []) con ≡ 0) ⊎ Stands p (BlockVar func b x con)
         by_units (inl e) = inl (ap (λ o. at (option_map_or (λ k. vector_of k.vars x) o []) con) l.is ∙ e)
         by_units (inr h) = let between = line_between both.f b (is_among (map (λ k. k.block) fc.blocks) b) (both.right b).line l.among in inr (both.f, both.there, (between.0, between.1, h.0, h.1))

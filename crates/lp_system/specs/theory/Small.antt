@@ -17,7 +17,7 @@ use Rattle.grail_blocks.specs.declared.blocks.CaseCell.{CaseCell}
 use Rattle.grail_blocks.specs.declared.blocks.CaseCell.TheVariants as cell
 use Rattle.grail_blocks.specs.Events.{params_at}
 use Rattle.grail_code.specs.Code.{Op, Lit, Flag, Copy, Prim, Make, Call, Let, CaseArm, Term, Ret, Tail, Goto, If, Case, Block, Func, Code}
-use Rattle.grail_code.specs.WellFormed.{kind_of}
+use Rattle.grail_code.specs.WellFormed.{kind_of, is_marked}
 use Rattle.grail_code.specs.Limits.{FuncIsWithin, IsWithinLimits}
 use Rattle.annotations.specs.Vectors.{is_heap_con}
 use Rattle.licence.specs.Books.{Units, Carried, Book}
@@ -211,7 +211,7 @@ module _ (limit : ℕ) (room : 2 ≤ limit) where
       where
         by_func : (o : Option Func) → AllSmall (option_map_or (λ g. local_checks p.types f s a.carried (call_asks book callee g args)) o [])
         by_func None = tt
-        by_func (Some g) = locals_small p.types f s a.carried (call_asks book callee g args) e.carried (arguments_asked SmallUnits (book.param callee) (h.param callee) 0 (length g.params) args)
+        by_func (Some g) = locals_small p.types f s a.carried (call_asks book callee g args) e.carried (arguments_asked SmallUnits (book.param callee) (h.param callee) (is_marked g) 0 (length g.params) args)
 
     op_small : (f : Func) (s : Site) (k : ℕ) (a : Account Form) (op : Op) → SmallAccount k a → k ≤ limit → AllSmall (op_checks forms p f book s a op)
     op_small f s k a (Lit z) e l = tt
