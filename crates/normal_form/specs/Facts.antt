@@ -82,6 +82,7 @@ pub record TablesFit (p : NormalProgram) : Type 0 where
 pub record IsCounted (p : Source) (f : Function) (n : NormalFunction) : Type 0 where
   pub name : n.name ≡ f.name.word
   pub params : length n.params ≡ length f.params
+  pub reads : length n.reads ≡ length f.params
   pub locals : length n.locals ≡ tail_made p f.body
   pub blocks : length n.blocks ≡ tail_ends p f.body
   pub some_blocks : 1 ≤ length n.blocks
