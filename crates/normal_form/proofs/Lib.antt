@@ -12,6 +12,7 @@ pub mod Naming
 pub mod Counting
 pub mod Trees
 pub mod LiveLines
+pub mod Loans
 pub mod UsedNames
 pub mod KindsAt
 pub mod NamedUses
@@ -30,6 +31,7 @@ pub mod Looked
 pub mod LendParts
 pub mod LendValues
 pub mod LendTails
+pub mod FactsLend
 pub mod KnownKinds
 pub mod FactsFit
 pub mod FactsTables
