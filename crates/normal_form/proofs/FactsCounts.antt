@@ -1,17 +1,28 @@
 -- The counts of the functions of a normal form.
-use Rattle.std.proofs.Common.{suc, ◌≤◌, List, [], ◌∷◌, length, refl, sym, ◌∙◌, subst, arith}
+use Rattle.std.proofs.Common.{◌≡◌, suc, ◌≤◌, List, [], ◌∷◌, length, refl, sym, ap, ◌∙◌, subst, arith}
 use Rattle.std.specs.List.{AllByRecursion}
+use Rattle.camelot_values.specs.Kinds.{DataType}
+use Rattle.camelot_values.specs.declared.kinds.Kind.{Kind}
+use Rattle.camelot_tree.specs.declared.tree.Param.{Param}
 use Rattle.camelot_tree.specs.Tree.{Function, Source}
-use Rattle.camelot_typing.specs.Kinds.{numbered}
-use Rattle.camelot_typing.specs.Typing.{Signature, params_scope, globals_of, FunctionFits, FunctionsFit}
+use Rattle.camelot_typing.specs.Kinds.{types_of, numbered}
+use Rattle.camelot_typing.specs.Typing.{Signature, ParamsStand, params_scope, globals_of, FunctionFits, FunctionsFit}
 use Rattle.camelot_typing.specs.TypingLaws.{params_full}
 use Rattle.camelot_typing.specs.Typed.{Typing, IsTyping}
+use Rattle.linear_use.specs.Uses.{lent_params}
 use Rattle.normal_form.specs.Normal.{cut, tail, tail_made, normal_function, normal_functions, normal_form}
 use Rattle.normal_form.specs.Facts.{IsCounted, AreCounted}
 use Rattle.normal_form.proofs.Ends.{closes_tail}
 use Rattle.normal_form.proofs.Frames.{Computed, frame, tail_kinds_made}
 use Rattle.normal_form.proofs.FitTails.{length_cut, tail_ends_some}
 use Rattle.normal_form.proofs.FewLets.{tail_makes, lets_few}
+
+-- a mark for each parameter
+marks_full : (p : Source) (types : List DataType) (xs : List Param) (ks : List Kind) → ParamsStand p xs ks → length (lent_params types xs ks) ≡ length xs
+marks_full p types [] [] h = refl
+marks_full p types [] (k ∷ ks) h = absurd h
+marks_full p types (x ∷ xs) [] h = absurd h
+marks_full p types (x ∷ xs) (k ∷ ks) h = ap suc (marks_full p types xs ks h.1)
 
 function_counted : (p : Source) (sigs : List Signature) (f : Function) (s : Signature) → FunctionsFit p (globals_of p sigs) p.funs sigs → Computed
     → FunctionFits p (globals_of p sigs) f s → IsCounted p f (normal_function p sigs f s)
@@ -26,6 +37,7 @@ function_counted p sigs f s fit computed own =
     record {
       name = refl;
       params = sym (params_full p f.params s.params own.params);
+      reads = marks_full p (types_of p) f.params s.params own.params;
       locals = made;
       blocks = blocks;
       some_blocks = omega (arith, blocks, some);

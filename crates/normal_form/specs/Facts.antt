@@ -77,8 +77,8 @@ pub record TablesFit (p : NormalProgram) : Type 0 where
 
 -- ---- counts
 
--- As many further locals and blocks as its body counts, with a block at least, and in each block at most one let more
--- than there are such locals.
+-- A mark for each parameter, and as many further locals and blocks as its body counts, with a block at least; in each
+-- block at most one let more than there are such locals.
 pub record IsCounted (p : Source) (f : Function) (n : NormalFunction) : Type 0 where
   pub name : n.name ≡ f.name.word
   pub params : length n.params ≡ length f.params
