@@ -43,7 +43,7 @@ pub bit_true : (b : Bool) → bit b ≤ 0 → b ≡ false
 bit_true true h = absurd (omega (arith, h))
 bit_true false h = refl
 
-bit_one : (x y : ℕ) → bit (x == y) ≡ one x y
+pub bit_one : (x y : ℕ) → bit (x == y) ≡ one x y
 bit_one x y = by_test (x == y)
   where
     by_test : (b : Bool) → bit b ≡ (if b then 1 else 0)

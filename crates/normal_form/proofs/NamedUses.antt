@@ -15,7 +15,7 @@ use Rattle.linear_use.specs.Uses.{Loans}
 use Rattle.normal_form.specs.Live.{bit}
 use Rattle.normal_form.specs.Normal.{local, made, local_of, kind_in, kinds}
 use Rattle.normal_form.proofs.Values.{number_found}
-use Rattle.normal_form.proofs.UsedNames.{Names, without, taken, seen, AreNone, AreOne, AreSome, AreSplit, none_seen, fewer_taken}
+use Rattle.normal_form.proofs.UsedNames.{Names, without, taken, seen, AreNone, AreOne, AreSome, AreSplit, none_seen, unseen_taken, fewer_taken}
 use Rattle.normal_form.proofs.KindsAt.{Frame, At, at_front, at_back, Named, named_kept, named_bind, named_local, named_name, kind_is, in_let, kinds_made, local_is}
 
 -- the names of a local
@@ -70,6 +70,10 @@ above_none F s l next y st h v = by_test (named l y v) refl
 pub above_seen : (F : Frame) (loans : Loans) (s : Scope Kind) (l : Scope ℕ) (next y : ℕ) (e : Expression) → Named F s l next → next ≤ y
     → seen loans (named l y) e ≡ 0
 above_seen F loans s l next y e st h = none_seen loans (named l y) e (above_none F s l next y st h)
+
+pub above_taken : (F : Frame) (loans : Loans) (s : Scope Kind) (l : Scope ℕ) (next y : ℕ) (e : Expression) → Named F s l next → next ≤ y
+    → taken loans (named l y) e ≡ 0
+above_taken F loans s l next y e st h = unseen_taken loans (named l y) e (above_seen F loans s l next y e st h)
 
 pub bound_else : (l : Scope ℕ) (n : Name) (x y : ℕ) → (x ≡ y → ⊥) → AreSome (named (bind n.word x l) y) (without n (named l y))
 bound_else l n x y differ v = by_test (bytes_eq n.word v)

@@ -738,8 +738,8 @@ mutual
       let q = one_arms_taken loans x names as' h in
       omega (arith, p, q)
 
--- a statement where the test fails, and another one where it doesn't
-abbrev by_either : (P : Type 0) (b : Bool) → (b ≡ true → P) → (b ≡ false → P) → P
+-- by a test
+abbrev pub by_either : (P : Type 0) (b : Bool) → (b ≡ true → P) → (b ≡ false → P) → P
 by_either P true h k = h refl
 by_either P false h k = k refl
 
