@@ -4,7 +4,6 @@ use Rattle.std.specs.Prelude.{◌==◌, ◌||◌, if◌then◌else◌, flat_map}
 use Rattle.std.proofs.lemmas.Bool.Decides.{nat_tests}
 use Rattle.camelot_values.specs.Lists.{is_among}
 use Rattle.grail_blocks.specs.Blocks as block
-use Rattle.grail_blocks.specs.Blocks.{Term}
 use Rattle.grail_blocks.specs.Events.{Reads, operands_of}
 use Rattle.grail_code.specs.WellFormed.{looked_at}
 use Rattle.normal_form.specs.Normal.{NormalBlock, Line, Bind, Close, in_first, cut}

@@ -1,7 +1,7 @@
 -- What is live in front of an expression's lines is what occurs in it by the names in scope and what is live behind it,
 -- and no owned local is taken that is read or taken again.
 use Rattle.std.proofs.Common.{◌≡◌, ℕ, suc, ◌+◌, ◌≤◌, ◌<◌, Bool, true, false, List, [], ◌∷◌, ◌++◌, Option, Some, None, refl, sym, ap, ◌∙◌, subst, arith, append_assoc, inl, inr}
-use Rattle.std.specs.Prelude.{max, if◌then◌else◌, slice_get, ◌⊎◌, ◌==◌, ◌||◌, ◌&&◌}
+use Rattle.std.specs.Prelude.{max, if◌then◌else◌, slice_get, ◌⊎◌, ◌==◌, ◌&&◌}
 use Rattle.std.specs.List.{AllByRecursion}
 use Rattle.std.specs.Option.{option_map_or}
 use Rattle.std.specs.Str.{bytes_eq}
@@ -13,7 +13,7 @@ use Rattle.camelot_tree.specs.declared.tree.Name.{Name}
 use Rattle.camelot_tree.specs.Tree.{Expression, Num, Truth, Var, Prim, If, Let, Match, Build, Call, Expressions, NoExpressions, AndExpression, Arms, NoArms, AndArm, Branch, Source}
 use Rattle.camelot_tree.specs.Meaning.{constructor_number, is_that}
 use Rattle.camelot_typing.specs.Kinds as typed
-use Rattle.camelot_typing.specs.Kinds.{Scope, bind, arm_scope, or_else, types_of, fields_of, is_inline, numbers_of}
+use Rattle.camelot_typing.specs.Kinds.{Scope, bind, arm_scope, or_else, types_of, fields_of, is_inline}
 use Rattle.camelot_typing.specs.Typing.{known_kind, globals_of, HasKind, HaveKinds, ArmsHaveKind, PlaceFits, arms_with}
 use Rattle.camelot_typing.specs.NumberLaws.{number_same}
 use Rattle.linear_use.specs.Uses.{arm_flags, looks_at, is_reading, reads_behind, IsFair, IsLinear, AllAreLinear, ArmsAreLinear}
@@ -31,7 +31,7 @@ use Rattle.normal_form.proofs.Values.{two, cons_are, fewer}
 use Rattle.normal_form.proofs.UsedNames.{without, is_any, place_taken, call_reads, taken, all_taken, arms_taken, seen, all_seen, arms_seen, Fair, AllFair, ArmsFair, seen_most, unseen_taken, all_unseen, fair_taken, none_seen, no_part_seen, no_arm_seen, none_placed, none_read, split_fair, fewer_seen, fewer_taken, fewer_fair, one_fair, by_either}
 use Rattle.normal_form.proofs.KindsAt.{Frame, At, at_front, at_back, at_rest, Named, named_kept, named_bind, named_local, kind_is, kind_same, in_let, kinds_made, arm_kinds_made, local_is, arm_for_con, bound_of, bound_same, bound_are, named_arm}
 use Rattle.normal_form.proofs.NamedUses.{named, one, one_same, one_other, same_or_not, found_named, above_none, above_seen, above_taken, bound_else, itself, itself_one, bound_split, local_once}
-use Rattle.normal_form.proofs.LiveLines.{live_here, later_lines, live_in, AllOnce, AreLent, lent_front, lent_back, Looks, looks_front, looks_back}
+use Rattle.normal_form.proofs.LiveLines.{live_here, later_lines, live_in, AllOnce, AreLent, lent_front, Looks, looks_front, looks_back}
 use Rattle.normal_form.proofs.LiveParts.{Ruled, bit_most, bit_max, bit_one, among_times, among_parted, among_one, Lives, lives_more, lives_most, new_lives, close_lives, joining_lives}
 use Rattle.normal_form.proofs.LiveArms.{ArmLives, arm_lives, arm_once, arm_split, arm_more}
 use Rattle.normal_form.proofs.LiveTurns.{Turning, case_lives}

@@ -1,6 +1,6 @@
 -- Occurrences of any of some names, as the rule of use by counts has those of one: how often one of them is taken on a
 -- path at most, whether one of them occurs on some path, and that nothing comes behind a taking.
-use Rattle.std.proofs.Common.{◌≡◌, ℕ, ◌+◌, ◌≤◌, Bool, true, false, List, [], ◌∷◌, Option, Some, None, refl, sym, ap, ◌∙◌, arith, inl, inr}
+use Rattle.std.proofs.Common.{◌≡◌, ℕ, ◌+◌, ◌≤◌, Bool, true, false, List, [], Option, Some, None, refl, sym, ap, ◌∙◌, arith, inl, inr}
 use Rattle.std.specs.Prelude.{max, if◌then◌else◌, ◌⊎◌, ◌&&◌}
 use Rattle.std.specs.Str.{bytes_eq}
 use Rattle.camelot_values.specs.NameLaws.{same_name}
@@ -223,9 +223,11 @@ mutual
   pub all_unseen_fair : (loans : Loans) (names : Names) (ms : List Bool) (es : Expressions) → all_seen loans names ms es ≡ 0 → AllFair loans names ms es
   all_unseen_fair loans names ms NoExpressions h = tt
   all_unseen_fair loans names ms (AndExpression e es) h =
-      let o = unless_none (is_reading ms e) (seen loans names e) (taken loans names e) (unseen_taken loans names e) (omega (arith, h)) in
-      ((λ t. unseen_fair loans names e (unless_here (is_reading ms e) (seen loans names e) t (omega (arith, h)))),
-        all_unseen_fair loans names (reads_behind ms) es (omega (arith, h)), omega (arith, h, o))
+      let o = unless_none (is_reading ms e) (seen loans names e) (taken loans names e) (unseen_taken loans names e) (omega (arith, h)) in (
+        (λ t. unseen_fair loans names e (unless_here (is_reading ms e) (seen loans names e) t (omega (arith, h)))),
+        all_unseen_fair loans names (reads_behind ms) es (omega (arith, h)),
+        omega (arith, h, o),
+      )
 
   pub arms_unseen_fair : (loans : Loans) (names : Names) (as' : Arms) → arms_seen loans names as' ≡ 0 → ArmsFair loans names as'
   arms_unseen_fair loans names NoArms h = tt
@@ -525,9 +527,11 @@ mutual
       let o = unseen_taken loans second a (omega (arith, k)) in
       let p = split_taken loans names first second a h in
       let q = split_seen loans (without n names) (without n first) (without n second) b (let_split names first second n h) in
-      let r = f.2 in
-      (split_fair loans names first second a h (omega (arith, k)) f.0,
-        split_fair loans (without n names) (without n first) (without n second) b (let_split names first second n h) (omega (arith, k)) f.1, omega (arith, k, o, p, q, r))
+      let r = f.2 in (
+        split_fair loans names first second a h (omega (arith, k)) f.0,
+        split_fair loans (without n names) (without n first) (without n second) b (let_split names first second n h) (omega (arith, k)) f.1,
+        omega (arith, k, o, p, q, r),
+      )
   split_fair loans names first second (Match e as' l) h k f =
       let o = unseen_taken loans second e (omega (arith, k)) in
       let p = split_taken loans names first second e h in
@@ -554,16 +558,19 @@ mutual
       let o = unless_none (is_reading ms e) (seen loans second e) (taken loans second e) (unseen_taken loans second e) (omega (arith, k)) in
       let p = unless_sum (is_reading ms e) (taken loans names e) (taken loans first e) (taken loans second e) (split_taken loans names first second e h) in
       let q = split_all_seen loans names first second (reads_behind ms) es h in
-      let r = f.2 in
-      ((λ t. split_fair loans names first second e h (unless_here (is_reading ms e) (seen loans second e) t (omega (arith, k))) (f.0 t)),
-        split_all_fair loans names first second (reads_behind ms) es h (omega (arith, k)) f.1, omega (arith, k, o, p, q, r))
+      let r = f.2 in (
+        (λ t. split_fair loans names first second e h (unless_here (is_reading ms e) (seen loans second e) t (omega (arith, k))) (f.0 t)),
+        split_all_fair loans names first second (reads_behind ms) es h (omega (arith, k)) f.1,
+        omega (arith, k, o, p, q, r),
+      )
 
   pub split_arms_fair : (loans : Loans) (names first second : Names) (as' : Arms) → AreSplit names first second → arms_seen loans second as' ≡ 0 → ArmsFair loans first as' → ArmsFair loans names as'
   split_arms_fair loans names first second NoArms h k f = tt
   split_arms_fair loans names first second (AndArm c fs x b as') h k f =
-      let ns = bound_names fs x in
-      (split_fair loans (without_all ns names) (without_all ns first) (without_all ns second) b (arm_split names first second ns h) (omega (arith, k)) f.0,
-        split_arms_fair loans names first second as' h (omega (arith, k)) f.1)
+      let ns = bound_names fs x in (
+        split_fair loans (without_all ns names) (without_all ns first) (without_all ns second) b (arm_split names first second ns h) (omega (arith, k)) f.0,
+        split_arms_fair loans names first second as' h (omega (arith, k)) f.1,
+      )
 
 -- ---- some of these names
 
@@ -762,10 +769,12 @@ mutual
   one_fair loans x names (Let n a b) h f =
       let p = one_taken loans x names a h in
       let q = under_test (bytes_eq n.word x) (seen loans (without n names) b) (one.seen loans x b) (let_unseen loans x n names b h) (one_seen loans x (without n names) b (let_one x n names h)) in
-      let r = f.2 in
-      (one_fair loans x names a h f.0,
+      let r = f.2 in (
+        one_fair loans x names a h f.0,
         by_either (Fair loans (without n names) b) (bytes_eq n.word x) (λ e. unseen_fair loans (without n names) b (let_unseen loans x n names b h e))
-        (λ e. one_fair loans x (without n names) b (let_one x n names h) (f.1 e)), omega (arith, p, q, r))
+            (λ e. one_fair loans x (without n names) b (let_one x n names h) (f.1 e)),
+        omega (arith, p, q, r),
+      )
   one_fair loans x names (Match e as' l) h f =
       let p = one_taken loans x names e h in
       let q = one_arms_seen loans x names as' h in
@@ -793,6 +802,8 @@ mutual
   pub one_arms_fair : (loans : Loans) (x : List ℕ) (names : Names) (as' : Arms) → AreOne x names → one.ArmsFair loans x as' → ArmsFair loans names as'
   one_arms_fair loans x names NoArms h f = tt
   one_arms_fair loans x names (AndArm c fs cell b as') h f =
-      let ns = bound_names fs cell in
-      (by_either (Fair loans (without_all ns names) b) (is_bound x ns) (λ e. unseen_fair loans (without_all ns names) b (arm_unseen loans x ns names b h e))
-        (λ e. one_fair loans x (without_all ns names) b (arm_one x ns names h) (f.0 e)), one_arms_fair loans x names as' h f.1)
+      let ns = bound_names fs cell in (
+        by_either (Fair loans (without_all ns names) b) (is_bound x ns) (λ e. unseen_fair loans (without_all ns names) b (arm_unseen loans x ns names b h e))
+            (λ e. one_fair loans x (without_all ns names) b (arm_one x ns names h) (f.0 e)),
+        one_arms_fair loans x names as' h f.1,
+      )
