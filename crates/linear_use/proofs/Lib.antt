@@ -1,6 +1,11 @@
 pub mod Flows
 pub mod Walking
 pub mod Steps
+pub mod Binders
+pub mod Fields
 pub mod Counts
 pub mod Shapes
 pub mod Tables
+pub mod Counting
+pub mod Ruling
+pub mod Answering

@@ -1,0 +1,5 @@
+use Rattle.std.proofs.Common.{◌≡◌, refl, ℕ}
+use Rattle.linear_use.proofs.Ruling.{quiet_linear}
+
+pub rule_by_faults_is : (n : ℕ) → n ≡ n
+rule_by_faults_is n = refl
