@@ -1,6 +1,13 @@
 pub mod Flows
+pub mod Shapes
+pub mod Binders
+pub mod Counting
+pub mod Fields
+pub mod Ruling
+pub mod Programs
+pub mod Counts
 pub mod Walking
 pub mod Steps
-pub mod Counts
-pub mod Shapes
 pub mod Tables
+pub mod Props
+pub mod Answering

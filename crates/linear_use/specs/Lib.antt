@@ -7,3 +7,4 @@ pub mod TableLaws
 pub mod Walk
 pub mod Answers
 pub mod Fairness
+pub mod FairLaws

@@ -75,7 +75,7 @@ fn find_read<'b>(
 ) -> Option<&'b Name>
     ensures { option_map (λ n. Twice n.now.word n.now.line) result
         ≡ reads_first state.now.spent known.now.typed.now.types state.now.scope
-        (lent_params known.now.typed.now.types marks.params.now marks.kinds.now) (expressions (map expression_of args.now)) clear }
+        (lent_params known.now.typed.now.types marks.entry.params.now marks.entry.kinds.now) (expressions (map expression_of args.now)) clear }
 {
     let mut marks = marks;
     let mut left = clear;
@@ -104,7 +104,7 @@ pub(crate) fn check_reads(
 ) -> Result<(), AllocError>
     ensures { OnOk result (state.new ≡ record state.old { fault = option_or
         (reads_first state.old.spent known.now.typed.now.types state.old.scope
-        (lent_params known.now.typed.now.types marks.params.now marks.kinds.now) (expressions (map expression_of args.now)) clear)
+        (lent_params known.now.typed.now.types marks.entry.params.now marks.entry.kinds.now) (expressions (map expression_of args.now)) clear)
         state.old.fault }) }
 {
     match find_read(known, state, marks, args, clear) {

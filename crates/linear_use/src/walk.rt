@@ -211,7 +211,7 @@ fn walk_args<'a>(
     requires { AreAt known.now.exprs.now state.old.position
         (all_kinds_at (globals_in known.now.typed.now) state.old (expressions (map expression_of args.now))) }
     ensures { IfOk result (AllWalked (loans_in known.now.typed.now) (globals_in known.now.typed.now)
-        (lent_params known.now.typed.now.types marks.params.now marks.kinds.now)
+        (lent_params known.now.typed.now.types marks.entry.params.now marks.entry.kinds.now)
         (expressions (map expression_of args.now)) state.old state.new) }
 {
     let mut marks = marks;
