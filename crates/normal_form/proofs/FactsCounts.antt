@@ -9,8 +9,7 @@ use Rattle.camelot_typing.specs.Typed.{Typing, IsTyping}
 use Rattle.normal_form.specs.Normal.{cut, tail, tail_made, normal_function, normal_functions, normal_form}
 use Rattle.normal_form.specs.Facts.{IsCounted, AreCounted}
 use Rattle.normal_form.proofs.Ends.{closes_tail}
-use Rattle.normal_form.proofs.LiveTails.{tail_kinds_made}
-use Rattle.normal_form.proofs.FactsUse.{Computed, frame}
+use Rattle.normal_form.proofs.Frames.{Computed, frame, tail_kinds_made}
 use Rattle.normal_form.proofs.FitTails.{length_cut, tail_ends_some}
 use Rattle.normal_form.proofs.FewLets.{tail_makes, lets_few}
 

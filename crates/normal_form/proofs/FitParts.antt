@@ -10,7 +10,6 @@ use Rattle.camelot_tree.specs.declared.tree.Name.{Name}
 use Rattle.camelot_tree.specs.declared.tree.ArmCell.{ArmCell}
 use Rattle.camelot_tree.specs.declared.tree.ArmCell.TheVariants as cell
 use Rattle.camelot_tree.specs.Tree.{Expression, Expressions, NoExpressions, AndExpression}
-use Rattle.camelot_tree.specs.Cells.{has_cell}
 use Rattle.camelot_typing.specs.Kinds.{Scope, or_else, types_of, fields_of, is_inline, built_kind, numbered}
 use Rattle.camelot_typing.specs.Typing as typing
 use Rattle.camelot_typing.specs.Typing.{Signature, globals_of, HaveKinds}
@@ -21,9 +20,8 @@ use Rattle.grail_blocks.specs.Blocks.{Op, CaseArm, Term}
 use Rattle.grail_blocks.specs.Events.{bound_by}
 use Rattle.grail_code.specs.Code.{Func, Code}
 use Rattle.grail_code.specs.WellFormed as code
-use Rattle.grail_code.specs.WellFormed.{local_kinds, kind_of, LetFits, Gives, JumpFits, data_type}
-use Rattle.grail_code.specs.Unread.{CellOwned, ArmOwned, ArmsOwned, TermOwned}
-use Rattle.normal_form.specs.Normal.{NormalBlock, Line, Bind, Close, in_first, cut, place_in, cell_in, case_arm, made, local_of, locals_of, diamond_kinds, kinds, all_kinds}
+use Rattle.grail_code.specs.WellFormed.{local_kinds, kind_of, LetFits, Gives, JumpFits, ArmFits, TermFits}
+use Rattle.normal_form.specs.Normal.{NormalBlock, Line, Bind, Close, in_first, cut, con_of, place_in, cell_in, case_arm, made, local_of, locals_of, diamond_kinds, kinds, all_kinds}
 use Rattle.normal_form.specs.Facts.{BodyFits}
 use Rattle.normal_form.proofs.Lines.{closes}
 use Rattle.normal_form.proofs.KindsAt.{Frame, At, at_front, at_back, at_head, at_rest, Named, named_kept, named_local, kinds_made, local_is, ArmFor, bound_of}
@@ -42,7 +40,7 @@ pub record Coding (F : Frame) : Type 0 where
 abbrev pub LinesFit : Code → Func → ℕ → List Line → Type 0
 LinesFit p f number [] = Unit {0}
 LinesFit p f number (Bind l ∷ lines) = LetFits p f l × LinesFit p f number lines
-LinesFit p f number (Close t ∷ lines) = TermOwned p f number t × LinesFit p f (suc number) lines
+LinesFit p f number (Close t ∷ lines) = TermFits p f number t × LinesFit p f (suc number) lines
 
 pub fit_append : (p : Code) (f : Func) (number m : ℕ) (xs ys : List Line) → m ≡ number + closes xs → LinesFit p f number xs → LinesFit p f m ys
     → LinesFit p f number (xs ++ ys)
@@ -149,10 +147,11 @@ nothing_more : (xs : List ℕ) → xs ++ [] ≡ xs
 nothing_more [] = refl
 nothing_more (x ∷ xs) = ap (λ l. x ∷ l) (nothing_more xs)
 
-bound_distinct : (con : Name) (fs : List (Option Name)) (x : ArmCell) (b : Expression) (n target : ℕ) → AreDistinct (bound_by (case_arm (Some (record { con = con; fields = fs; cell = x; body = b })) n target))
-bound_distinct con fs cell.Plain b n target = subst AreDistinct (sym (nothing_more (numbered n fs))) (counted_distinct n (numbered n fs) (counted_numbers n fs))
-bound_distinct con fs cell.Free b n target = subst AreDistinct (sym (nothing_more (numbered n fs))) (counted_distinct n (numbered n fs) (counted_numbers n fs))
-bound_distinct con fs (cell.Keep d) b n target = counted_distinct n (numbered n fs ++ ((n + length fs) ∷ [])) (λ i x e. numbered_more n fs (n + length fs) i x refl e)
+bound_distinct : (inline : Bool) (fs : List (Option Name)) (x : ArmCell) (n target : ℕ) → AreDistinct (bound_by (record { fields = numbered n fs; cell = cell_in inline x (n + length fs); target = target }))
+bound_distinct true fs cell.Plain n target = subst AreDistinct (sym (nothing_more (numbered n fs))) (counted_distinct n (numbered n fs) (counted_numbers n fs))
+bound_distinct false fs cell.Plain n target = subst AreDistinct (sym (nothing_more (numbered n fs))) (counted_distinct n (numbered n fs) (counted_numbers n fs))
+bound_distinct inline fs cell.Free n target = subst AreDistinct (sym (nothing_more (numbered n fs))) (counted_distinct n (numbered n fs) (counted_numbers n fs))
+bound_distinct inline fs (cell.Keep d) n target = counted_distinct n (numbered n fs ++ ((n + length fs) ∷ [])) (λ i x e. numbered_more n fs (n + length fs) i x refl e)
 
 numbered_kinds : (F : Frame) (C : Coding F) (n : ℕ) (fs : List (Option Name)) (ks : List Kind) → length fs ≡ length ks → At F.kinds n ks
     → code.HaveKinds C.func (numbered n fs) ks
@@ -162,26 +161,28 @@ numbered_kinds F C n (f ∷ fs) [] full at = absurd (omega (arith, full))
 numbered_kinds F C n (f ∷ fs) (k ∷ ks) full at =
     ap (λ o. o ∷ map (kind_of C.func) (numbered (suc n) fs)) (kind_at F C n k (at_head F.kinds n k ks at)) ∙ ap (λ l. Some k ∷ l) (numbered_kinds F C (suc n) fs ks (omega (arith, full)) (at_rest F.kinds n k ks at))
 
-cell_fits : (F : Frame) (C : Coding F) (x : ArmCell) (m : ℕ) (inline : Bool) → typing.CellFits inline x → (inline ≡ false → has_cell x ≡ true)
-    → At F.kinds m (diamond_kinds x) → CellOwned C.func inline (cell_in x m)
-cell_fits F C cell.Plain m true fit taken at = refl
-cell_fits F C cell.Plain m false fit taken at = let e : false ≡ true = taken refl in absurd cc
-cell_fits F C cell.Free m inline fit taken at = fit
-cell_fits F C (cell.Keep d) m inline fit taken at = (fit, kind_at F C m kind.Dia (at_head F.kinds m kind.Dia [] at))
+cell_fits : (F : Frame) (C : Coding F) (x : ArmCell) (m : ℕ) (inline : Bool) → typing.CellFits inline x → At F.kinds m (diamond_kinds x)
+    → code.CellFits C.func inline (cell_in inline x m)
+cell_fits F C cell.Plain m true fit at = refl
+cell_fits F C cell.Plain m false fit at = refl
+cell_fits F C cell.Free m inline fit at = fit
+cell_fits F C (cell.Keep d) m inline fit at = (fit, kind_at F C m kind.Dia (at_head F.kinds m kind.Dia [] at))
 
 -- an arm for its constructor
 pub arm_fits : (F : Frame) (C : Coding F) (number con : ℕ) (c : Constructor) (name : Name) (fs : List (Option Name)) (x : ArmCell) (b : Expression) (n target : ℕ) → ArmFor F.source name fs con → constructor (types_of F.source) con ≡ Some c
-    → typing.CellFits (is_inline (types_of F.source) con) x → (is_inline (types_of F.source) con ≡ false → has_cell x ≡ true) → At F.kinds n (bound_of F.source con x) → JumpFits C.func number target
-    → ArmOwned C.func number c (case_arm (Some (record { con = name; fields = fs; cell = x; body = b })) n target)
-arm_fits F C number con c name fs x b n target a is fit taken at jump =
+    → typing.CellFits (is_inline (types_of F.source) con) x → At F.kinds n (bound_of F.source con x) → JumpFits C.func number target
+    → ArmFits C.func number c (case_arm F.source (Some (record { con = name; fields = fs; cell = x; body = b })) n target)
+arm_fits F C number con c name fs x b n target a is fit at jump =
     let types = types_of F.source in
     let full = a.full in
+    let m = n + length fs in
     let fields = fields_are types con c is in
     let inline = inline_is types con c is in
     record {
       fields = subst (code.HaveKinds C.func (numbered n fs)) fields (numbered_kinds F C n fs (fields_of types con) full (at_front F.kinds n (fields_of types con) (diamond_kinds x) at));
-      cell = subst (λ i. CellOwned C.func i (cell_in x (n + length fs))) inline
-          (cell_fits F C x (n + length fs) (is_inline types con) fit taken (at_back F.kinds n (n + length fs) (fields_of types con) (diamond_kinds x) (omega (arith, full)) at));
-      distinct = bound_distinct name fs x b n target;
+      cell = subst (λ i. code.CellFits C.func i (cell_in (is_inline types (con_of F.source name)) x m)) inline
+          (subst (λ k. code.CellFits C.func (is_inline types con) (cell_in (is_inline types k) x m)) (sym a.con_is)
+          (cell_fits F C x m (is_inline types con) fit (at_back F.kinds n m (fields_of types con) (diamond_kinds x) (omega (arith, full)) at)));
+      distinct = bound_distinct (is_inline types (con_of F.source name)) fs x n target;
       jump = jump;
     }

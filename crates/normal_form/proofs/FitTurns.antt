@@ -5,13 +5,12 @@ use Rattle.std.specs.List.{AllByRecursion}
 use Rattle.camelot_values.specs.Kinds.{Constructor, DataType, constructors, constructor, type_from, type_of}
 use Rattle.camelot_values.specs.declared.kinds.Kind.{Kind}
 use Rattle.camelot_values.specs.declared.kinds.Kind.TheVariants as kind
-use Rattle.camelot_tree.specs.Tree.{Branch}
+use Rattle.camelot_tree.specs.Tree.{Branch, Source}
 use Rattle.camelot_typing.specs.Kinds.{types_of, numbered, numbers_from, numbers_of}
 use Rattle.grail_blocks.specs.Blocks as block
 use Rattle.grail_blocks.specs.Blocks.{CaseArm}
 use Rattle.grail_code.specs.Code.{Func, Code}
-use Rattle.grail_code.specs.WellFormed.{data_type}
-use Rattle.grail_code.specs.Unread.{ArmOwned, ArmsOwned, TermOwned}
+use Rattle.grail_code.specs.WellFormed.{ArmFits, ArmsFit, TermFits, data_type}
 use Rattle.normal_form.specs.Normal.{Line, case_arm, total, in_turn, all_of}
 use Rattle.normal_form.proofs.Lines.{closes}
 use Rattle.normal_form.proofs.KindsAt.{Frame, At, at_front, at_back}
@@ -73,60 +72,60 @@ type_at (d ∷ ds) first (suc t) h =
 -- ---- arms in turn
 
 pub record ArmGoes (p : Code) (f : Func) (number : ℕ) (c : Constructor) (a : CaseArm) (i : ℕ) (lines : List Line) : Type 0 where
-  pub arm : ArmOwned f number c a
+  pub arm : ArmFits f number c a
   pub fit : LinesFit p f i lines
 
 -- one of two arms, by the test on its constructor
-pub goes_split : (p : Code) (f : Func) (number : ℕ) (c : Constructor) (t : Bool) (first : Branch) (other : Option Branch) (n i : ℕ) (xs ys : List Line) → (t ≡ true → ArmGoes p f number c (case_arm (Some first) n i) i xs)
-    → (t ≡ false → ArmGoes p f number c (case_arm other n i) i ys) → ArmGoes p f number c (case_arm (if t then Some first else other) n i) i (if t then xs else ys)
-goes_split p f number c true first other n i xs ys one rest = one refl
-goes_split p f number c false first other n i xs ys one rest = rest refl
+pub goes_split : (src : Source) (p : Code) (f : Func) (number : ℕ) (c : Constructor) (t : Bool) (first : Branch) (other : Option Branch) (n i : ℕ) (xs ys : List Line) → (t ≡ true → ArmGoes p f number c (case_arm src (Some first) n i) i xs)
+    → (t ≡ false → ArmGoes p f number c (case_arm src other n i) i ys) → ArmGoes p f number c (case_arm src (if t then Some first else other) n i) i (if t then xs else ys)
+goes_split src p f number c true first other n i xs ys one rest = one refl
+goes_split src p f number c false first other n i xs ys one rest = rest refl
 
 pub record TurnsFit (p : Code) (f : Func) (number : ℕ) (cs : List Constructor) (arms : List CaseArm) (i : ℕ) (lines : List Line) : Type 0 where
-  pub each : ArmsOwned f number cs arms
+  pub each : ArmsFit f number cs arms
   pub fit : LinesFit p f i lines
 
-pub turns_fit : (p : Code) (f : Func) (types : List DataType) (all : List Kind) (number low end : ℕ) (arms_of : ℕ → Option Branch) (locals blocks : ℕ → ℕ) (part : ℕ → ℕ → ℕ → List Line) (kinds : ℕ → List Kind) (Covered : ℕ → Type 0)
+pub turns_fit : (src : Source) (p : Code) (f : Func) (types : List DataType) (all : List Kind) (number low end : ℕ) (arms_of : ℕ → Option Branch) (locals blocks : ℕ → ℕ) (part : ℕ → ℕ → ℕ → List Line) (kinds : ℕ → List Kind) (Covered : ℕ → Type 0)
     → ((con n i : ℕ) → closes (part con n i) ≡ blocks con) → ((con : ℕ) → length (kinds con) ≡ locals con)
-    → ((con n i : ℕ) (c : Constructor) → Covered con → constructor types con ≡ Some c → At all n (kinds con) → low ≤ n → number < i → i + blocks con ≤ end → ArmGoes p f number c (case_arm (arms_of con) n i) i (part con n i))
+    → ((con n i : ℕ) (c : Constructor) → Covered con → constructor types con ≡ Some c → At all n (kinds con) → low ≤ n → number < i → i + blocks con ≤ end → ArmGoes p f number c (case_arm src (arms_of con) n i) i (part con n i))
     → (cs : List Constructor) (k n i : ℕ) → ((j : ℕ) (c : Constructor) → slice_get cs j ≡ Some c → constructor types (k + j) ≡ Some c)
     → AllByRecursion Covered (numbered k cs) → At all n (all_of kinds (numbered k cs)) → low ≤ n → number < i
     → i + total blocks (numbered k cs) ≤ end
-    → TurnsFit p f number cs (in_turn locals blocks (λ con n b. case_arm (arms_of con) n b ∷ []) (numbered k cs) n i) i (in_turn locals blocks part (numbered k cs) n i)
-turns_fit p f types all number low end arms_of locals blocks part kinds Covered count lengths each [] k n i is covered at least more room = record { each = tt; fit = tt }
-turns_fit p f types all number low end arms_of locals blocks part kinds Covered count lengths each (c ∷ cs) k n i is covered at least more room =
+    → TurnsFit p f number cs (in_turn locals blocks (λ con n b. case_arm src (arms_of con) n b ∷ []) (numbered k cs) n i) i (in_turn locals blocks part (numbered k cs) n i)
+turns_fit src p f types all number low end arms_of locals blocks part kinds Covered count lengths each [] k n i is covered at least more room = record { each = tt; fit = tt }
+turns_fit src p f types all number low end arms_of locals blocks part kinds Covered count lengths each (c ∷ cs) k n i is covered at least more room =
     let size = lengths k in
     let counted = count k n i in
     let same : k + 0 ≡ k = omega arith in
     let first = each k n i c covered.0 (ap (constructor types) (sym same) ∙ is 0 c refl) (at_front all n (kinds k) (all_of kinds (numbered (suc k) cs)) at) least more (omega (arith, room)) in
-    let rest = turns_fit p f types all number low end arms_of locals blocks part kinds Covered count lengths each cs (suc k) (n + locals k) (i + blocks k)
+    let rest = turns_fit src p f types all number low end arms_of locals blocks part kinds Covered count lengths each cs (suc k) (n + locals k) (i + blocks k)
     (λ j c e. (let next : suc k + j ≡ k + suc j = omega arith in ap (constructor types) next ∙ is (suc j) c e)) covered.1 (at_back all n (n + locals k) (kinds k) (all_of kinds (numbered (suc k) cs)) (omega (arith, size)) at)
     (omega (arith, least)) (omega (arith, more)) (omega (arith, room)) in
     record { each = (first.arm, rest.each); fit = fit_append p f i (i + blocks k) (part k n i) (in_turn locals blocks part (numbered (suc k) cs) (n + locals k) (i + blocks k)) (omega (arith, counted)) first.fit rest.fit }
 
 -- a case on a value of type t, whose arms are these
 pub record CaseGoes (p : Code) (f : Func) (number : ℕ) (x : ℕ) (arms : List CaseArm) (i : ℕ) (lines : List Line) : Type 0 where
-  pub term : TermOwned p f number (block.Case x arms)
+  pub term : TermFits p f number (block.Case x arms)
   pub fit : LinesFit p f i lines
 
 pub case_goes : (F : Frame) (C : Coding F) (number low end x t : ℕ) (arms_of : ℕ → Option Branch) (locals blocks : ℕ → ℕ) (part : ℕ → ℕ → ℕ → List Line) (kinds : ℕ → List Kind) (Covered : ℕ → Type 0)
     → ((con n i : ℕ) → closes (part con n i) ≡ blocks con) → ((con : ℕ) → length (kinds con) ≡ locals con)
     → ((con n i : ℕ) (c : Constructor) → Covered con → constructor (types_of F.source) con ≡ Some c → At F.kinds n (kinds con) → low ≤ n → number < i → i + blocks con ≤ end
-    → ArmGoes C.program C.func number c (case_arm (arms_of con) n i) i (part con n i))
+    → ArmGoes C.program C.func number c (case_arm F.source (arms_of con) n i) i (part con n i))
     → (cons : List ℕ) (n i : ℕ) → cons ≡ numbers_of (types_of F.source) t → slice_get F.kinds x ≡ Some (kind.Of t) → t < length (types_of F.source)
     → AllByRecursion Covered cons → At F.kinds n (all_of kinds cons) → low ≤ n → number < i
-    → i + total blocks cons ≤ end → CaseGoes C.program C.func number x (in_turn locals blocks (λ con n b. case_arm (arms_of con) n b ∷ []) cons n i) i (in_turn locals blocks part cons n i)
+    → i + total blocks cons ≤ end → CaseGoes C.program C.func number x (in_turn locals blocks (λ con n b. case_arm F.source (arms_of con) n b ∷ []) cons n i) i (in_turn locals blocks part cons n i)
 case_goes F C number low end x t arms_of locals blocks part kinds Covered count lengths each cons n i are of_type there covered at least more room =
     let types = types_of F.source in
     let T = type_at types 0 t there in
     let same : 0 + T.k ≡ T.k = omega arith in
     let numbers : cons ≡ numbered T.k T.d.cons = are ∙ T.numbers ∙ ap (λ n. numbered n T.d.cons) same in
-    let r = turns_fit C.program C.func types F.kinds number low end arms_of locals blocks part kinds Covered count lengths each T.d.cons T.k n i T.at (subst (AllByRecursion Covered) numbers covered)
+    let r = turns_fit F.source C.program C.func types F.kinds number low end arms_of locals blocks part kinds Covered count lengths each T.d.cons T.k n i T.at (subst (AllByRecursion Covered) numbers covered)
     (subst (λ cs. At F.kinds n (all_of kinds cs)) numbers at) least more (subst (λ cs. i + total blocks cs ≤ end) numbers room) in
     let back = sym numbers in
-    let arms = subst (λ cs. ArmsOwned C.func number T.d.cons (in_turn locals blocks (λ con n b. case_arm (arms_of con) n b ∷ []) cs n i)) back r.each in
+    let arms = subst (λ cs. ArmsFit C.func number T.d.cons (in_turn locals blocks (λ con n b. case_arm F.source (arms_of con) n b ∷ []) cs n i)) back r.each in
     record {
-      term = subst (λ o. IsSomeAnd o (λ t. ArmsOwned C.func number t.cons (in_turn locals blocks (λ con n b. case_arm (arms_of con) n b ∷ []) cons n i)))
+      term = subst (λ o. IsSomeAnd o (λ t. ArmsFit C.func number t.cons (in_turn locals blocks (λ con n b. case_arm F.source (arms_of con) n b ∷ []) cons n i)))
           (sym (ap (λ o. data_type C.program.types o) (kind_at F C x (kind.Of t) of_type) ∙ ap (λ ts. slice_get ts t) C.types_are ∙ T.is)) arms;
       fit = subst (λ cs. LinesFit C.program C.func i (in_turn locals blocks part cs n i)) back r.fit;
     }

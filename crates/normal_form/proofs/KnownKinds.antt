@@ -27,7 +27,7 @@ use Rattle.camelot_typing.specs.NumberLaws.{constructors_same}
 use Rattle.grail_code.specs.WellFormed.{IsKnownKind}
 use Rattle.normal_form.specs.Normal.{con_of, cons_of, diamond_kinds, bound_kinds, kind_in, all_of, kinds, all_kinds, arm_kinds, tail_kinds, arm_tail_kinds}
 use Rattle.normal_form.proofs.KindsAt.{Frame, kind_is, in_let}
-use Rattle.normal_form.proofs.LiveValues.{Typed}
+use Rattle.normal_form.proofs.Frames.{Typed}
 use Rattle.normal_form.proofs.FitTurns.{type_there}
 
 abbrev pub AllKnown : List DataType → List Kind → Type 0

@@ -22,6 +22,7 @@ pub mod LiveTurns
 pub mod LiveValues
 pub mod LiveTails
 pub mod FactsUse
+pub mod Frames
 pub mod FitParts
 pub mod FitTurns
 pub mod FitValues
