@@ -17,6 +17,7 @@ use Rattle.normal_form.proofs.Ends.{closes_tail}
 use Rattle.normal_form.proofs.KindsAt.{at_front, at_back, Named}
 use Rattle.normal_form.proofs.LiveTails.{named_params}
 use Rattle.normal_form.proofs.FactsUse.{Computed, frame, whole_at}
+use Rattle.normal_form.proofs.LendTails.{tail_lends}
 use Rattle.normal_form.proofs.FitParts.{Coding, cut_fits}
 use Rattle.normal_form.proofs.FitTails.{length_cut, length_coded, tail_fits}
 use Rattle.normal_form.proofs.KnownKinds.{all_append, params_known, stands_known, params_scope_known, tail_kinds_known}

@@ -27,6 +27,10 @@ pub mod FitParts
 pub mod FitTurns
 pub mod FitValues
 pub mod FitTails
+pub mod Looked
+pub mod LendParts
+pub mod LendValues
+pub mod LendTails
 pub mod KnownKinds
 pub mod FactsFit
 pub mod FactsTables
