@@ -190,7 +190,7 @@ numbered_has n (f ∷ fs) (suc i) less =
     let test : (n == n + suc i) ≡ false = grind (arith, nat_tests) in
     ap (λ b. b || is_among (numbered (suc n) fs) (n + suc i)) test ∙ ap (is_among (numbered (suc n) fs)) same ∙ numbered_has (suc n) fs i (omega (arith, less))
 
-item_less : (ks : List Kind) (i : ℕ) (k : Kind) → slice_get ks i ≡ Some k → i < length ks
+pub item_less : (ks : List Kind) (i : ℕ) (k : Kind) → slice_get ks i ≡ Some k → i < length ks
 item_less [] i k e = let q : None ≡ Some k = e in absurd cc
 item_less (x ∷ ks) zero k e = omega arith
 item_less (x ∷ ks) (suc i) k e = let less = item_less ks i k e in omega (arith, less)
@@ -210,7 +210,7 @@ shuffled false false true = refl
 shuffled false false false = refl
 
 -- whether the local is of a heap kind
-heap_at : (F : Frame) (C : Coding F) (x : ℕ) (k : Kind) → slice_get F.kinds x ≡ Some k → is_of_heap C.program.types C.func x ≡ is_heap (types_of F.source) k
+pub heap_at : (F : Frame) (C : Coding F) (x : ℕ) (k : Kind) → slice_get F.kinds x ≡ Some k → is_of_heap C.program.types C.func x ≡ is_heap (types_of F.source) k
 heap_at F C x k e = ap (λ o. option_map_or (is_heap C.program.types) o false) (kind_at F C x k e) ∙ ap (λ types. is_heap types k) C.types_are
 
 -- the local is lent, in this code
@@ -295,7 +295,7 @@ pub record TurnsLend (p : Code) (f : Func) (lent : Bool) (arms : List CaseArm) (
   pub each : AllByRecursion (ArmLends p.types f lent) arms
   pub lines_lend : LinesLend p f lines
 
-or_none : (a b : Bool) → b ≡ false → (a || b) ≡ a
+pub or_none : (a b : Bool) → b ≡ false → (a || b) ≡ a
 or_none a b e = ap (λ c. a || c) e ∙ or_false a
 
 pub turns_lend : (p : Code) (f : Func) (all : List Kind) (lent : Bool) (low : ℕ) (locals blocks : ℕ → ℕ) (arm : ℕ → ℕ → ℕ → CaseArm) (part : ℕ → ℕ → ℕ → List Line) (kinds : ℕ → List Kind)

@@ -31,6 +31,7 @@ pub mod Looked
 pub mod LendParts
 pub mod LendValues
 pub mod LendTails
+pub mod FactsLend
 pub mod KnownKinds
 pub mod FactsFit
 pub mod FactsTables
