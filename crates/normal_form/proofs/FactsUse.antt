@@ -5,10 +5,9 @@ use Rattle.std.specs.List.{AllByRecursion}
 use Rattle.std.specs.Option.{option_map_or}
 use Rattle.camelot_values.specs.Lists.{is_among}
 use Rattle.std.proofs.lemmas.Bool.Decides.{nat_tests}
-use Rattle.camelot_values.specs.declared.kinds.Kind.{Kind}
-use Rattle.camelot_tree.specs.Tree.{Expression, Function, Source}
-use Rattle.camelot_typing.specs.Kinds.{Globals, Scope, types_of, numbered, atom_of}
-use Rattle.camelot_typing.specs.Typing.{Signature, known_kind, params_scope, globals_of, HasKind, FunctionFits, FunctionsFit}
+use Rattle.camelot_tree.specs.Tree.{Function}
+use Rattle.camelot_typing.specs.Kinds.{types_of, numbered}
+use Rattle.camelot_typing.specs.Typing.{Signature, params_scope, globals_of, FunctionFits, FunctionsFit}
 use Rattle.camelot_typing.specs.TypingLaws.{params_full}
 use Rattle.camelot_typing.specs.Typed.{Typing, IsTyping}
 use Rattle.linear_use.specs.Uses.{lent_params, loans_of, FunctionIsLinear, FunctionsAreLinear}
@@ -19,29 +18,14 @@ use Rattle.normal_form.specs.Facts.{is_heap_in, looked_in, is_read_in, is_owned_
 use Rattle.normal_form.proofs.Lines.{ends_is_closed}
 use Rattle.normal_form.proofs.Ends.{tail_closed}
 use Rattle.normal_form.proofs.UsedNames.{seen, seen_most, fair_taken}
-use Rattle.normal_form.proofs.KindsAt.{Frame, At, at_front, at_back, Named}
+use Rattle.normal_form.proofs.KindsAt.{at_front, at_back, Named}
+use Rattle.normal_form.proofs.Frames.{Computed, frame, whole_at, named_params}
 use Rattle.normal_form.proofs.NamedUses.{named, above_seen}
-use Rattle.normal_form.proofs.LiveLines.{live_here, first_live, cut_live, cut_once, looked_cut, or_second, Looks}
+use Rattle.normal_form.proofs.LiveLines.{live_here, first_live, cut_live, cut_once, or_second, Looks}
 use Rattle.normal_form.proofs.LiveParts.{Ruled, Lives}
-use Rattle.normal_form.proofs.LiveTails.{tail_lives, named_params, params_fair}
+use Rattle.normal_form.proofs.LiveTails.{tail_lives, params_fair}
 use Rattle.normal_form.proofs.Loans.{loans_are}
-
--- kinds are computed, as a law of typing says
-abbrev pub Computed : Type 0
-Computed = (g : Globals Kind) (s : Scope Kind) (e : Expression) (k : Kind) → HasKind g s e k → k ≡ atom_of known_kind g s e
-
--- a function among those of its program
-abbrev pub frame : (p : Source) (sigs : List Signature) (f : Function) (s : Signature) → FunctionsFit p (globals_of p sigs) p.funs sigs → Computed → Frame
-frame p sigs f s fit computed = record {
-  source = p;
-  sigs = sigs;
-  kinds = s.params ++ tail_kinds p sigs (params_scope f.params s.params) f.body;
-  fit = fit;
-  computed = computed (globals_of p sigs);
-}
-
-pub whole_at : (ks : List Kind) → At ks 0 ks
-whole_at ks i k e = let same : 0 + i ≡ i = omega arith in ap (slice_get ks) same ∙ e
+use Rattle.normal_form.proofs.FactsLend.{cut_looks}
 
 first_block : (bs : List NormalBlock) (x : ℕ) → live_from 0 bs 0 x ≡ first_live 0 bs x
 first_block [] x = refl
@@ -104,7 +88,7 @@ function_fairly t f s fit computed own lin =
     let at_params = at_front F.kinds 0 s.params further at in
     let start : 0 + n ≡ n = omega arith in
     let st = subst (Named F sk l) start (named_params F f.params s.params 0 full at_params) in
-    let looks : Looks R.own lines = λ x e. not_owned (is_heap_in (types_of p) nf x) (option_map_or (λ mark. mark) (slice_get nf.reads x) false) (is_among (looked_in nf) x) (ap (λ xs. is_among xs x) (looked_cut lines) ∙ e) in
+    let looks : Looks R.own lines = λ x e. not_owned (is_heap_in (types_of p) nf x) (option_map_or (λ mark. mark) (slice_get nf.reads x) false) (is_among (looked_in nf) x) (cut_looks lines x ∙ e) in
     let lives = tail_lives F R f.body sk flags l n 0 s.result [] st own.body (λ o. lin.2) (at_back F.kinds 0 n s.params further (omega (arith, full)) at) looks
     (λ y o. (let k = params_fair F R f.params s.params 0 f.body y full at_params lin.1
     (λ i mark is same. mark_is nf (is_heap_in (types_of p) nf y) mark y (let at_i : y ≡ i = omega (arith, same) in ap (slice_get nf.reads) at_i ∙ is) o) o in

@@ -29,11 +29,12 @@ use Rattle.grail_blocks.specs.Events.{kept_diamond, bound_by}
 use Rattle.grail_code.specs.WellFormed.{looked_by}
 use Rattle.normal_form.specs.Normal.{Line, con_of, bound_count, with_fields, with_cell, in_arm, cell_in, case_arm}
 use Rattle.normal_form.specs.Live.{bit}
+use Rattle.normal_form.proofs.Looked.{among_append}
 use Rattle.normal_form.proofs.Values.{number_found}
 use Rattle.normal_form.proofs.UsedNames.{Names, without_all, taken, arms_taken, seen, arms_seen, Fair, ArmsFair, seen_most, fair_taken, unseen_fair, AreNone, AreOne, AreSome, none_seen, fewer_seen, fewer_taken, fewer_fair, one_fair}
 use Rattle.normal_form.proofs.KindsAt.{Frame, At, at_front, Named, named_fields, named_name, ArmFor, bound_of, named_arm}
 use Rattle.normal_form.proofs.NamedUses.{named, above_none, same_or_not}
-use Rattle.normal_form.proofs.LiveLines.{Ownership, live_here, AllOnce, AreLent, among_append, or_second}
+use Rattle.normal_form.proofs.LiveLines.{Ownership, live_here, AllOnce, AreLent, or_second}
 use Rattle.normal_form.proofs.LiveParts.{Ruled, Lives}
 
 -- ---- names from before

@@ -1,14 +1,16 @@
 -- What is live in front of lines, and that it is the same for the blocks into which they are cut.
-use Rattle.std.proofs.Common.{◌≡◌, ℕ, suc, ◌+◌, ◌≤◌, Bool, true, false, List, [], ◌∷◌, ◌++◌, refl, sym, ap, ◌∙◌, subst, arith, append_assoc}
-use Rattle.std.specs.Prelude.{◌==◌, ◌||◌, if◌then◌else◌, flat_map}
+use Rattle.std.proofs.Common.{◌≡◌, ℕ, suc, ◌+◌, ◌≤◌, Bool, true, false, List, [], ◌∷◌, ◌++◌, refl, sym, ap, ◌∙◌, subst, arith}
+use Rattle.std.specs.Prelude.{◌==◌, ◌||◌, if◌then◌else◌}
 use Rattle.std.proofs.lemmas.Bool.Decides.{nat_tests}
 use Rattle.camelot_values.specs.Lists.{is_among}
 use Rattle.grail_blocks.specs.Blocks as block
+use Rattle.grail_blocks.specs.Blocks.{Term}
 use Rattle.grail_blocks.specs.Events.{Reads, operands_of}
 use Rattle.grail_code.specs.WellFormed.{looked_at}
 use Rattle.normal_form.specs.Normal.{NormalBlock, Line, Bind, Close, in_first, cut}
 use Rattle.normal_form.specs.Live.{Marks, LaterMarks, unless_bound, onward_live, term_live, block_live, live_from, op_taken, op_read, term_taken, term_read, Once, BlocksOnce}
 use Rattle.normal_form.proofs.Lines.{closes, IsClosed, EndsClosed, ends_is_closed}
+use Rattle.normal_form.proofs.Looked.{among_append, looks, looks_append}
 
 abbrev mutual
   pub live_here : ℕ → List Line → Marks
@@ -148,42 +150,13 @@ cut_once o number (Close t ∷ lines) c all = (
 
 -- ---- arms that leave their cells
 
--- none of these is owned
-abbrev pub AreLent : Ownership → List ℕ → Type 0
-AreLent o xs = (x : ℕ) → is_among xs x ≡ true → o.owned x ≡ false
-
--- the fields of arms that leave their cell as it is
-abbrev pub looked : List Line → List ℕ
-looked [] = []
-looked (Bind l ∷ lines) = looked lines
-looked (Close t ∷ lines) = looked_at t ++ looked lines
-
-looked_first : (l : block.Let) (bs : List NormalBlock) → flat_map (λ b. looked_at b.term) (in_first l bs) ≡ flat_map (λ b. looked_at b.term) bs
-looked_first l [] = refl
-looked_first l (b ∷ bs) = refl
-
--- the blocks have those of the lines
-pub looked_cut : (lines : List Line) → flat_map (λ b. looked_at b.term) (cut lines) ≡ looked lines
-looked_cut [] = refl
-looked_cut (Bind l ∷ lines) = looked_first l (cut lines) ∙ looked_cut lines
-looked_cut (Close t ∷ lines) = ap (λ xs. looked_at t ++ xs) (looked_cut lines)
-
-pub looked_append : (xs ys : List Line) → looked (xs ++ ys) ≡ looked xs ++ looked ys
-looked_append [] ys = refl
-looked_append (Bind l ∷ xs) ys = looked_append xs ys
-looked_append (Close t ∷ xs) ys = ap (λ zs. looked_at t ++ zs) (looked_append xs ys) ∙ sym (append_assoc (looked_at t) (looked xs) (looked ys))
-
-pub among_append : (xs ys : List ℕ) (y : ℕ) → is_among (xs ++ ys) y ≡ (is_among xs y || is_among ys y)
-among_append [] ys y = refl
-among_append (x ∷ xs) ys y = ap (λ b. (x == y) || b) (among_append xs ys y) ∙ grouped (x == y) (is_among xs y) (is_among ys y)
-  where
-    grouped : (a b c : Bool) → (a || (b || c)) ≡ ((a || b) || c)
-    grouped true b c = refl
-    grouped false b c = refl
-
 pub or_second : (a b : Bool) → b ≡ true → (a || b) ≡ true
 or_second true b h = refl
 or_second false b h = h
+
+-- none of these is owned
+abbrev pub AreLent : Ownership → List ℕ → Type 0
+AreLent o xs = (x : ℕ) → is_among xs x ≡ true → o.owned x ≡ false
 
 pub lent_front : (o : Ownership) (xs ys : List ℕ) → AreLent o (xs ++ ys) → AreLent o xs
 lent_front o xs ys h x e = h x (among_append xs ys x ∙ ap (λ b. b || is_among ys x) e)
@@ -191,12 +164,18 @@ lent_front o xs ys h x e = h x (among_append xs ys x ∙ ap (λ b. b || is_among
 pub lent_back : (o : Ownership) (xs ys : List ℕ) → AreLent o (xs ++ ys) → AreLent o ys
 lent_back o xs ys h x e = h x (among_append xs ys x ∙ or_second (is_among xs x) (is_among ys x) e)
 
--- none of those of these lines is owned
+-- none of what these lines only look at is owned
 abbrev pub Looks : Ownership → List Line → Type 0
-Looks o lines = AreLent o (looked lines)
+Looks o lines = (x : ℕ) → looks lines x ≡ true → o.owned x ≡ false
 
 pub looks_front : (o : Ownership) (xs ys : List Line) → Looks o (xs ++ ys) → Looks o xs
-looks_front o xs ys h = lent_front o (looked xs) (looked ys) (subst (AreLent o) (looked_append xs ys) h)
+looks_front o xs ys h x e = h x (looks_append xs ys x ∙ ap (λ b. b || looks ys x) e)
 
 pub looks_back : (o : Ownership) (xs ys : List Line) → Looks o (xs ++ ys) → Looks o ys
-looks_back o xs ys h = lent_back o (looked xs) (looked ys) (subst (AreLent o) (looked_append xs ys) h)
+looks_back o xs ys h x e = h x (looks_append xs ys x ∙ or_second (looks xs x) (looks ys x) e)
+
+pub looks_end : (o : Ownership) (t : Term) (lines : List Line) → Looks o (Close t ∷ lines) → AreLent o (looked_at t)
+looks_end o t lines h x e = h x (ap (λ b. b || looks lines x) e)
+
+pub looks_behind : (o : Ownership) (t : Term) (lines : List Line) → Looks o (Close t ∷ lines) → Looks o lines
+looks_behind o t lines h x e = h x (or_second (is_among (looked_at t) x) (looks lines x) e)

@@ -39,10 +39,6 @@ bit_max true false = omega arith
 bit_max false true = omega arith
 bit_max false false = omega arith
 
-pub bit_true : (b : Bool) → bit b ≤ 0 → b ≡ false
-bit_true true h = absurd (omega (arith, h))
-bit_true false h = refl
-
 pub bit_one : (x y : ℕ) → bit (x == y) ≡ one x y
 bit_one x y = by_test (x == y)
   where
@@ -59,11 +55,10 @@ pub among_parted : (marks : List Bool) (xs : List ℕ) (y : ℕ) → bit (is_amo
 among_parted [] xs y = let a = among_times xs y in omega (arith, a)
 among_parted (mark ∷ marks) [] y = omega arith
 among_parted (true ∷ marks) (x ∷ xs) y =
-    let a = bit_or (x == y) (is_among xs y) in
+    let a = bit_max (x == y) (is_among xs y) in
     let b = among_parted marks xs y in
     let c = by_test (x == y) (is_among (read_by marks xs) y) in
-    let d = bit_max (x == y) (is_among xs y) in
-    omega (arith, a, b, c, d)
+    omega (arith, a, b, c)
   where
     by_test : (a b : Bool) → max (bit a) (bit b) ≤ bit (a || b)
     by_test true true = omega arith

@@ -22,62 +22,21 @@ use Rattle.linear_use.specs.Uses.{lent_params, arm_flags, looks_at, IsFair, Para
 use Rattle.linear_use.specs.FairLaws.{fair_by_paths}
 use Rattle.grail_blocks.specs.Blocks as block
 use Rattle.grail_blocks.specs.Events.{taken_by, read_by}
-use Rattle.grail_code.specs.WellFormed.{looked_at, looked_by}
+use Rattle.grail_code.specs.WellFormed.{looked_by}
 use Rattle.normal_form.specs.Normal.{Line, Close, fun_of, cons_of, arm_for, bound_count, in_arm, case_arm, case_arms, total, in_turn, made, ends, all_ends, local_of, locals_of, value, values, bound_kinds, kind_in, all_of, kinds, tail_made, arm_tail_made, tail_ends, arm_tail_ends, tail, arm_tail, tail_kinds, arm_tail_kinds}
 use Rattle.normal_form.specs.Live.{bit, times}
 use Rattle.normal_form.proofs.Lines.{ends_is_closed}
 use Rattle.normal_form.proofs.Ends.{closes_tail, tail_closed, closes_arm_tail, closed_arm_tail}
 use Rattle.normal_form.proofs.Values.{two, cons_are, fewer, number_found}
 use Rattle.normal_form.proofs.UsedNames.{without, call_reads, all_taken, seen, all_seen, arms_seen, Fair, unseen_fair, none_seen, no_arm_seen, none_read, AreOne, AreSome, fewer_fair, one_fair}
-use Rattle.normal_form.proofs.KindsAt.{Frame, At, at_front, at_back, at_head, at_rest, Named, named_kept, named_bind, kind_is, kind_same, in_let, two_parts, all_of_made, kinds_made, all_kinds_made, local_is, arm_for_con, bound_of, bound_same, bound_are, named_arm}
+use Rattle.normal_form.proofs.KindsAt.{Frame, At, at_front, at_back, at_head, at_rest, Named, named_kept, named_bind, kind_is, kind_same, in_let, kinds_made, local_is, arm_for_con, bound_of, bound_same, bound_are, named_arm}
+use Rattle.normal_form.proofs.Frames.{Typed, tail_kinds_made, arm_tail_kinds_made}
 use Rattle.normal_form.proofs.NamedUses.{named, one, one_most, same_or_not, above_none, above_seen, local_once}
-use Rattle.normal_form.proofs.LiveLines.{live_here, later_lines, live_in, AllOnce, AreLent, lent_front, Looks, looks_front, looks_back}
+use Rattle.normal_form.proofs.LiveLines.{live_here, later_lines, live_in, AllOnce, AreLent, Looks, looks_front, looks_back, looks_end, looks_behind}
 use Rattle.normal_form.proofs.LiveParts.{Ruled, bit_max, among_one, Lives, lives_more, close_lives}
 use Rattle.normal_form.proofs.LiveArms.{ArmLives, arm_lives, arm_once, arm_split, arm_more}
 use Rattle.normal_form.proofs.LiveTurns.{Turning, case_lives}
-use Rattle.normal_form.proofs.LiveValues.{Typed, Linear, linear_scrutinee, Fairly, ArmsFairly, let_once, let_live, without_above, value_times, call_once, call_live, value_lives, values_lives}
-
--- ---- as many kinds as locals
-
-mutual
-  pub tail_kinds_made : (F : Frame) (e : Expression) (s : Scope Kind) (q : Kind) → Typed F s e q
-      → length (tail_kinds F.source F.sigs s e) ≡ tail_made F.source e
-  tail_kinds_made F (Var n) s q has = refl
-  tail_kinds_made F (Num z l) s q has = refl
-  tail_kinds_made F (Truth b l) s q has = refl
-  tail_kinds_made F (Prim op a b l) s q has = kinds_made F (Prim op a b l) s q has
-  tail_kinds_made F (Build c es place) s q has = kinds_made F (Build c es place) s q has
-  tail_kinds_made F (Call f es) s q has = all_kinds_made F es s _ has.3
-  tail_kinds_made F (Let n a b) s q has =
-      let p = F.source in
-      let inner = bind n.word (kind_in p F.sigs s a) s in
-      two_parts (kinds p F.sigs s a) (tail_kinds p F.sigs inner b) (made p a) (tail_made p b) (kinds_made F a s has.0 has.1) (tail_kinds_made F b inner q (in_let F s n a b has.0 q has.1 has.2))
-  tail_kinds_made F (If c a b l) s q has =
-      let p = F.source in
-      let both = two_parts (tail_kinds p F.sigs s a) (tail_kinds p F.sigs s b) (tail_made p a) (tail_made p b) (tail_kinds_made F a s q has.1) (tail_kinds_made F b s q has.2) in
-      two_parts (kinds p F.sigs s c) (tail_kinds p F.sigs s a ++ tail_kinds p F.sigs s b) (made p c) (tail_made p a + tail_made p b) (kinds_made F c s kind.Flag has.0) both
-  tail_kinds_made F (Match e NoArms l) s q has = absurd has
-  tail_kinds_made F (Match e (AndArm c fs x b as') l) s q has =
-      let p = F.source in
-      let arms = AndArm c fs x b as' in
-      let all = all_of_made (arm_tail_kinds p F.sigs s arms) (arm_tail_made p arms) (λ con. arm_tail_kinds_made F (AndArm c fs x b as') s has.0 con q has.3) (cons_of p arms) in
-      two_parts (kinds p F.sigs s e) (all_of (arm_tail_kinds p F.sigs s arms) (cons_of p arms)) (made p e) (total (arm_tail_made p arms) (cons_of p arms)) (kinds_made F e s (kind.Of has.0) has.1) all
-
-  pub arm_tail_kinds_made : (F : Frame) (as' : Arms) (s : Scope Kind) (t con : ℕ) (q : Kind) → ArmsHaveKind (globals_of F.source F.sigs) s t as' q
-      → length (arm_tail_kinds F.source F.sigs s as' con) ≡ arm_tail_made F.source as' con
-  arm_tail_kinds_made F NoArms s t con q has = refl
-  arm_tail_kinds_made F (AndArm c fs x b as') s t con q has =
-      by_test (is_that (constructor_number F.source c) con) refl (tail_kinds_made F b (arm_scope known_kind (types_of F.source) c fs x s) q has.1) (arm_tail_kinds_made F as' s t con q has.2)
-    where
-      by_test : (test : Bool) → is_that (constructor_number F.source c) con ≡ test
-          → length (tail_kinds F.source F.sigs (arm_scope known_kind (types_of F.source) c fs x s) b) ≡ tail_made F.source b → length (arm_tail_kinds F.source F.sigs s as' con) ≡ arm_tail_made F.source as' con
-          → length (if test then bound_kinds F.source c x ++ tail_kinds F.source F.sigs (arm_scope known_kind (types_of F.source) c fs x s) b else arm_tail_kinds F.source F.sigs s as' con)
-          ≡ (if test then bound_count fs x + tail_made F.source b else arm_tail_made F.source as' con)
-      by_test true e own rest =
-          let a = arm_for_con F.source t con c fs x has.0 e in
-          two_parts (bound_kinds F.source c x) (tail_kinds F.source F.sigs (arm_scope known_kind (types_of F.source) c fs x s) b) (bound_count fs x) (tail_made F.source b)
-          (ap length (bound_same F.source con c fs x a) ∙ bound_are F.source con c fs x a) own
-      by_test false e own rest = rest
+use Rattle.normal_form.proofs.LiveValues.{Linear, linear_scrutinee, Fairly, ArmsFairly, let_once, let_live, without_above, value_times, call_once, call_live, value_lives, values_lives}
 
 -- ---- tails
 
@@ -215,9 +174,9 @@ mutual
       let at_e = at_front F.kinds next (kinds p F.sigs s e) (all_of (arm_tail_kinds p F.sigs s arms) (cons_of p arms)) at in
       let at_arms = at_back F.kinds next n1 (kinds p F.sigs s e) (all_of (arm_tail_kinds p F.sigs s arms) (cons_of p arms)) (omega (arith, size)) at in
       let looks_e = looks_front R.own (value p e l next number) (Close end ∷ all) looks in
-      let looks_end = looks_back R.own (value p e l next number) (Close end ∷ all) looks in
-      let looks_all = looks_back R.own (Close end ∷ []) all looks_end in
-      let lent_all = lent_front R.own (looked_at end) [] (looks_front R.own (Close end ∷ []) all looks_end) in
+      let looks_arms = looks_back R.own (value p e l next number) (Close end ∷ all) looks in
+      let looks_all = looks_behind R.own end all looks_arms in
+      let lent_all = looks_end R.own end all looks_arms in
       let st_arms = named_kept F s l next n1 st (omega arith) in
       let uses = λ (y : ℕ). arms_seen R.loans (named l y) arms in
       let none = λ (y : ℕ) (h : next ≤ y). no_arm_seen R.loans (named l y) arms (above_none F s l next y st h) in
@@ -306,17 +265,6 @@ params_above (x ∷ xs) first v y e = by_test (λ k. params_above xs (suc first)
         → (if b then Some first else find (params_scope xs (numbered (suc first) xs)) v) ≡ Some y → first ≤ y
     by_test rest true q = let same : first ≡ y = cc in omega (arith, same)
     by_test rest false q = let k = rest q in omega (arith, k)
-
-pub named_params : (F : Frame) (xs : List Param) (ks : List Kind) (first : ℕ) → length xs ≡ length ks → At F.kinds first ks
-    → Named F (params_scope xs ks) (params_scope xs (numbered first xs)) (first + length xs)
-named_params F [] [] first full at = record { at = λ name. tt }
-named_params F [] (k ∷ ks) first full at = absurd (omega (arith, full))
-named_params F (x ∷ xs) [] first full at = absurd (omega (arith, full))
-named_params F (x ∷ xs) (k ∷ ks) first full at =
-    let rest = named_params F xs ks (suc first) (omega (arith, full)) (at_rest F.kinds first k ks at) in
-    let same : suc first + length xs ≡ first + suc (length xs) = omega arith in
-    let more = subst (Named F (params_scope xs ks) (params_scope xs (numbered (suc first) xs))) same rest in
-    named_bind F (params_scope xs ks) (params_scope xs (numbered (suc first) xs)) (first + suc (length xs)) x.name.word k first more (at_head F.kinds first k ks at) (omega arith)
 
 -- Nothing comes behind the taking of a parameter that is owned.
 pub params_fair : (F : Frame) (R : Ruled F) (xs : List Param) (ks : List Kind) (first : ℕ) (e : Expression) (y : ℕ) → length xs ≡ length ks → At F.kinds first ks

@@ -14,7 +14,7 @@ use Rattle.camelot_tree.specs.Tree.{Expression, Num, Truth, Var, Prim, If, Let, 
 use Rattle.camelot_tree.specs.Meaning.{constructor_number, is_that}
 use Rattle.camelot_typing.specs.Kinds as typed
 use Rattle.camelot_typing.specs.Kinds.{Scope, bind, arm_scope, or_else, types_of, fields_of, is_inline}
-use Rattle.camelot_typing.specs.Typing.{known_kind, globals_of, HasKind, HaveKinds, ArmsHaveKind, PlaceFits, arms_with}
+use Rattle.camelot_typing.specs.Typing.{known_kind, globals_of, HaveKinds, ArmsHaveKind, PlaceFits, arms_with}
 use Rattle.camelot_typing.specs.NumberLaws.{number_same}
 use Rattle.linear_use.specs.Uses.{arm_flags, looks_at, is_reading, reads_behind, IsFair, IsLinear, AllAreLinear, ArmsAreLinear}
 use Rattle.linear_use.specs.FairLaws.{fair_by_paths}
@@ -22,7 +22,7 @@ use Rattle.grail_blocks.specs.declared.blocks.Place.TheVariants as place
 use Rattle.grail_blocks.specs.Blocks as block
 use Rattle.grail_blocks.specs.Events.{taken_by, read_by}
 use Rattle.grail_blocks.specs.Events as event
-use Rattle.grail_code.specs.WellFormed.{looked_at, looked_by}
+use Rattle.grail_code.specs.WellFormed.{looked_by}
 use Rattle.normal_form.specs.Normal.{Line, Close, new, con_of, fun_of, local, place_in, cons_of, arm_for, bound_count, in_arm, case_arm, case_arms, total, in_turn, made, all_made, arm_made, ends, all_ends, arm_ends, local_of, locals_of, joining, value, values, arm_value, bound_kinds, kind_in, all_of, kinds, all_kinds, arm_kinds}
 use Rattle.normal_form.specs.Live.{bit, times}
 use Rattle.normal_form.proofs.Lines.{closes, IsClosed, ends_is_closed}
@@ -30,8 +30,9 @@ use Rattle.normal_form.proofs.Ends.{closes_value, closes_joining, closed_joining
 use Rattle.normal_form.proofs.Values.{two, cons_are, fewer}
 use Rattle.normal_form.proofs.UsedNames.{without, is_any, place_taken, call_reads, taken, all_taken, arms_taken, seen, all_seen, arms_seen, Fair, AllFair, ArmsFair, seen_most, unseen_taken, all_unseen, fair_taken, none_seen, no_part_seen, no_arm_seen, none_placed, none_read, split_fair, fewer_seen, fewer_taken, fewer_fair, one_fair, by_either}
 use Rattle.normal_form.proofs.KindsAt.{Frame, At, at_front, at_back, at_rest, Named, named_kept, named_bind, named_local, kind_is, kind_same, in_let, kinds_made, arm_kinds_made, local_is, arm_for_con, bound_of, bound_same, bound_are, named_arm}
+use Rattle.normal_form.proofs.Frames.{Typed}
 use Rattle.normal_form.proofs.NamedUses.{named, one, one_same, one_other, same_or_not, found_named, above_none, above_seen, above_taken, bound_else, itself, itself_one, bound_split, local_once}
-use Rattle.normal_form.proofs.LiveLines.{live_here, later_lines, live_in, AllOnce, AreLent, lent_front, Looks, looks_front, looks_back}
+use Rattle.normal_form.proofs.LiveLines.{live_here, later_lines, live_in, AllOnce, AreLent, Looks, looks_front, looks_back, looks_end, looks_behind}
 use Rattle.normal_form.proofs.LiveParts.{Ruled, bit_most, bit_max, bit_one, among_times, among_parted, among_one, Lives, lives_more, lives_most, new_lives, close_lives, joining_lives}
 use Rattle.normal_form.proofs.LiveArms.{ArmLives, arm_lives, arm_once, arm_split, arm_more}
 use Rattle.normal_form.proofs.LiveTurns.{Turning, case_lives}
@@ -39,9 +40,6 @@ use Rattle.normal_form.proofs.LiveTurns.{Turning, case_lives}
 -- what is live behind, none of it a local that isn't made
 abbrev pub Below : ℕ → (ℕ → ℕ) → Type 0
 Below next out = (y : ℕ) → next ≤ y → out y ≡ 0
-
-abbrev pub Typed : Frame → Scope Kind → Expression → Kind → Type 0
-Typed F s e q = HasKind (globals_of F.source F.sigs) s e q
 
 -- the expression is a name
 abbrev pub is_name : Expression → Bool
@@ -575,9 +573,9 @@ mutual
       let at_e = at_front F.kinds next (kinds p F.sigs s e) (_ ∷ all_of (arm_kinds p F.sigs s arms) (cons_of p arms)) at in
       let at_arms = at_rest F.kinds result _ (all_of (arm_kinds p F.sigs s arms) (cons_of p arms)) (at_back F.kinds next result (kinds p F.sigs s e) (_ ∷ all_of (arm_kinds p F.sigs s arms) (cons_of p arms)) (omega (arith, size)) at) in
       let looks_e = looks_front R.own (value p e l next number) (Close end ∷ all) looks in
-      let looks_end = looks_back R.own (value p e l next number) (Close end ∷ all) looks in
-      let looks_all = looks_back R.own (Close end ∷ []) all looks_end in
-      let lent_all = lent_front R.own (looked_at end) [] (looks_front R.own (Close end ∷ []) all looks_end) in
+      let looks_arms = looks_back R.own (value p e l next number) (Close end ∷ all) looks in
+      let looks_all = looks_behind R.own end all looks_arms in
+      let lent_all = looks_end R.own end all looks_arms in
       let st_arms = named_kept F s l next n1 st (omega arith) in
       let same : join ≡ m = omega (arith, is) in
       let uses = λ (y : ℕ). max (arms_seen R.loans (named l y) arms) (out y) in
