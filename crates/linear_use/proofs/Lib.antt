@@ -8,6 +8,8 @@ pub mod Programs
 pub mod Counts
 pub mod Walking
 pub mod Steps
+pub mod Climbing
+pub mod Lists
 pub mod Tables
 pub mod Props
 pub mod Answering

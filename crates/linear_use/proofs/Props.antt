@@ -25,11 +25,11 @@ to_prop h f g = fun_ext (λ x. h (f x) (g x))
 
 -- ---- paths
 
-takes : Occurrence → Bool
+abbrev takes : Occurrence → Bool
 takes Taking = true
 takes Reading = false
 
-occurrence : Bool → Occurrence
+abbrev occurrence : Bool → Occurrence
 occurrence true = Taking
 occurrence false = Reading
 
@@ -72,10 +72,12 @@ mutual
   linear_prop loans g s flags (Var n) = Bool-set (is_lent flags n) false
   linear_prop loans g s flags (Prim op a b l) = ×_prop (linear_prop loans g s flags a) (linear_prop loans g s flags b)
   linear_prop loans g s flags (If c a b l) =
-      ×_prop (linear_prop loans g s flags c) (×_prop (linear_prop loans g s flags a) (linear_prop loans g s flags b))
+      let p = linear_prop loans g s flags c in let q = linear_prop loans g s flags a in let r = linear_prop loans g s flags b in hlevel (p, q, r)
   linear_prop loans g s flags (Let n e b) =
-      ×_prop (linear_prop loans g s flags e) (×_prop (fair_prop loans g.types (atom_of known_kind g s e) false n.word b)
-      (linear_prop loans g (bind n.word (atom_of known_kind g s e) s) (bind n.word false flags) b))
+      let p = linear_prop loans g s flags e in
+      let q = fair_prop loans g.types (atom_of known_kind g s e) false n.word b in
+      let r = linear_prop loans g (bind n.word (atom_of known_kind g s e) s) (bind n.word false flags) b in
+      hlevel (p, q, r)
   linear_prop loans g s flags (Match e as' l) = ×_prop (to_prop (linear_prop loans g s flags e)) (arms_prop loans g s flags (looks_at flags e) as')
   linear_prop loans g s flags (Build c es place) = ×_prop (all_prop loans g s flags [] es) (place_prop flags place)
   linear_prop loans g s flags (Call f es) = all_prop loans g s flags (loans f.word) es
@@ -89,8 +91,11 @@ mutual
   arms_prop loans g s flags lent (AndArm c fs x b as') =
       let inner = arm_scope known_kind g.types c fs x s in
       let lents = arm_flags g.types lent c fs x flags in
-      ×_prop (cell_prop g.types lent c x) (×_prop (each_prop loans g.types inner lents (bound_names fs x) b)
-      (×_prop (linear_prop loans g inner lents b) (arms_prop loans g s flags lent as')))
+      let o = cell_prop g.types lent c x in
+      let p = each_prop loans g.types inner lents (bound_names fs x) b in
+      let q = linear_prop loans g inner lents b in
+      let r = arms_prop loans g s flags lent as' in
+      hlevel (o, p, q, r)
 
 params_prop : (loans : Loans) (types : List DataType) (xs : List Param) (ks : List Kind) (ms : List Bool) (e : Expression) → IsProp (ParamsAreFair loans types xs ks ms e)
 params_prop loans types [] ks ms e = Unit-prop
@@ -101,8 +106,10 @@ params_prop loans types (x ∷ xs) (k ∷ ks) (m ∷ ms) e = ×_prop (fair_prop 
 function_prop : (loans : Loans) (g : Globals Kind) (f : Function) (s : Signature) → IsProp (FunctionIsLinear loans g f s)
 function_prop loans g f s =
     let ms = lent_params g.types f.params s.params in
-    ×_prop (to_prop (Bool-set (is_heap g.types s.result) false)) (×_prop (params_prop loans g.types f.params s.params ms f.body)
-    (linear_prop loans g (params_scope f.params s.params) (params_scope f.params ms) f.body))
+    let o : IsProp (some_lent ms ≡ true → is_heap g.types s.result ≡ false) = to_prop (Bool-set (is_heap g.types s.result) false) in
+    let p = params_prop loans g.types f.params s.params ms f.body in
+    let q = linear_prop loans g (params_scope f.params s.params) (params_scope f.params ms) f.body in
+    hlevel (o, p, q)
 
 functions_prop : (loans : Loans) (g : Globals Kind) (fs : List Function) (ss : List Signature) → IsProp (FunctionsAreLinear loans g fs ss)
 functions_prop loans g [] ss = Unit-prop
