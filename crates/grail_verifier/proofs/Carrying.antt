@@ -1,7 +1,7 @@
 -- Lines of a certificate against the locals that carry them.
 use Rattle.std.proofs.Common.{◌≡◌, ℕ, zero, suc, ◌+◌, ◌<◌, ◌≤◌, Bool, true, false, List, [], ◌∷◌, ◌++◌, map, Option, Some, None, refl, sym, ap, ◌∙◌, subst, arith}
-use Rattle.std.specs.Prelude.{◌==◌, ◌||◌, if◌then◌else◌, ℤ}
-use Rattle.std.specs.List.{AllByRecursion, range_with_len}
+use Rattle.std.specs.Prelude.{◌==◌, ◌||◌, if◌then◌else◌, cond, ℤ}
+use Rattle.std.specs.List.{AllByRecursion}
 use Rattle.std.specs.Option.{option_or}
 use Rattle.std.proofs.lemmas.Bool.Decides.{nat_tests}
 use Rattle.camelot_values.specs.Kinds.{DataType}
@@ -72,14 +72,35 @@ pub along_own : (units : ℕ → Units ℤ) (xs : List ℕ) → along units xs x
 along_own units [] = refl
 along_own units (x ∷ xs) = ap (λ asks. (x, units x) ∷ asks) (along_own units xs)
 
--- arguments go by the numbers of parameters
-pub along_params : (units : ℕ → Units ℤ) (number count : ℕ) (args : List ℕ)
-    → along units (range_with_len number count) args ≡ arguments_asks units number count args
-along_params units number zero args = refl
-along_params units number (suc count) [] = refl
-along_params units number (suc count) (x ∷ xs) =
-    let next : number + 1 ≡ suc number = omega arith in
-    ap (λ asks. (x, units number) ∷ asks) (along_params units (number + 1) count xs ∙ ap (λ n. arguments_asks units n count xs) next)
+-- the numbers of parameters that aren't marked, from this one on
+abbrev pub kept_numbers : (ℕ → Bool) → (number count : ℕ) → (args : List ℕ) → List ℕ
+kept_numbers marked number (suc count) (x ∷ xs) = cond (marked number) (kept_numbers marked (suc number) count xs) (number ∷ kept_numbers marked (suc number) count xs)
+kept_numbers marked number count xs = []
+
+-- and their arguments
+abbrev pub kept_args : (ℕ → Bool) → (number count : ℕ) → (args : List ℕ) → List ℕ
+kept_args marked number (suc count) (x ∷ xs) = cond (marked number) (kept_args marked (suc number) count xs) (x ∷ kept_args marked (suc number) count xs)
+kept_args marked number count xs = []
+
+-- those that are taken go by the numbers of parameters
+pub along_kept : (units : ℕ → Units ℤ) (marked : ℕ → Bool) (number count : ℕ) (args : List ℕ)
+    → along units (kept_numbers marked number count args) (kept_args marked number count args) ≡ arguments_asks units marked number count args
+along_kept units marked number zero args = refl
+along_kept units marked number (suc count) [] = refl
+along_kept units marked number (suc count) (x ∷ xs) = by_mark (marked number) (along_kept units marked (suc number) count xs)
+  where
+    ns : List ℕ
+    ns = kept_numbers marked (suc number) count xs
+
+    ys : List ℕ
+    ys = kept_args marked (suc number) count xs
+
+    rest : Asks ℤ
+    rest = arguments_asks units marked (suc number) count xs
+
+    by_mark : (b : Bool) → along units ns ys ≡ rest → along units (cond b ns (number ∷ ns)) (cond b ys (x ∷ ys)) ≡ cond b rest ((x, units number) ∷ rest)
+    by_mark true e = e
+    by_mark false e = ap (λ asks. (x, units number) ∷ asks) e
 
 -- locals by their numbers among what is asked
 abbrev pub Aligned : (ℕ → Option ℕ) → List ℕ → List ℕ → Type 0

@@ -1,19 +1,23 @@
 -- What is known of a function of well-formed code and of its lines, where the certificate fits.
-use Rattle.std.proofs.Common.{◌≡◌, ℕ, zero, suc, ◌+◌, ◌-◌, ◌<◌, ◌≤◌, List, [], ◌∷◌, length, map, Option, Some, None, refl, ap, ◌∙◌, subst, arith, length-append}
-use Rattle.std.specs.Prelude.{slice_get, IsSomeAnd}
+use Rattle.std.proofs.Common.{◌≡◌, ℕ, zero, suc, ◌+◌, ◌-◌, ◌<◌, ◌≤◌, Bool, true, false, List, [], ◌∷◌, length, map, Option, Some, None, refl, sym, ap, ◌∙◌, subst, arith, length-append}
+use Rattle.std.specs.Prelude.{◌==◌, ◌||◌, ◌&&◌, cond, slice_get, IsTrue, IsSomeAnd}
 use Rattle.std.specs.List.{AllByRecursion, range_with_len}
 use Rattle.std.specs.Option.{option_map_or}
-use Rattle.camelot_values.specs.Lists.{Ascend}
+use Rattle.std.proofs.lemmas.Bool.Decides.{nat_tests}
+use Rattle.camelot_values.specs.Kinds.{DataType}
+use Rattle.camelot_values.specs.Heap.{is_heap}
+use Rattle.camelot_values.specs.Lists.{is_among, Ascend}
 use Rattle.camelot_values.specs.declared.kinds.Kind.{Kind}
+use Rattle.camelot_values.specs.declared.kinds.Kind.TheVariants as kind
 use Rattle.grail_code.specs.Code.{Block, Func, Code}
-use Rattle.grail_code.specs.WellFormed.{IsWellFormed, FuncFits, BlockFits, BlocksFit, kind_of, local_kinds, HaveKinds, params_at}
+use Rattle.grail_code.specs.WellFormed.{IsWellFormed, FuncFits, BlockFits, BlocksFit, kind_of, local_kinds, HaveKinds, params_at, is_marked, looked_in, is_read, is_lent}
 use Rattle.grail_code.specs.Limits.{IsWithinLimits}
 use Rattle.grail_code.specs.Limits as limits
 use Rattle.certificate.specs.Certificates.{VarCert, BlockCert, FuncCert, Cert, FuncIsFormed, FuncIsWithin, AreVars, IsCert}
 use Rattle.licence.specs.Books.{said, block_of}
-use Rattle.licence.specs.Fitting.{VarFits, OwnFit, IsRightAt, Right, Fits}
+use Rattle.licence.specs.Fitting.{IsHeapData, VarFits, OwnFit, IsRightAt, Right, Fits}
 use Rattle.grail_verifier.proofs.Lines.{IsLine, counted}
-use Rattle.grail_verifier.proofs.Carrying.{AreOf, Aligned, LinesAscend}
+use Rattle.grail_verifier.proofs.Carrying.{AreOf, Aligned, LinesAscend, kept_numbers, kept_args}
 
 -- ---- what holds of all holds of one
 
@@ -87,30 +91,121 @@ vars_of : (p : Code) (f : Func) (params : List ℕ) (vars : List VarCert) → Al
 vars_of p f params [] h = tt
 vars_of p f params (v ∷ vs) h = (h.0.there, vars_of p f params vs h.1)
 
-pub own_params : (p : Code) (f : Func) (own : FuncCert) → OwnFit p f own → AreOf (range_with_len 0 (length f.params)) own.params
-own_params p f own h = vars_of p f (range_with_len 0 (length f.params)) own.params h.params
+-- ---- arguments that are taken, and the lines of their parameters
 
-pub range_ascends : (a n : ℕ) → Ascend (range_with_len a n)
-range_ascends a zero = tt
-range_ascends a (suc zero) = tt
-range_ascends a (suc (suc n)) = (omega arith, range_ascends (a + 1) (suc n))
-
--- as many arguments as parameters, by their numbers
-pub args_aligned : (f : Func) (args : List ℕ) (kinds : List Kind) → HaveKinds f args kinds → Aligned (slice_get args) (range_with_len 0 (length kinds)) args
-args_aligned f args kinds h = go 0 args kinds h (λ (i : ℕ). let z : 0 + i ≡ i = omega arith in ap (slice_get args) z)
+-- what a range has
+range_has : (a n x : ℕ) → is_among (range_with_len a n) x ≡ true → (a ≤ x) × (x < a + n)
+range_has a zero x h = absurd cc
+range_has a (suc n) x h = by_test (range_has (a + 1) n x) (a == x) refl h
   where
-    tails : {x y : Option Kind} {xs ys : List (Option Kind)} → x ∷ xs ≡ y ∷ ys → xs ≡ ys
-    tails e = cc
+    by_test : (is_among (range_with_len (a + 1) n) x ≡ true → (a + 1 ≤ x) × (x < a + 1 + n)) → (b : Bool) → (a == x) ≡ b
+        → (b || is_among (range_with_len (a + 1) n) x) ≡ true → (a ≤ x) × (x < a + suc n)
+    by_test rest true e k = let same : a ≡ x = grind (arith, nat_tests, e) in (omega (arith, same), omega (arith, same))
+    by_test rest false e k = let r = rest k in (omega (arith, r.0), omega (arith, r.1))
 
-    go : (k : ℕ) (xs : List ℕ) (qs : List Kind) → map (kind_of f) xs ≡ map Some qs → ((i : ℕ) → slice_get args (k + i) ≡ slice_get xs i)
-        → Aligned (slice_get args) (range_with_len k (length qs)) xs
-    go k [] [] e h = tt
-    go k [] (q ∷ qs) e h = absurd cc
-    go k (x ∷ xs) [] e h = absurd cc
-    go k (x ∷ xs) (q ∷ qs) e h = (
-      (let z : k ≡ k + 0 = omega arith in ap (slice_get args) z ∙ h 0),
-      go (k + 1) xs qs (tails e) (λ (i : ℕ). (let z : (k + 1) + i ≡ k + suc i = omega arith in ap (slice_get args) z) ∙ h (suc i)),
-    )
+-- the number of a parameter that isn't marked is among those
+kept_has : (marked : ℕ → Bool) (number count : ℕ) (xs : List ℕ) (n : ℕ) → length xs ≡ count → number ≤ n → n < number + count → marked n ≡ false
+    → is_among (kept_numbers marked number count xs) n ≡ true
+kept_has marked number zero xs n few low high plain = absurd (omega (arith, low, high))
+kept_has marked number (suc count) [] n few low high plain = absurd (omega (arith, few))
+kept_has marked number (suc count) (x ∷ xs) n few low high plain =
+    by_test (λ l. kept_has marked (suc number) count xs n (omega (arith, few)) l (omega (arith, high)) plain) (number == n) refl
+  where
+    ns : List ℕ
+    ns = kept_numbers marked (suc number) count xs
+
+    first : (b : Bool) → (number == n) ≡ true → b ≡ false → is_among (cond b ns (number ∷ ns)) n ≡ true
+    first true e k = absurd cc
+    first false e k = ap (λ t. t || is_among ns n) e
+
+    later : (b : Bool) → (number == n) ≡ false → is_among ns n ≡ true → is_among (cond b ns (number ∷ ns)) n ≡ true
+    later true e k = k
+    later false e k = ap (λ t. t || is_among ns n) e ∙ k
+
+    by_test : (suc number ≤ n → is_among ns n ≡ true) → (b : Bool) → (number == n) ≡ b → is_among (cond (marked number) ns (number ∷ ns)) n ≡ true
+    by_test rest true e = let same : number ≡ n = grind (arith, nat_tests, e) in first (marked number) e (ap marked same ∙ plain)
+    by_test rest false e = later (marked number) e (rest (grind (arith, nat_tests, e, low)))
+
+kept_above : (marked : ℕ → Bool) (low number count : ℕ) (xs : List ℕ) → low < number → AllByRecursion (λ n. low < n) (kept_numbers marked number count xs)
+kept_above marked low number zero xs less = tt
+kept_above marked low number (suc count) [] less = tt
+kept_above marked low number (suc count) (x ∷ xs) less = by_mark (marked number) (kept_above marked low (suc number) count xs (omega (arith, less)))
+  where
+    by_mark : (b : Bool) → AllByRecursion (λ n. low < n) (kept_numbers marked (suc number) count xs)
+        → AllByRecursion (λ n. low < n) (cond b (kept_numbers marked (suc number) count xs) (number ∷ kept_numbers marked (suc number) count xs))
+    by_mark true rest = rest
+    by_mark false rest = (less, rest)
+
+pub kept_ascend : (marked : ℕ → Bool) (number count : ℕ) (xs : List ℕ) → Ascend (kept_numbers marked number count xs)
+kept_ascend marked number zero xs = tt
+kept_ascend marked number (suc count) [] = tt
+kept_ascend marked number (suc count) (x ∷ xs) = by_mark (marked number) (kept_ascend marked (suc number) count xs)
+  where
+    in_front : (ns : List ℕ) → AllByRecursion (λ n. number < n) ns → Ascend ns → Ascend (number ∷ ns)
+    in_front [] above rest = tt
+    in_front (n ∷ ns) above rest = (above.0, rest)
+
+    by_mark : (b : Bool) → Ascend (kept_numbers marked (suc number) count xs)
+        → Ascend (cond b (kept_numbers marked (suc number) count xs) (number ∷ kept_numbers marked (suc number) count xs))
+    by_mark true rest = rest
+    by_mark false rest = in_front (kept_numbers marked (suc number) count xs) (kept_above marked number (suc number) count xs (omega arith)) rest
+
+-- arguments by the numbers of their parameters
+pub kept_aligned : (marked : ℕ → Bool) (local : ℕ → Option ℕ) (number count : ℕ) (xs : List ℕ) → ((i : ℕ) → local (number + i) ≡ slice_get xs i)
+    → Aligned local (kept_numbers marked number count xs) (kept_args marked number count xs)
+kept_aligned marked local number zero xs at = tt
+kept_aligned marked local number (suc count) [] at = tt
+kept_aligned marked local number (suc count) (x ∷ xs) at =
+    by_mark (marked number) (kept_aligned marked local (suc number) count xs (λ (i : ℕ). let z : suc number + i ≡ number + suc i = omega arith in ap local z ∙ at (suc i)))
+  where
+    ns : List ℕ
+    ns = kept_numbers marked (suc number) count xs
+
+    ys : List ℕ
+    ys = kept_args marked (suc number) count xs
+
+    by_mark : (b : Bool) → Aligned local ns ys → Aligned local (cond b ns (number ∷ ns)) (cond b ys (x ∷ ys))
+    by_mark true rest = rest
+    by_mark false rest = ((let z : number ≡ number + 0 = omega arith in ap local z ∙ at 0), rest)
+
+-- A line is of a parameter that isn't marked: a marked one of a heap kind is lent.
+line_unmarked : (types : List DataType) (g : Func) (params : List ℕ) (v : VarCert) → VarFits types g params v → is_marked g v.var ≡ false
+line_unmarked types g params v fits = by_mark (is_marked g v.var) refl
+  where
+    of_type : (b : Bool) → IsTrue b → b ≡ true
+    of_type true t = refl
+    of_type false t = absurd cc
+
+    heap : (o : Option Kind) → IsSomeAnd o (IsHeapData types) → option_map_or (is_heap types) o false ≡ true
+    heap None h = absurd h
+    heap (Some kind.Int) h = absurd h
+    heap (Some kind.Flag) h = absurd h
+    heap (Some kind.Dia) h = absurd h
+    heap (Some (kind.Of t)) h = of_type (is_heap types (kind.Of t)) h
+
+    by_mark : (b : Bool) → is_marked g v.var ≡ b → b ≡ false
+    by_mark false e = refl
+    by_mark true e =
+        let lent : is_lent types g v.var ≡ true = ap (λ b. b && is_read g v.var) (heap (kind_of g v.var) fits.heap) ∙ ap (λ b. b || is_among (looked_in g) v.var) e in
+        let c : true ≡ false = sym lent ∙ fits.owned in absurd cc
+
+as_many : (f : Func) (xs : List ℕ) (qs : List Kind) → HaveKinds f xs qs → length xs ≡ length qs
+as_many f [] [] h = refl
+as_many f [] (q ∷ qs) h = absurd cc
+as_many f (x ∷ xs) [] h = absurd cc
+as_many f (x ∷ xs) (q ∷ qs) h = let rest : map (kind_of f) xs ≡ map Some qs = cc in ap suc (as_many f xs qs rest)
+
+-- the lines of a function are of parameters that aren't marked
+pub own_kept : (p : Code) (f g : Func) (own : FuncCert) (args : List ℕ) → OwnFit p g own → HaveKinds f args g.params
+    → AreOf (kept_numbers (is_marked g) 0 (length g.params) args) own.params
+own_kept p f g own args fit kinds = each own.params fit.params
+  where
+    each : (vars : List VarCert) → AllByRecursion (VarFits p.types g (range_with_len 0 (length g.params))) vars
+        → AreOf (kept_numbers (is_marked g) 0 (length g.params) args) vars
+    each [] h = tt
+    each (v ∷ vs) h =
+        let r = range_has 0 (length g.params) v.var h.0.there in
+        (kept_has (is_marked g) 0 (length g.params) args v.var (as_many f args g.params kinds) r.0 r.1 (line_unmarked p.types g (range_with_len 0 (length g.params)) v h.0), each vs h.1)
 
 -- locals are their own numbers
 pub self_aligned : (xs : List ℕ) → Aligned Some xs xs

@@ -1,7 +1,6 @@
 -- Lets and ends of blocks: what the walk finds is the first check of the list that fails.
 use Rattle.std.proofs.Common.{◌≡◌, ℕ, ◌+◌, ◌-◌, ◌<◌, ◌≤◌, Bool, true, false, List, [], ◌∷◌, ◌++◌, length, Option, Some, None, refl, sym, ap, ◌∙◌, subst, arith}
 use Rattle.std.specs.Prelude.{◌==◌, if◌then◌else◌, cond, slice_get, slice_set, ℤ, pos, ◌+ℤ◌, ◌-ℤ◌}
-use Rattle.std.specs.List.{range_with_len}
 use Rattle.std.specs.Option.{option_or, option_map_or}
 use Rattle.std.proofs.lemmas.Bool.Decides.{nat_tests}
 use Rattle.std.proofs.lemmas.Int.{ints}
@@ -9,7 +8,7 @@ use Rattle.camelot_values.specs.declared.kinds.Kind.{Kind}
 use Rattle.grail_blocks.specs.declared.blocks.Place.{Place}
 use Rattle.grail_blocks.specs.declared.blocks.Place.TheVariants as place
 use Rattle.grail_code.specs.Code.{Op, Lit, Flag, Copy, Prim, Make, Call, Let, Func, Code}
-use Rattle.grail_code.specs.WellFormed.{kind_of, HaveKinds, Gives, LetFits}
+use Rattle.grail_code.specs.WellFormed.{kind_of, is_marked, HaveKinds, Gives, LetFits}
 use Rattle.grail_code.specs.Limits as limits
 use Rattle.annotations.specs.Vectors.{Vector, at, is_heap_con}
 use Rattle.certificate.specs.Certificates.{FuncCert, Cert}
@@ -19,9 +18,9 @@ use Rattle.licence.specs.Checks.{Site, left_check, local_checks, arguments_check
 use Rattle.grail_verifier.specs.Finding.{Found}
 use Rattle.grail_verifier.specs.Walk.{capped, left_short, asked_short, all_short, cost, call_short, op_short, left_behind_call, left_behind, put, slots_behind_call, slots_behind_op, slots_behind}
 use Rattle.grail_verifier.proofs.Composing.{nothing, both, one, is_enough, second_none, AreUnits}
-use Rattle.grail_verifier.proofs.Carrying.{IsHeld, IsHeldIn, AreHeld, all_found, along_params, AreAsked, asked_found}
+use Rattle.grail_verifier.proofs.Carrying.{IsHeld, IsHeldIn, AreHeld, all_found, kept_numbers, kept_args, along_kept, AreAsked, asked_found}
 use Rattle.grail_verifier.proofs.Lines.{set_here, set_other, set_length, at_few}
-use Rattle.grail_verifier.proofs.Facts.{some_and, Ready, Known, ready_at, said_is, few_locals, own_params, range_ascends, args_aligned}
+use Rattle.grail_verifier.proofs.Facts.{some_and, Ready, Known, ready_at, said_is, few_locals, kept_ascend, kept_aligned, own_kept}
 
 -- the book of a certificate, over whole numbers
 abbrev pub book : Cert → Book ℤ
@@ -67,9 +66,10 @@ module _ (p : Code) (c : Cert) (known : Known p c) where
       → Found (arguments_checks p f (book c) s a callee args) (asked_short p.types f s (slice_get slots) (slice_get args) line.params)
   arguments_found f s left slots a callee args g line tied ready kinds =
       subst (λ o. Found (option_map_or (λ g. local_checks p.types f s a.carried (call_asks (book c) callee g args)) o []) (asked_short p.types f s (slice_get slots) (slice_get args) line.params)) (sym ready.code)
-      (subst (λ asks. Found (local_checks p.types f s a.carried asks) (asked_short p.types f s (slice_get slots) (slice_get args) line.params)) (along_params ((book c).param callee) 0 (length g.params) args)
-      (asked_found p.types f s (slice_get slots) a.carried (slice_get args) ((book c).param callee) tied.held (range_with_len 0 (length g.params)) args line.params
-      (args_aligned f args g.params kinds) (range_ascends 0 (length g.params)) ready.formed.params.ascending (own_params p g line ((ready.right 0).own refl)) (asked (range_with_len 0 (length g.params)))))
+      (subst (λ asks. Found (local_checks p.types f s a.carried asks) (asked_short p.types f s (slice_get slots) (slice_get args) line.params)) (along_kept ((book c).param callee) (is_marked g) 0 (length g.params) args)
+      (asked_found p.types f s (slice_get slots) a.carried (slice_get args) ((book c).param callee) tied.held (kept_numbers (is_marked g) 0 (length g.params) args) (kept_args (is_marked g) 0 (length g.params) args) line.params
+      (kept_aligned (is_marked g) (slice_get args) 0 (length g.params) args (λ (i : ℕ). let z : 0 + i ≡ i = omega arith in ap (slice_get args) z)) (kept_ascend (is_marked g) 0 (length g.params) args)
+      ready.formed.params.ascending (own_kept p f g line args ((ready.right 0).own refl) kinds) (asked (kept_numbers (is_marked g) 0 (length g.params) args))))
     where
       asked : (ns : List ℕ) → AreAsked ((book c).param callee) line.params ns
       asked [] = tt

@@ -257,7 +257,7 @@ fn check_argument(
     }
 }
 
-/// Arguments against the lines of parameters. A parameter without a line asks nothing.
+/// Arguments against the lines of parameters. A parameter without a line asks nothing; a marked one has none.
 pub(crate) fn check_arguments(
     books: Books<'_>,
     memo: &mut Memo,

@@ -7,7 +7,6 @@ use Rattle.dual_simplex.specs.Feasible.{IsFeasible, IsLeast}
 use Rattle.dual_simplex.specs.Promises.{SaysNothing}
 use Rattle.grail_code.specs.Limits.{IsWithinLimits}
 use Rattle.grail_code.specs.WellFormed.{IsWellFormed}
-use Rattle.grail_code.specs.Unread.{AreUnread}
 use Rattle.licence.specs.Fitting.{Grants}
 use Rattle.grail_code.specs.Code.{Code}
 use Rattle.certificate.specs.Certificates.{Cert, IsWithin, IsCert}
@@ -44,9 +43,9 @@ of_none (Some x) P Q e h = absurd cc
 
 -- the solution of least cost is the least certificate
 pub least : (p : Code) (unit : ℕ) (values : List ℕ) (c : Cert)
-    → ((p : Code) (unit : ℕ) (values : List ℕ) → IsWellFormed p → AreUnread p → IsWithinLimits p → IsLeast (system_of p) unit values → IsLeastCertificate p (certificate_of p unit values))
-    → IsWellFormed p → AreUnread p → IsWithinLimits p → IsLeast (system_of p) unit values → c ≡ certificate_of p unit values → IsLeastCertificate p c
-least p unit values c law well unread limits h is = subst (IsLeastCertificate p) (sym is) (law p unit values well unread limits h)
+    → ((p : Code) (unit : ℕ) (values : List ℕ) → IsWellFormed p → IsWithinLimits p → IsLeast (system_of p) unit values → IsLeastCertificate p (certificate_of p unit values))
+    → IsWellFormed p → IsWithinLimits p → IsLeast (system_of p) unit values → c ≡ certificate_of p unit values → IsLeastCertificate p c
+least p unit values c law well limits h is = subst (IsLeastCertificate p) (sym is) (law p unit values well limits h)
 
 pub nothing_grants : (p : Code) (variable : ℕ)
     → ((p : Code) → IsWellFormed p → IsWithinLimits p → ((unit : ℕ) (values : List ℕ) → IsFeasible (system_of p) unit values → ⊥) → (c : Cert) → Grants p c → ⊥)

@@ -6,7 +6,6 @@ ghost use Rattle.lp_system.specs.Found.{IsLeastCertificate};
 ghost use Rattle.grail_code.specs.Code.{code_of};
 ghost use Rattle.grail_code.specs.Limits.{IsNamed};
 ghost use Rattle.grail_code.specs.WellFormed.{IsWellFormed};
-ghost use Rattle.grail_code.specs.Unread.{AreUnread};
 ghost use Rattle.annotations.specs.Tables.{table_of};
 ghost use Rattle.dual_simplex.specs.Run.{Least, plain_answer, IsOutcome};
 ghost use Rattle.dual_simplex.specs.Promises.{SaysLeast, SaysNothing};
@@ -36,7 +35,6 @@ fn certified(
     prices: &[u64],
 ) -> Result<Cert, Stop<NoCert>>
     requires well { IsWellFormed (code_of code.now) }
-    requires unread { AreUnread (code_of code.now) }
     requires named { IsNamed (code_of code.now) }
     requires table { table.now ≡ table_of code.now.types }
     requires small { IsSmall (code_of code.now) }
@@ -64,7 +62,6 @@ pub(crate) fn conclude(
     solved: Solved,
 ) -> Result<Cert, Stop<NoCert>>
     requires well { IsWellFormed (code_of code.now) }
-    requires unread { AreUnread (code_of code.now) }
     requires named { IsNamed (code_of code.now) }
     requires table { table.now ≡ table_of code.now.types }
     requires small { IsSmall (code_of code.now) }

@@ -3,7 +3,6 @@ ghost use Rattle.stops.specs.declared.stop.Stop.TheVariants.{Fault};
 ghost use Rattle.grail_code.specs.Code.{code_of};
 ghost use Rattle.grail_code.specs.Limits.{IsNamed};
 ghost use Rattle.grail_code.specs.WellFormed.{IsWellFormed};
-ghost use Rattle.grail_code.specs.Unread.{AreUnread};
 ghost use Rattle.annotations.specs.Tables.{table_of};
 ghost use Rattle.certificate.specs.Certificates.{Cert as PlainCert};
 ghost use Rattle.licence.specs.Fitting.{Grants};
@@ -31,7 +30,6 @@ const MOST_ROWS: u64 = 1536;
 // The answer for a code whose system is small.
 fn infer_small(alloc: Global, code: &Code, table: &ReachTable) -> Result<Cert, Stop<NoCert>>
     requires well { IsWellFormed (code_of code.now) }
-    requires unread { AreUnread (code_of code.now) }
     requires named { IsNamed (code_of code.now) }
     requires table { table.now ≡ table_of code.now.types }
     requires small { IsSmall (code_of code.now) }
@@ -54,7 +52,6 @@ fn infer_small(alloc: Global, code: &Code, table: &ReachTable) -> Result<Cert, S
 #[tactic(auto, using(crate::proofs::Concluding::too_many_unknowns, crate::proofs::Concluding::too_many_rows))]
 fn infer_by(alloc: Global, code: &Code, table: &ReachTable) -> Result<Cert, Stop<NoCert>>
     requires well { IsWellFormed (code_of code.now) }
-    requires unread { AreUnread (code_of code.now) }
     requires named { IsNamed (code_of code.now) }
     requires table { table.now ≡ table_of code.now.types }
     ensures found { IsSo (code_of code.now) (inferred_of result) }
@@ -73,9 +70,10 @@ fn infer_by(alloc: Global, code: &Code, table: &ReachTable) -> Result<Cert, Stop
     infer_small(alloc, code, table)
 }
 
-/// The certificate of least cost of well-formed code that lends nothing (Hofmann and Jost 2003): the sum of what its
-/// functions need and their parameters carry is least, in cells, among all certificates that grant the code. It is
-/// found by the dual simplex method as a solution of the code's system (`docs/INFERENCE.md`).
+/// The certificate of least cost of well-formed code (Hofmann and Jost 2003): the sum of what its functions need and
+/// their parameters carry is least, in cells, among all certificates that grant the code. It is found by the dual
+/// simplex method as a solution of the code's system (`docs/INFERENCE.md`). What is lent carries nothing, so that the
+/// system has no unknowns of it, and no row of an argument that is only read.
 ///
 /// `TooMany` comes exactly where the system has more than 512 unknowns or 1,536 rows; `NoBound` exactly where the
 /// solver finds that there is no solution, and then no certificate grants the code; `Wide` exactly where a number of
@@ -83,7 +81,6 @@ fn infer_by(alloc: Global, code: &Code, table: &ReachTable) -> Result<Cert, Stop
 /// within 4,096 pivots; [`Stop::Memory`] where memory runs out.
 pub fn infer(alloc: Global, code: &Code) -> Result<Cert, Stop<NoCert>>
     requires well { IsWellFormed (code_of code.now) }
-    requires unread { AreUnread (code_of code.now) }
     requires named { IsNamed (code_of code.now) }
     // What is answered is so.
     ensures found { IsSo (code_of code.now) (inferred_of result) }

@@ -10,7 +10,7 @@ use Rattle.licence.specs.Books.{Units}
 use Rattle.licence.specs.Checks.{Check, Site, value_checks}
 use Rattle.lp_system.specs.Unknowns.{Unknown, Need, Back, Param, Result, BlockNeed, BlockVar, Made, same, is_listed, carriers}
 use Rattle.lp_system.specs.Forms.{Form, once, is_zero, terms_from, row_of, has_terms, is_positive, asks}
-use Rattle.lp_system.specs.theory.Listing.{same_itself, among_here, among_later}
+use Rattle.lp_system.specs.theory.Listing.{same_itself, among_here, among_later, listed_here, listed_later}
 use Rattle.lp_system.specs.theory.Values.{same_is}
 use Rattle.lp_size.specs.declared.origins.Origin.{Origin}
 use Rattle.lp_size.specs.declared.origins.Origin.TheVariants as origin
@@ -58,6 +58,14 @@ no_terms : (number : ℕ) (us : List Unknown) (factor : Unknown → ℤ) → ((u
 no_terms number [] factor h = refl
 no_terms number (v ∷ us) factor h = ap (λ t. has_terms (cond t (terms_from (suc number) us factor) (record { unknown = number; factor = factor v } ∷ terms_from (suc number) us factor))) (h v) ∙ no_terms (suc number) us factor h
 
+-- where no unknown that is listed has a factor
+no_listed : (number : ℕ) (us : List Unknown) (factor : Unknown → ℤ) → ((u : Unknown) → IsTrue (is_listed us u) → is_zero (factor u) ≡ true)
+    → has_terms (terms_from number us factor) ≡ false
+no_listed number [] factor h = refl
+no_listed number (v ∷ us) factor h =
+    ap (λ t. has_terms (cond t (terms_from (suc number) us factor) (record { unknown = number; factor = factor v } ∷ terms_from (suc number) us factor))) (h v (listed_here v us))
+    ∙ no_listed (suc number) us factor (λ u k. h u (listed_later u v us k))
+
 -- a listed unknown is on one side, and not as often on the other
 pub row_by : (us : List Unknown) (a : Check Form) (u : Unknown) → IsTrue (is_listed us u) → is_zero (a.have.factor u -ℤ a.need.factor u) ≡ false
     → kept us (a ∷ []) ≡ 1
@@ -86,6 +94,10 @@ once_other u v h = by_test (same u v) refl
     by_test true e = absurd (h (same_is u v e))
     by_test false e = refl
 
+-- an unknown that isn't listed stands in none that is
+once_off : (us : List Unknown) (u v : Unknown) → is_listed us u ≡ false → IsTrue (is_listed us v) → (once u).factor v ≡ pos 0
+once_off us u v off h = once_other u v (λ e. not_both (is_listed us v) h (ap (is_listed us) (sym e) ∙ off))
+
 -- ---- values
 
 abbrev pub unknown_at : Origin → ℕ → Unknown
@@ -96,6 +108,10 @@ unknown_at (origin.Made f b n) c = Made f b n c
 
 abbrev pub units_of : Origin → Units Form
 units_of o = λ c. once (unknown_at o c)
+
+-- none of its units is listed
+abbrev pub IsOff : List Unknown → Origin → Type 0
+IsOff us o = (c : ℕ) → is_listed us (unknown_at o c) ≡ false
 
 abbrev origin_of : Unknown → Origin
 origin_of (Need f) = origin.Result f
@@ -165,6 +181,28 @@ module _ (us : List Unknown) (s : Site) where
       let e : kept us (on have need c ∷ []) ≡ 1 = row_by us (on have need c) (unknown_at need c) (h c (among_here c cs)) (ap is_zero less) in
       let d : kept us (map (on have need) cs) ≡ length cs = other_value have need a cs (λ x k. h x (among_later x c cs k)) in
       kept_append us (on have need c ∷ []) (map (on have need) cs) ∙ omega (arith, e, d)
+
+  off_value : (have need : Origin) (cs : List ℕ) → IsOff us have → IsOff us need → kept us (map (on have need) cs) ≡ 0
+  off_value have need [] h k = refl
+  off_value have need (c ∷ cs) h k =
+      let first : kept us (on have need c ∷ []) ≡ 0 = none_kept us (on have need c)
+      (or_neither (has_terms (row_of us (on have need c)).terms) (is_positive (row_of us (on have need c)).least) (no_listed 0 us (λ v. (on have need c).have.factor v -ℤ (on have need c).need.factor v) zeros) least) in
+      let rest = off_value have need cs h k in
+      kept_append us (on have need c ∷ []) (map (on have need) cs) ∙ omega (arith, first, rest)
+    where
+      zeros : (u : Unknown) → IsTrue (is_listed us u) → is_zero ((on have need c).have.factor u -ℤ (on have need c).need.factor u) ≡ true
+      zeros u m =
+          let a = once_off us (unknown_at have c) u (h c) m in
+          let b = once_off us (unknown_at need c) u (k c) m in
+          let e : (on have need c).have.factor u -ℤ (on have need c).need.factor u ≡ pos 0 = omega (arith, ints, a, b) in ap is_zero e
+
+      least : is_positive ((on have need c).need.constant -ℤ (on have need c).have.constant) ≡ false
+      least = let e : (on have need c).need.constant -ℤ (on have need c).have.constant ≡ pos 0 = omega (arith, ints) in ap is_positive e
+
+  -- A value of which nothing is listed leaves no row.
+  pub nothing_kept : (types : List DataType) (q : Option Kind) (have need : Origin) → IsOff us have → IsOff us need
+      → kept us (value_checks types s q (units_of have) (units_of need)) ≡ 0
+  nothing_kept types q have need h k = off_value have need (carriers types q) h k
 
   -- A value leaves a row for each constructor that its kind reaches, or none.
   pub value_kept : (types : List DataType) (q : Option Kind) (have need : Origin)

@@ -11,15 +11,16 @@ use Rattle.camelot_values.specs.declared.kinds.Kind.{Kind}
 use Rattle.camelot_values.specs.declared.kinds.Kind.TheVariants as kind
 use Rattle.grail_blocks.specs.Events.{params_at}
 use Rattle.grail_code.specs.Code.{Op, Lit, Flag, Copy, Prim, Make, Call, Let, CaseArm, Term, Ret, Tail, Goto, If, Case, Block, Func, Code}
-use Rattle.grail_code.specs.WellFormed.{local_kinds, kind_of, HaveKinds, PlaceFits, Gives, LetFits, ArmsFit, data_type, TermFits, BlocksFit, FuncFits, IsWellFormed}
+use Rattle.grail_code.specs.WellFormed.{local_kinds, kind_of, is_marked, HaveKinds, PlaceFits, Gives, LetFits, ArmsFit, data_type, TermFits, BlocksFit, FuncFits, IsWellFormed}
 use Rattle.grail_code.specs.Limits.{FuncIsWithin, IsWithinLimits}
 use Rattle.annotations.specs.Vectors.{is_heap_con}
 use Rattle.licence.specs.Books.{Units, Carried}
 use Rattle.licence.specs.Rules.{Account, account_at, after_op, in_arm, first_con_of, Asks, call_asks, jump_asks, build_asks, build_cost}
 use Rattle.licence.specs.Checks.{Check, Site, left_check, value_checks, local_checks, arguments_checks, op_checks, jump_checks, arms_checks, term_checks, lets_checks, blocks_checks, funcs_checks, checks_of}
 use Rattle.licence.specs.theory.Asking.{arguments_few}
-use Rattle.lp_system.specs.Unknowns.{Unknown, BlockVar, Param, Result, Made, carriers, params_unknowns, block_unknowns, blocks_unknowns, made_unknowns, lets_unknowns, builds_unknowns, func_unknowns, funcs_unknowns, unknowns_of}
+use Rattle.lp_system.specs.Unknowns.{Unknown, BlockVar, Param, Result, Made, carriers, local_carriers, params_unknowns, block_unknowns, blocks_unknowns, made_unknowns, lets_unknowns, builds_unknowns, func_unknowns, funcs_unknowns, unknowns_of}
 use Rattle.lp_system.specs.Forms.{Form, forms, unknown_book, row_of, asks, rows_of}
+use Rattle.lp_system.specs.theory.Lent.{either}
 use Rattle.lp_size.proofs.Steps.{held, same_length}
 
 -- ---- lists
@@ -102,7 +103,7 @@ module _ (p : Code) (w : IsWellFormed p) (l : IsWithinLimits p) where
   args_few f s account callee g args e q =
       let few = (at_all FuncIsWithin p.funcs callee g l.funcs e).few_params in
       let n = same_length f args g.params q in
-      let k = arguments_few (unknown_book.param callee) 0 (length g.params) args in
+      let k = arguments_few (unknown_book.param callee) (is_marked g) 0 (length g.params) args in
       let r = local_few f s account.carried (call_asks unknown_book callee g args) in
       subst (λ o. length (option_map_or (λ b. local_checks p.types f s account.carried (call_asks unknown_book callee b args)) o []) ≤ 65536) (sym e) (omega (arith, few, n, k, r))
 
@@ -247,6 +248,12 @@ module _ (p : Code) (w : IsWellFormed p) (l : IsWithinLimits p) where
   each_few : (make : ℕ → Unknown) (q : Option Kind) → length (map make (carriers p.types q)) ≤ 4096
   each_few make q = let e = length-map (carriers p.types q) make in let c = carriers_few p.types l.types q in omega (arith, e, c)
 
+  each_local_few : (make : ℕ → Unknown) (f : Func) (x : ℕ) → length (map make (local_carriers p.types f x)) ≤ 4096
+  each_local_few make f x =
+      let e = length-map (local_carriers p.types f x) make in
+      let c = either p.types f (λ cs. length cs ≤ 4096) (omega arith) (carriers_few p.types l.types) x in
+      omega (arith, e, c)
+
   made_few : (func block at : ℕ) (op : Op) → length (made_unknowns p.types func block at op) ≤ 4096
   made_few func block at (Make con args into) = by_heap (is_heap_con p.types con)
     where
@@ -279,13 +286,13 @@ module _ (p : Code) (w : IsWellFormed p) (l : IsWithinLimits p) where
   block_few : (f : Func) → FuncIsWithin f → FuncFits p f → (func block : ℕ) → length (block_unknowns p.types f func block) ≤ 1048577
   block_few f within fits func block =
       let n = params_few f within 0 f.blocks fits.blocks block in
-      let r = flat_few (λ x. map (BlockVar func block x) (carriers p.types (kind_of f x))) 4096 (λ x. each_few (BlockVar func block x) (kind_of f x)) (params_at f.blocks block) in
+      let r = flat_few (λ x. map (BlockVar func block x) (local_carriers p.types f x)) 4096 (λ x. each_local_few (BlockVar func block x) f x) (params_at f.blocks block) in
       omega (arith, n, r)
 
   func_few : (f : Func) → FuncIsWithin f → FuncFits p f → (func : ℕ) → length (func_unknowns p.types func f) ≤ 1073741824
   func_few f within fits func =
       let q = range_length 0 (length f.params) in
-      let params = flat_few (λ x. map (Param func x) (carriers p.types (kind_of f x))) 4096 (λ x. each_few (Param func x) (kind_of f x)) (range_with_len 0 (length f.params)) in
+      let params = flat_few (λ x. map (Param func x) (local_carriers p.types f x)) 4096 (λ x. each_local_few (Param func x) f x) (range_with_len 0 (length f.params)) in
       let result = each_few (Result func) (Some f.result) in
       let n = range_length 1 (length f.blocks - 1) in
       let blocks = flat_few (block_unknowns p.types f func) 1048577 (block_few f within fits func) (range_with_len 1 (length f.blocks - 1)) in

@@ -1,5 +1,5 @@
 -- The unknowns are counted.
-use Rattle.std.proofs.Common.{◌≡◌, ℕ, suc, ◌+◌, ◌-◌, Bool, true, false, List, [], ◌∷◌, ◌++◌, length, map, Some, refl, sym, ap, ◌∙◌, subst, arith, length-append}
+use Rattle.std.proofs.Common.{◌≡◌, ℕ, suc, ◌+◌, ◌-◌, Bool, true, false, List, [], ◌∷◌, ◌++◌, length, map, Some, refl, ap, ◌∙◌, subst, arith, length-append}
 use Rattle.std.specs.Prelude.{if◌then◌else◌, cond, flat_map, slice_get}
 use Rattle.std.specs.List.{range_with_len}
 use Rattle.std.specs.Option.{option_map, option_map_or}
@@ -9,12 +9,10 @@ use Rattle.camelot_values.specs.declared.kinds.Kind.{Kind}
 use Rattle.camelot_values.specs.declared.kinds.Kind.TheVariants as kind
 use Rattle.grail_blocks.specs.Events.{params_at}
 use Rattle.grail_code.specs.Code.{Op, Lit, Flag, Copy, Prim, Make, Call, Let, Block, Func, Code}
-use Rattle.grail_code.specs.WellFormed.{kind_of}
 use Rattle.annotations.specs.Vectors.{is_heap_con}
-use Rattle.lp_system.specs.Unknowns.{Param, Result, BlockVar, Made, carriers, params_unknowns, vars_unknowns, block_unknowns, blocks_unknowns, made_unknowns, lets_unknowns, builds_unknowns, func_unknowns, funcs_unknowns, unknowns_of}
-use Rattle.lp_size.specs.Counting.{more, kinds_onto, locals_onto, made_count, builds_onto, begin_count, block_count, blocks_count_onto, func_count, funcs_count_onto}
+use Rattle.lp_system.specs.Unknowns.{Param, Result, BlockVar, Made, carriers, local_carriers, params_unknowns, vars_unknowns, block_unknowns, blocks_unknowns, made_unknowns, lets_unknowns, builds_unknowns, func_unknowns, funcs_unknowns, unknowns_of}
+use Rattle.lp_size.specs.Counting.{more, params_onto, locals_onto, made_count, builds_onto, begin_count, block_count, blocks_count_onto, func_count, funcs_count_onto}
 use Rattle.lp_size.proofs.Caps.{cap, more_left, more_right, more_both, none}
-use Rattle.lp_size.proofs.Steps.{param_kind}
 use Rattle.lp_size.proofs.Tests.{not_first}
 
 -- a part in front of others
@@ -29,20 +27,20 @@ module _ (types : List DataType) where
       → locals_onto types f (cap total) xs ≡ cap (total + length (vars_unknowns types f func block xs))
   locals_counted f func block total [] = nothing_on total
   locals_counted f func block total (x ∷ xs) =
-      ap (λ n. locals_onto types f n xs) (more_left total (length (carriers types (kind_of f x))))
-      ∙ locals_counted f func block (total + length (carriers types (kind_of f x))) xs
-      ∙ ap cap (part_onto total (map (BlockVar func block x) (carriers types (kind_of f x))) (vars_unknowns types f func block xs) (length (carriers types (kind_of f x))) (length-map (carriers types (kind_of f x)) (BlockVar func block x)))
+      ap (λ n. locals_onto types f n xs) (more_left total (length (local_carriers types f x)))
+      ∙ locals_counted f func block (total + length (local_carriers types f x)) xs
+      ∙ ap cap (part_onto total (map (BlockVar func block x) (local_carriers types f x)) (vars_unknowns types f func block xs) (length (local_carriers types f x)) (length-map (local_carriers types f x) (BlockVar func block x)))
 
-  kinds_counted : (f : Func) (func number total : ℕ) (qs : List Kind) → ((i : ℕ) (q : Kind) → slice_get qs i ≡ Some q → kind_of f (number + i) ≡ Some q)
-      → kinds_onto types (cap total) qs ≡ cap (total + length (params_unknowns types f func (range_with_len number (length qs))))
-  kinds_counted f func number total [] at = nothing_on total
-  kinds_counted f func number total (q ∷ qs) at =
-      let n : number + 0 ≡ number = omega arith in
-      let here : kind_of f number ≡ Some q = ap (kind_of f) (sym n) ∙ at 0 q refl in
-      ap (λ m. kinds_onto types m qs) (more_left total (length (carriers types (Some q))))
-      ∙ kinds_counted f func (number + 1) (total + length (carriers types (Some q))) qs (λ i r e. (let j : number + 1 + i ≡ number + suc i = omega arith in ap (kind_of f) j ∙ at (suc i) r e))
-      ∙ ap cap (part_onto total (map (Param func number) (carriers types (kind_of f number))) (params_unknowns types f func (range_with_len (number + 1) (length qs))) (length (carriers types (Some q)))
-      (length-map (carriers types (kind_of f number)) (Param func number) ∙ ap (λ o. length (carriers types o)) here))
+  params_counted : (f : Func) (func number total : ℕ) (qs : List Kind)
+      → params_onto types f number (cap total) qs ≡ cap (total + length (params_unknowns types f func (range_with_len number (length qs))))
+  params_counted f func number total [] = nothing_on total
+  params_counted f func number total (q ∷ qs) =
+      let next : suc number ≡ number + 1 = omega arith in
+      ap (λ m. params_onto types f (suc number) m qs) (more_left total (length (local_carriers types f number)))
+      ∙ params_counted f func (suc number) (total + length (local_carriers types f number)) qs
+      ∙ ap (λ n. cap (total + length (local_carriers types f number) + length (params_unknowns types f func (range_with_len n (length qs))))) next
+      ∙ ap cap (part_onto total (map (Param func number) (local_carriers types f number)) (params_unknowns types f func (range_with_len (number + 1) (length qs))) (length (local_carriers types f number))
+      (length-map (local_carriers types f number) (Param func number)))
 
   made_counted : (func block at : ℕ) (op : Op) → length (made_unknowns types func block at op) ≡ made_count types op
   made_counted func block at (Make con args into) = by_heap (is_heap_con types con)
@@ -158,10 +156,10 @@ module _ (types : List DataType) where
       builds : ℕ
       builds = length (builds_unknowns types func 0 f.blocks)
 
-      params_are : kinds_onto types 0 f.params ≡ cap params
+      params_are : params_onto types f 0 0 f.params ≡ cap params
       params_are =
-          ap (λ m. kinds_onto types m f.params) none
-          ∙ kinds_counted f func 0 0 f.params (λ i q e. (let z : 0 + i ≡ i = omega arith in ap (kind_of f) z ∙ (param_kind f i q e).1))
+          ap (λ m. params_onto types f 0 m f.params) none
+          ∙ params_counted f func 0 0 f.params
           ∙ ap cap (let z : 0 + length (params_unknowns types f func (range_with_len 0 (length f.params))) ≡ length (params_unknowns types f func (range_with_len 0 (length f.params))) = omega arith in z)
 
       sums : params + (result + (blocks + builds)) + 2 ≡ length (func_unknowns types func f)

@@ -1,19 +1,26 @@
 -- What slots say that locals carry, against what the checks say.
-use Rattle.std.proofs.Common.{◌≡◌, ℕ, zero, suc, ◌<◌, ◌≤◌, Bool, true, false, List, [], ◌∷◌, length, replicate, Option, Some, None, refl, sym, ap, ◌∙◌, subst, arith}
+use Rattle.std.proofs.Common.{◌≡◌, ℕ, zero, suc, ◌<◌, ◌≤◌, Bool, true, false, List, [], ◌∷◌, ◌++◌, length, replicate, Option, Some, None, IsTrue, refl, sym, ap, ◌∙◌, subst, arith}
 use Rattle.std.specs.Prelude.{◌==◌, ◌||◌, if◌then◌else◌, slice_get, slice_set, cond}
 use Rattle.std.specs.List.{AllByRecursion}
 use Rattle.camelot_values.specs.Kinds.{DataType}
 use Rattle.camelot_values.specs.Lists.{is_among}
-use Rattle.grail_code.specs.Code.{Op, Lit, Flag, Copy, Prim, Make, Call, Let}
+use Rattle.grail_blocks.specs.declared.blocks.CaseCell.{CaseCell}
+use Rattle.grail_blocks.specs.declared.blocks.CaseCell.TheVariants as cell
+use Rattle.grail_code.specs.Code.{Op, Lit, Flag, Copy, Prim, Make, Call, Let, CaseArm, Func, Code}
+use Rattle.grail_code.specs.WellFormed.{is_lent, kept_diamond, AreNotLent, CellLends, ArmLends, bound_anew}
 use Rattle.annotations.specs.Vectors.{is_heap_con}
 use Rattle.licence.specs.Books.{Units, Carried}
 use Rattle.licence.specs.Rules.{Account, carrying, all_carrying, account_at, build_cost, after_op}
+use Rattle.lp_system.specs.Unknowns.{Param, BlockVar, is_listed, unknowns_of}
 use Rattle.lp_system.specs.Forms.{Form, forms, unknown_book}
+use Rattle.lp_system.specs.theory.Lent.{some_owned}
+use Rattle.lp_system.specs.theory.Listing.{StandsIn, listed_stands}
+use Rattle.lp_system.specs.theory.Certified.{the_func}
 use Rattle.lp_size.specs.declared.origins.Origin.{Origin}
 use Rattle.lp_size.specs.declared.origins.Origin.TheVariants as origin
 use Rattle.lp_size.specs.declared.origins.Slot.{Slot}
 use Rattle.lp_size.specs.Counting.{first_origin, origin_in, origin_at, put, slots_behind, slots_behind_op, bound, unbound, lets_behind}
-use Rattle.lp_size.proofs.Asking.{units_of}
+use Rattle.lp_size.proofs.Asking.{units_of, IsOff}
 use Rattle.lp_size.proofs.Tests.{itself, are_equal, not_equal, not_first}
 
 -- ---- slots as lists
@@ -157,6 +164,104 @@ begun_by func = unbound_by func 256
 
 pub begun_room : (func : ℕ) → length (replicate 256 (unbound func)) ≡ 256
 begun_room func = unbound_length func 256
+
+-- ---- what is lent carries nothing that is listed
+
+-- the unknowns of what is lent aren't listed
+pub param_off : (p : Code) (func : ℕ) (f : Func) → slice_get p.funcs func ≡ Some f → (x : ℕ) → is_lent p.types f x ≡ true
+    → IsOff (unknowns_of p) (origin.Param func x)
+param_off p func f there x lent c = by_test (is_listed (unknowns_of p) (Param func x c)) refl
+  where
+    by_test : (b : Bool) → is_listed (unknowns_of p) (Param func x c) ≡ b → b ≡ false
+    by_test false e = refl
+    by_test true e =
+        let s = the_func p func f (λ g. StandsIn p.types g (Param func x c)) there (listed_stands p (Param func x c) e) in
+        let k : true ≡ false = sym lent ∙ some_owned p.types f x c s.1 in absurd cc
+
+pub block_off : (p : Code) (func : ℕ) (f : Func) → slice_get p.funcs func ≡ Some f → (b x : ℕ) → is_lent p.types f x ≡ true
+    → IsOff (unknowns_of p) (origin.BlockVar func b x)
+block_off p func f there b x lent c = by_test (is_listed (unknowns_of p) (BlockVar func b x c)) refl
+  where
+    by_test : (t : Bool) → is_listed (unknowns_of p) (BlockVar func b x c) ≡ t → t ≡ false
+    by_test false e = refl
+    by_test true e =
+        let s = the_func p func f (λ g. StandsIn p.types g (BlockVar func b x c)) there (listed_stands p (BlockVar func b x c) e) in
+        let k : true ≡ false = sym lent ∙ some_owned p.types f x c s.3 in absurd cc
+
+abbrev pub AreQuiet : Code → Func → (func block : ℕ) → List Slot → Type 0
+AreQuiet p f func block slots = (x : ℕ) → is_lent p.types f x ≡ true → IsOff (unknowns_of p) (origin_at func block slots x)
+
+pub first_quiet : (p : Code) (func : ℕ) (f : Func) → slice_get p.funcs func ≡ Some f → (block : ℕ) (slots : List Slot) → AreBy block slots
+    → AreQuiet p f func block slots
+first_quiet p func f there block slots h x lent =
+    subst (IsOff (unknowns_of p)) (sym (fresh_in func block x (slice_get slots x) (λ s e. at_by block slots x s h e))) (by_block (block == 0))
+  where
+    by_block : (b : Bool) → IsOff (unknowns_of p) (if b then origin.Param func x else origin.BlockVar func block x)
+    by_block true = param_off p func f there x lent
+    by_block false = block_off p func f there block x lent
+
+quiet_put : (p : Code) (f : Func) (func block : ℕ) (slots : List Slot) (x : ℕ) (o : Origin) → is_lent p.types f x ≡ false → AreQuiet p f func block slots
+    → AreQuiet p f func block (put block slots x o)
+quiet_put p f func block slots x o own quiet y lent =
+    subst (IsOff (unknowns_of p)) (sym (put_there func block slots x y o other)) (quiet y lent)
+  where
+    other : x ≡ y → ⊥
+    other e = let k : true ≡ false = sym lent ∙ ap (is_lent p.types f) (sym e) ∙ own in absurd cc
+
+-- a let binds nothing that is lent
+pub quiet_op : (p : Code) (f : Func) (func block at : ℕ) (slots : List Slot) (x : ℕ) (op : Op) → is_lent p.types f x ≡ false
+    → AreQuiet p f func block slots → AreQuiet p f func block (slots_behind_op p.types func block slots at x op)
+quiet_op p f func block at slots x (Copy y) own quiet = quiet_put p f func block slots x (origin_at func block slots y) own quiet
+quiet_op p f func block at slots x (Make con args into) own quiet = by_heap (is_heap_con p.types con)
+  where
+    by_heap : (t : Bool) → AreQuiet p f func block (cond t (put block slots x (origin.Made func block at)) slots)
+    by_heap true = quiet_put p f func block slots x (origin.Made func block at) own quiet
+    by_heap false = quiet
+quiet_op p f func block at slots x (Call callee args) own quiet = quiet_put p f func block slots x (origin.Result callee) own quiet
+quiet_op p f func block at slots x (Lit z) own quiet = quiet
+quiet_op p f func block at slots x (Flag b) own quiet = quiet
+quiet_op p f func block at slots x (Prim op y z) own quiet = quiet
+
+-- a jump that binds nothing
+pub quiet_on : (p : Code) (f : Func) (func block : ℕ) (slots : List Slot) (o : Origin) → AreQuiet p f func block slots → (x : ℕ)
+    → is_lent p.types f x ≡ true → IsOff (unknowns_of p) (bound func block slots [] o x)
+unfolding bound
+quiet_on p f func block slots o quiet x lent = quiet x lent
+
+-- one of these that aren't lent
+among_owned : (types : List DataType) (f : Func) (xs ys : List ℕ) (x : ℕ) → AreNotLent types f (xs ++ ys) → is_among xs x ≡ true → is_lent types f x ≡ false
+among_owned types f [] ys x all m = absurd cc
+among_owned types f (z ∷ xs) ys x all m = by_test (among_owned types f xs ys x all.1) (z == x) refl m
+  where
+    by_test : (is_among xs x ≡ true → is_lent types f x ≡ false) → (b : Bool) → (z == x) ≡ b → (b || is_among xs x) ≡ true → is_lent types f x ≡ false
+    by_test rest true e k = ap (is_lent types f) (sym (are_equal z x e)) ∙ all.0
+    by_test rest false e k = rest k
+
+-- An arm that looks at its cell is one of a case on what is lent, and any other binds nothing that is lent.
+pub quiet_arm : (p : Code) (f : Func) (func block : ℕ) (slots : List Slot) (on : ℕ) (a : CaseArm) → ArmLends p.types f (is_lent p.types f on) a
+    → AreQuiet p f func block slots → (x : ℕ) → is_lent p.types f x ≡ true
+    → IsOff (unknowns_of p) (bound func block slots a.fields (origin_at func block slots on) x)
+unfolding bound
+quiet_arm p f func block slots on a lends quiet x lent = by_test (is_among a.fields x) refl
+  where
+    is_true : (b : Bool) → IsTrue b → b ≡ true
+    is_true true t = refl
+    is_true false t = absurd cc
+
+    not_bound : (ys : List ℕ) → AreNotLent p.types f (a.fields ++ ys) → is_among a.fields x ≡ true → IsOff (unknowns_of p) (origin_at func block slots on)
+    not_bound ys all m = let k : true ≡ false = sym lent ∙ among_owned p.types f a.fields ys x all m in absurd cc
+
+    by_cell : (c : CaseCell) → CellLends (is_lent p.types f on) c → AreNotLent p.types f (bound_anew c (a.fields ++ kept_diamond c)) → is_among a.fields x ≡ true
+        → IsOff (unknowns_of p) (origin_at func block slots on)
+    by_cell cell.Look lends all m = quiet on (is_true (is_lent p.types f on) lends)
+    by_cell cell.Inline lends all m = not_bound [] all m
+    by_cell cell.Free lends all m = not_bound [] all m
+    by_cell (cell.Keep d) lends all m = not_bound (d ∷ []) all m
+
+    by_test : (b : Bool) → is_among a.fields x ≡ b
+        → IsOff (unknowns_of p) (if b then origin_at func block slots on else origin_at func block slots x)
+    by_test true e = by_cell a.cell lends.cell lends.bound e
+    by_test false e = quiet x lent
 
 -- ---- in an arm
 

@@ -14,5 +14,5 @@ use Rattle.lp_size.proofs.Walking.{rows_counted}
 pub all_unknowns : (p : Code) (n : ℕ) → IsWellFormed p → IsWithinLimits p → n ≡ funcs_count_onto p.types 0 p.funcs → n ≡ length (unknowns_of p)
 all_unknowns p n w l e = e ∙ unknowns_counted p ∙ small (length (unknowns_of p)) (unknowns_few p w l)
 
-pub all_rows : (p : Code) (n : ℕ) → IsWellFormed p → IsWithinLimits p → n ≡ funcs_onto p.types 0 0 p.funcs → n ≡ length (rows_of p)
+pub all_rows : (p : Code) (n : ℕ) → IsWellFormed p → IsWithinLimits p → n ≡ funcs_onto p 0 0 p.funcs → n ≡ length (rows_of p)
 all_rows p n w l e = e ∙ rows_counted p w l ∙ small (length (rows_of p)) (rows_few p w l)

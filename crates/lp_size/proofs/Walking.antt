@@ -6,7 +6,7 @@ use Rattle.std.proofs.lemmas.Option.{slice_get_within}
 use Rattle.camelot_values.specs.declared.kinds.Kind.{Kind}
 use Rattle.grail_blocks.specs.declared.blocks.Place.{Place}
 use Rattle.grail_code.specs.Code.{Op, Lit, Flag, Copy, Prim, Make, Call, Let, Term, Block, Func, Code}
-use Rattle.grail_code.specs.WellFormed.{kind_of, HaveKinds, Gives, LetFits, TermFits, BlocksFit, FuncFits, IsWellFormed}
+use Rattle.grail_code.specs.WellFormed.{kind_of, HaveKinds, Gives, LetFits, LetLends, TermFits, TermLends, BlocksFit, FuncFits, IsWellFormed}
 use Rattle.grail_code.specs.Limits.{FuncIsWithin, IsWithinLimits}
 use Rattle.annotations.specs.Vectors.{is_heap_con}
 use Rattle.licence.specs.Rules.{Account, account_at, build_cost, carrying, after_op}
@@ -22,7 +22,7 @@ use Rattle.lp_size.proofs.Caps.{cap, more_both, none}
 use Rattle.lp_size.proofs.Asking.{kept, once_itself, once_other}
 use Rattle.lp_size.proofs.Left.{IsLeft, ByNeed, IsTaken, left_call, taken_call, left_build, taken_build}
 use Rattle.lp_size.proofs.Reach.{itself_carries}
-use Rattle.lp_size.proofs.Slots.{AreBy, AreCarried, carried_op, first_carried, begun_by, begun_room, past_lets, later_by}
+use Rattle.lp_size.proofs.Slots.{AreBy, AreCarried, carried_op, first_carried, begun_by, begun_room, past_lets, later_by, AreQuiet, first_quiet, quiet_op}
 use Rattle.lp_size.proofs.Steps.{held, counted, back_listed, made_listed, op_kept}
 use Rattle.lp_size.proofs.Ending.{term_kept}
 use Rattle.lp_size.proofs.Tests.{not_first}
@@ -41,7 +41,7 @@ left_later func block at left l = record { made = λ n c k. l.made n c (omega (a
 abbrev IsBehind : List Unknown → (func block at : ℕ) → Taken → Form → Type 0
 IsBehind us func block at t left = IsLeft func block (suc at) left × IsTaken us func t left
 
-module _ (p : Code) (func : ℕ) (f : Func) (there : slice_get p.funcs func ≡ Some f) (within : FuncIsWithin f) where
+module _ (p : Code) (func : ℕ) (f : Func) (there : slice_get p.funcs func ≡ Some f) (within : FuncIsWithin f) (well : AllByRecursion (FuncFits p) p.funcs) where
   module _ (block : ℕ) (b : Block) (block_is : slice_get f.blocks block ≡ Some b) where
     left_behind : (i : ℕ) (slots : List Slot) (t : Taken) (account : Account Form) → AreCarried func block slots account.carried
         → IsTaken (unknowns_of p) func t account.left → IsLeft func block (suc i) account.left
@@ -72,26 +72,27 @@ module _ (p : Code) (func : ℕ) (f : Func) (there : slice_get p.funcs func ≡ 
         by_op (Copy y) is g = same
         by_op (Prim o y z) is g = same
 
-    lets_kept : (end : Term) → TermFits p f block end → (i : ℕ) (ls : List Let) → ((j : ℕ) → slice_get b.lets (i + j) ≡ slice_get ls j)
-        → AllByRecursion (LetFits p f) ls
+    lets_kept : (end : Term) → TermFits p f block end → TermLends p f end → (i : ℕ) (ls : List Let) → ((j : ℕ) → slice_get b.lets (i + j) ≡ slice_get ls j)
+        → AllByRecursion (LetFits p f) ls → AllByRecursion (LetLends p f) ls
         → (slots : List Slot) (t : Taken) (account : Account Form) → AreCarried func block slots account.carried
-        → IsTaken (unknowns_of p) func t account.left → IsLeft func block (suc i) account.left → (total : ℕ)
-        → lets_onto p.types f func block slots t (suc i) (cap total) ls end
+        → IsTaken (unknowns_of p) func t account.left → IsLeft func block (suc i) account.left → AreQuiet p f func block slots → (total : ℕ)
+        → lets_onto p f func block slots t (suc i) (cap total) ls end
         ≡ cap (total + kept (unknowns_of p) (lets_checks forms p f unknown_book (record { func = func; block = block; place = suc i }) account ls end))
-    lets_kept end ends i [] at fits slots t account h k l total =
-        ap (more (cap total)) (term_kept p func f there block slots (suc i) t account h k l end ends)
+    lets_kept end ends end_lends i [] at fits lends slots t account h k l quiet total =
+        ap (more (cap total)) (term_kept p func f there block slots (suc i) t account h k l quiet well end ends end_lends)
         ∙ more_both total (kept (unknowns_of p) (term_checks forms p f unknown_book (record { func = func; block = block; place = suc i }) account end))
-    lets_kept end ends i (x ∷ ls) at fits slots t account h k l total =
+    lets_kept end ends end_lends i (x ∷ ls) at fits lends slots t account h k l quiet total =
         let g = held (Gives p f x.op) (kind_of f x.target) fits.0 in
         let here : slice_get b.lets i ≡ Some x = (let z : i ≡ i + 0 = omega arith in ap (slice_get b.lets) z ∙ at 0) in
         let behind = left_behind i slots t account h k l x g.0 here g.2 in
-        let rest = lets_kept end ends (suc i) ls (λ j. (let z : suc i + j ≡ i + suc j = omega arith in ap (slice_get b.lets) z ∙ at (suc j))) fits.1
+        let rest = lets_kept end ends end_lends (suc i) ls (λ j. (let z : suc i + j ≡ i + suc j = omega arith in ap (slice_get b.lets) z ∙ at (suc j))) fits.1 lends.1
         (slots_behind p.types func block slots (suc i) x) (taken_behind p.types func t x.op) (after_op forms p.types unknown_book func block (suc i) account x.target x.op)
         (carried_op p.types func block (suc i) slots account x.target x.op (local_few f x.target g.0 within g.1) h) behind.1 behind.0
+        (quiet_op p f func block (suc i) slots x.target x.op lends.0.target quiet)
         (total + kept (unknowns_of p) (op_checks forms p f unknown_book (record { func = func; block = block; place = suc i }) account x.op)) in
-        ap (λ n. lets_onto p.types f func block (slots_behind p.types func block slots (suc i) x) (taken_behind p.types func t x.op) (suc (suc i)) (more (cap total) n) ls end)
-        (op_kept p func f there block (suc i) slots t account h k b i block_is refl l x g.0 here g.2)
-        ∙ ap (λ n. lets_onto p.types f func block (slots_behind p.types func block slots (suc i) x) (taken_behind p.types func t x.op) (suc (suc i)) n ls end)
+        ap (λ n. lets_onto p f func block (slots_behind p.types func block slots (suc i) x) (taken_behind p.types func t x.op) (suc (suc i)) (more (cap total) n) ls end)
+        (op_kept p func f there block (suc i) slots t account h k b i block_is refl l well x g.0 here g.2)
+        ∙ ap (λ n. lets_onto p f func block (slots_behind p.types func block slots (suc i) x) (taken_behind p.types func t x.op) (suc (suc i)) n ls end)
         (more_both total (kept (unknowns_of p) (op_checks forms p f unknown_book (record { func = func; block = block; place = suc i }) account x.op)))
         ∙ rest
         ∙ ap cap (counted (unknowns_of p) total (kept (unknowns_of p) (op_checks forms p f unknown_book (record { func = func; block = block; place = suc i }) account x.op))
@@ -121,49 +122,49 @@ module _ (p : Code) (func : ℕ) (f : Func) (there : slice_get p.funcs func ≡ 
 
   blocks_kept : (number : ℕ) (bs : List Block) → ((j : ℕ) → slice_get f.blocks (number + j) ≡ slice_get bs j) → BlocksFit p f number bs
       → (slots : List Slot) → length slots ≡ 256 → AreBy number slots → (total : ℕ)
-      → blocks_onto p.types f func slots number (cap total) bs ≡ cap (total + kept (unknowns_of p) (blocks_checks forms p f unknown_book func number bs))
+      → blocks_onto p f func slots number (cap total) bs ≡ cap (total + kept (unknowns_of p) (blocks_checks forms p f unknown_book func number bs))
   blocks_kept number [] at fits slots room past total = let z : total ≡ total + 0 = omega arith in ap cap z
   blocks_kept number (b ∷ bs) at fits slots room past total =
       let here : slice_get f.blocks number ≡ Some b = (let z : number ≡ number + 0 = omega arith in ap (slice_get f.blocks) z ∙ at 0) in
       let few : number < length f.blocks = slice_get_within f.blocks number b here in
       let part : List (Check Form) = lets_checks forms p f unknown_book (record { func = func; block = number; place = 1 }) (account_at unknown_book func number) b.lets b.term in
-      let lets = lets_kept number b here b.term fits.0.term 0 b.lets (λ j. (let z : 0 + j ≡ j = omega arith in ap (slice_get b.lets) z)) fits.0.lets slots (taken_first number) (account_at unknown_book func number)
-      (first_carried func number slots room past) (first_taken number few) (first_left number) 0 in
+      let lets = lets_kept number b here b.term fits.0.term fits.0.term_lends 0 b.lets (λ j. (let z : 0 + j ≡ j = omega arith in ap (slice_get b.lets) z)) fits.0.lets fits.0.lets_lend slots (taken_first number) (account_at unknown_book func number)
+      (first_carried func number slots room past) (first_taken number few) (first_left number) (first_quiet p func f there number slots past) 0 in
       let zero_on : 0 + kept (unknowns_of p) part ≡ kept (unknowns_of p) part = omega arith in
-      let one : block_rows p.types f func number slots b ≡ cap (kept (unknowns_of p) part) = ap (λ n. lets_onto p.types f func number slots (taken_first number) 1 n b.lets b.term) none ∙ lets ∙ ap cap zero_on in
+      let one : block_rows p f func number slots b ≡ cap (kept (unknowns_of p) part) = ap (λ n. lets_onto p f func number slots (taken_first number) 1 n b.lets b.term) none ∙ lets ∙ ap cap zero_on in
       let behind = past_lets p.types func number 1 slots b.lets (room, later_by number (suc number) slots (omega arith) past) in
-      ap (λ n. blocks_onto p.types f func (block_behind p.types func number slots b) (suc number) (more (cap total) n) bs) one
-      ∙ ap (λ n. blocks_onto p.types f func (block_behind p.types func number slots b) (suc number) n bs) (more_both total (kept (unknowns_of p) part))
+      ap (λ n. blocks_onto p f func (block_behind p.types func number slots b) (suc number) (more (cap total) n) bs) one
+      ∙ ap (λ n. blocks_onto p f func (block_behind p.types func number slots b) (suc number) n bs) (more_both total (kept (unknowns_of p) part))
       ∙ blocks_kept (suc number) bs (λ j. (let z : suc number + j ≡ number + suc j = omega arith in ap (slice_get f.blocks) z ∙ at (suc j))) fits.1 (block_behind p.types func number slots b) behind.0 behind.1 (total + kept (unknowns_of p) part)
       ∙ ap cap (counted (unknowns_of p) total (kept (unknowns_of p) part) part (blocks_checks forms p f unknown_book func (suc number) bs) refl)
 
-  func_kept : BlocksFit p f 0 f.blocks → func_rows p.types func f ≡ cap (kept (unknowns_of p) (blocks_checks forms p f unknown_book func 0 f.blocks))
+  func_kept : BlocksFit p f 0 f.blocks → func_rows p func f ≡ cap (kept (unknowns_of p) (blocks_checks forms p f unknown_book func 0 f.blocks))
   func_kept fits =
-      ap (λ n. blocks_onto p.types f func (replicate 256 (unbound func)) 0 n f.blocks) none
+      ap (λ n. blocks_onto p f func (replicate 256 (unbound func)) 0 n f.blocks) none
       ∙ blocks_kept 0 f.blocks (λ j. (let z : 0 + j ≡ j = omega arith in ap (slice_get f.blocks) z)) fits (replicate 256 (unbound func)) (begun_room func) (begun_by func) 0
       ∙ ap cap zero_on
     where
       zero_on : 0 + kept (unknowns_of p) (blocks_checks forms p f unknown_book func 0 f.blocks) ≡ kept (unknowns_of p) (blocks_checks forms p f unknown_book func 0 f.blocks)
       zero_on = omega arith
 
-funcs_kept : (p : Code) (func : ℕ) (fs : List Func) → ((j : ℕ) → slice_get p.funcs (func + j) ≡ slice_get fs j) → AllByRecursion (FuncFits p) fs
+funcs_kept : (p : Code) → AllByRecursion (FuncFits p) p.funcs → (func : ℕ) (fs : List Func) → ((j : ℕ) → slice_get p.funcs (func + j) ≡ slice_get fs j) → AllByRecursion (FuncFits p) fs
     → AllByRecursion FuncIsWithin fs → (total : ℕ)
-    → funcs_onto p.types func (cap total) fs ≡ cap (total + kept (unknowns_of p) (funcs_checks forms p unknown_book func fs))
-funcs_kept p func [] at fits within total = let z : total ≡ total + 0 = omega arith in ap cap z
-funcs_kept p func (f ∷ fs) at fits within total =
+    → funcs_onto p func (cap total) fs ≡ cap (total + kept (unknowns_of p) (funcs_checks forms p unknown_book func fs))
+funcs_kept p well func [] at fits within total = let z : total ≡ total + 0 = omega arith in ap cap z
+funcs_kept p well func (f ∷ fs) at fits within total =
     let here : slice_get p.funcs func ≡ Some f = (let z : func ≡ func + 0 = omega arith in ap (slice_get p.funcs) z ∙ at 0) in
     let part : List (Check Form) = blocks_checks forms p f unknown_book func 0 f.blocks in
-    ap (λ n. funcs_onto p.types (suc func) (more (cap total) n) fs) (func_kept p func f here within.0 fits.0.blocks)
-    ∙ ap (λ n. funcs_onto p.types (suc func) n fs) (more_both total (kept (unknowns_of p) part))
-    ∙ funcs_kept p (suc func) fs (λ j. (let z : suc func + j ≡ func + suc j = omega arith in ap (slice_get p.funcs) z ∙ at (suc j))) fits.1 within.1 (total + kept (unknowns_of p) part)
+    ap (λ n. funcs_onto p (suc func) (more (cap total) n) fs) (func_kept p func f here within.0 well fits.0.blocks)
+    ∙ ap (λ n. funcs_onto p (suc func) n fs) (more_both total (kept (unknowns_of p) part))
+    ∙ funcs_kept p well (suc func) fs (λ j. (let z : suc func + j ≡ func + suc j = omega arith in ap (slice_get p.funcs) z ∙ at (suc j))) fits.1 within.1 (total + kept (unknowns_of p) part)
     ∙ ap cap (counted (unknowns_of p) total (kept (unknowns_of p) part) part (funcs_checks forms p unknown_book (suc func) fs) refl)
 
 -- The count is the number of rows, up to the most that 64 bits hold.
-pub rows_counted : (p : Code) → IsWellFormed p → IsWithinLimits p → funcs_onto p.types 0 0 p.funcs ≡ cap (length (rows_of p))
+pub rows_counted : (p : Code) → IsWellFormed p → IsWithinLimits p → funcs_onto p 0 0 p.funcs ≡ cap (length (rows_of p))
 unfolding rows_of
 rows_counted p w l =
-    ap (λ n. funcs_onto p.types 0 n p.funcs) none
-    ∙ funcs_kept p 0 p.funcs (λ j. (let z : 0 + j ≡ j = omega arith in ap (slice_get p.funcs) z)) w.funcs l.funcs 0
+    ap (λ n. funcs_onto p 0 n p.funcs) none
+    ∙ funcs_kept p w.funcs 0 p.funcs (λ j. (let z : 0 + j ≡ j = omega arith in ap (slice_get p.funcs) z)) w.funcs l.funcs 0
     ∙ ap cap zero_on
   where
     zero_on : 0 + kept (unknowns_of p) (funcs_checks forms p unknown_book 0 p.funcs) ≡ kept (unknowns_of p) (funcs_checks forms p unknown_book 0 p.funcs)

@@ -1,7 +1,8 @@
 -- Private: words for functions of this crate.
 -- How many unknowns and rows a code's system has, without its vectors. A check of a value is a row for each constructor
 -- that its kind reaches, unless just the units that are there are asked, so that it's enough to know of each local
--- where its units come from. A check of what is left is a row, except in a first block, where what is there may cancel
+-- where its units come from. What is lent carries nothing, and a check of it is no row; nor is there one of an argument
+-- that is only read. A check of what is left is a row, except in a first block, where what is there may cancel
 -- against what is asked: at a call of the function itself where nothing was taken yet, and at the end where one such
 -- call is all that happened. Sums are cut at the most that 64 bits hold, which well-formed code within its limits never
 -- comes to.
@@ -12,10 +13,10 @@ use Rattle.camelot_values.specs.Lists.{is_among}
 use Rattle.camelot_values.specs.declared.kinds.Kind.{Kind}
 use Rattle.camelot_values.specs.declared.kinds.Kind.TheVariants as kind
 use Rattle.grail_blocks.specs.Events.{params_at}
-use Rattle.grail_code.specs.Code.{Op, Lit, Flag, Copy, Prim, Make, Call, Let, CaseArm, Term, Ret, Tail, Goto, If, Case, Block, Func}
-use Rattle.grail_code.specs.WellFormed.{kind_of}
+use Rattle.grail_code.specs.Code.{Op, Lit, Flag, Copy, Prim, Make, Call, Let, CaseArm, Term, Ret, Tail, Goto, If, Case, Block, Func, Code}
+use Rattle.grail_code.specs.WellFormed.{kind_of, is_marked}
 use Rattle.annotations.specs.Vectors.{is_heap_con}
-use Rattle.lp_system.specs.Unknowns.{carriers}
+use Rattle.lp_system.specs.Unknowns.{carriers, local_carriers}
 use Rattle.lp_size.specs.declared.origins.Origin.{Origin}
 use Rattle.lp_size.specs.declared.origins.Origin.TheVariants as origin
 use Rattle.lp_size.specs.declared.origins.Slot.{Slot}
@@ -79,11 +80,20 @@ value_rows types q have need = if same_origin have need then 0 else length (carr
 abbrev pub local_rows : List DataType → Func → (func block : ℕ) → List Slot → ℕ → Origin → ℕ
 local_rows types f func block slots x need = value_rows types (kind_of f x) (origin_at func block slots x) need
 
+-- an argument against the parameter of this number, unless that is marked
+abbrev pub arg_rows : List DataType → Func → (func block : ℕ) → List Slot → (callee : ℕ) → Func → (number x : ℕ) → ℕ
+arg_rows types f func block slots callee g number x = cond (is_marked g number) 0 (local_rows types f func block slots x (origin.Param callee number))
+
 -- arguments from this number on, behind so many rows
-abbrev pub args_onto : List DataType → Func → (func block : ℕ) → List Slot → (callee number total : ℕ) → List ℕ → ℕ
-args_onto types f func block slots callee number total [] = total
-args_onto types f func block slots callee number total (x ∷ xs) =
-    args_onto types f func block slots callee (suc number) (more total (local_rows types f func block slots x (origin.Param callee number))) xs
+abbrev pub args_onto : List DataType → Func → (func block : ℕ) → List Slot → (callee : ℕ) → Func → (number total : ℕ) → List ℕ → ℕ
+args_onto types f func block slots callee g number total [] = total
+args_onto types f func block slots callee g number total (x ∷ xs) =
+    args_onto types f func block slots callee g (suc number) (more total (arg_rows types f func block slots callee g number x)) xs
+
+-- those of a function; one that isn't there asks nothing of them
+abbrev pub called_rows : List DataType → Func → (func block : ℕ) → List Slot → (callee : ℕ) → List ℕ → Option Func → ℕ
+called_rows types f func block slots callee args None = 0
+called_rows types f func block slots callee args (Some g) = args_onto types f func block slots callee g 0 0 args
 
 abbrev pub fields_onto : List DataType → Func → (func block : ℕ) → List Slot → Origin → (total : ℕ) → List ℕ → ℕ
 fields_onto types f func block slots made total [] = total
@@ -91,16 +101,16 @@ fields_onto types f func block slots made total (x ∷ xs) = fields_onto types f
 
 -- ---- lets
 
-abbrev pub call_rows : List DataType → Func → (func block : ℕ) → List Slot → Taken → (callee : ℕ) → List ℕ → ℕ
-call_rows types f func block slots t callee args = more (args_onto types f func block slots callee 0 0 args) (need_rows func t callee)
+abbrev pub call_rows : Code → Func → (func block : ℕ) → List Slot → Taken → (callee : ℕ) → List ℕ → ℕ
+call_rows p f func block slots t callee args = more (called_rows p.types f func block slots callee args (slice_get p.funcs callee)) (need_rows func t callee)
 
-abbrev pub op_rows : List DataType → Func → (func block : ℕ) → List Slot → Taken → (place : ℕ) → Op → ℕ
-op_rows types f func block slots t place (Make con args at) = cond (is_heap_con types con) (more (fields_onto types f func block slots (origin.Made func block place) 0 args) 1) 0
-op_rows types f func block slots t place (Call callee args) = call_rows types f func block slots t callee args
-op_rows types f func block slots t place (Lit z) = 0
-op_rows types f func block slots t place (Flag b) = 0
-op_rows types f func block slots t place (Copy x) = 0
-op_rows types f func block slots t place (Prim op x y) = 0
+abbrev pub op_rows : Code → Func → (func block : ℕ) → List Slot → Taken → (place : ℕ) → Op → ℕ
+op_rows p f func block slots t place (Make con args at) = cond (is_heap_con p.types con) (more (fields_onto p.types f func block slots (origin.Made func block place) 0 args) 1) 0
+op_rows p f func block slots t place (Call callee args) = call_rows p f func block slots t callee args
+op_rows p f func block slots t place (Lit z) = 0
+op_rows p f func block slots t place (Flag b) = 0
+op_rows p f func block slots t place (Copy x) = 0
+op_rows p f func block slots t place (Prim op x y) = 0
 
 abbrev pub taken_behind : List DataType → (func : ℕ) → Taken → Op → Taken
 taken_behind types func t (Make con args at) = cond (is_heap_con types con) taken.More t
@@ -127,11 +137,15 @@ slots_behind types func block slots place l = slots_behind_op types func block s
 unfoldable pub bound : (func block : ℕ) → List Slot → List ℕ → Origin → ℕ → Origin
 bound func block slots fields matched x = if is_among fields x then matched else origin_at func block slots x
 
+-- a target's parameter; one that is lent carries nothing there, and here
+abbrev pub var_rows : List DataType → Func → (have need : Origin) → ℕ → ℕ
+var_rows types f have need x = if same_origin have need then 0 else length (local_carriers types f x)
+
 -- a target's parameters, behind so many rows
 abbrev pub vars_onto : List DataType → Func → (func block : ℕ) → List Slot → (fields : List ℕ) → Origin → (to total : ℕ) → List ℕ → ℕ
 vars_onto types f func block slots fields matched to total [] = total
 vars_onto types f func block slots fields matched to total (x ∷ xs) =
-    vars_onto types f func block slots fields matched to (more total (value_rows types (kind_of f x) (bound func block slots fields matched x) (origin.BlockVar func to x))) xs
+    vars_onto types f func block slots fields matched to (more total (var_rows types f (bound func block slots fields matched x) (origin.BlockVar func to x) x)) xs
 
 abbrev pub jump_rows : List DataType → Func → (func block : ℕ) → List Slot → (fields : List ℕ) → Origin → ℕ → ℕ
 jump_rows types f func block slots fields matched to = more (vars_onto types f func block slots fields matched to 0 (params_at f.blocks to)) 1
@@ -146,59 +160,60 @@ arms_onto types f func block slots matched total (a ∷ arms) = arms_onto types 
 abbrev pub ret_rows : List DataType → Func → (func block : ℕ) → List Slot → Taken → ℕ → ℕ
 ret_rows types f func block slots t x = more (local_rows types f func block slots x (origin.Result func)) (back_rows t)
 
-abbrev pub tail_rows : List DataType → Func → (func block : ℕ) → List Slot → Taken → (callee : ℕ) → List ℕ → ℕ
-tail_rows types f func block slots t callee args = more (call_rows types f func block slots t callee args)
-    (more (value_rows types (Some f.result) (origin.Result callee) (origin.Result func)) (back_rows (taken_behind_call func t callee)))
+abbrev pub tail_rows : Code → Func → (func block : ℕ) → List Slot → Taken → (callee : ℕ) → List ℕ → ℕ
+tail_rows p f func block slots t callee args = more (call_rows p f func block slots t callee args)
+    (more (value_rows p.types (Some f.result) (origin.Result callee) (origin.Result func)) (back_rows (taken_behind_call func t callee)))
 
-abbrev pub term_rows : List DataType → Func → (func block : ℕ) → List Slot → Taken → Term → ℕ
-term_rows types f func block slots t (Ret x) = ret_rows types f func block slots t x
-term_rows types f func block slots t (Tail callee args) = tail_rows types f func block slots t callee args
-term_rows types f func block slots t (Goto to) = plain_jump_rows types f func block slots to
-term_rows types f func block slots t (If x first second) = more (plain_jump_rows types f func block slots first) (plain_jump_rows types f func block slots second)
-term_rows types f func block slots t (Case x arms) = arms_onto types f func block slots (origin_at func block slots x) 0 arms
+abbrev pub term_rows : Code → Func → (func block : ℕ) → List Slot → Taken → Term → ℕ
+term_rows p f func block slots t (Ret x) = ret_rows p.types f func block slots t x
+term_rows p f func block slots t (Tail callee args) = tail_rows p f func block slots t callee args
+term_rows p f func block slots t (Goto to) = plain_jump_rows p.types f func block slots to
+term_rows p f func block slots t (If x first second) = more (plain_jump_rows p.types f func block slots first) (plain_jump_rows p.types f func block slots second)
+term_rows p f func block slots t (Case x arms) = arms_onto p.types f func block slots (origin_at func block slots x) 0 arms
 
 -- ---- blocks and functions
 
 -- the lets from this place on and then the end, behind so many rows
-abbrev pub lets_onto : List DataType → Func → (func block : ℕ) → List Slot → Taken → (place total : ℕ) → List Let → Term → ℕ
-lets_onto types f func block slots t place total [] end = more total (term_rows types f func block slots t end)
-lets_onto types f func block slots t place total (l ∷ ls) end =
-    lets_onto types f func block (slots_behind types func block slots place l) (taken_behind types func t l.op) (suc place) (more total (op_rows types f func block slots t place l.op)) ls end
+abbrev pub lets_onto : Code → Func → (func block : ℕ) → List Slot → Taken → (place total : ℕ) → List Let → Term → ℕ
+lets_onto p f func block slots t place total [] end = more total (term_rows p f func block slots t end)
+lets_onto p f func block slots t place total (l ∷ ls) end =
+    lets_onto p f func block (slots_behind p.types func block slots place l) (taken_behind p.types func t l.op) (suc place) (more total (op_rows p f func block slots t place l.op)) ls end
 
 abbrev pub lets_behind : List DataType → (func block : ℕ) → List Slot → (place : ℕ) → List Let → List Slot
 lets_behind types func block slots place [] = slots
 lets_behind types func block slots place (l ∷ ls) = lets_behind types func block (slots_behind types func block slots place l) (suc place) ls
 
-abbrev pub block_rows : List DataType → Func → (func number : ℕ) → List Slot → Block → ℕ
-block_rows types f func number slots b = lets_onto types f func number slots (taken_first number) 1 0 b.lets b.term
+abbrev pub block_rows : Code → Func → (func number : ℕ) → List Slot → Block → ℕ
+block_rows p f func number slots b = lets_onto p f func number slots (taken_first number) 1 0 b.lets b.term
 
 abbrev pub block_behind : List DataType → (func number : ℕ) → List Slot → Block → List Slot
 block_behind types func number slots b = lets_behind types func number slots 1 b.lets
 
-abbrev pub blocks_onto : List DataType → Func → (func : ℕ) → List Slot → (number total : ℕ) → List Block → ℕ
-blocks_onto types f func slots number total [] = total
-blocks_onto types f func slots number total (b ∷ bs) = blocks_onto types f func (block_behind types func number slots b) (suc number) (more total (block_rows types f func number slots b)) bs
+abbrev pub blocks_onto : Code → Func → (func : ℕ) → List Slot → (number total : ℕ) → List Block → ℕ
+blocks_onto p f func slots number total [] = total
+blocks_onto p f func slots number total (b ∷ bs) = blocks_onto p f func (block_behind p.types func number slots b) (suc number) (more total (block_rows p f func number slots b)) bs
 
 -- at the beginning of a function nothing is bound
 abbrev pub unbound : ℕ → Slot
 unbound func = record { begun = 0; origin = origin.Result func }
 
-abbrev pub func_rows : List DataType → (func : ℕ) → Func → ℕ
-func_rows types func f = blocks_onto types f func (replicate 256 (unbound func)) 0 0 f.blocks
+abbrev pub func_rows : Code → (func : ℕ) → Func → ℕ
+func_rows p func f = blocks_onto p f func (replicate 256 (unbound func)) 0 0 f.blocks
 
-abbrev pub funcs_onto : List DataType → (func total : ℕ) → List Func → ℕ
-funcs_onto types func total [] = total
-funcs_onto types func total (f ∷ fs) = funcs_onto types (suc func) (more total (func_rows types func f)) fs
+abbrev pub funcs_onto : Code → (func total : ℕ) → List Func → ℕ
+funcs_onto p func total [] = total
+funcs_onto p func total (f ∷ fs) = funcs_onto p (suc func) (more total (func_rows p func f)) fs
 
 -- ---- unknowns
 
-abbrev pub kinds_onto : List DataType → (total : ℕ) → List Kind → ℕ
-kinds_onto types total [] = total
-kinds_onto types total (q ∷ qs) = kinds_onto types (more total (length (carriers types (Some q)))) qs
+-- of parameters, as many as these kinds, the first of which has this number
+abbrev pub params_onto : List DataType → Func → (number total : ℕ) → List Kind → ℕ
+params_onto types f number total [] = total
+params_onto types f number total (q ∷ qs) = params_onto types f (suc number) (more total (length (local_carriers types f number))) qs
 
 abbrev pub locals_onto : List DataType → Func → (total : ℕ) → List ℕ → ℕ
 locals_onto types f total [] = total
-locals_onto types f total (x ∷ xs) = locals_onto types f (more total (length (carriers types (kind_of f x)))) xs
+locals_onto types f total (x ∷ xs) = locals_onto types f (more total (length (local_carriers types f x))) xs
 
 abbrev pub made_count : List DataType → Op → ℕ
 made_count types (Make con args at) = cond (is_heap_con types con) (length (carriers types (option_map kind.Of (type_of types con)))) 0
@@ -223,7 +238,7 @@ blocks_count_onto types f number total [] = total
 blocks_count_onto types f number total (b ∷ bs) = blocks_count_onto types f (suc number) (more total (block_count types f number b)) bs
 
 abbrev pub func_count : List DataType → Func → ℕ
-func_count types f = more (more (kinds_onto types 0 f.params) (more (length (carriers types (Some f.result))) (blocks_count_onto types f 0 0 f.blocks))) 2
+func_count types f = more (more (params_onto types f 0 0 f.params) (more (length (carriers types (Some f.result))) (blocks_count_onto types f 0 0 f.blocks))) 2
 
 abbrev pub funcs_count_onto : List DataType → (total : ℕ) → List Func → ℕ
 funcs_count_onto types total [] = total

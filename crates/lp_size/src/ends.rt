@@ -6,7 +6,7 @@ use super::books::{Books, Here};
 use super::lets::call_rows;
 use super::origins::{Origin, Slot, origin_at};
 use super::taken::{Taken, back_rows, taken_behind_call};
-use super::values::{local_rows, value_rows};
+use super::values::{local_rows, value_rows, var_rows};
 use grail_code::{CaseArm, Term};
 
 // What a local carries where an arm has bound these fields, of which a constructor has four at most.
@@ -42,7 +42,7 @@ fn vars_rows(
             block: to,
             local: *local as usize,
         };
-        total = total.saturating_add(value_rows(books, here.body.kind_of(*local), have, need));
+        total = total.saturating_add(var_rows(books, here, have, need, *local));
     }
     total
 }
@@ -113,7 +113,7 @@ fn tail_rows(
     callee: u32,
     args: &[u32],
 ) -> u64
-    ensures { result ≡ tail_rows (code_of books.entry.code.now).types
+    ensures { result ≡ tail_rows (code_of books.entry.code.now)
         (func_of here.entry.body.now) here.entry.func here.entry.block slots.now taken callee args.now }
 {
     let have = Origin::Result { func: callee };
@@ -132,7 +132,7 @@ pub(crate) fn term_rows(
     taken: Taken,
     term: &Term,
 ) -> u64
-    ensures { result ≡ term_rows (code_of books.entry.code.now).types
+    ensures { result ≡ term_rows (code_of books.entry.code.now)
         (func_of here.entry.body.now) here.entry.func here.entry.block slots.now taken (term_of term.now) }
 {
     match term {

@@ -1,13 +1,14 @@
-ghost use Rattle.std.specs.Prelude.{◌≡◌};
+ghost use Rattle.std.specs.Prelude.{◌≡◌, slice_get};
+ghost use Rattle.std.specs.Option.{option_map};
 ghost use Rattle.grail_code.specs.Code.{op_of, let_of, func_of, code_of};
 ghost use Rattle.lp_size.specs.declared.origins.Origin.TheVariants.{Made};
-ghost use Rattle.lp_size.specs.Counting.{call_rows, op_rows, taken_behind, slots_behind};
+ghost use Rattle.lp_size.specs.Counting.{called_rows, call_rows, op_rows, taken_behind, slots_behind};
 
 use super::books::{Books, Here};
 use super::origins::{Origin, Slot, origin_at, put};
 use super::taken::{Taken, need_rows, taken_behind_call};
 use super::values::{args_rows, fields_rows};
-use grail_code::{Let, Op};
+use grail_code::{Func, Let, Op};
 
 // What the build at this place makes.
 fn made(here: Here<'_>, place: usize) -> Origin
@@ -20,6 +21,25 @@ fn made(here: Here<'_>, place: usize) -> Origin
     }
 }
 
+// The function of this number.
+fn func_at(books: Books<'_>, number: u32) -> Option<&Func>
+    ensures { option_map (λ f. func_of f.now) result ≡ slice_get (code_of books.entry.code.now).funcs number }
+{
+    books.code.funcs.get(number as usize)
+}
+
+// The rows of a call's arguments.
+fn called_rows(books: Books<'_>, here: Here<'_>, slots: &[Slot], callee: u32, args: &[u32]) -> u64
+    ensures { result ≡ called_rows (code_of books.entry.code.now).types (func_of here.entry.body.now)
+        here.entry.func here.entry.block slots.now callee args.now
+        (slice_get (code_of books.entry.code.now).funcs callee) }
+{
+    match func_at(books, callee) {
+        Some(called) => args_rows(books, here, slots, callee, called, args),
+        None => 0,
+    }
+}
+
 /// The rows of a call: of its arguments, and of the callee's need.
 pub(crate) fn call_rows(
     books: Books<'_>,
@@ -29,10 +49,12 @@ pub(crate) fn call_rows(
     callee: u32,
     args: &[u32],
 ) -> u64
-    ensures { result ≡ call_rows (code_of books.entry.code.now).types
+    ensures { result ≡ call_rows (code_of books.entry.code.now)
         (func_of here.entry.body.now) here.entry.func here.entry.block slots.now taken callee args.now }
 {
-    args_rows(books, here, slots, callee, args).saturating_add(need_rows(here.func, taken, callee))
+    called_rows(books, here, slots, callee, args).saturating_add(need_rows(
+        here.func, taken, callee,
+    ))
 }
 
 /// The rows of a let.
@@ -44,7 +66,7 @@ pub(crate) fn op_rows(
     place: usize,
     op: &Op,
 ) -> u64
-    ensures { result ≡ op_rows (code_of books.entry.code.now).types
+    ensures { result ≡ op_rows (code_of books.entry.code.now)
         (func_of here.entry.body.now) here.entry.func here.entry.block slots.now taken place (op_of op.now) }
 {
     match op {

@@ -1,11 +1,14 @@
 ghost use Rattle.std.specs.Prelude.{◌≡◌, ◌+◌, length};
 ghost use Rattle.grail_code.specs.Code.{func_of, code_of};
-ghost use Rattle.lp_system.specs.Unknowns.{carriers};
-ghost use Rattle.lp_size.specs.Counting.{value_rows, local_rows, args_onto, fields_onto};
+ghost use Rattle.lp_system.specs.Unknowns.{carriers, local_carriers};
+ghost use Rattle.lp_system.specs.Looked.{AreLooked};
+ghost use Rattle.lp_size.specs.Counting.{value_rows, local_rows, var_rows, arg_rows, args_onto, fields_onto};
 
 use super::books::{Books, Here};
 use super::origins::{Origin, Slot, is_same, origin_at};
 use camelot_values::Kind;
+use grail_code::Func;
+use lp_system::{is_marked, local_carriers};
 
 /// How many constructors values of this kind carry units on.
 pub(crate) fn carrier_count(books: Books<'_>, kind: Option<Kind>) -> u64
@@ -15,6 +18,14 @@ pub(crate) fn carrier_count(books: Books<'_>, kind: Option<Kind>) -> u64
         Some(kind) => books.table.reached(kind).len() as u64,
         None => 0,
     }
+}
+
+/// How many constructors a local's value carries units on.
+pub(crate) fn local_count(books: Books<'_>, body: &Func, looked: &[bool], local: u32) -> u64
+    requires looked { AreLooked (func_of body.now) looked.now }
+    ensures { result ≡ length (local_carriers (code_of books.entry.code.now).types (func_of body.now) local) }
+{
+    local_carriers(&books.code.types, books.table, body, looked, local).len() as u64
 }
 
 /// The rows of a value of this kind, constructor by constructor: none where the same units are there and asked.
@@ -42,25 +53,65 @@ pub(crate) fn local_rows(
     value_rows(books, here.body.kind_of(local), have, need)
 }
 
-/// The rows of the arguments of a call, of each of which what the callee's parameter carries is asked.
+/// The rows of a parameter of a jump's target, constructor by constructor: none where the same units are there and
+/// asked, nor where the local is lent.
+pub(crate) fn var_rows(
+    books: Books<'_>,
+    here: Here<'_>,
+    have: Origin,
+    need: Origin,
+    local: u32,
+) -> u64
+    ensures { result ≡ var_rows (code_of books.entry.code.now).types (func_of here.entry.body.now) have need local }
+{
+    if is_same(have, need) {
+        0
+    } else {
+        local_count(books, here.body, here.looked, local)
+    }
+}
+
+// The rows of an argument against the parameter of this number: none where it's only read.
+fn arg_rows(
+    books: Books<'_>,
+    here: Here<'_>,
+    slots: &[Slot],
+    callee: u32,
+    called: &Func,
+    number: usize,
+    local: u32,
+) -> u64
+    ensures { result ≡ arg_rows (code_of books.entry.code.now).types (func_of here.entry.body.now)
+        here.entry.func here.entry.block slots.now callee (func_of called.now) number local }
+{
+    if is_marked(called, number) {
+        return 0;
+    }
+    let need = Origin::Param {
+        func: callee,
+        local: number,
+    };
+    local_rows(books, here, slots, local, need)
+}
+
+/// The rows of the arguments of a call, of each of which what the callee's parameter carries is asked, unless it's only
+/// read.
 pub(crate) fn args_rows(
     books: Books<'_>,
     here: Here<'_>,
     slots: &[Slot],
     callee: u32,
+    called: &Func,
     args: &[u32],
 ) -> u64
-    ensures { result ≡ args_onto (code_of books.entry.code.now).types
-        (func_of here.entry.body.now) here.entry.func here.entry.block slots.now callee 0 0 args.now }
+    ensures { result ≡ args_onto (code_of books.entry.code.now).types (func_of here.entry.body.now)
+        here.entry.func here.entry.block slots.now callee (func_of called.now) 0 0 args.now }
 {
     let mut total: u64 = 0;
     let mut number: usize = 0;
     'locals: for local in args {
-        let need = Origin::Param {
-            func: callee,
-            local: number,
-        };
-        total = total.saturating_add(local_rows(books, here, slots, *local, need));
+        let rows = arg_rows(books, here, slots, callee, called, number, *local);
+        total = total.saturating_add(rows);
         number += 1;
     }
     total

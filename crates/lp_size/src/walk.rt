@@ -1,5 +1,6 @@
 ghost use Rattle.std.specs.Prelude.{◌≡◌, ◌≤◌, length, map};
 ghost use Rattle.grail_code.specs.Code.{let_of, block_of, term_of, func_of, code_of};
+ghost use Rattle.lp_system.specs.Looked.{AreLooked};
 ghost use Rattle.lp_size.specs.Counting.{taken_first, lets_onto, lets_behind, block_rows, block_behind, blocks_onto, func_rows, funcs_onto};
 
 use super::books::{Books, Here};
@@ -8,6 +9,7 @@ use super::lets::{bind, op_rows, taken_behind};
 use super::origins::{Origin, Slot};
 use super::taken::Taken;
 use grail_code::{Block, Func};
+use lp_system::looked_in;
 
 // The most locals of a function.
 const LOCALS: usize = 256;
@@ -20,7 +22,7 @@ fn lets_rows(
     first: Taken,
     block: &Block,
 ) -> u64
-    ensures rows { result ≡ lets_onto (code_of books.entry.code.now).types
+    ensures rows { result ≡ lets_onto (code_of books.entry.code.now)
         (func_of here.entry.body.now) here.entry.func here.entry.block slots.old first 1 0
         (map let_of block.now.lets.items) (term_of block.now.term) }
     ensures slots { slots.new ≡ lets_behind
@@ -53,7 +55,7 @@ fn taken_first(block: u32) -> Taken
 
 // The rows of a block.
 fn block_rows(books: Books<'_>, here: Here<'_>, slots: &mut [Slot], block: &Block) -> u64
-    ensures rows { result ≡ block_rows (code_of books.entry.code.now).types
+    ensures rows { result ≡ block_rows (code_of books.entry.code.now)
         (func_of here.entry.body.now) here.entry.func here.entry.block slots.old (block_of block.now) }
     ensures slots { slots.new ≡ block_behind (code_of books.entry.code.now).types here.entry.func here.entry.block slots.old (block_of block.now) }
 {
@@ -61,14 +63,16 @@ fn block_rows(books: Books<'_>, here: Here<'_>, slots: &mut [Slot], block: &Bloc
 }
 
 // The rows of the blocks of a function.
-fn blocks_rows(books: Books<'_>, func: u32, body: &Func, slots: &mut [Slot]) -> u64
-    ensures { result ≡ blocks_onto (code_of books.entry.code.now).types (func_of body.now) func slots.old 0 0 (map block_of body.now.blocks.items) }
+fn blocks_rows(books: Books<'_>, func: u32, body: &Func, looked: &[bool], slots: &mut [Slot]) -> u64
+    requires looked { AreLooked (func_of body.now) looked.now }
+    ensures { result ≡ blocks_onto (code_of books.entry.code.now) (func_of body.now) func slots.old 0 0 (map block_of body.now.blocks.items) }
 {
     let mut total: u64 = 0;
     let mut number = 0;
     'walk: for block in &body.blocks {
         let here = Here {
             body,
+            looked,
             func,
             block: number,
         };
@@ -80,20 +84,21 @@ fn blocks_rows(books: Books<'_>, func: u32, body: &Func, slots: &mut [Slot]) -> 
 
 // The rows of a function.
 fn func_rows(books: Books<'_>, func: u32, body: &Func) -> u64
-    ensures { result ≡ func_rows (code_of books.entry.code.now).types func (func_of body.now) }
+    ensures { result ≡ func_rows (code_of books.entry.code.now) func (func_of body.now) }
 {
     let unbound = Slot {
         begun: 0,
         origin: Origin::Result { func },
     };
     let mut slots = [unbound; LOCALS];
-    blocks_rows(books, func, body, &mut slots)
+    let looked = looked_in(body);
+    blocks_rows(books, func, body, &looked, &mut slots)
 }
 
 /// The rows of functions, the first of which has number 0.
 pub(crate) fn funcs_rows(books: Books<'_>, funcs: &[Func]) -> u64
     requires { length funcs.now ≤ 64 }
-    ensures { result ≡ funcs_onto (code_of books.entry.code.now).types 0 0 (map func_of funcs.now) }
+    ensures { result ≡ funcs_onto (code_of books.entry.code.now) 0 0 (map func_of funcs.now) }
 {
     let mut total: u64 = 0;
     let mut number = 0;

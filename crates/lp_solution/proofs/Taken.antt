@@ -1,19 +1,16 @@
 -- The values of the unknowns, taken in order, are the certificate of their assignment.
-use Rattle.std.proofs.Common.{◌≡◌, ℕ, zero, suc, ◌+◌, ◌-◌, Bool, true, false, List, [], ◌∷◌, ◌++◌, length, map, refl, sym, ap, ◌∙◌, subst, arith}
+use Rattle.std.proofs.Common.{◌≡◌, ℕ, suc, Bool, true, false, List, [], ◌∷◌, ◌++◌, length, map, refl, sym, ap, ◌∙◌}
 use Rattle.std.specs.Prelude.{cond, flat_map, Some}
-use Rattle.std.specs.List.{range_with_len}
 use Rattle.std.specs.Option.{option_map}
 use Rattle.std.proofs.lemmas.List.{append-nil, append_assoc, map-append}
 use Rattle.camelot_values.specs.Kinds.{DataType, type_of}
-use Rattle.camelot_values.specs.declared.kinds.Kind.{Kind}
 use Rattle.camelot_values.specs.declared.kinds.Kind.TheVariants as kind
-use Rattle.grail_blocks.specs.declared.blocks.Place.{Place}
 use Rattle.grail_blocks.specs.Events.{params_at}
 use Rattle.grail_code.specs.Code.{Op, Lit, Flag, Copy, Prim, Make, Call, Let, Block, Func, Code}
-use Rattle.grail_code.specs.WellFormed.{kind_of, IsWellFormed}
-use Rattle.annotations.specs.Vectors.{Vector, is_heap_con}
+use Rattle.grail_code.specs.WellFormed.{IsWellFormed}
+use Rattle.annotations.specs.Vectors.{is_heap_con}
 use Rattle.certificate.specs.Certificates.{FuncCert, Cert}
-use Rattle.lp_system.specs.Unknowns.{Unknown, Need, Back, Param, Result, BlockNeed, BlockVar, Made, carriers, params_unknowns, vars_unknowns, block_unknowns, blocks_unknowns, made_unknowns, lets_unknowns, builds_unknowns, func_unknowns, funcs_unknowns, unknowns_of}
+use Rattle.lp_system.specs.Unknowns.{Unknown, Param, Result, BlockVar, Made, carriers, local_carriers, params_unknowns, block_unknowns, blocks_unknowns, made_unknowns, lets_unknowns, builds_unknowns, func_unknowns, funcs_unknowns, unknowns_of}
 use Rattle.lp_system.specs.Found.{Assignment, value_in, with_units, units_on, line_of, lines_of, params_by, block_by, make_line, made_by, lets_by, builds_by, func_by, funcs_by, certificate_by, certificate_of}
 use Rattle.lp_system.specs.theory.Values.{values_in}
 use Rattle.lp_system.specs.theory.Distinct.{unknowns_distinct}
@@ -31,12 +28,12 @@ units_taken value of (c ∷ cs) vs rest e =
     (ap (λ n. with_units c n ++ vector_from cs (others_of vs)) (ap value_of e) ∙ ap (λ v. with_units c (value (of c)) ++ v) further.0, further.1)
 
 lines_taken : (types : List DataType) (f : Func) (value : Assignment) (of : ℕ → ℕ → Unknown) (xs : List ℕ) (vs rest : List ℕ)
-    → vs ≡ map value (flat_map (λ x. map (of x) (carriers types (kind_of f x))) xs) ++ rest
-    → (lines_from types f xs vs ≡ lines_of (λ x. units_on (carriers types (kind_of f x)) (λ c. value (of x c))) xs) × (behind_lines types f xs vs ≡ rest)
+    → vs ≡ map value (flat_map (λ x. map (of x) (local_carriers types f x)) xs) ++ rest
+    → (lines_from types f xs vs ≡ lines_of (λ x. units_on (local_carriers types f x) (λ c. value (of x c))) xs) × (behind_lines types f xs vs ≡ rest)
 lines_taken types f value of [] vs rest e = (refl, e)
 lines_taken types f value of (x ∷ xs) vs rest e =
-    let cs = carriers types (kind_of f x) in
-    let others = flat_map (λ x. map (of x) (carriers types (kind_of f x))) xs in
+    let cs = local_carriers types f x in
+    let others = flat_map (λ x. map (of x) (local_carriers types f x)) xs in
     let here = units_taken value (of x) cs vs (map value others ++ rest) (in_parts value (map (of x) cs) others vs rest e) in
     let further = lines_taken types f value of xs (behind cs vs) rest here.1 in
     (ap (λ v. line_of x v ++ lines_from types f xs (behind cs vs)) here.0 ∙ ap (λ ls. line_of x (units_on cs (λ c. value (of x c))) ++ ls) further.0, further.1)

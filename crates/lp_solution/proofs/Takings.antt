@@ -4,14 +4,13 @@ use Rattle.std.specs.List.{AllByRecursion, range_with_len}
 use Rattle.std.proofs.lemmas.List.{append-nil, append_assoc, map-append}
 use Rattle.camelot_values.specs.Lists.{Ascend}
 use Rattle.annotations.specs.Vectors.{Vector, IsVector}
-use Rattle.lp_system.specs.Found.{with_units, units_on}
-use Rattle.lp_system.specs.theory.Formed.{units_formed}
+use Rattle.lp_system.specs.Found.{with_units}
 use Rattle.camelot_values.specs.Kinds.{DataType}
 use Rattle.grail_code.specs.Code.{Func}
 use Rattle.certificate.specs.Certificates.{BlockCert}
 use Rattle.certificate.specs.Words.{block_of}
 use Rattle.certificate.specs.declared.types.BlockCert.{BlockCert as DeclaredBlock}
-use Rattle.lp_solution.specs.Taking.{value_of, others_of, vector_from, behind, block_from, behind_block, blocks_from, behind_blocks}
+use Rattle.lp_solution.specs.Taking.{value_of, others_of, vector_from, block_from, behind_block, blocks_from, behind_blocks}
 
 pub some_more : (made whole : Vector) (c : ℕ) (cs vs : List ℕ) → made ++ vector_from (c ∷ cs) vs ≡ whole → 0 < value_of vs
     → (made ++ (c, value_of vs) ∷ []) ++ vector_from cs (others_of vs) ≡ whole

@@ -1,18 +1,16 @@
 -- Private: words for functions of this crate.
 -- A certificate from the values of the unknowns, taken one by one from the front: they come in the order of the
 -- certificate's lines.
-use Rattle.std.specs.Prelude.{ℕ, zero, suc, ◌-◌, List, [], ◌∷◌, ◌++◌, length, Option, Some, None, cond}
+use Rattle.std.specs.Prelude.{ℕ, suc, ◌-◌, List, [], ◌∷◌, ◌++◌, length, Some, cond}
 use Rattle.std.specs.List.{range_with_len}
 use Rattle.std.specs.Option.{option_map}
 use Rattle.camelot_values.specs.Kinds.{DataType, type_of}
-use Rattle.camelot_values.specs.declared.kinds.Kind.{Kind}
 use Rattle.camelot_values.specs.declared.kinds.Kind.TheVariants as kind
 use Rattle.grail_blocks.specs.Events.{params_at}
-use Rattle.grail_code.specs.Code.{Op, Prim, Make, Call, Let, Block, Func, Code}
-use Rattle.grail_code.specs.WellFormed.{kind_of}
+use Rattle.grail_code.specs.Code.{Op, Prim, Make, Let, Block, Func, Code}
 use Rattle.annotations.specs.Vectors.{Vector, is_heap_con}
 use Rattle.certificate.specs.Certificates.{VarCert, BlockCert, MakeCert, FuncCert, Cert}
-use Rattle.lp_system.specs.Unknowns.{carriers}
+use Rattle.lp_system.specs.Unknowns.{carriers, local_carriers}
 use Rattle.lp_system.specs.Found.{with_units, line_of, make_line}
 
 -- the value in front, where there is one, and the others
@@ -34,14 +32,14 @@ abbrev pub behind : List ℕ → List ℕ → List ℕ
 behind [] vs = vs
 behind (c ∷ cs) vs = behind cs (others_of vs)
 
--- the lines of locals
+-- the lines of locals, of which those that are lent carry nothing
 abbrev pub lines_from : List DataType → Func → List ℕ → List ℕ → List VarCert
 lines_from types f [] vs = []
-lines_from types f (x ∷ xs) vs = line_of x (vector_from (carriers types (kind_of f x)) vs) ++ lines_from types f xs (behind (carriers types (kind_of f x)) vs)
+lines_from types f (x ∷ xs) vs = line_of x (vector_from (local_carriers types f x) vs) ++ lines_from types f xs (behind (local_carriers types f x) vs)
 
 abbrev pub behind_lines : List DataType → Func → List ℕ → List ℕ → List ℕ
 behind_lines types f [] vs = vs
-behind_lines types f (x ∷ xs) vs = behind_lines types f xs (behind (carriers types (kind_of f x)) vs)
+behind_lines types f (x ∷ xs) vs = behind_lines types f xs (behind (local_carriers types f x) vs)
 
 -- a block after the first
 abbrev pub block_from : List DataType → Func → ℕ → List ℕ → BlockCert

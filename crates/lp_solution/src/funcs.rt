@@ -1,6 +1,7 @@
 ghost use Rattle.std.specs.Prelude.{◌≡◌, IfOk, map};
 ghost use Rattle.grail_code.specs.Code.{func_of};
 ghost use Rattle.certificate.specs.Words as words;
+ghost use Rattle.lp_system.specs.Looked.{AreLooked};
 ghost use Rattle.lp_solution.specs.Taking.{own_params, lines_from, behind_lines, func_from, behind_func, funcs_from};
 
 use super::builds::builds;
@@ -8,6 +9,7 @@ use super::lines::{Typed, blocks, carriers, lines};
 use super::values::Values;
 use certificate::{FuncCert, VarCert};
 use grail_code::Func;
+use lp_system::looked_in;
 use std::alloc::{AllocError, Global};
 
 // The numbers of the parameters.
@@ -28,14 +30,16 @@ fn param_lines(
     alloc: Global,
     typed: Typed<'_>,
     func: &Func,
+    looked: &[bool],
     values: &mut Values,
 ) -> Result<Vec<VarCert>, AllocError>
+    requires looked { AreLooked (func_of func.now) looked.now }
     ensures value { IfOk result (λ found. map words.var_of found.items ≡ lines_from typed.entry.types.now
         (func_of func.now) (own_params (func_of func.now)) values.old) }
     ensures left { IfOk result (λ found. values.new ≡ behind_lines typed.entry.types.now (func_of func.now) (own_params (func_of func.now)) values.old) }
 {
     let numbers = own_params(alloc, func)?;
-    lines(alloc, typed, func, &numbers, values)
+    lines(alloc, typed, func, looked, &numbers, values)
 }
 
 // A function's part.
@@ -49,11 +53,12 @@ fn func_cert(
     ensures left { IfOk result (λ cert. values.new ≡ behind_func typed.entry.types.now (func_of func.now) values.old) }
 {
     let name = func.name.copy(alloc)?;
+    let looked = looked_in(func);
     let need = values.next();
     let back = values.next();
-    let params = param_lines(alloc, typed, func, values)?;
+    let params = param_lines(alloc, typed, func, &looked, values)?;
     let result = values.vector(alloc, carriers(typed, Some(func.result)))?;
-    let blocks = blocks(alloc, typed, func, values)?;
+    let blocks = blocks(alloc, typed, func, &looked, values)?;
     let makes = builds(alloc, typed, &func.blocks, values)?;
     Ok(FuncCert {
         name,

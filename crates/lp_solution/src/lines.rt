@@ -5,6 +5,7 @@ ghost use Rattle.grail_code.specs.Code.{func_of};
 ghost use Rattle.annotations.specs.Tables.{table_of};
 ghost use Rattle.certificate.specs.Words.{var_of, block_of};
 ghost use Rattle.lp_system.specs.Unknowns.{carriers};
+ghost use Rattle.lp_system.specs.Looked.{AreLooked};
 ghost use Rattle.lp_system.specs.Found.{line_of};
 ghost use Rattle.grail_blocks.specs.Events.{params_at};
 ghost use Rattle.lp_solution.specs.Taking.{value_of, others_of, lines_from, behind_lines, block_from, behind_block, own_blocks, blocks_from, behind_blocks};
@@ -14,6 +15,7 @@ use annotations::{ReachTable, Vector};
 use camelot_values::{Kind, Types};
 use certificate::{BlockCert, VarCert};
 use grail_code::Func;
+use lp_system::local_carriers;
 use std::alloc::{AllocError, Global};
 
 // Code's types with their table.
@@ -45,21 +47,23 @@ fn push_line(lines: &mut Vec<VarCert>, var: u32, vector: Vector) -> Result<(), A
     Ok(())
 }
 
-// The lines of these locals.
+// The lines of these locals: those that are lent carry nothing, and have none.
 pub(crate) fn lines(
     alloc: Global,
     typed: Typed<'_>,
     func: &Func,
+    looked: &[bool],
     locals: &[u32],
     values: &mut Values,
 ) -> Result<Vec<VarCert>, AllocError>
+    requires looked { AreLooked (func_of func.now) looked.now }
     ensures value { IfOk result (λ lines. map var_of lines.items ≡ lines_from typed.entry.types.now (func_of func.now) locals.now values.old) }
     ensures left { IfOk result (λ lines. values.new ≡ behind_lines typed.entry.types.now (func_of func.now) locals.now values.old) }
 {
     let mut lines = Vec::new(alloc);
     let mut rest = locals;
     'locals: while let [local, others @ ..] = rest {
-        let cons = carriers(typed, func.kind_of(*local));
+        let cons = local_carriers(typed.types, typed.table, func, looked, *local);
         let vector = values.vector(alloc, cons)?;
         push_line(&mut lines, *local, vector)?;
         rest = others;
@@ -72,9 +76,11 @@ pub(crate) fn block(
     alloc: Global,
     typed: Typed<'_>,
     func: &Func,
+    looked: &[bool],
     number: u32,
     values: &mut Values,
 ) -> Result<BlockCert, AllocError>
+    requires looked { AreLooked (func_of func.now) looked.now }
     requires there { number < length func.now.blocks.items }
     ensures value { IfOk result (λ block. block_of block ≡ block_from typed.entry.types.now (func_of func.now) number values.old) }
     ensures left { IfOk result (λ block. values.new ≡ behind_block typed.entry.types.now (func_of func.now) number values.old) }
@@ -84,6 +90,7 @@ pub(crate) fn block(
         alloc,
         typed,
         func,
+        looked,
         &func.blocks[number as usize].params,
         values,
     )?;
@@ -100,8 +107,10 @@ pub(crate) fn blocks(
     alloc: Global,
     typed: Typed<'_>,
     func: &Func,
+    looked: &[bool],
     values: &mut Values,
 ) -> Result<Vec<BlockCert>, AllocError>
+    requires looked { AreLooked (func_of func.now) looked.now }
     ensures value { IfOk result (λ blocks. map block_of blocks.items ≡ blocks_from typed.entry.types.now
         (func_of func.now) (own_blocks (func_of func.now)) values.old) }
     ensures left { IfOk result (λ blocks. values.new ≡ behind_blocks typed.entry.types.now (func_of func.now) (own_blocks (func_of func.now)) values.old) }
@@ -109,7 +118,7 @@ pub(crate) fn blocks(
     let mut blocks = Vec::new(alloc);
     let count = func.blocks.len() as u32;
     'blocks: for number in 1..count {
-        blocks.push(block(alloc, typed, func, number, values)?)?;
+        blocks.push(block(alloc, typed, func, looked, number, values)?)?;
     }
     Ok(blocks)
 }

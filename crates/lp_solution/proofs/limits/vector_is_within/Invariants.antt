@@ -1,5 +1,4 @@
-use Rattle.std.proofs.Common.{◌↔◌, length, map}
-use Rattle.std.specs.List.{AllByRecursion}
+use Rattle.std.proofs.Common.{◌↔◌, length}
 use Rattle.certificate.specs.Certificates.{VectorIsWithin}
 use Rattle.lp_solution.proofs.limits.vector_is_within.Given as goal
 

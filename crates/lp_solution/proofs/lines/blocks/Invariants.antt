@@ -1,4 +1,4 @@
-use Rattle.std.proofs.Common.{◌≡◌, ◌++◌, ◌-◌, ◌≤◌, length, map}
+use Rattle.std.proofs.Common.{◌≡◌, ◌++◌, ◌-◌, map}
 use Rattle.std.specs.List.{range_with_len}
 use Rattle.grail_code.specs.Code.{func_of}
 use Rattle.certificate.specs.Words.{block_of}
