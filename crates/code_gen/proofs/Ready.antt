@@ -169,7 +169,7 @@ let_went : (reads : Reads) (h : ℕ → Bool) (s : State) (l : Let) (live : Mark
 let_went reads h s l live once holds =
     let behind = unless_bound l.target live in
     let r = subst (λ es. Went h s es behind) (sym (op_events_are reads l.op))
-        (events_went h s (op_taken reads l.op) (op_read reads l.op) behind once (λ y e. holds y (op_among reads l.op y (behind y) e))) in
+    (events_went h s (op_taken reads l.op) (op_read reads l.op) behind once (λ y e. holds y (op_among reads l.op y (behind y) e))) in
     record {
       ready = ready_both h s (uses_of reads l.op) (Bind l.target ∷ []) r.ready tt;
       holds = subst (λ u. Holds u live) (sym (after_append h s (uses_of reads l.op) (Bind l.target ∷ []))) (bound_holds (after h s (uses_of reads l.op)) l.target live r.holds);
@@ -266,8 +266,8 @@ block_ready reads h blocks later f n params b once live ahead has =
     let lets = lets_went reads h s b.lets (term_live later b.term) once.lets (start_holds h params (block_live later b) has) in
     let end = after_lets reads h s b.lets in
     let term = subst (λ es. Went h end es (onward_live later b.term)) (sym (term_events_are reads b.term))
-        (events_went h end (term_taken reads b.term) (term_read reads b.term) (onward_live later b.term) once.term
-        (λ y e. lets.holds y (term_among reads b.term y (onward_live later b.term y) e))) in
+    (events_went h end (term_taken reads b.term) (term_read reads b.term) (onward_live later b.term) once.term
+    (λ y e. lets.holds y (term_among reads b.term y (onward_live later b.term y) e))) in
     record {
       lets = lets.ready;
       term = term.ready;
