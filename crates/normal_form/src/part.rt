@@ -1,11 +1,12 @@
 //! Parts of a function's normal form, and how they are put together.
 ghost use Rattle.std.specs.Prelude.{◌≡◌, ◌<◌, ◌+◌, IfOk, None, ◌++◌, [], map};
-ghost use Rattle.camelot_tree.specs.Tree.{Source};
 ghost use Rattle.grail_blocks.specs.Blocks.{arm_of, op_of, operator_of, term_of};
 ghost use Rattle.normal_form.specs.Normal.{case_arm, joining};
 ghost use Rattle.normal_form.specs.Parts.{args_and, before_tail, behind, closed_piece, divided, no_tails, parted, tail_and, tail_of, tails_of, arms_of, body_and, body_of, bound_piece, conditional, joined_bodies, line_of, matched, no_args, no_arms, operated, piece_of, pieces_of, sequenced};
+ghost use Rattle.normal_form.specs.Tables.{source_in};
 
 use crate::appending::appended;
+use crate::known::Known;
 use grail_blocks::{CaseArm, CaseCell, Let, Op, PrimCode, Term};
 use smallvec::SmallVec;
 use std::alloc::{AllocError, Global};
@@ -260,11 +261,11 @@ pub(crate) fn matched(mut on: Part, arms: Arms) -> Result<Part, AllocError>
 }
 
 /// A case's arm for a constructor without an arm, which no typed program has.
-pub(crate) fn missing(alloc: Global, target: u32) -> CaseArm
-    ensures { (p : Source) → arm_of result ≡ case_arm p None 0 target }
+pub(crate) fn missing(known: &Known<'_>, target: u32) -> CaseArm
+    ensures { arm_of result ≡ case_arm (source_in known.now.typed.now) None 0 target }
 {
     CaseArm {
-        fields: Vec::new(alloc),
+        fields: Vec::new(known.alloc),
         cell: CaseCell::Inline,
         target,
     }

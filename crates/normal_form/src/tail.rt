@@ -172,7 +172,7 @@ fn tail_arm<'a>(
     ensures scope { OnOk result (scope.new ≡ scope.old) }
 {
     let Some(arm) = arm else {
-        arms.cases.push(missing(known.alloc, arms.end.number))?;
+        arms.cases.push(missing(known, arms.end.number))?;
         return Ok(arms);
     };
     arms.cases.push(case_of(known, arm, arms.end)?)?;
