@@ -1,6 +1,6 @@
 -- What is lent in a function of a normal form: parameters that are marked, and fields of arms that only look.
-use Rattle.std.proofs.Common.{◌≡◌, ℕ, zero, suc, ◌+◌, ◌≤◌, ◌<◌, Bool, true, false, List, [], ◌∷◌, ◌++◌, length, map, Option, Some, None, refl, sym, ap, ◌∙◌, arith}
-use Rattle.std.specs.Prelude.{◌&&◌, ◌||◌, flat_map, slice_get, if◌then◌else◌}
+use Rattle.std.proofs.Common.{◌≡◌, ℕ, zero, suc, ◌+◌, ◌≤◌, ◌<◌, Bool, true, false, List, [], ◌∷◌, ◌++◌, length, map, Some, None, refl, sym, ap, ◌∙◌, arith}
+use Rattle.std.specs.Prelude.{◌&&◌, ◌||◌, flat_map, slice_get}
 use Rattle.std.specs.List.{list_any}
 use Rattle.std.specs.Option.{option_map_or}
 use Rattle.camelot_values.specs.Kinds.{DataType}
@@ -14,7 +14,7 @@ use Rattle.camelot_typing.specs.Typing.{Signature, params_scope, globals_of, Fun
 use Rattle.camelot_typing.specs.Typed.{Typing}
 use Rattle.linear_use.specs.Uses.{lent_params, some_lent, loans_of}
 use Rattle.grail_blocks.specs.Blocks as block
-use Rattle.grail_code.specs.WellFormed.{looked_at, looked_in, is_marked, is_of_heap, is_read, reads_of}
+use Rattle.grail_code.specs.WellFormed.{looked_at, is_marked, is_of_heap, is_read, reads_of}
 use Rattle.normal_form.specs.Normal.{NormalBlock, NormalFunction, Line, Bind, Close, in_first, cut, fun_of, normal_form}
 use Rattle.normal_form.specs.Coded.{BlockParams, coded_blocks, coded, code_with}
 use Rattle.normal_form.proofs.KindsAt.{Frame}

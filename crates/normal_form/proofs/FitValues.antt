@@ -18,15 +18,14 @@ use Rattle.camelot_typing.specs.Typing.{Signature, known_kind, globals_of, HaveK
 use Rattle.camelot_typing.specs.NumberLaws.{number_same, head_number, numbered_constructor}
 use Rattle.camelot_typing.specs.TypingLaws.{both_hold}
 use Rattle.grail_blocks.specs.Blocks as block
-use Rattle.grail_blocks.specs.Blocks.{Term}
 use Rattle.grail_code.specs.Code.{Func, Code}
 use Rattle.grail_code.specs.WellFormed as code
-use Rattle.grail_code.specs.WellFormed.{kind_of, Gives, LetFits, JumpFits, TermFits}
+use Rattle.grail_code.specs.WellFormed.{kind_of, Gives, TermFits}
 use Rattle.normal_form.specs.Normal.{Line, Close, new, con_of, fun_of, place_in, cons_of, arm_for, bound_count, in_arm, case_arm, case_arms, total, in_turn, made, all_made, arm_made, ends, all_ends, arm_ends, local_of, locals_of, joining, value, values, arm_value, bound_kinds, kind_in, all_of, kinds, all_kinds, arm_kinds}
 use Rattle.normal_form.proofs.Lines.{closes}
 use Rattle.normal_form.proofs.Ends.{closes_value, closes_values, closes_joining, closes_arm}
 use Rattle.normal_form.proofs.Values.{cons_are, fewer}
-use Rattle.normal_form.proofs.KindsAt.{Frame, At, at_front, at_back, at_head, at_rest, Named, named_kept, named_bind, kind_is, kind_same, in_let, kinds_made, arm_kinds_made, local_is, ArmFor, arm_for_con, bound_of, bound_same, bound_are, named_arm}
+use Rattle.normal_form.proofs.KindsAt.{Frame, At, at_front, at_back, at_head, at_rest, Named, named_kept, named_bind, kind_is, in_let, kinds_made, arm_kinds_made, local_is, ArmFor, arm_for_con, bound_of, bound_same, bound_are, named_arm}
 use Rattle.normal_form.proofs.Frames.{Typed}
 use Rattle.normal_form.proofs.FitParts.{Coding, LinesFit, fit_append, let_fits, kind_at, values_kinds, build_fits, arm_fits}
 use Rattle.normal_form.proofs.FitTurns.{type_there, ArmGoes, goes_split, case_goes}

@@ -17,19 +17,19 @@ use Rattle.camelot_tree.specs.declared.tree.ArmCell.TheVariants as cell
 use Rattle.camelot_tree.specs.Tree.{Expression, Branch, Source}
 use Rattle.camelot_tree.specs.Cells.{has_cell}
 use Rattle.camelot_typing.specs.Kinds.{Scope, bind, bind_fields, bind_cell, or_else, types_of, fields_of, is_inline, constructor_number, numbered}
-use Rattle.linear_use.specs.Uses.{Loans, CellTaken, lends_field, arm_flags, is_lent as is_flagged}
+use Rattle.linear_use.specs.Uses.{CellTaken, lends_field, arm_flags, is_lent as is_flagged}
 use Rattle.grail_blocks.specs.declared.blocks.CaseCell.{CaseCell}
 use Rattle.grail_blocks.specs.declared.blocks.CaseCell.TheVariants as case_cell
 use Rattle.grail_blocks.specs.Blocks as block
-use Rattle.grail_blocks.specs.Blocks.{Op, CaseArm}
-use Rattle.grail_blocks.specs.Events.{kept_diamond, bound_by}
+use Rattle.grail_blocks.specs.Blocks.{CaseArm}
+use Rattle.grail_blocks.specs.Events.{kept_diamond}
 use Rattle.grail_code.specs.Code.{Func, Code}
-use Rattle.grail_code.specs.WellFormed.{kind_of, is_of_heap, looked_by, is_read, is_lent, reads_of, AreNotLent, takes, LetLends, CellLends, bound_anew, ArmLends, TermLends}
-use Rattle.normal_form.specs.Normal.{NormalBlock, Line, Bind, Close, new, in_first, cut, con_of, fun_of, local, bound_count, diamonds, with_fields, with_cell, in_arm, cell_in, case_arm, total, in_turn, joining, diamond_kinds, all_of}
+use Rattle.grail_code.specs.WellFormed.{is_of_heap, looked_by, is_read, is_lent, AreNotLent, LetLends, CellLends, bound_anew, ArmLends, TermLends}
+use Rattle.normal_form.specs.Normal.{NormalBlock, Line, Bind, Close, in_first, cut, con_of, local, bound_count, diamonds, with_fields, with_cell, in_arm, cell_in, case_arm, total, in_turn, diamond_kinds, all_of}
 use Rattle.normal_form.specs.Facts.{BodyLends}
-use Rattle.normal_form.proofs.KindsAt.{Frame, At, at_front, at_back, at_head, HasLocal, ArmFor, bound_of}
+use Rattle.normal_form.proofs.KindsAt.{Frame, At, at_front, at_back, HasLocal, ArmFor, bound_of}
 use Rattle.normal_form.proofs.FitParts.{Coding, kind_at}
-use Rattle.normal_form.proofs.Looked.{or_false, looks, looks_append, arm_looks, turn_looks, turn_split, Inside, below_none, above_none, fields_inside}
+use Rattle.normal_form.proofs.Looked.{or_false, looks, looks_append, arm_looks, turn_looks, turn_split, Inside, below_none, above_none}
 
 -- ---- lines
 

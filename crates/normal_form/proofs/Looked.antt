@@ -1,6 +1,6 @@
 -- What the arms bind that leave their cell as it is, among the lines of a part: locals that the part makes.
-use Rattle.std.proofs.Common.{◌≡◌, ℕ, suc, ◌+◌, ◌≤◌, ◌<◌, Bool, true, false, List, [], ◌∷◌, ◌++◌, length, Option, Some, None, refl, sym, ap, ◌∙◌, arith}
-use Rattle.std.specs.Prelude.{◌||◌, ◌==◌, if◌then◌else◌, flat_map, nat_lt}
+use Rattle.std.proofs.Common.{◌≡◌, ℕ, suc, ◌+◌, ◌≤◌, ◌<◌, Bool, true, false, List, [], ◌∷◌, ◌++◌, length, Option, Some, refl, sym, ap, ◌∙◌, arith}
+use Rattle.std.specs.Prelude.{◌||◌, ◌==◌, if◌then◌else◌, flat_map}
 use Rattle.std.proofs.lemmas.Bool.Decides.{nat_tests}
 use Rattle.camelot_values.specs.Lists.{is_among}
 use Rattle.camelot_tree.specs.declared.tree.Name.{Name}
@@ -13,7 +13,7 @@ use Rattle.grail_blocks.specs.declared.blocks.CaseCell.TheVariants as case_cell
 use Rattle.grail_blocks.specs.Blocks as block
 use Rattle.grail_blocks.specs.Blocks.{Op, CaseArm}
 use Rattle.grail_code.specs.WellFormed.{looked_by, looked_at}
-use Rattle.normal_form.specs.Normal.{Line, Bind, Close, new, con_of, cons_of, arm_for, bound_count, diamonds, in_arm, cell_in, case_arm, case_arms, total, in_turn, made, all_made, arm_made, ends, all_ends, arm_ends, local_of, joining, value, values, arm_value, tail_made, arm_tail_made, tail_ends, arm_tail_ends, tail, arm_tail}
+use Rattle.normal_form.specs.Normal.{Line, Bind, Close, new, con_of, cons_of, arm_for, bound_count, in_arm, cell_in, case_arm, case_arms, total, in_turn, made, all_made, arm_made, ends, arm_ends, local_of, joining, value, values, arm_value, tail_made, arm_tail_made, tail_ends, arm_tail_ends, tail, arm_tail}
 
 -- ---- tests
 
