@@ -20,7 +20,7 @@ use Rattle.normal_form.specs.Coded.{BlockParams, coded_blocks, coded, code_with}
 use Rattle.normal_form.proofs.KindsAt.{Frame}
 use Rattle.normal_form.proofs.FitParts.{Coding}
 use Rattle.normal_form.proofs.Loans.{loans_are}
-use Rattle.normal_form.proofs.Looked.{among_append, looks, Inside, below_none}
+use Rattle.normal_form.proofs.Looked.{or_true, among_append, looks, Inside, below_none}
 use Rattle.normal_form.proofs.LendParts.{ReadAs, item_less, Flagged, flagged_bind, lent_in, heap_at, or_none}
 
 -- ---- fields of arms that only look
@@ -87,11 +87,7 @@ flagged_params lent types (x ∷ xs) (k ∷ ks) first full each =
 some_marked : (ms : List Bool) (x : ℕ) → option_map_or (λ mark. mark) (slice_get ms x) false ≡ true → some_lent ms ≡ true
 some_marked [] x e = let q : false ≡ true = e in absurd cc
 some_marked (m ∷ ms) zero e = ap (λ b. b || list_any (λ m. m) ms) e
-some_marked (m ∷ ms) (suc x) e = ap (λ b. m || b) (some_marked ms x e) ∙ or_right m
-  where
-    or_right : (a : Bool) → (a || true) ≡ true
-    or_right true = refl
-    or_right false = refl
+some_marked (m ∷ ms) (suc x) e = ap (λ b. m || b) (some_marked ms x e) ∙ or_true m
 
 -- ---- functions
 

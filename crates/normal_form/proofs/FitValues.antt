@@ -1,5 +1,5 @@
 -- The lines of expressions fit as code.
-use Rattle.std.proofs.Common.{◌≡◌, ℕ, suc, ◌+◌, ◌≤◌, ◌<◌, Bool, true, false, List, [], ◌∷◌, ◌++◌, length, Option, Some, None, refl, sym, ap, ◌∙◌, subst, arith}
+use Rattle.std.proofs.Common.{◌≡◌, ℕ, suc, ◌+◌, ◌≤◌, ◌<◌, true, false, List, [], ◌∷◌, ◌++◌, length, Option, Some, None, refl, sym, ap, ◌∙◌, subst, arith}
 use Rattle.std.specs.Prelude.{◌&&◌, if◌then◌else◌, slice_get, IsSomeAnd}
 use Rattle.std.specs.List.{AllByRecursion}
 use Rattle.camelot_values.specs.IntLaws.{passing_int}
@@ -92,16 +92,6 @@ joined_fits : (F : Frame) (C : Coding F) (number m : ℕ) (lines : List Line) (x
 joined_fits F C number m lines x result join q is fit from to less there =
     fit_append C.program C.func number m lines (new result (block.Copy x) ∷ Close (block.Goto join) ∷ []) is fit
     (let_fits C.program C.func result (block.Copy x) q (kind_at F C result q to) (kind_at F C x q from), ((less, there), tt))
-
-arm_ends_some : (F : Frame) (as' : Arms) (con : ℕ) → 1 ≤ arms_with (types_of F.source) con as' → 1 ≤ arm_ends F.source as' con
-arm_ends_some F NoArms con some = absurd (omega (arith, some))
-arm_ends_some F (AndArm c fs x b as') con some = by_test (is_that (constructor_number F.source c) con) (ap (λ o. is_that o con) (number_same F.source c)) (arm_ends_some F as' con)
-  where
-    by_test : (t : Bool) → is_that (typed.constructor_number (types_of F.source) c.word) con ≡ t
-        → (1 ≤ arms_with (types_of F.source) con as' → 1 ≤ arm_ends F.source as' con)
-        → 1 ≤ (if t then suc (ends F.source b) else arm_ends F.source as' con)
-    by_test true e later = omega arith
-    by_test false e later = later (fewer (is_that (typed.constructor_number (types_of F.source) c.word) con) (arms_with (types_of F.source) con as') e some)
 
 -- ---- expressions
 

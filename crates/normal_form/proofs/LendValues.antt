@@ -45,13 +45,13 @@ pub record OnLends (p : Code) (f : Func) (lines : List Line) (x : ℕ) (lent : B
   pub lines_lend : LinesLend p f lines
   pub own : is_lent p.types f x ≡ lent
 
-name_lent : (F : Frame) (C : Coding F) (n : Name) (s : Scope Kind) (l : Scope ℕ) (flags : Scope Bool) (next number : ℕ) (q : Kind) → Named F s l next → Flagged (lent_in F C) l flags
+name_lent : (F : Frame) (C : Coding F) (n : Name) (s : Scope Kind) (l : Scope ℕ) (flags : Scope Bool) (next : ℕ) (q : Kind) → Named F s l next → Flagged (lent_in F C) l flags
     → Typed F s (Var n) q → lent_in F C (local_of F.source (Var n) l next) ≡ looks_at flags (Var n)
-name_lent F C n s l flags next number q st fl has = sym (flag_is F.kinds (lent_in F C) l flags next n q fl (named_local F s l next n.word q st has))
+name_lent F C n s l flags next q st fl has = sym (flag_is F.kinds (lent_in F C) l flags next n q fl (named_local F s l next n.word q st has))
 
 looked_lends : (F : Frame) (C : Coding F) (e : Expression) (s : Scope Kind) (l : Scope ℕ) (flags : Scope Bool) (next number : ℕ) (q : Kind) → Named F s l next → Flagged (lent_in F C) l flags
     → Typed F s e q → looks_at flags e ≡ true → OnLends C.program C.func (value F.source e l next number) (local_of F.source e l next) (looks_at flags e)
-looked_lends F C (Var n) s l flags next number q st fl has e = record { lines_lend = tt; own = name_lent F C n s l flags next number q st fl has }
+looked_lends F C (Var n) s l flags next number q st fl has e = record { lines_lend = tt; own = name_lent F C n s l flags next q st fl has }
 looked_lends F C (Num z l0) s l flags next number q st fl has e = absurd cc
 looked_lends F C (Truth b l0) s l flags next number q st fl has e = absurd cc
 looked_lends F C (Prim op a b l0) s l flags next number q st fl has e = absurd cc
@@ -161,7 +161,7 @@ mutual
   pub value_lends : (F : Frame) (C : Coding F) (loans : Loans) (calls : CalleesLend F C loans) (e : Expression) (s : Scope Kind) (l : Scope ℕ) (flags : Scope Bool) (next number : ℕ) (q : Kind) → Named F s l next
       → Flagged (lent_in F C) l flags → Typed F s e q → Linear F loans s flags e → At F.kinds next (kinds F.source F.sigs s e)
       → ReadAs C.func next (next + made F.source e) (looks (value F.source e l next number)) → ValueLends C.program C.func (value F.source e l next number) (local_of F.source e l next)
-  value_lends F C loans calls (Var n) s l flags next number q st fl has lin at reads = record { lines_lend = tt; own = name_lent F C n s l flags next number q st fl has ∙ lin }
+  value_lends F C loans calls (Var n) s l flags next number q st fl has lin at reads = record { lines_lend = tt; own = name_lent F C n s l flags next q st fl has ∙ lin }
   value_lends F C loans calls (Num z l0) s l flags next number q st fl has lin at reads =
       bound_lends F C [] next next (block.Lit z) tt tt (nothing next next) (omega arith) (read_within C.func next (next + 1) next (suc next) (λ x. false) reads (omega arith) (omega arith))
   value_lends F C loans calls (Truth b l0) s l flags next number q st fl has lin at reads =
