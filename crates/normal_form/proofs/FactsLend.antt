@@ -33,7 +33,7 @@ first_looks : (l : block.Let) (bs : List NormalBlock) → flat_map (λ b. looked
 first_looks l [] = refl
 first_looks l (b ∷ bs) = refl
 
-cut_looks : (lines : List Line) (x : ℕ) → is_among (flat_map (λ b. looked_at b.term) (cut lines)) x ≡ looks lines x
+pub cut_looks : (lines : List Line) (x : ℕ) → is_among (flat_map (λ b. looked_at b.term) (cut lines)) x ≡ looks lines x
 cut_looks [] x = refl
 cut_looks (Bind l ∷ lines) x = ap (λ ys. is_among ys x) (first_looks l (cut lines)) ∙ cut_looks lines x
 cut_looks (Close t ∷ lines) x =

@@ -5,10 +5,12 @@ use Rattle.std.proofs.lemmas.Bool.Decides.{nat_tests}
 use Rattle.camelot_values.specs.Lists.{is_among}
 use Rattle.grail_blocks.specs.Blocks as block
 use Rattle.grail_blocks.specs.Blocks.{Term}
-use Rattle.grail_blocks.specs.Events.{operands_of, term_uses}
+use Rattle.grail_blocks.specs.Events.{Reads, operands_of}
+use Rattle.grail_code.specs.WellFormed.{looked_at}
 use Rattle.normal_form.specs.Normal.{NormalBlock, Line, Bind, Close, in_first, cut}
-use Rattle.normal_form.specs.Live.{Marks, LaterMarks, unless_bound, onward_live, term_live, block_live, live_from, Once, BlocksOnce}
+use Rattle.normal_form.specs.Live.{Marks, LaterMarks, unless_bound, onward_live, term_live, block_live, live_from, op_taken, op_read, term_taken, term_read, Once, BlocksOnce}
 use Rattle.normal_form.proofs.Lines.{closes, IsClosed, EndsClosed, ends_is_closed}
+use Rattle.normal_form.proofs.Looked.{among_append, looks, looks_append}
 
 abbrev mutual
   pub live_here : ℕ → List Line → Marks
@@ -21,11 +23,18 @@ abbrev mutual
   live_behind number (Bind l ∷ lines) b x = live_behind number lines b x
   live_behind number (Close t ∷ lines) b x = if b == suc number then live_here (suc number) lines x else live_behind (suc number) lines b x
 
--- no use of these lines is of a heap local that is used again
-abbrev pub AllOnce : (ℕ → Bool) → ℕ → List Line → Type 0
-AllOnce h number [] = Unit {0}
-AllOnce h number (Bind l ∷ lines) = Once h (operands_of l.op) (unless_bound l.target (live_here number lines)) × AllOnce h number lines
-AllOnce h number (Close t ∷ lines) = Once h (term_uses t) (onward_live (λ b y. if b == suc number then live_here (suc number) lines y else live_behind (suc number) lines b y) t) × AllOnce h (suc number) lines
+-- which locals are owned, and the marks of the functions that are called
+pub record Ownership : Type 0 where
+  pub reads : Reads
+  pub owned : ℕ → Bool
+
+-- none of these lines takes an owned local that is read or taken again
+abbrev pub AllOnce : Ownership → ℕ → List Line → Type 0
+AllOnce o number [] = Unit {0}
+AllOnce o number (Bind l ∷ lines) = Once o.owned (op_taken o.reads l.op) (op_read o.reads l.op) (unless_bound l.target (live_here number lines)) × AllOnce o number lines
+AllOnce o number (Close t ∷ lines) =
+    Once o.owned (term_taken o.reads t) (term_read o.reads t) (onward_live (λ b y. if b == suc number then live_here (suc number) lines y else live_behind (suc number) lines b y) t)
+    × AllOnce o (suc number) lines
 
 -- ---- jumps
 
@@ -114,24 +123,59 @@ mutual
   cut_later number (Close t ∷ lines) h b y = close_live number lines (cut_live (suc number) lines h) (cut_later (suc number) lines h) b y
 
 -- one more let in front of the first block
-once_let : (h : ℕ → Bool) (number : ℕ) (l : block.Let) (b : NormalBlock) (bs : List NormalBlock) (after : Marks) → first_live number (b ∷ bs) ≡ after
-    → Once h (operands_of l.op) (unless_bound l.target after)
-    → BlocksOnce h number (b ∷ bs) → BlocksOnce h number (in_first l (b ∷ bs))
-once_let h number l b bs after e one all = (record { lets = (subst (λ m. Once h (operands_of l.op) (unless_bound l.target m)) (sym e) one, all.0.lets); term = all.0.term }, all.1)
+once_let : (o : Ownership) (number : ℕ) (l : block.Let) (b : NormalBlock) (bs : List NormalBlock) (after : Marks) → first_live number (b ∷ bs) ≡ after
+    → Once o.owned (op_taken o.reads l.op) (op_read o.reads l.op) (unless_bound l.target after)
+    → BlocksOnce o.reads o.owned number (b ∷ bs) → BlocksOnce o.reads o.owned number (in_first l (b ∷ bs))
+once_let o number l b bs after e one all = (
+  record { lets = (subst (λ m. Once o.owned (op_taken o.reads l.op) (op_read o.reads l.op) (unless_bound l.target m)) (sym e) one, all.0.lets); term = all.0.term },
+  all.1,
+)
 
--- The blocks use what the lines use.
-pub cut_once : (h : ℕ → Bool) (number : ℕ) (lines : List Line) → IsClosed lines → AllOnce h number lines → BlocksOnce h number (cut lines)
-cut_once h number [] c all = tt
-cut_once h number (Bind l ∷ lines) c all =
+-- The blocks take what the lines take.
+pub cut_once : (o : Ownership) (number : ℕ) (lines : List Line) → IsClosed lines → AllOnce o number lines → BlocksOnce o.reads o.owned number (cut lines)
+cut_once o number [] c all = tt
+cut_once o number (Bind l ∷ lines) c all =
     let r = ends_block lines c in
-    let rest = cut_once h number lines (ends_is_closed lines c) all.1 in
-    subst (λ bs. BlocksOnce h number (in_first l bs)) (sym r.2)
-    (once_let h number l r.0 r.1 (live_here number lines) (λ i x. (ap (λ bs. first_live number bs x) (sym r.2) ∙ cut_live number lines (ends_is_closed lines c) x) i) all.0
-    (subst (BlocksOnce h number) r.2 rest))
-cut_once h number (Close t ∷ lines) c all = (
+    let rest = cut_once o number lines (ends_is_closed lines c) all.1 in
+    subst (λ bs. BlocksOnce o.reads o.owned number (in_first l bs)) (sym r.2)
+    (once_let o number l r.0 r.1 (live_here number lines) (λ i x. (ap (λ bs. first_live number bs x) (sym r.2) ∙ cut_live number lines (ends_is_closed lines c) x) i) all.0
+    (subst (BlocksOnce o.reads o.owned number) r.2 rest))
+cut_once o number (Close t ∷ lines) c all = (
   record {
     lets = tt;
-    term = subst (λ later. Once h (term_uses t) (onward_live later t)) (sym (λ i b x. close_live number lines (cut_live (suc number) lines c) (cut_later (suc number) lines c) b x i)) all.0;
+    term = subst (λ later. Once o.owned (term_taken o.reads t) (term_read o.reads t) (onward_live later t)) (sym (λ i b x. close_live number lines (cut_live (suc number) lines c) (cut_later (suc number) lines c) b x i)) all.0;
   },
-  cut_once h (suc number) lines c all.1,
+  cut_once o (suc number) lines c all.1,
 )
+
+-- ---- arms that leave their cells
+
+pub or_second : (a b : Bool) → b ≡ true → (a || b) ≡ true
+or_second true b h = refl
+or_second false b h = h
+
+-- none of these is owned
+abbrev pub AreLent : Ownership → List ℕ → Type 0
+AreLent o xs = (x : ℕ) → is_among xs x ≡ true → o.owned x ≡ false
+
+pub lent_front : (o : Ownership) (xs ys : List ℕ) → AreLent o (xs ++ ys) → AreLent o xs
+lent_front o xs ys h x e = h x (among_append xs ys x ∙ ap (λ b. b || is_among ys x) e)
+
+pub lent_back : (o : Ownership) (xs ys : List ℕ) → AreLent o (xs ++ ys) → AreLent o ys
+lent_back o xs ys h x e = h x (among_append xs ys x ∙ or_second (is_among xs x) (is_among ys x) e)
+
+-- none of what these lines only look at is owned
+abbrev pub Looks : Ownership → List Line → Type 0
+Looks o lines = (x : ℕ) → looks lines x ≡ true → o.owned x ≡ false
+
+pub looks_front : (o : Ownership) (xs ys : List Line) → Looks o (xs ++ ys) → Looks o xs
+looks_front o xs ys h x e = h x (looks_append xs ys x ∙ ap (λ b. b || looks ys x) e)
+
+pub looks_back : (o : Ownership) (xs ys : List Line) → Looks o (xs ++ ys) → Looks o ys
+looks_back o xs ys h x e = h x (looks_append xs ys x ∙ or_second (looks xs x) (looks ys x) e)
+
+pub looks_end : (o : Ownership) (t : Term) (lines : List Line) → Looks o (Close t ∷ lines) → AreLent o (looked_at t)
+looks_end o t lines h x e = h x (ap (λ b. b || looks lines x) e)
+
+pub looks_behind : (o : Ownership) (t : Term) (lines : List Line) → Looks o (Close t ∷ lines) → Looks o lines
+looks_behind o t lines h x e = h x (or_second (is_among (looked_at t) x) (looks lines x) e)
