@@ -1,6 +1,6 @@
 -- What is lent in a function of a normal form: parameters that are marked, and fields of arms that only look.
-use Rattle.std.proofs.Common.{◌≡◌, ℕ, zero, suc, ◌+◌, ◌≤◌, ◌<◌, Bool, true, false, List, [], ◌∷◌, ◌++◌, length, map, Option, Some, None, refl, sym, ap, ◌∙◌, arith}
-use Rattle.std.specs.Prelude.{◌&&◌, ◌||◌, flat_map, slice_get, if◌then◌else◌}
+use Rattle.std.proofs.Common.{◌≡◌, ℕ, zero, suc, ◌+◌, ◌≤◌, ◌<◌, Bool, true, false, List, [], ◌∷◌, ◌++◌, length, map, Some, None, refl, sym, ap, ◌∙◌, arith}
+use Rattle.std.specs.Prelude.{◌&&◌, ◌||◌, flat_map, slice_get}
 use Rattle.std.specs.List.{list_any}
 use Rattle.std.specs.Option.{option_map_or}
 use Rattle.camelot_values.specs.Kinds.{DataType}
@@ -14,13 +14,13 @@ use Rattle.camelot_typing.specs.Typing.{Signature, params_scope, globals_of, Fun
 use Rattle.camelot_typing.specs.Typed.{Typing}
 use Rattle.linear_use.specs.Uses.{lent_params, some_lent, loans_of}
 use Rattle.grail_blocks.specs.Blocks as block
-use Rattle.grail_code.specs.WellFormed.{looked_at, looked_in, is_marked, is_of_heap, is_read, reads_of}
+use Rattle.grail_code.specs.WellFormed.{looked_at, is_marked, is_of_heap, is_read, reads_of}
 use Rattle.normal_form.specs.Normal.{NormalBlock, NormalFunction, Line, Bind, Close, in_first, cut, fun_of, normal_form}
 use Rattle.normal_form.specs.Coded.{BlockParams, coded_blocks, coded, code_with}
 use Rattle.normal_form.proofs.KindsAt.{Frame}
 use Rattle.normal_form.proofs.FitParts.{Coding}
 use Rattle.normal_form.proofs.Loans.{loans_are}
-use Rattle.normal_form.proofs.Looked.{among_append, looks, Inside, below_none}
+use Rattle.normal_form.proofs.Looked.{or_true, among_append, looks, Inside, below_none}
 use Rattle.normal_form.proofs.LendParts.{ReadAs, item_less, Flagged, flagged_bind, lent_in, heap_at, or_none}
 
 -- ---- fields of arms that only look
@@ -87,11 +87,7 @@ flagged_params lent types (x ∷ xs) (k ∷ ks) first full each =
 some_marked : (ms : List Bool) (x : ℕ) → option_map_or (λ mark. mark) (slice_get ms x) false ≡ true → some_lent ms ≡ true
 some_marked [] x e = let q : false ≡ true = e in absurd cc
 some_marked (m ∷ ms) zero e = ap (λ b. b || list_any (λ m. m) ms) e
-some_marked (m ∷ ms) (suc x) e = ap (λ b. m || b) (some_marked ms x e) ∙ or_right m
-  where
-    or_right : (a : Bool) → (a || true) ≡ true
-    or_right true = refl
-    or_right false = refl
+some_marked (m ∷ ms) (suc x) e = ap (λ b. m || b) (some_marked ms x e) ∙ or_true m
 
 -- ---- functions
 

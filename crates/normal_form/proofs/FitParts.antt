@@ -16,7 +16,7 @@ use Rattle.camelot_typing.specs.Typing.{Signature, globals_of, HaveKinds}
 use Rattle.camelot_typing.specs.NumberLaws.{At as HasItem}
 use Rattle.grail_blocks.specs.declared.blocks.Place.TheVariants as place
 use Rattle.grail_blocks.specs.Blocks as block
-use Rattle.grail_blocks.specs.Blocks.{Op, CaseArm, Term}
+use Rattle.grail_blocks.specs.Blocks.{Op}
 use Rattle.grail_blocks.specs.Events.{bound_by}
 use Rattle.grail_code.specs.Code.{Func, Code}
 use Rattle.grail_code.specs.WellFormed as code

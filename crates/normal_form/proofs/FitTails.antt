@@ -19,7 +19,7 @@ use Rattle.normal_form.specs.Coded.{coded_blocks}
 use Rattle.normal_form.proofs.Lines.{closes}
 use Rattle.normal_form.proofs.Ends.{closes_value, closes_values, closes_tail, closes_arm_tail}
 use Rattle.normal_form.proofs.Values.{cons_are, fewer}
-use Rattle.normal_form.proofs.KindsAt.{Frame, At, at_front, at_back, Named, named_kept, named_bind, kind_is, kind_same, in_let, kinds_made, local_is, bound_of, bound_same, bound_are, named_arm}
+use Rattle.normal_form.proofs.KindsAt.{Frame, At, at_front, at_back, Named, named_kept, named_bind, kind_is, in_let, kinds_made, local_is, bound_of, bound_same, bound_are, named_arm}
 use Rattle.normal_form.proofs.Frames.{Typed, tail_kinds_made, arm_tail_kinds_made}
 use Rattle.normal_form.proofs.FitParts.{Coding, LinesFit, fit_append, kind_at, values_kinds, arm_fits}
 use Rattle.normal_form.proofs.FitTurns.{type_there, ArmGoes, goes_split, case_goes}

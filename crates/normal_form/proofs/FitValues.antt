@@ -1,5 +1,5 @@
 -- The lines of expressions fit as code.
-use Rattle.std.proofs.Common.{◌≡◌, ℕ, suc, ◌+◌, ◌≤◌, ◌<◌, Bool, true, false, List, [], ◌∷◌, ◌++◌, length, Option, Some, None, refl, sym, ap, ◌∙◌, subst, arith}
+use Rattle.std.proofs.Common.{◌≡◌, ℕ, suc, ◌+◌, ◌≤◌, ◌<◌, true, false, List, [], ◌∷◌, ◌++◌, length, Option, Some, None, refl, sym, ap, ◌∙◌, subst, arith}
 use Rattle.std.specs.Prelude.{◌&&◌, if◌then◌else◌, slice_get, IsSomeAnd}
 use Rattle.std.specs.List.{AllByRecursion}
 use Rattle.camelot_values.specs.IntLaws.{passing_int}
@@ -18,15 +18,14 @@ use Rattle.camelot_typing.specs.Typing.{Signature, known_kind, globals_of, HaveK
 use Rattle.camelot_typing.specs.NumberLaws.{number_same, head_number, numbered_constructor}
 use Rattle.camelot_typing.specs.TypingLaws.{both_hold}
 use Rattle.grail_blocks.specs.Blocks as block
-use Rattle.grail_blocks.specs.Blocks.{Term}
 use Rattle.grail_code.specs.Code.{Func, Code}
 use Rattle.grail_code.specs.WellFormed as code
-use Rattle.grail_code.specs.WellFormed.{kind_of, Gives, LetFits, JumpFits, TermFits}
+use Rattle.grail_code.specs.WellFormed.{kind_of, Gives, TermFits}
 use Rattle.normal_form.specs.Normal.{Line, Close, new, con_of, fun_of, place_in, cons_of, arm_for, bound_count, in_arm, case_arm, case_arms, total, in_turn, made, all_made, arm_made, ends, all_ends, arm_ends, local_of, locals_of, joining, value, values, arm_value, bound_kinds, kind_in, all_of, kinds, all_kinds, arm_kinds}
 use Rattle.normal_form.proofs.Lines.{closes}
 use Rattle.normal_form.proofs.Ends.{closes_value, closes_values, closes_joining, closes_arm}
 use Rattle.normal_form.proofs.Values.{cons_are, fewer}
-use Rattle.normal_form.proofs.KindsAt.{Frame, At, at_front, at_back, at_head, at_rest, Named, named_kept, named_bind, kind_is, kind_same, in_let, kinds_made, arm_kinds_made, local_is, ArmFor, arm_for_con, bound_of, bound_same, bound_are, named_arm}
+use Rattle.normal_form.proofs.KindsAt.{Frame, At, at_front, at_back, at_head, at_rest, Named, named_kept, named_bind, kind_is, in_let, kinds_made, arm_kinds_made, local_is, ArmFor, arm_for_con, bound_of, bound_same, bound_are, named_arm}
 use Rattle.normal_form.proofs.Frames.{Typed}
 use Rattle.normal_form.proofs.FitParts.{Coding, LinesFit, fit_append, let_fits, kind_at, values_kinds, build_fits, arm_fits}
 use Rattle.normal_form.proofs.FitTurns.{type_there, ArmGoes, goes_split, case_goes}
@@ -93,16 +92,6 @@ joined_fits : (F : Frame) (C : Coding F) (number m : ℕ) (lines : List Line) (x
 joined_fits F C number m lines x result join q is fit from to less there =
     fit_append C.program C.func number m lines (new result (block.Copy x) ∷ Close (block.Goto join) ∷ []) is fit
     (let_fits C.program C.func result (block.Copy x) q (kind_at F C result q to) (kind_at F C x q from), ((less, there), tt))
-
-arm_ends_some : (F : Frame) (as' : Arms) (con : ℕ) → 1 ≤ arms_with (types_of F.source) con as' → 1 ≤ arm_ends F.source as' con
-arm_ends_some F NoArms con some = absurd (omega (arith, some))
-arm_ends_some F (AndArm c fs x b as') con some = by_test (is_that (constructor_number F.source c) con) (ap (λ o. is_that o con) (number_same F.source c)) (arm_ends_some F as' con)
-  where
-    by_test : (t : Bool) → is_that (typed.constructor_number (types_of F.source) c.word) con ≡ t
-        → (1 ≤ arms_with (types_of F.source) con as' → 1 ≤ arm_ends F.source as' con)
-        → 1 ≤ (if t then suc (ends F.source b) else arm_ends F.source as' con)
-    by_test true e later = omega arith
-    by_test false e later = later (fewer (is_that (typed.constructor_number (types_of F.source) c.word) con) (arms_with (types_of F.source) con as') e some)
 
 -- ---- expressions
 

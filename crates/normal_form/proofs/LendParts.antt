@@ -17,19 +17,19 @@ use Rattle.camelot_tree.specs.declared.tree.ArmCell.TheVariants as cell
 use Rattle.camelot_tree.specs.Tree.{Expression, Branch, Source}
 use Rattle.camelot_tree.specs.Cells.{has_cell}
 use Rattle.camelot_typing.specs.Kinds.{Scope, bind, bind_fields, bind_cell, or_else, types_of, fields_of, is_inline, constructor_number, numbered}
-use Rattle.linear_use.specs.Uses.{Loans, CellTaken, lends_field, arm_flags, is_lent as is_flagged}
+use Rattle.linear_use.specs.Uses.{CellTaken, lends_field, arm_flags, is_lent as is_flagged}
 use Rattle.grail_blocks.specs.declared.blocks.CaseCell.{CaseCell}
 use Rattle.grail_blocks.specs.declared.blocks.CaseCell.TheVariants as case_cell
 use Rattle.grail_blocks.specs.Blocks as block
-use Rattle.grail_blocks.specs.Blocks.{Op, CaseArm}
-use Rattle.grail_blocks.specs.Events.{kept_diamond, bound_by}
+use Rattle.grail_blocks.specs.Blocks.{CaseArm}
+use Rattle.grail_blocks.specs.Events.{kept_diamond}
 use Rattle.grail_code.specs.Code.{Func, Code}
-use Rattle.grail_code.specs.WellFormed.{kind_of, is_of_heap, looked_by, is_read, is_lent, reads_of, AreNotLent, takes, LetLends, CellLends, bound_anew, ArmLends, TermLends}
-use Rattle.normal_form.specs.Normal.{NormalBlock, Line, Bind, Close, new, in_first, cut, con_of, fun_of, local, bound_count, diamonds, with_fields, with_cell, in_arm, cell_in, case_arm, total, in_turn, joining, diamond_kinds, all_of}
+use Rattle.grail_code.specs.WellFormed.{is_of_heap, looked_by, is_read, is_lent, AreNotLent, LetLends, CellLends, bound_anew, ArmLends, TermLends}
+use Rattle.normal_form.specs.Normal.{NormalBlock, Line, Bind, Close, in_first, cut, con_of, local, bound_count, diamonds, with_fields, with_cell, in_arm, cell_in, case_arm, total, in_turn, diamond_kinds, all_of}
 use Rattle.normal_form.specs.Facts.{BodyLends}
-use Rattle.normal_form.proofs.KindsAt.{Frame, At, at_front, at_back, at_head, HasLocal, ArmFor, bound_of}
+use Rattle.normal_form.proofs.KindsAt.{Frame, At, at_front, at_back, HasLocal, ArmFor, bound_of}
 use Rattle.normal_form.proofs.FitParts.{Coding, kind_at}
-use Rattle.normal_form.proofs.Looked.{or_false, looks, looks_append, arm_looks, turn_looks, turn_split, Inside, below_none, above_none, fields_inside}
+use Rattle.normal_form.proofs.Looked.{or_false, or_true, looks, looks_append, arm_looks, turn_looks, turn_split, Inside, below_none, above_none}
 
 -- ---- lines
 
@@ -145,12 +145,8 @@ all_among : (types : List DataType) (f : Func) (xs : List ℕ) → ((x : ℕ) �
 all_among types f [] h = tt
 all_among types f (x ∷ xs) h = (
   h x (let test : (x == x) ≡ true = grind (arith, nat_tests) in ap (λ b. b || is_among xs x) test),
-  all_among types f xs (λ y e. h y (ap (λ b. (x == y) || b) e ∙ or_right (x == y))),
+  all_among types f xs (λ y e. h y (ap (λ b. (x == y) || b) e ∙ or_true (x == y))),
 )
-  where
-    or_right : (a : Bool) → (a || true) ≡ true
-    or_right true = refl
-    or_right false = refl
 
 bound_not : (types : List DataType) (f : Func) (c : CaseCell) (fields : List ℕ)
     → ((x : ℕ) → is_among (fields ++ kept_diamond c) x ≡ true → is_read f x ≡ is_among (looked_by c fields) x) → AreNotLent types f (bound_anew c (fields ++ kept_diamond c))
@@ -234,8 +230,8 @@ kept_owned : (types : List DataType) (lent inline : Bool) (c : Name) (x : ArmCel
 kept_owned types true inline c x d h is = let e : true ≡ false = sym (ap has_cell is) ∙ h in absurd cc
 kept_owned types false inline c x d h is = refl
 
-kept_looks : (lent inline : Bool) (x : ArmCell) (d : Name) (m : ℕ) (fields : List ℕ) → x ≡ cell.Keep d → looked_by (cell_in inline x m) fields ≡ []
-kept_looks lent inline x d m fields is = ap (λ y. looked_by (cell_in inline y m) fields) is
+kept_looks : (inline : Bool) (x : ArmCell) (d : Name) (m : ℕ) (fields : List ℕ) → x ≡ cell.Keep d → looked_by (cell_in inline x m) fields ≡ []
+kept_looks inline x d m fields is = ap (λ y. looked_by (cell_in inline y m) fields) is
 
 pub arm_stands : (F : Frame) (C : Coding F) (lent : Bool) (c : Name) (fs : List (Option Name)) (x : ArmCell) (b : Expression) (l : Scope ℕ) (flags : Scope Bool) (n i con : ℕ) (lines : List Line) (top : ℕ)
     → ArmFor F.source c fs con → CellTaken (types_of F.source) lent c x → At F.kinds n (bound_of F.source con x) → Flagged (lent_in F C) l flags
@@ -266,7 +262,7 @@ arm_stands F C lent c fs x b l flags n i con lines top a rule at fl inside reads
     (λ d is.
     let counted : diamonds x ≡ 1 = ap diamonds is in
     kept_owned types lent inl c x d taken is
-    ∙ sym (not_lent C.program.types C.func m (read m (omega arith) (omega (arith, counted)) ∙ ap (λ zs. is_among zs m) (kept_looks lent inl x d m (numbered n fs) is)))) in
+    ∙ sym (not_lent C.program.types C.func m (read m (omega arith) (omega (arith, counted)) ∙ ap (λ zs. is_among zs m) (kept_looks inl x d m (numbered n fs) is)))) in
     record {
       arm = record {
         cell = cell_lends lent inl x m taken;

@@ -1,5 +1,5 @@
 -- The lines of functions only look at what is lent.
-use Rattle.std.proofs.Common.{◌≡◌, ℕ, suc, ◌+◌, Bool, true, false, List, [], ◌∷◌, ◌++◌, Some, sym, subst, arith}
+use Rattle.std.proofs.Common.{ℕ, suc, ◌+◌, Bool, false, [], ◌∷◌, ◌++◌, Some, sym, subst, arith}
 use Rattle.std.specs.Prelude.{if◌then◌else◌}
 use Rattle.std.specs.List.{AllByRecursion}
 use Rattle.camelot_values.specs.declared.kinds.Kind.{Kind}
@@ -12,7 +12,7 @@ use Rattle.linear_use.specs.Uses.{Loans, ArmsAreLinear, looks_at, arm_flags}
 use Rattle.grail_blocks.specs.Blocks as block
 use Rattle.grail_blocks.specs.Events.{taken_by}
 use Rattle.grail_code.specs.WellFormed.{AreNotLent, ArmLends}
-use Rattle.normal_form.specs.Normal.{Close, fun_of, cons_of, arm_for, bound_count, in_arm, case_arm, case_arms, total, in_turn, made, all_made, ends, all_ends, local_of, locals_of, value, values, bound_kinds, kind_in, all_of, kinds, tail_made, arm_tail_made, tail_ends, arm_tail_ends, tail, arm_tail, tail_kinds, arm_tail_kinds}
+use Rattle.normal_form.specs.Normal.{Close, fun_of, cons_of, arm_for, bound_count, in_arm, case_arm, case_arms, total, in_turn, made, all_made, ends, local_of, locals_of, value, values, bound_kinds, kind_in, all_of, kinds, tail_made, arm_tail_made, tail_ends, arm_tail_ends, tail, arm_tail, tail_kinds, arm_tail_kinds}
 use Rattle.normal_form.proofs.KindsAt.{Frame, At, at_front, at_back, Named, named_kept, named_bind, kind_is, kind_same, in_let, kinds_made, local_is, arm_for_con, bound_of, bound_same, bound_are, named_arm}
 use Rattle.normal_form.proofs.Frames.{Typed, tail_kinds_made, arm_tail_kinds_made}
 use Rattle.normal_form.proofs.FitParts.{Coding}

@@ -1,5 +1,5 @@
 -- The lines of expressions only look at what is lent, and the local that has a value that is taken isn't lent.
-use Rattle.std.proofs.Common.{◌≡◌, ℕ, suc, ◌+◌, ◌≤◌, ◌<◌, Bool, true, false, List, [], ◌∷◌, ◌++◌, length, Option, Some, None, refl, sym, ap, ◌∙◌, subst, arith}
+use Rattle.std.proofs.Common.{◌≡◌, ℕ, suc, ◌+◌, ◌≤◌, Bool, true, false, List, [], ◌∷◌, ◌++◌, Option, Some, None, refl, sym, ap, ◌∙◌, subst, arith}
 use Rattle.std.specs.Prelude.{◌||◌, if◌then◌else◌}
 use Rattle.std.specs.List.{AllByRecursion}
 use Rattle.camelot_values.specs.Kinds.{DataType}
@@ -12,19 +12,19 @@ use Rattle.camelot_tree.specs.Meaning.{constructor_number, is_that}
 use Rattle.camelot_typing.specs.Kinds as typed
 use Rattle.camelot_typing.specs.Kinds.{Scope, bind, arm_scope, types_of, is_inline}
 use Rattle.camelot_typing.specs.Typing as typing
-use Rattle.camelot_typing.specs.Typing.{Signature, known_kind, globals_of, HaveKinds, ArmsHaveKind, HeadFits}
+use Rattle.camelot_typing.specs.Typing.{Signature, known_kind, globals_of, HaveKinds, ArmsHaveKind}
 use Rattle.linear_use.specs.Uses.{Loans, IsLinear, AllAreLinear, ArmsAreLinear, PlaceIsOwned, looks_at, arm_flags, is_read_here, reads_behind, is_reading}
 use Rattle.grail_blocks.specs.declared.blocks.Place.TheVariants as place
 use Rattle.grail_blocks.specs.Blocks as block
-use Rattle.grail_blocks.specs.Blocks.{Op, CaseArm}
+use Rattle.grail_blocks.specs.Blocks.{Op}
 use Rattle.grail_blocks.specs.Events.{taken_by, taken}
 use Rattle.grail_code.specs.Code.{Func, Code}
-use Rattle.grail_code.specs.WellFormed.{is_lent, is_read, reads_of, takes, AreNotLent, ArmLends}
-use Rattle.normal_form.specs.Normal.{Line, Close, new, con_of, fun_of, place_in, cons_of, arm_for, bound_count, in_arm, case_arm, case_arms, total, in_turn, made, all_made, arm_made, ends, all_ends, arm_ends, local_of, locals_of, joining, value, values, arm_value, bound_kinds, kind_in, all_of, kinds, all_kinds, arm_kinds}
+use Rattle.grail_code.specs.WellFormed.{is_lent, reads_of, takes, AreNotLent, ArmLends}
+use Rattle.normal_form.specs.Normal.{Line, Close, new, con_of, fun_of, place_in, cons_of, arm_for, bound_count, in_arm, case_arm, case_arms, total, in_turn, made, all_made, arm_made, ends, arm_ends, local_of, locals_of, joining, value, values, arm_value, bound_kinds, kind_in, all_of, kinds, all_kinds, arm_kinds}
 use Rattle.normal_form.proofs.KindsAt.{Frame, At, at_front, at_back, at_rest, Named, named_kept, named_bind, named_local, kind_is, kind_same, in_let, kinds_made, arm_kinds_made, local_is, arm_for_con, bound_of, bound_same, bound_are, named_arm}
 use Rattle.normal_form.proofs.Frames.{Typed}
 use Rattle.normal_form.proofs.FitParts.{Coding}
-use Rattle.normal_form.proofs.Looked.{looks, arm_looks, turn_looks, Inside, below_none, above_none, nothing, inside_then, turns_inside, value_inside, values_inside, arm_value_inside, fields_inside}
+use Rattle.normal_form.proofs.Looked.{looks, arm_looks, Inside, below_none, above_none, nothing, inside_then, turns_inside, value_inside, values_inside, arm_value_inside, fields_inside}
 use Rattle.normal_form.proofs.LendParts.{LinesLend, lend_append, ReadAs, read_within, read_front, read_back, not_lent, Flagged, flagged_bind, flag_is, lent_in, ArmGoes, lends_split, turns_lend, arm_stands}
 
 -- the marks of a function that is called are those that the rule goes by
@@ -45,13 +45,13 @@ pub record OnLends (p : Code) (f : Func) (lines : List Line) (x : ℕ) (lent : B
   pub lines_lend : LinesLend p f lines
   pub own : is_lent p.types f x ≡ lent
 
-name_lent : (F : Frame) (C : Coding F) (n : Name) (s : Scope Kind) (l : Scope ℕ) (flags : Scope Bool) (next number : ℕ) (q : Kind) → Named F s l next → Flagged (lent_in F C) l flags
+name_lent : (F : Frame) (C : Coding F) (n : Name) (s : Scope Kind) (l : Scope ℕ) (flags : Scope Bool) (next : ℕ) (q : Kind) → Named F s l next → Flagged (lent_in F C) l flags
     → Typed F s (Var n) q → lent_in F C (local_of F.source (Var n) l next) ≡ looks_at flags (Var n)
-name_lent F C n s l flags next number q st fl has = sym (flag_is F.kinds (lent_in F C) l flags next n q fl (named_local F s l next n.word q st has))
+name_lent F C n s l flags next q st fl has = sym (flag_is F.kinds (lent_in F C) l flags next n q fl (named_local F s l next n.word q st has))
 
 looked_lends : (F : Frame) (C : Coding F) (e : Expression) (s : Scope Kind) (l : Scope ℕ) (flags : Scope Bool) (next number : ℕ) (q : Kind) → Named F s l next → Flagged (lent_in F C) l flags
     → Typed F s e q → looks_at flags e ≡ true → OnLends C.program C.func (value F.source e l next number) (local_of F.source e l next) (looks_at flags e)
-looked_lends F C (Var n) s l flags next number q st fl has e = record { lines_lend = tt; own = name_lent F C n s l flags next number q st fl has }
+looked_lends F C (Var n) s l flags next number q st fl has e = record { lines_lend = tt; own = name_lent F C n s l flags next q st fl has }
 looked_lends F C (Num z l0) s l flags next number q st fl has e = absurd cc
 looked_lends F C (Truth b l0) s l flags next number q st fl has e = absurd cc
 looked_lends F C (Prim op a b l0) s l flags next number q st fl has e = absurd cc
@@ -161,7 +161,7 @@ mutual
   pub value_lends : (F : Frame) (C : Coding F) (loans : Loans) (calls : CalleesLend F C loans) (e : Expression) (s : Scope Kind) (l : Scope ℕ) (flags : Scope Bool) (next number : ℕ) (q : Kind) → Named F s l next
       → Flagged (lent_in F C) l flags → Typed F s e q → Linear F loans s flags e → At F.kinds next (kinds F.source F.sigs s e)
       → ReadAs C.func next (next + made F.source e) (looks (value F.source e l next number)) → ValueLends C.program C.func (value F.source e l next number) (local_of F.source e l next)
-  value_lends F C loans calls (Var n) s l flags next number q st fl has lin at reads = record { lines_lend = tt; own = name_lent F C n s l flags next number q st fl has ∙ lin }
+  value_lends F C loans calls (Var n) s l flags next number q st fl has lin at reads = record { lines_lend = tt; own = name_lent F C n s l flags next q st fl has ∙ lin }
   value_lends F C loans calls (Num z l0) s l flags next number q st fl has lin at reads =
       bound_lends F C [] next next (block.Lit z) tt tt (nothing next next) (omega arith) (read_within C.func next (next + 1) next (suc next) (λ x. false) reads (omega arith) (omega arith))
   value_lends F C loans calls (Truth b l0) s l flags next number q st fl has lin at reads =

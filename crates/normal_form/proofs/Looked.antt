@@ -1,6 +1,6 @@
 -- What the arms bind that leave their cell as it is, among the lines of a part: locals that the part makes.
-use Rattle.std.proofs.Common.{◌≡◌, ℕ, suc, ◌+◌, ◌≤◌, ◌<◌, Bool, true, false, List, [], ◌∷◌, ◌++◌, length, Option, Some, None, refl, sym, ap, ◌∙◌, arith}
-use Rattle.std.specs.Prelude.{◌||◌, ◌==◌, if◌then◌else◌, flat_map, nat_lt}
+use Rattle.std.proofs.Common.{◌≡◌, ℕ, suc, ◌+◌, ◌≤◌, ◌<◌, Bool, true, false, List, [], ◌∷◌, ◌++◌, length, Option, Some, refl, sym, ap, ◌∙◌, arith}
+use Rattle.std.specs.Prelude.{◌||◌, ◌==◌, if◌then◌else◌, flat_map}
 use Rattle.std.proofs.lemmas.Bool.Decides.{nat_tests}
 use Rattle.camelot_values.specs.Lists.{is_among}
 use Rattle.camelot_tree.specs.declared.tree.Name.{Name}
@@ -11,9 +11,9 @@ use Rattle.camelot_typing.specs.Kinds.{Scope, bind, types_of, is_inline, numbere
 use Rattle.grail_blocks.specs.declared.blocks.CaseCell.{CaseCell}
 use Rattle.grail_blocks.specs.declared.blocks.CaseCell.TheVariants as case_cell
 use Rattle.grail_blocks.specs.Blocks as block
-use Rattle.grail_blocks.specs.Blocks.{Op, CaseArm}
+use Rattle.grail_blocks.specs.Blocks.{CaseArm}
 use Rattle.grail_code.specs.WellFormed.{looked_by, looked_at}
-use Rattle.normal_form.specs.Normal.{Line, Bind, Close, new, con_of, cons_of, arm_for, bound_count, diamonds, in_arm, cell_in, case_arm, case_arms, total, in_turn, made, all_made, arm_made, ends, all_ends, arm_ends, local_of, joining, value, values, arm_value, tail_made, arm_tail_made, tail_ends, arm_tail_ends, tail, arm_tail}
+use Rattle.normal_form.specs.Normal.{Line, Bind, Close, new, con_of, cons_of, arm_for, bound_count, in_arm, cell_in, case_arm, case_arms, total, in_turn, made, all_made, arm_made, ends, arm_ends, local_of, joining, value, values, arm_value, tail_made, arm_tail_made, tail_ends, arm_tail_ends, tail, arm_tail}
 
 -- ---- tests
 
@@ -25,7 +25,7 @@ or_assoc : (a b c : Bool) → ((a || b) || c) ≡ (a || (b || c))
 or_assoc true b c = refl
 or_assoc false b c = refl
 
-or_true : (a : Bool) → (a || true) ≡ true
+pub or_true : (a : Bool) → (a || true) ≡ true
 or_true true = refl
 or_true false = refl
 
@@ -153,9 +153,6 @@ turns_inside locals blocks arm part h (con ∷ cons) n i x e =
     x (sym (turn_split (arm con n i) arms (part con n i) lines x) ∙ e)
 
 -- ---- expressions
-
-one_inside : (low high x : ℕ) (op : Op) → Inside low high (looks (new x op ∷ []))
-one_inside low high x op = nothing low high
 
 joined_inside : (low high : ℕ) (lines : List Line) (from to target : ℕ) → Inside low high (looks lines) → Inside low high (looks (joining lines from to target))
 joined_inside low high lines from to target h = inside_then low high low high lines (new to (block.Copy from) ∷ Close (block.Goto target) ∷ []) h (omega arith) (omega arith) (nothing low high)

@@ -1,6 +1,6 @@
 -- The normal forms of small functions, worked by hand: a tail call behind `if`; `if` in both operands of an operator; a
--- match whose arms stand in another order than the constructors; a list that is doubled.
-use Rattle.std.proofs.Common.{◌≡◌, ℕ, List, [], ◌∷◌, Some, None, false, true, refl}
+-- match whose arms stand in another order than the constructors; a list that is doubled; one that is only read.
+use Rattle.std.proofs.Common.{◌≡◌, ℕ, Bool, List, [], ◌∷◌, Some, None, false, true, refl}
 use Rattle.std.specs.Prelude.{codes, pos}
 use Rattle.camelot_values.specs.Operator as operator
 use Rattle.camelot_values.specs.declared.kinds.Kind.{Kind}
@@ -34,6 +34,10 @@ args e es = AndExpression e es
 abbrev param : List ℕ → Param
 param word = record { name = name word; read = false; kind = None }
 
+-- one that is marked `read`
+abbrev read_param : List ℕ → Param
+read_param word = record { name = name word; read = true; kind = None }
+
 abbrev lists : DataType
 lists = record {
   name = name (codes "ilist");
@@ -53,6 +57,10 @@ function params kinds result body = normal_form (record {
 abbrev first : List NormalFunction → List Kind
 first [] = []
 first (f ∷ fs) = f.locals
+
+abbrev first_reads : List NormalFunction → List Bool
+first_reads [] = []
+first_reads (f ∷ fs) = f.reads
 
 abbrev first_blocks : List NormalFunction → List NormalBlock
 first_blocks [] = []
@@ -140,3 +148,25 @@ doubled_blocks : first_blocks doubled.functions ≡
     ∷ of (bound 4 (block.Call 0 (3 ∷ [])) ∷ bound 5 (block.Make 1 (2 ∷ 4 ∷ []) place.New) ∷ bound 6 (block.Make 1 (2 ∷ 5 ∷ []) place.New) ∷ []) (block.Ret 6)
     ∷ []
 doubled_blocks = refl
+
+-- f (read l) (read n) = match l with Nil -> n | Cons(h, t) -> f(t, h + f(t, n)) end
+abbrev summed : NormalProgram
+summed = function (read_param (codes "l") ∷ read_param (codes "n") ∷ []) (list ∷ kind.Int ∷ []) kind.Int
+    (Match (var (codes "l")) (AndArm (name (codes "Nil")) [] cell.Plain (var (codes "n"))
+    (AndArm (name (codes "Cons")) (Some (name (codes "h")) ∷ Some (name (codes "t")) ∷ []) cell.Plain
+    (Call (name (codes "f")) (args (var (codes "t"))
+    (args (Prim operator.Add (var (codes "h")) (Call (name (codes "f")) (args (var (codes "t")) (args (var (codes "n")) NoExpressions))) 1) NoExpressions)))
+    NoArms)) 1)
+
+summed_reads : first_reads summed.functions ≡ true ∷ false ∷ []
+summed_reads = refl
+
+summed_locals : first summed.functions ≡ kind.Int ∷ list ∷ kind.Int ∷ kind.Int ∷ []
+summed_locals = refl
+
+summed_blocks : first_blocks summed.functions ≡
+    of [] (block.Case 0 (arm [] case_cell.Inline 1 ∷ arm (2 ∷ 3 ∷ []) case_cell.Look 2 ∷ []))
+    ∷ of [] (block.Ret 1)
+    ∷ of (bound 4 (block.Call 0 (3 ∷ 1 ∷ [])) ∷ bound 5 (block.Prim operator.Add 2 4) ∷ []) (block.Tail 0 (3 ∷ 5 ∷ []))
+    ∷ []
+summed_blocks = refl
