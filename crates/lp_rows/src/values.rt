@@ -145,7 +145,8 @@ pub(crate) fn push_arguments(
     Ok(())
 }
 
-/// Adds the rows of the parameters of a block, where an arm has bound these fields.
+/// Adds the rows of the parameters of a block, where an arm has bound these fields. Of one that is lent nothing is
+/// unknown, so that its rows have no terms, and aren't kept.
 pub(crate) fn push_vars(
     books: Books<'_>,
     here: Here<'_>,
