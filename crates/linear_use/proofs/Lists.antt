@@ -1,5 +1,5 @@
 -- Laws of the walk through arguments and arms.
-use Rattle.std.proofs.Common.{◌≡◌, ℕ, zero, suc, ◌+◌, ◌<◌, Bool, true, false, if◌then◌else◌, List, [], ◌∷◌, ◌++◌, map, length, drop, take, get_or, Option, Some, None, refl, sym, ap, ◌∙◌, subst, arith, append_assoc, append-nil, length-append}
+use Rattle.std.proofs.Common.{◌≡◌, ℕ, zero, suc, ◌+◌, ◌≤◌, ◌<◌, Bool, true, false, if◌then◌else◌, List, [], ◌∷◌, ◌++◌, map, length, drop, take, get_or, Option, Some, None, refl, sym, ap, ◌∙◌, subst, arith, append_assoc, append-nil, length-append}
 use Rattle.std.specs.Prelude.{◌&&◌}
 use Rattle.std.specs.Option.{option_or}
 use Rattle.camelot_values.specs.Kinds.{DataType}
@@ -321,6 +321,12 @@ left_expressions f [] i j x e h r = absurd (omega (arith, h))
 left_expressions f (y ∷ xs) zero j x e h r = let q : j ≡ 1 = omega (arith, e) in ap (λ z. AndExpression (f z) (expressions (map f xs))) (sym r) ∙ ap (λ k. AndExpression (f x) (expressions (map f (drop k (y ∷ xs))))) (sym q)
 left_expressions f (y ∷ xs) (suc i) zero x e h r = absurd (omega (arith, e))
 left_expressions f (y ∷ xs) (suc i) (suc j) x e h r = left_expressions f xs i j x (omega (arith, e)) (omega (arith, h)) r
+
+pub over_expressions : {A : Type 0} (f : A → Expression) (xs : List A) (i : ℕ) → length xs ≤ i → expressions (map f (drop i xs)) ≡ NoExpressions
+over_expressions f [] zero h = refl
+over_expressions f [] (suc i) h = refl
+over_expressions f (x ∷ xs) zero h = absurd (omega (arith, h))
+over_expressions f (x ∷ xs) (suc i) h = over_expressions f xs i (omega (arith, h))
 
 pub left_arms : {A : Type 0} (f : A → Branch) (xs : List A) (i j : ℕ) (x : A) → j ≡ i + 1 → i < length xs → x ≡ get_or xs i x
     → arms (map f (drop i xs)) ≡ AndArm (f x).con (f x).fields (f x).cell (f x).body (arms (map f (drop j xs)))
