@@ -94,7 +94,6 @@ fn find_read<'b>(
 }
 
 /// The readings of a call behind its arguments; the first fault among them stands before all that was found.
-#[tactic(auto, using(crate::proofs::Steps::reads_none, crate::proofs::Steps::reads_some))]
 pub(crate) fn check_reads(
     known: &Known<'_, '_>,
     state: &mut State<'_>,
@@ -107,8 +106,9 @@ pub(crate) fn check_reads(
         (lent_params known.now.typed.now.types marks.entry.params.now marks.entry.kinds.now) (expressions (map expression_of args.now)) clear)
         state.old.fault }) }
 {
-    match find_read(known, state, marks, args, clear) {
-        Some(name) => state.twice_first(known.alloc, name),
-        None => Ok(()),
-    }
+    let Some(name) = find_read(known, state, marks, args, clear) else {
+        return Ok(());
+    };
+    state.twice_first(known.alloc, name)?;
+    Ok(())
 }
