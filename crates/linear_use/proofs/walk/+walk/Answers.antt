@@ -130,7 +130,7 @@ walk_args-walk_arg-requires t c =
 pub walk_args-all-preserved : goal.walk_args-all-preserved
 walk_args-all-preserved t c =
     record {
-      left = all_step (loans_in c.args.known.now.typed.now) (globals_in c.args.known.now.typed.now) c.args.known.now.exprs.now (lent_params c.args.known.now.typed.now.types c.args.marks.params.now c.args.marks.kinds.now) (lent_params c.args.known.now.typed.now.types c.all.left.params.now c.all.left.kinds.now) (lent_params c.args.known.now.typed.now.types c.behind-left.result.params.now c.behind-left.result.kinds.now) (expressions (map expression_of c.args.args.now)) (expressions (map expression_of (drop c.all.arg-index c.args.args.now))) (expressions (map expression_of (drop (c.all.arg-index + 1) c.args.args.now))) (expression_of c.arg-item.result) c.first-read.result c.all.clear c.all.index c.in_ok-walk_arg.field-0 (c.all.index + 1) c.args.state.now c.all.state c.walk_arg.new.state (left_expressions expression_of c.args.args.now c.all.arg-index (c.all.arg-index + 1) c.arg-item.result refl c.all-test.true c.arg-item.is) c.first-read.ensures c.behind-left.ensures refl c.all.invariant.left c.in_ok-walk_arg.ensures;
+      left = all_step (loans_in c.args.known.now.typed.now) (globals_in c.args.known.now.typed.now) c.args.known.now.exprs.now (lent_params c.args.known.now.typed.now.types c.args.marks.params.now c.args.marks.kinds.now) (lent_params c.args.known.now.typed.now.types c.all.left.params.now c.all.left.kinds.now) (lent_params c.args.known.now.typed.now.types c.behind-left.result.params.now c.behind-left.result.kinds.now) (expressions (map expression_of c.args.args.now)) (expressions (map expression_of (drop c.all.arg-index c.args.args.now))) (expressions (map expression_of (drop (c.all.arg-index + 1) c.args.args.now))) (expression_of c.arg-item.result) c.first-read.result c.all.clear c.all.index c.in_ok-clear.clear (c.all.index + 1) c.args.state.now c.all.state c.walk_arg.new.state (left_expressions expression_of c.args.args.now c.all.arg-index (c.all.arg-index + 1) c.arg-item.result refl c.all-test.true c.arg-item.is) c.first-read.ensures c.behind-left.ensures refl c.all.invariant.left c.in_ok-clear.ensures;
       place = ap (λ i. i + 1) c.all.invariant.place;
     }
 
@@ -183,11 +183,11 @@ walk_parts-returns-in-Match t c =
 
 pub walk_arg-returns-then-not-is_read : goal.walk_arg-returns-then-not-is_read
 walk_arg-returns-then-not-is_read t c =
-    argument_own (loans_in c.args.known.now.typed.now) (globals_in c.args.known.now.typed.now) c.args.read (expression_of c.args.arg.now) c.args.clear c.args.index c.args.state.now c.walk.new.state (sym c.is_read.ensures ∙ c.if-is_read.false) c.in_ok-walk.ensures
+    argument_own (loans_in c.args.known.now.typed.now) (globals_in c.args.known.now.typed.now) c.args.read (expression_of c.args.arg.now) c.args.clear c.args.index c.args.state.now c.walk.new.state (sym c.is_read.ensures ∙ c.if-not-is_read.true) c.in_ok-walk.ensures
 
 pub walk_arg-finish-requires : goal.walk_arg-finish-requires
 walk_arg-finish-requires t c =
-    argument_end (globals_in c.args.known.now.typed.now) c.args.known.now.exprs.now c.args.read (expression_of c.args.arg.now) c.args.state.now (sym c.is_read.ensures ∙ c.if-is_read.true) c.requires
+    argument_end (globals_in c.args.known.now.typed.now) c.args.known.now.exprs.now c.args.read (expression_of c.args.arg.now) c.args.state.now (sym c.is_read.ensures ∙ c.if-not-is_read.false) c.requires
 
 pub walk_parts-returns-in_ok-walk_args-in-Build : goal.walk_parts-returns-in_ok-walk_args-in-Build
 walk_parts-returns-in_ok-walk_args-in-Build t c =
@@ -199,7 +199,7 @@ walk_parts-returns-in_ok-walk_args-in-Build t c =
     let is : expression_of c.args.expr.now ≡ Build build.con es build.place = ap expression_of c.in-Build.is ∙ build_is c.in-Build.build in
     let same : expressions (map expression_of c.deref-in-Build-2.result.now) ≡ es =
     ap (λ l. expressions (map expression_of l)) c.deref-in-Build-2.ensures.value ∙ ap (λ b. expressions (map expression_of b.args.items)) c.deref-in-Build.ensures in
-    let args = plain_walked l g (lent_params types c.new-in-Build.result.params.now c.new-in-Build.result.kinds.now) (expressions (map expression_of c.deref-in-Build-2.result.now)) c.in_ok-walk_args-in-Build.field-0 c.args.state.now c.walk_args.new.state (ap (λ x. lent_params types x c.new-in-Build.result.kinds.now) c.new-in-Build.ensures.params) c.in_ok-walk_args-in-Build.ensures in
+    let args = plain_walked l g (lent_params types c.new.result.params.now c.new.result.kinds.now) (expressions (map expression_of c.deref-in-Build-2.result.now)) c.in_ok-walk_args-in-Build.field-0 c.args.state.now c.walk_args.new.state (ap (λ x. lent_params types x c.new.result.kinds.now) c.new.ensures.params) c.in_ok-walk_args-in-Build.ensures in
     build_walked l g c.args.state.now c.walk_args.new.state c.use_place.new.state (expression_of c.args.expr.now) build.con es build.place c.use_place.result is
     (subst (λ x. Walked (all_flow l g [] c.args.state.now.next c.args.state.now.scope x) (all_next types c.args.state.now.next x) (length (all_kinds_at g c.args.state.now x)) c.args.state.now c.walk_args.new.state) same args)
     (subst (λ b. Walks (place_flow types c.walk_args.new.state.scope b.place) c.walk_args.new.state.next 0 c.walk_args.new.state c.use_place.result c.use_place.new.state) c.deref-in-Build-3.ensures c.use_place.ensures)
