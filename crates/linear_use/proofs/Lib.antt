@@ -10,6 +10,9 @@ pub mod Walking
 pub mod Steps
 pub mod Climbing
 pub mod Lists
+pub mod Bodies
+pub mod Trees
 pub mod Tables
+pub mod FunctionLaws
 pub mod Props
 pub mod Answering

@@ -1,14 +1,14 @@
 -- Laws of the walk through arguments and arms.
-use Rattle.std.proofs.Common.{◌≡◌, ℕ, zero, suc, ◌+◌, ◌<◌, Bool, true, false, if◌then◌else◌, List, [], ◌∷◌, ◌++◌, map, length, drop, take, get_or, Option, Some, None, refl, sym, ap, ◌∙◌, subst, arith, append_assoc, append-nil, length-append}
+use Rattle.std.proofs.Common.{◌≡◌, ℕ, zero, suc, ◌+◌, ◌≤◌, ◌<◌, Bool, true, false, if◌then◌else◌, List, [], ◌∷◌, ◌++◌, map, length, drop, take, get_or, Option, Some, None, refl, sym, ap, ◌∙◌, subst, arith, append_assoc, append-nil, length-append}
 use Rattle.std.specs.Prelude.{◌&&◌}
 use Rattle.std.specs.Option.{option_or}
 use Rattle.camelot_values.specs.Kinds.{DataType}
 use Rattle.camelot_values.specs.declared.kinds.Kind.{Kind}
 use Rattle.camelot_values.specs.Heap.{is_heap}
 use Rattle.camelot_values.specs.Names.{find}
-use Rattle.camelot_tree.specs.Tree.{Expression, Num, Truth, Var, Prim, If, Let, Match, Build, Call, Expressions, NoExpressions, AndExpression, Arms, AndArm, Branch, expressions, arms}
+use Rattle.camelot_tree.specs.Tree.{Expression, Num, Truth, Var, Prim, If, Let, Match, Build, Call, Expressions, NoExpressions, AndExpression, Arms, NoArms, AndArm, Branch, expressions, arms}
 use Rattle.camelot_tree.specs.declared.tree.Name.{Name}
-use Rattle.camelot_typing.specs.Kinds.{Globals, Scope, all_atoms, arms_atoms}
+use Rattle.camelot_typing.specs.Kinds.{Globals, Scope, atom_of, all_atoms, arms_atoms}
 use Rattle.camelot_typing.specs.Typing.{known_kind}
 use Rattle.linear_use.specs.declared.fault.UseFault.{UseFault}
 use Rattle.linear_use.specs.declared.fault.UseFault.TheVariants.{Twice}
@@ -17,7 +17,7 @@ use Rattle.linear_use.specs.declared.state.State.{State}
 use Rattle.linear_use.specs.Uses.{Loans, is_read_here, reads_behind}
 use Rattle.linear_use.specs.Flow.{Flow, Nothing, Read, Calling, is_spent, used, read_flow, argument_flow, kinds_in, next_of, all_next, arms_next, flow, all_flow, arms_flow}
 use Rattle.linear_use.specs.Walk.{first_of, AreAt, Walked, kinds_at, all_kinds_at, arm_flow, arm_next, arm_kinds_at, arms_kinds_at, is_none, is_read, own_flow, reads_first, ArgumentWalked, AllWalked}
-use Rattle.linear_use.proofs.Walking.{at_front, seq_at, or_none, or_nothing, or_assoc}
+use Rattle.linear_use.proofs.Walking.{at_front, end_within, seq_at, or_none, or_nothing, or_assoc, nothing_walked}
 use Rattle.linear_use.proofs.Climbing.{WalkedTerm}
 use Rattle.linear_use.proofs.Counting.{argument_plain}
 
@@ -101,6 +101,46 @@ pub all_at : (loans : Loans) (g : Globals Kind) (ex : List Kind) (ms marks : Lis
     → AllLeft loans g ex ms marks all left clear index s0 s1 → AreAt ex s1.position (kinds_at g s1 e)
 all_at loans g ex ms marks all left rest e clear index s0 s1 q h =
     at_front ex s1.position (kinds_at g s1 e) (all_kinds_at g s1 rest) (subst (λ x. AreAt ex s1.position (all_kinds_at g s1 x)) q h.kinds)
+
+pub argument_own : (loans : Loans) (g : Globals Kind) (m : Bool) (e : Expression) (clear index : ℕ) (s0 s1 : State) → is_read m e ≡ false → WalkedTerm loans g e s0 s1
+    → ArgumentWalked loans g m e clear index s0 s1 clear
+argument_own loans g m e clear index s0 s1 h w = record {
+  walked = subst (λ b. Walked (if b then Nothing else flow loans g s0.next s0.scope e) (next_of g.types s0.next e) (length (kinds_at g s0 e)) s0 s1) (sym h) w;
+  cleared = sym (ap (λ b. if b && is_none s0.fault then index else clear) h);
+}
+
+-- the place of the kind of a variable that is read
+pub argument_end : (g : Globals Kind) (ex : List Kind) (m : Bool) (e : Expression) (s : State) → is_read m e ≡ true → AreAt ex s.position (kinds_at g s e)
+    → s.position < length ex
+argument_end g ex m (Num z l) s h a = cc
+argument_end g ex m (Truth b l) s h a = cc
+argument_end g ex m (Var n) s h a = end_within ex s.position s.position [] (atom_of known_kind g (kinds_in s.scope) (Var n)) (omega arith) a
+argument_end g ex m (Prim op a2 b l) s h a = cc
+argument_end g ex m (If c a2 b l) s h a = cc
+argument_end g ex m (Let n e b) s h a = cc
+argument_end g ex m (Match e as' l) s h a = cc
+argument_end g ex m (Build c es place) s h a = cc
+argument_end g ex m (Call f es) s h a = cc
+
+passed_walked : (loans : Loans) (g : Globals Kind) (m : Bool) (e : Expression) (s0 s1 : State) → is_read m e ≡ true → s1 ≡ record s0 { position = s0.position + 1 }
+    → Walked Nothing (next_of g.types s0.next e) (length (kinds_at g s0 e)) s0 s1
+passed_walked loans g m (Num z l) s0 s1 h q = cc
+passed_walked loans g m (Truth b l) s0 s1 h q = cc
+passed_walked loans g m (Var n) s0 s1 h q =
+    nothing_walked s0.next 1 s0 s1 (ap (λ s. s.fault) q) (ap (λ s. s.spent) q) (ap (λ s. s.next) q) (ap (λ s. s.scope) q) (ap (λ s. s.position) q)
+passed_walked loans g m (Prim op a b l) s0 s1 h q = cc
+passed_walked loans g m (If c a b l) s0 s1 h q = cc
+passed_walked loans g m (Let n e b) s0 s1 h q = cc
+passed_walked loans g m (Match e as' l) s0 s1 h q = cc
+passed_walked loans g m (Build c es place) s0 s1 h q = cc
+passed_walked loans g m (Call f es) s0 s1 h q = cc
+
+pub argument_passed : (loans : Loans) (g : Globals Kind) (m : Bool) (e : Expression) (clear index now : ℕ) (s0 s1 : State) → is_read m e ≡ true → s1 ≡ record s0 { position = s0.position + 1 }
+    → now ≡ (if is_none s1.fault then index else clear) → ArgumentWalked loans g m e clear index s0 s1 now
+argument_passed loans g m e clear index now s0 s1 h q n = record {
+  walked = subst (λ b. Walked (if b then Nothing else flow loans g s0.next s0.scope e) (next_of g.types s0.next e) (length (kinds_at g s0 e)) s0 s1) (sym h) (passed_walked loans g m e s0 s1 h q);
+  cleared = n ∙ ap (λ s. if is_none s.fault then index else clear) q ∙ sym (ap (λ b. if b && is_none s0.fault then index else clear) h);
+}
 
 -- one argument further
 record ArgumentStep (loans : Loans) (g : Globals Kind) (ms marks : List Bool) (all rest : Expressions) (e : Expression) (clear index now : ℕ) (s0 s1 s2 : State) : Type 0 where
@@ -322,6 +362,12 @@ left_expressions f (y ∷ xs) zero j x e h r = let q : j ≡ 1 = omega (arith, e
 left_expressions f (y ∷ xs) (suc i) zero x e h r = absurd (omega (arith, e))
 left_expressions f (y ∷ xs) (suc i) (suc j) x e h r = left_expressions f xs i j x (omega (arith, e)) (omega (arith, h)) r
 
+pub over_expressions : {A : Type 0} (f : A → Expression) (xs : List A) (i : ℕ) → length xs ≤ i → expressions (map f (drop i xs)) ≡ NoExpressions
+over_expressions f [] zero h = refl
+over_expressions f [] (suc i) h = refl
+over_expressions f (x ∷ xs) zero h = absurd (omega (arith, h))
+over_expressions f (x ∷ xs) (suc i) h = over_expressions f xs i (omega (arith, h))
+
 pub left_arms : {A : Type 0} (f : A → Branch) (xs : List A) (i j : ℕ) (x : A) → j ≡ i + 1 → i < length xs → x ≡ get_or xs i x
     → arms (map f (drop i xs)) ≡ AndArm (f x).con (f x).fields (f x).cell (f x).body (arms (map f (drop j xs)))
 left_arms f [] i j x e h r = absurd (omega (arith, h))
@@ -330,6 +376,12 @@ left_arms f (y ∷ xs) zero j x e h r =
     ap (λ z. AndArm (f z).con (f z).fields (f z).cell (f z).body (arms (map f xs))) (sym r) ∙ ap (λ k. AndArm (f x).con (f x).fields (f x).cell (f x).body (arms (map f (drop k (y ∷ xs))))) (sym q)
 left_arms f (y ∷ xs) (suc i) zero x e h r = absurd (omega (arith, e))
 left_arms f (y ∷ xs) (suc i) (suc j) x e h r = left_arms f xs i j x (omega (arith, e)) (omega (arith, h)) r
+
+pub over_arms : {A : Type 0} (f : A → Branch) (xs : List A) (i : ℕ) → length xs ≤ i → arms (map f (drop i xs)) ≡ NoArms
+over_arms f [] zero h = refl
+over_arms f [] (suc i) h = refl
+over_arms f (x ∷ xs) zero h = absurd (omega (arith, h))
+over_arms f (x ∷ xs) (suc i) h = over_arms f xs i (omega (arith, h))
 
 -- ---- arms
 

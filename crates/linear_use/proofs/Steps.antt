@@ -6,8 +6,10 @@ use Rattle.camelot_values.specs.Kinds.{DataType}
 use Rattle.camelot_values.specs.Heap.{is_heap}
 use Rattle.camelot_values.specs.Names.{find}
 use Rattle.camelot_values.specs.declared.kinds.Kind.{Kind}
+use Rattle.camelot_values.specs.declared.kinds.Kind.TheVariants as kind
 use Rattle.camelot_tree.specs.declared.tree.Name.{Name}
 use Rattle.camelot_tree.specs.declared.tree.ArmCell.{ArmCell}
+use Rattle.camelot_tree.specs.declared.tree.ArmCell.TheVariants as cell
 use Rattle.camelot_tree.specs.Cells.{has_cell}
 use Rattle.camelot_tree.specs.Tree.{Expression, Num, Truth, Var, Prim, If, Let, Match, Build, Call, Expressions, NoExpressions, AndExpression, Arms, AndArm, Branch}
 use Rattle.camelot_typing.specs.Kinds.{Globals, Scope, or_else, constructor_number, is_inline}
@@ -15,10 +17,10 @@ use Rattle.linear_use.specs.declared.fault.UseFault.{UseFault}
 use Rattle.linear_use.specs.declared.fault.UseFault.TheVariants.{Twice, ReadMatch, Lent}
 use Rattle.linear_use.specs.declared.variable.Variable.{Variable}
 use Rattle.linear_use.specs.declared.state.State.{State}
-use Rattle.linear_use.specs.Uses.{lends_field}
-use Rattle.linear_use.specs.Flow.{Flow, Nothing, Use, Fault, is_spent, use_flow, name_flow, cell_flow, look_flow, looks_on, some_cell, con_fields, fields_count, number_fields, number_cell, arm_variables, next_of}
-use Rattle.linear_use.specs.Walk.{first_of, Walked, kinds_at}
-use Rattle.linear_use.proofs.Walking.{or_nothing, nothing_walked}
+use Rattle.linear_use.specs.Uses.{lends_field, is_read_here, reads_behind}
+use Rattle.linear_use.specs.Flow.{Flow, Nothing, Use, Fault, argument_flow, is_spent, use_flow, name_flow, cell_flow, look_flow, looks_on, some_cell, con_fields, fields_count, number_fields, number_cell, arm_variables, next_of}
+use Rattle.linear_use.specs.Walk.{first_of, Walked, kinds_at, reads_first}
+use Rattle.linear_use.proofs.Walking.{or_nothing, or_none, or_some, nothing_walked}
 
 -- ---- occurrences of names
 
@@ -151,13 +153,6 @@ looked_cell g s0 s1 s2 e n as' q h r f =
     subst (λ x. Walked (look_flow x as') (next_of g.types s0.next x) (length (kinds_at g s0 x)) s0 s2) (sym q)
     (subst (λ b. Walked (if b then Fault (Lent n.word n.line) else Nothing) s0.next 1 s0 s2) (sym h) at_var)
 
--- ---- readings
-
-pub reads_none : {A : Type 0} (f : A → UseFault) (o : Option A) (found : Option UseFault) (s : State) → o ≡ None → option_map f o ≡ found
-    → s ≡ record s { fault = option_or found s.fault }
-reads_none f None found s h e = ap (λ (x : Option UseFault). let y : State = record s { fault = option_or x s.fault } in y) e
-reads_none f (Some a) found s h e = cc
-
 -- ---- variables of an arm
 
 pub lends_is : (types : List DataType) (lent lends : Bool) (c : Name) → lends ≡ (lent && not (is_inline types (or_else (constructor_number types c.word) 0)))
@@ -181,3 +176,63 @@ fields_same f h next (None ∷ fs) (k ∷ ks) s e = fields_same f h next fs ks s
 fields_same f h next (Some n ∷ fs) (k ∷ ks) s e =
     let A : Bool → Scope Variable = λ b. number_fields f (suc next) fs ks (record { name = n.word; is = record { number = next; kind = k; lent = b } } ∷ s) in
     ap A (e k) ∙ fields_same f h (suc next) fs ks (record { name = n.word; is = record { number = next; kind = k; lent = h k } } ∷ s) e
+
+cell_same : (f h : Kind → Bool) (last : ℕ) (x : ArmCell) (s : Scope Variable) → ((k : Kind) → f k ≡ h k) → number_cell f last x s ≡ number_cell h last x s
+cell_same f h last cell.Plain s e = refl
+cell_same f h last cell.Free s e = refl
+cell_same f h last (cell.Keep n) s e = ap (λ b. record { name = n.word; is = record { number = last; kind = kind.Dia; lent = b } } ∷ s) (e kind.Dia)
+
+pub arm_scope_is : (types : List DataType) (lent lends : Bool) (c : Name) (fs : List (Option Name)) (x : ArmCell) (ks : List Kind) (next mid : ℕ) (s0 s1 s2 : Scope Variable)
+    → lends ≡ (lent && not (is_inline types (or_else (constructor_number types c.word) 0))) → ks ≡ con_fields types c
+    → s1 ≡ number_fields (λ k. lends && is_heap types k) next fs ks s0 → mid ≡ next + fields_count fs ks
+    → s2 ≡ number_cell (λ k. lends && is_heap types k) mid x s1 → s2 ≡ arm_variables types lent next c fs x s0
+arm_scope_is types lent lends c fs x ks next mid s0 s1 s2 l k f m e =
+    let f1 : Kind → Bool = λ t. lends && is_heap types t in
+    let f2 : Kind → Bool = lends_field types lent c in
+    let same = lends_is types lent lends c l in
+    let inner : s1 ≡ number_fields f2 next fs (con_fields types c) s0 = f ∙ ap (λ t. number_fields f1 next fs t s0) k ∙ fields_same f1 f2 next fs (con_fields types c) s0 same in
+    let last : mid ≡ next + fields_count fs (con_fields types c) = m ∙ ap (λ t. next + fields_count fs t) k in
+    e ∙ ap (λ i. number_cell f1 i x s1) last ∙ ap (λ t. number_cell f1 (next + fields_count fs (con_fields types c)) x t) inner
+    ∙ cell_same f1 f2 (next + fields_count fs (con_fields types c)) x (number_fields f2 next fs (con_fields types c) s0) same
+
+-- ---- arms with an `@`
+
+pub cell_found : (all left rest : Arms) (a : Branch) → left ≡ AndArm a.con a.fields a.cell a.body rest → has_cell a.cell ≡ true → some_cell left ≡ some_cell all
+    → true ≡ some_cell all
+cell_found all left rest a q h e = sym (ap (λ b. b || some_cell rest) h) ∙ ap some_cell (sym q) ∙ e
+
+pub cell_on : (all left rest : Arms) (a : Branch) → left ≡ AndArm a.con a.fields a.cell a.body rest → has_cell a.cell ≡ false → some_cell left ≡ some_cell all
+    → some_cell rest ≡ some_cell all
+cell_on all left rest a q h e = sym (ap (λ b. b || some_cell rest) h) ∙ ap some_cell (sym q) ∙ e
+
+-- ---- readings, one by one
+
+pub reads_over : (called : List ℕ) (types : List DataType) (s : Scope Variable) (ms : List Bool) (es : Expressions) (n : ℕ) → n ≡ 0 → reads_first called types s ms es n ≡ None
+reads_over called types s ms NoExpressions n e = refl
+reads_over called types s ms (AndExpression x es) n e = ap (reads_first called types s ms (AndExpression x es)) e
+
+pub reads_found : (called : List ℕ) (types : List DataType) (s : Scope Variable) (ms : List Bool) (left rest : Expressions) (e : Expression) (n i : ℕ) (fault : UseFault) (m : Bool) → left ≡ AndExpression e rest → n ≡ suc i
+    → m ≡ is_read_here ms → first_of [] called (argument_flow types s m e Nothing) ≡ Some fault → reads_first called types s ms left n ≡ Some fault
+reads_found called types s ms left rest e n i fault m q c mm h =
+    ap (λ l. reads_first called types s ms l n) q ∙ ap (reads_first called types s ms (AndExpression e rest)) c
+    ∙ or_some (first_of [] called (argument_flow types s (is_read_here ms) e Nothing)) (reads_first called types s (reads_behind ms) rest i) fault
+    (ap (λ b. first_of [] called (argument_flow types s b e Nothing)) (sym mm) ∙ h)
+
+pub reads_on : (called : List ℕ) (types : List DataType) (s : Scope Variable) (ms behind : List Bool) (left rest : Expressions) (e : Expression) (n i : ℕ) (m : Bool) → left ≡ AndExpression e rest → n ≡ suc i
+    → m ≡ is_read_here ms → behind ≡ reads_behind ms → first_of [] called (argument_flow types s m e Nothing) ≡ None → reads_first called types s ms left n ≡ reads_first called types s behind rest i
+reads_on called types s ms behind left rest e n i m q c mm bb h =
+    ap (λ l. reads_first called types s ms l n) q ∙ ap (reads_first called types s ms (AndExpression e rest)) c
+    ∙ or_none (first_of [] called (argument_flow types s (is_read_here ms) e Nothing)) (reads_first called types s (reads_behind ms) rest i)
+    (ap (λ b. first_of [] called (argument_flow types s b e Nothing)) (sym mm) ∙ h) ∙ ap (λ l. reads_first called types s l rest i) (sym bb)
+
+pub reads_none : {A : Type 0} (f : A → UseFault) (o : Option A) (found : Option UseFault) (s : State) → o ≡ None → option_map f o ≡ found
+    → let y : State = record s { fault = option_or found s.fault } in s ≡ y
+reads_none f None found s h e = ap (λ x. let y : State = record s { fault = option_or x s.fault } in y) e
+reads_none f (Some a) found s h e = cc
+
+pub reads_some : {A : Type 0} (f : A → UseFault) (o : Option A) (a : A) (found : Option UseFault) (s0 s1 : State) → o ≡ Some a → option_map f o ≡ found
+    → s1 ≡ record s0 { fault = Some (f a) } → s1 ≡ record s0 { fault = option_or found s0.fault }
+reads_some f None a found s0 s1 h e r = cc
+reads_some f (Some b) a found s0 s1 h e r =
+    let same : found ≡ Some (f a) = sym e ∙ ap (option_map f) h in
+    r ∙ ap (λ x. let y : State = record s0 { fault = option_or x s0.fault } in y) (sym same)

@@ -50,6 +50,7 @@ fn check_result(
 }
 
 // The parameters in scope, the first of them innermost.
+#[tactic(auto, using(crate::proofs::FunctionLaws::params_step))]
 fn bind_params<'a>(
     alloc: Global,
     types: &Types,

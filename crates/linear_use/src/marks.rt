@@ -1,11 +1,12 @@
 //! Which parameters of a function are lent.
-ghost use Rattle.std.specs.Prelude.{◌≡◌, []};
+ghost use Rattle.std.specs.Prelude.{◌≡◌, [], slice_get};
+ghost use Rattle.std.specs.Option.{option_map};
 ghost use Rattle.linear_use.specs.Uses.{lent_params, is_read_here, reads_behind, some_lent};
 ghost use Rattle.linear_use.specs.Walk.{loans_in};
 
 use crate::known::Known;
-use camelot_tree::Param;
-use camelot_typing::Typed;
+use camelot_tree::{FunDecl, Param};
+use camelot_typing::{FunKinds, Typed};
 use camelot_values::{Kind, Types};
 
 /// The parameters of a function with their kinds, or those of its last ones.
@@ -55,6 +56,20 @@ impl<'a> Marks<'a> {
     }
 }
 
+// The function of this number.
+fn function_at(typed: &Typed, number: usize) -> Option<&FunDecl>
+    ensures { option_map (λ f. f.now) result ≡ slice_get typed.now.program.funs.items number }
+{
+    typed.program.funs.get(number)
+}
+
+// The kinds of the function of this number.
+fn kinds_at(typed: &Typed, number: usize) -> Option<&FunKinds>
+    ensures { option_map (λ k. k.now) result ≡ slice_get typed.now.funs.items number }
+{
+    typed.funs.get(number)
+}
+
 /// The parameters of the function of this name, of which there are none where there is no such function.
 pub(crate) fn marks_of<'a>(known: &Known<'a, '_>, name: &[u8]) -> Marks<'a>
     ensures { lent_params known.now.typed.now.types result.params.now result.kinds.now ≡ loans_in known.now.typed.now name.now }
@@ -63,15 +78,15 @@ pub(crate) fn marks_of<'a>(known: &Known<'a, '_>, name: &[u8]) -> Marks<'a>
     let Some(number) = known.funs.number(name) else {
         return Marks::new();
     };
-    match typed.program.funs.get(number) {
-        Some(decl) => match typed.funs.get(number) {
-            Some(kinds) => Marks {
-                params: &decl.params,
-                kinds: &kinds.params,
-            },
-            None => Marks::new(),
-        },
-        None => Marks::new(),
+    let Some(decl) = function_at(typed, number) else {
+        return Marks::new();
+    };
+    let Some(kinds) = kinds_at(typed, number) else {
+        return Marks::new();
+    };
+    Marks {
+        params: &decl.params,
+        kinds: &kinds.params,
     }
 }
 
@@ -80,7 +95,8 @@ pub(crate) fn some_lent(types: &Types, params: &[Param], kinds: &[Kind]) -> bool
     ensures { result ≡ some_lent (lent_params types.now params.now kinds.now) }
 {
     'params: for (param, kind) in params.iter().zip(kinds) {
-        if param.read && types.is_heap(*kind) {
+        let lent = param.read && types.is_heap(*kind);
+        if lent {
             return true;
         }
     }

@@ -5,6 +5,7 @@ ghost use Rattle.camelot_tree.specs.Programs.{program_of};
 ghost use Rattle.linear_use.specs.Tables.{with_names};
 
 use camelot_names::Names;
+use camelot_tree::FunDecl;
 use camelot_typing::Typed;
 use camelot_values::Con;
 use std::alloc::{AllocError, Global};
@@ -31,7 +32,18 @@ pub fn constructor_names<'a>(alloc: Global, typed: &'a Typed) -> Result<Names<'a
     Ok(names)
 }
 
+// Adds the names of functions.
+fn add_functions<'a>(names: &mut Names<'a>, funs: &'a [FunDecl]) -> Result<(), AllocError>
+    ensures { OnOk result (names.new ≡ with_names names.old (map (λ f. f.name.word) funs.now)) }
+{
+    'decls: for decl in funs {
+        let _added = names.add(decl.name.word.bytes())?;
+    }
+    Ok(())
+}
+
 /// The names of a program's functions, which have their numbers in it; `AllocError` where memory runs out.
+#[tactic(auto, using(crate::proofs::Tables::functions_named))]
 pub(crate) fn function_names<'a>(
     alloc: Global,
     typed: &'a Typed,
@@ -40,9 +52,7 @@ pub(crate) fn function_names<'a>(
     ensures { IfOk result (λ names. names ≡ map (λ f. f.name.word) (program_of typed.now.program).funs) }
 {
     let mut names = Names::new(alloc);
-    'funs: for decl in &typed.program.funs {
-        let _added = names.add(decl.name.word.bytes())?;
-    }
+    add_functions(&mut names, &typed.program.funs)?;
     Ok(names)
 }
 

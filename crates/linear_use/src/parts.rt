@@ -253,7 +253,7 @@ fn lends(known: &Known<'_, '_>, lent: bool, con: &Name) -> bool
 }
 
 /// Binds the variables of an arm.
-#[tactic(auto, using(crate::proofs::Steps::arm_bound_scope))]
+#[tactic(auto, using(crate::proofs::Steps::arm_scope_is))]
 pub(crate) fn bind_arm<'a>(
     known: &Known<'a, '_>,
     state: &mut State<'a>,
@@ -275,5 +275,6 @@ pub(crate) fn bind_arm<'a>(
         &arm.fields,
         fields_of(known, &arm.con),
     )?;
-    bind_cell(&known.typed.types, state, lends, &arm.cell)
+    bind_cell(&known.typed.types, state, lends, &arm.cell)?;
+    Ok(())
 }

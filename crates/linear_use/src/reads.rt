@@ -77,24 +77,23 @@ fn find_read<'b>(
         ≡ reads_first state.now.spent known.now.typed.now.types state.now.scope
         (lent_params known.now.typed.now.types marks.entry.params.now marks.entry.kinds.now) (expressions (map expression_of args.now)) clear }
 {
-    let mut marks = marks;
-    let mut left = clear;
-    'args: for arg in args {
-        if left == 0 {
+    let mut left = marks;
+    let mut count = clear;
+    'all: for arg in args {
+        if count == 0 {
             return None;
         }
-        left -= 1;
-        let read = marks.first(&known.typed.types);
+        count -= 1;
+        let read = left.first(&known.typed.types);
         if let Some(name) = spent_read(known, state, read, arg) {
             return Some(name);
         }
-        marks = marks.behind(&known.typed.types);
+        left = left.behind(&known.typed.types);
     }
     None
 }
 
 /// The readings of a call behind its arguments; the first fault among them stands before all that was found.
-#[tactic(auto, using(crate::proofs::Steps::reads_none, crate::proofs::Steps::reads_some))]
 pub(crate) fn check_reads(
     known: &Known<'_, '_>,
     state: &mut State<'_>,
@@ -107,8 +106,9 @@ pub(crate) fn check_reads(
         (lent_params known.now.typed.now.types marks.entry.params.now marks.entry.kinds.now) (expressions (map expression_of args.now)) clear)
         state.old.fault }) }
 {
-    match find_read(known, state, marks, args, clear) {
-        Some(name) => state.twice_first(known.alloc, name),
-        None => Ok(()),
-    }
+    let Some(name) = find_read(known, state, marks, args, clear) else {
+        return Ok(());
+    };
+    state.twice_first(known.alloc, name)?;
+    Ok(())
 }

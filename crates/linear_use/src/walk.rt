@@ -214,15 +214,15 @@ fn walk_args<'a>(
         (lent_params known.now.typed.now.types marks.entry.params.now marks.entry.kinds.now)
         (expressions (map expression_of args.now)) state.old state.new) }
 {
-    let mut marks = marks;
+    let mut left = marks;
     let mut clear = 0;
     let mut index = 0;
     let _count = args.len();
-    'args: for arg in args {
-        let read = marks.first(&known.typed.types);
+    'all: for arg in args {
+        let read = left.first(&known.typed.types);
         index += 1;
         clear = walk_arg(known, state, rooms, read, arg, clear, index)?;
-        marks = marks.behind(&known.typed.types);
+        left = left.behind(&known.typed.types);
     }
     Ok(clear)
 }
