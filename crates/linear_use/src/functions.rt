@@ -65,7 +65,10 @@ fn bind_params<'a>(
         number -= 1;
         let kind = kinds[number];
         let lent = params[number].read && types.is_heap(kind);
-        scope.bind(params[number].name.word.bytes(), Variable { number, kind, lent })?;
+        scope.bind(
+            params[number].name.word.bytes(),
+            Variable { number, kind, lent },
+        )?;
     }
     Ok(scope)
 }

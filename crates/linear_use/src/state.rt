@@ -26,12 +26,7 @@ pub(crate) struct State<'a> {
 
 impl<'a> State<'a> {
     /// Binds a variable of this kind.
-    pub(crate) fn bind(
-        &mut self,
-        name: &'a Name,
-        kind: Kind,
-        lent: bool,
-    ) -> Result<(), AllocError>
+    pub(crate) fn bind(&mut self, name: &'a Name, kind: Kind, lent: bool) -> Result<(), AllocError>
         ensures scope { OnOk result (self.new.scope ≡ bind name.now.word (record { number = self.old.next; kind = kind; lent = lent }) self.old.scope) }
         ensures next { OnOk result (self.new.next ≡ suc self.old.next) }
         ensures spent { OnOk result (self.new.spent ≡ self.old.spent) }
