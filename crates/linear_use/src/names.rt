@@ -44,10 +44,7 @@ fn add_functions<'a>(names: &mut Names<'a>, funs: &'a [FunDecl]) -> Result<(), A
 
 /// The names of a program's functions, which have their numbers in it; `AllocError` where memory runs out.
 #[tactic(auto, using(crate::proofs::Tables::functions_named))]
-pub(crate) fn function_names<'a>(
-    alloc: Global,
-    typed: &'a Typed,
-) -> Result<Names<'a>, AllocError>
+pub(crate) fn function_names<'a>(alloc: Global, typed: &'a Typed) -> Result<Names<'a>, AllocError>
     // They are in the order of the functions.
     ensures { IfOk result (λ names. names ≡ map (λ f. f.name.word) (program_of typed.now.program).funs) }
 {

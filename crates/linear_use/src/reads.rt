@@ -101,10 +101,12 @@ pub(crate) fn check_reads(
     args: &[Expr],
     clear: usize,
 ) -> Result<(), AllocError>
-    ensures { OnOk result (state.new ≡ record state.old { fault = option_or
-        (reads_first state.old.spent known.now.typed.now.types state.old.scope
-        (lent_params known.now.typed.now.types marks.entry.params.now marks.entry.kinds.now) (expressions (map expression_of args.now)) clear)
-        state.old.fault }) }
+    ensures { OnOk result (state.new ≡ record state.old {
+      fault = option_or
+          (reads_first state.old.spent known.now.typed.now.types state.old.scope
+          (lent_params known.now.typed.now.types marks.entry.params.now marks.entry.kinds.now) (expressions (map expression_of args.now)) clear)
+          state.old.fault;
+    }) }
 {
     let Some(name) = find_read(known, state, marks, args, clear) else {
         return Ok(());
