@@ -1,5 +1,5 @@
 -- Laws of the walk through lets, branches and bodies of arms.
-use Rattle.std.proofs.Common.{◌≡◌, ℕ, suc, ◌+◌, ◌-◌, Bool, true, false, if◌then◌else◌, List, [], ◌∷◌, ◌++◌, length, drop, take, Option, Some, None, refl, sym, ap, ◌∙◌, subst, arith, append_assoc, length-append, slice_get}
+use Rattle.std.proofs.Common.{◌≡◌, ℕ, suc, ◌+◌, ◌-◌, Bool, false, List, [], ◌∷◌, ◌++◌, length, drop, take, Option, Some, None, refl, sym, ap, ◌∙◌, subst, arith, append_assoc, length-append, slice_get}
 use Rattle.std.specs.Option.{option_or}
 use Rattle.camelot_values.specs.Kinds.{DataType}
 use Rattle.camelot_values.specs.declared.kinds.Kind.{Kind}
@@ -8,13 +8,13 @@ use Rattle.camelot_tree.specs.declared.tree.Name.{Name}
 use Rattle.camelot_tree.specs.declared.tree.ArmCell.{ArmCell}
 use Rattle.camelot_tree.specs.declared.tree.ArmCell.TheVariants as cell
 use Rattle.camelot_tree.specs.Tree.{Expression, Let, Branch}
-use Rattle.camelot_typing.specs.Kinds.{Globals, Scope, bind, or_else, constructor_number, is_inline, arm_scope, atom_of, atoms_of}
+use Rattle.camelot_typing.specs.Kinds.{Globals, Scope, bind, or_else, arm_scope, atom_of, atoms_of}
 use Rattle.camelot_typing.specs.Typing.{known_kind}
 use Rattle.linear_use.specs.Uses.{Loans, lends_field}
 use Rattle.linear_use.specs.declared.variable.Variable.{Variable}
 use Rattle.linear_use.specs.declared.state.State.{State}
-use Rattle.linear_use.specs.Flow.{Flow, Nothing, Fault, After, Either, used, kinds_in, con_fields, fields_count, number_fields, number_cell, cell_flow, arm_variables, arm_count, next_of, flow}
-use Rattle.linear_use.specs.Walk.{first_of, AreAt, Walked, kinds_at, parts_kinds, arm_flow, arm_kinds_at}
+use Rattle.linear_use.specs.Flow.{Flow, Either, used, kinds_in, con_fields, fields_count, number_fields, number_cell, cell_flow, arm_variables, arm_count, next_of, flow}
+use Rattle.linear_use.specs.Walk.{first_of, AreAt, Walked, kinds_at, parts_kinds, arm_kinds_at}
 use Rattle.linear_use.proofs.Flows.{nothing_behind}
 use Rattle.linear_use.proofs.Fields.{inner_kinds}
 use Rattle.linear_use.proofs.Walking.{last_kind, seq_at, seq_walked, walked_count, or_assoc}

@@ -11,13 +11,12 @@ use Rattle.camelot_tree.specs.declared.tree.Name.{Name}
 use Rattle.camelot_typing.specs.Kinds.{Globals, Scope, atom_of, all_atoms, arms_atoms}
 use Rattle.camelot_typing.specs.Typing.{known_kind}
 use Rattle.linear_use.specs.declared.fault.UseFault.{UseFault}
-use Rattle.linear_use.specs.declared.fault.UseFault.TheVariants.{Twice}
 use Rattle.linear_use.specs.declared.variable.Variable.{Variable}
 use Rattle.linear_use.specs.declared.state.State.{State}
 use Rattle.linear_use.specs.Uses.{Loans, is_read_here, reads_behind}
-use Rattle.linear_use.specs.Flow.{Flow, Nothing, Read, Calling, is_spent, used, read_flow, argument_flow, kinds_in, next_of, all_next, arms_next, flow, all_flow, arms_flow}
+use Rattle.linear_use.specs.Flow.{Flow, Nothing, Read, Calling, used, read_flow, argument_flow, kinds_in, next_of, all_next, arms_next, flow, all_flow, arms_flow}
 use Rattle.linear_use.specs.Walk.{first_of, AreAt, Walked, kinds_at, all_kinds_at, arm_flow, arm_next, arm_kinds_at, arms_kinds_at, is_none, is_read, own_flow, reads_first, ArgumentWalked, AllWalked}
-use Rattle.linear_use.proofs.Walking.{at_front, end_within, seq_at, or_none, or_nothing, or_assoc, nothing_walked}
+use Rattle.linear_use.proofs.Walking.{at_front, end_within, seq_at, or_nothing, or_assoc}
 use Rattle.linear_use.proofs.Climbing.{WalkedTerm}
 use Rattle.linear_use.proofs.Counting.{argument_plain}
 
@@ -121,26 +120,6 @@ argument_end g ex m (Let n e b) s h a = cc
 argument_end g ex m (Match e as' l) s h a = cc
 argument_end g ex m (Build c es place) s h a = cc
 argument_end g ex m (Call f es) s h a = cc
-
-passed_walked : (loans : Loans) (g : Globals Kind) (m : Bool) (e : Expression) (s0 s1 : State) → is_read m e ≡ true → s1 ≡ record s0 { position = s0.position + 1 }
-    → Walked Nothing (next_of g.types s0.next e) (length (kinds_at g s0 e)) s0 s1
-passed_walked loans g m (Num z l) s0 s1 h q = cc
-passed_walked loans g m (Truth b l) s0 s1 h q = cc
-passed_walked loans g m (Var n) s0 s1 h q =
-    nothing_walked s0.next 1 s0 s1 (ap (λ s. s.fault) q) (ap (λ s. s.spent) q) (ap (λ s. s.next) q) (ap (λ s. s.scope) q) (ap (λ s. s.position) q)
-passed_walked loans g m (Prim op a b l) s0 s1 h q = cc
-passed_walked loans g m (If c a b l) s0 s1 h q = cc
-passed_walked loans g m (Let n e b) s0 s1 h q = cc
-passed_walked loans g m (Match e as' l) s0 s1 h q = cc
-passed_walked loans g m (Build c es place) s0 s1 h q = cc
-passed_walked loans g m (Call f es) s0 s1 h q = cc
-
-pub argument_passed : (loans : Loans) (g : Globals Kind) (m : Bool) (e : Expression) (clear index now : ℕ) (s0 s1 : State) → is_read m e ≡ true → s1 ≡ record s0 { position = s0.position + 1 }
-    → now ≡ (if is_none s1.fault then index else clear) → ArgumentWalked loans g m e clear index s0 s1 now
-argument_passed loans g m e clear index now s0 s1 h q n = record {
-  walked = subst (λ b. Walked (if b then Nothing else flow loans g s0.next s0.scope e) (next_of g.types s0.next e) (length (kinds_at g s0 e)) s0 s1) (sym h) (passed_walked loans g m e s0 s1 h q);
-  cleared = n ∙ ap (λ s. if is_none s.fault then index else clear) q ∙ sym (ap (λ b. if b && is_none s0.fault then index else clear) h);
-}
 
 -- one argument further
 record ArgumentStep (loans : Loans) (g : Globals Kind) (ms marks : List Bool) (all rest : Expressions) (e : Expression) (clear index now : ℕ) (s0 s1 s2 : State) : Type 0 where

@@ -18,7 +18,7 @@ use Rattle.linear_use.specs.Uses.{Loans, lent_params, some_lent, loans_of, is_bo
 use Rattle.linear_use.specs.Fairness.{taken, seen, Fair}
 use Rattle.linear_use.specs.FairLaws.{fair_by_paths, paths_by_fair}
 use Rattle.linear_use.specs.Flow.{Flow, Nothing, Fault, faults, kinds_in, flow, param_variables, result_flow, function_flow, functions_faults, program_faults}
-use Rattle.linear_use.proofs.Flows.{flow_uses, flow_seen, IsClean, IsFairIn, seen_one, reads_one, fits_faultless, faultless_fits, nothing_left, nothing_right}
+use Rattle.linear_use.proofs.Flows.{IsClean, IsFairIn, seen_one, reads_one, fits_faultless, faultless_fits, nothing_left, nothing_right}
 use Rattle.linear_use.proofs.Shapes.{IsFull, AreApart, distinct_apart, typed_full}
 use Rattle.linear_use.proofs.Binders.{and_true, Means, Occurs, means_by, bind_here, bind_other, unequal}
 use Rattle.linear_use.proofs.Counting.{Counts, counted}

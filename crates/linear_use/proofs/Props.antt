@@ -1,5 +1,5 @@
 -- The rule is a proposition.
-use Rattle.std.proofs.Common.{◌≡◌, true, false, Bool, List, [], ◌∷◌, ℕ, refl, sym, ap, ◌∙◌, Option, Some, None}
+use Rattle.std.proofs.Common.{◌≡◌, true, false, Bool, List, [], ◌∷◌, ℕ, refl, Option, Some, None}
 use Rattle.std.specs.Coded.{×_prop, Unit-prop, Coded-set, coded_list, coded_bool, code_by}
 use Rattle.std.specs.List.{AllByRecursion}
 use Rattle.std.proofs.Math.Bool.{Bool-set}
@@ -16,7 +16,7 @@ use Rattle.camelot_tree.specs.Tree.{Expression, Num, Truth, Var, Prim, If, Let, 
 use Rattle.camelot_typing.specs.Kinds.{Globals, Scope, bind, or_else, bound_names, arm_scope, atom_of}
 use Rattle.camelot_typing.specs.Typing.{Signature, known_kind, params_scope}
 use Rattle.camelot_typing.specs.Typed.{Typing, typing_globals}
-use Rattle.linear_use.specs.Uses.{Loans, lent_params, some_lent, loans_of, is_lent, looks_at, arm_flags, is_reading, reads_behind, Occurrence, Taking, Reading, Path, NoneBehind, paths, IsFair, EachIsFair, CellTaken, PlaceIsOwned, IsLinear, AllAreLinear, ArmsAreLinear, ParamsAreFair, FunctionIsLinear, FunctionsAreLinear}
+use Rattle.linear_use.specs.Uses.{Loans, lent_params, some_lent, loans_of, is_lent, looks_at, arm_flags, reads_behind, Occurrence, Taking, Reading, Path, NoneBehind, paths, IsFair, EachIsFair, CellTaken, PlaceIsOwned, IsLinear, AllAreLinear, ArmsAreLinear, ParamsAreFair, FunctionIsLinear, FunctionsAreLinear}
 use Rattle.camelot_tree.specs.Cells.{has_cell}
 use Rattle.linear_use.specs.Answers.{KeepsRule}
 

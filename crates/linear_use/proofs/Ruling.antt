@@ -1,6 +1,6 @@
 -- An expression keeps the rule exactly where its flow is clean and fair to each number that it gives out.
-use Rattle.std.proofs.Common.{◌≡◌, ℕ, zero, suc, ◌+◌, ◌≤◌, ◌<◌, max, Bool, true, false, if◌then◌else◌, List, [], ◌∷◌, ◌++◌, length, Option, Some, None, refl, sym, ap, ◌∙◌, subst, arith, ◌⊎◌, inl, inr}
-use Rattle.std.specs.Prelude.{◌||◌, ◌&&◌, not, ◌==◌}
+use Rattle.std.proofs.Common.{◌≡◌, ℕ, zero, suc, ◌+◌, ◌≤◌, ◌<◌, Bool, true, false, if◌then◌else◌, List, [], ◌∷◌, ◌++◌, length, Option, Some, None, refl, sym, ap, ◌∙◌, subst, arith, ◌⊎◌, inl, inr}
+use Rattle.std.specs.Prelude.{◌||◌, ◌&&◌, not}
 use Rattle.std.specs.Option.{option_map_or}
 use Rattle.std.specs.Str.{bytes_eq}
 use Rattle.camelot_values.specs.Kinds.{DataType}
@@ -16,16 +16,16 @@ use Rattle.camelot_typing.specs.Kinds.{Globals, Scope, bind, or_else, constructo
 use Rattle.camelot_typing.specs.Typing.{known_kind}
 use Rattle.linear_use.specs.declared.variable.Variable.{Variable}
 use Rattle.linear_use.specs.declared.fault.UseFault.TheVariants.{ReadMatch, Lent}
-use Rattle.linear_use.specs.Uses.{Loans, is_lent, looks_at, lends_field, arm_flags, is_reading, is_read_here, reads_behind, IsFair, EachIsFair, CellTaken, PlaceIsOwned, IsLinear, AllAreLinear, ArmsAreLinear}
+use Rattle.linear_use.specs.Uses.{Loans, is_lent, looks_at, lends_field, arm_flags, is_read_here, reads_behind, IsFair, EachIsFair, CellTaken, PlaceIsOwned, IsLinear, AllAreLinear, ArmsAreLinear}
 use Rattle.linear_use.specs.Fairness.{taken, seen, Fair}
 use Rattle.linear_use.specs.FairLaws.{fair_by_paths, paths_by_fair}
 use Rattle.camelot_tree.specs.Cells.{has_cell}
-use Rattle.linear_use.specs.Flow.{Flow, Nothing, Use, Read, Fault, After, Either, Calling, use_flow, read_flow, name_flow, place_flow, argument_flow, kinds_in, con_fields, fields_count, cell_count, arm_variables, arm_count, cell_flow, some_cell, is_lent_in, looks_on, look_flow, scrutinee_flow, next_of, all_next, arms_next, flow, all_flow, arms_flow}
+use Rattle.linear_use.specs.Flow.{Flow, Nothing, Use, Read, Fault, After, Either, Calling, use_flow, read_flow, name_flow, place_flow, argument_flow, kinds_in, con_fields, fields_count, cell_count, arm_variables, arm_count, cell_flow, some_cell, looks_on, scrutinee_flow, next_of, all_next, arms_next, flow, all_flow, arms_flow}
 use Rattle.linear_use.specs.Walk.{is_read}
 use Rattle.linear_use.proofs.Flows.{flow_uses, flow_reads, flow_seen, IsClean, IsFairIn, fair_uses, seen_one}
 use Rattle.linear_use.proofs.Shapes.{IsFull, AllAreFull, ArmsAreFull, HeadIsFull}
-use Rattle.linear_use.proofs.Binders.{only, only_none, counts_as, Means, Occurs, use_occurs, read_occurs, bind_here, bind_other, unequal, Outside}
-use Rattle.linear_use.proofs.Counting.{Counts, next_grows, all_grow, counted, all_counted, arms_counted, cell_occurs, look_occurs, scrutinee_counted, place_counted, argument_plain, reading_same, none_read}
+use Rattle.linear_use.proofs.Binders.{counts_as, Means, use_occurs, read_occurs, bind_here, bind_other, unequal, Outside}
+use Rattle.linear_use.proofs.Counting.{Counts, next_grows, all_grow, counted, all_counted, arms_counted, cell_occurs, look_occurs, scrutinee_counted, place_counted, argument_plain, reading_same}
 use Rattle.linear_use.proofs.Fields.{lents_in, Stands, AllStand, Below, below_bind, below_more, below_inner, all_stand, inner_kinds, inner_lents}
 
 -- the flow is clean, and fair to each number from `next` on

@@ -1,7 +1,7 @@
 -- Laws of the walk's steps that aren't expressions.
-use Rattle.std.proofs.Common.{◌≡◌, ℕ, zero, suc, ◌+◌, Bool, true, false, if◌then◌else◌, List, [], ◌∷◌, ◌++◌, map, length, drop, get_or, Option, Some, None, refl, sym, ap, ◌∙◌, subst, arith, append-nil}
+use Rattle.std.proofs.Common.{◌≡◌, ℕ, suc, ◌+◌, Bool, true, false, if◌then◌else◌, List, [], ◌∷◌, ◌++◌, Option, Some, None, refl, sym, ap, ◌∙◌, subst, arith, append-nil}
 use Rattle.std.specs.Prelude.{◌||◌, ◌&&◌, not}
-use Rattle.std.specs.Option.{option_or, option_map}
+use Rattle.std.specs.Option.{option_or}
 use Rattle.camelot_values.specs.Kinds.{DataType}
 use Rattle.camelot_values.specs.Heap.{is_heap}
 use Rattle.camelot_values.specs.Names.{find}
@@ -11,16 +11,16 @@ use Rattle.camelot_tree.specs.declared.tree.Name.{Name}
 use Rattle.camelot_tree.specs.declared.tree.ArmCell.{ArmCell}
 use Rattle.camelot_tree.specs.declared.tree.ArmCell.TheVariants as cell
 use Rattle.camelot_tree.specs.Cells.{has_cell}
-use Rattle.camelot_tree.specs.Tree.{Expression, Num, Truth, Var, Prim, If, Let, Match, Build, Call, Expressions, NoExpressions, AndExpression, Arms, AndArm, Branch}
-use Rattle.camelot_typing.specs.Kinds.{Globals, Scope, or_else, constructor_number, is_inline}
+use Rattle.camelot_tree.specs.Tree.{Prim, Arms, AndArm, Branch}
+use Rattle.camelot_typing.specs.Kinds.{Scope, or_else, constructor_number, is_inline}
 use Rattle.linear_use.specs.declared.fault.UseFault.{UseFault}
 use Rattle.linear_use.specs.declared.fault.UseFault.TheVariants.{Twice, ReadMatch, Lent}
 use Rattle.linear_use.specs.declared.variable.Variable.{Variable}
 use Rattle.linear_use.specs.declared.state.State.{State}
-use Rattle.linear_use.specs.Uses.{lends_field, is_read_here, reads_behind}
-use Rattle.linear_use.specs.Flow.{Flow, Nothing, Use, Fault, argument_flow, is_spent, use_flow, name_flow, cell_flow, look_flow, looks_on, some_cell, con_fields, fields_count, number_fields, number_cell, arm_variables, next_of}
-use Rattle.linear_use.specs.Walk.{first_of, Walked, kinds_at, reads_first}
-use Rattle.linear_use.proofs.Walking.{or_nothing, or_none, or_some, nothing_walked}
+use Rattle.linear_use.specs.Uses.{lends_field}
+use Rattle.linear_use.specs.Flow.{Nothing, Use, Fault, is_spent, use_flow, name_flow, cell_flow, some_cell, con_fields, fields_count, number_fields, number_cell, arm_variables}
+use Rattle.linear_use.specs.Walk.{Walked}
+use Rattle.linear_use.proofs.Walking.{or_nothing, nothing_walked}
 
 -- ---- occurrences of names
 
@@ -117,42 +117,6 @@ pub cell_missing : (types : List DataType) (lent : Bool) (c : Name) (x : ArmCell
 cell_missing types true c x s0 s1 h p q e = cc
 cell_missing types false c x s0 s1 h p q e = cell_test types c x s0 s1 false false p q (fault_walked (ReadMatch c.word c.line) s0 s1 e)
 
--- ---- looks
-
--- the position of a variable's own kind
-pub look_end : (g : Globals Kind) (s : State) (e : Expression) → looks_on s.scope e ≡ true → (length (kinds_at g s e) ≡ 1) × (next_of g.types s.next e ≡ s.next)
-look_end g s (Num z l) h = cc
-look_end g s (Truth b l) h = cc
-look_end g s (Var n) h = (refl, refl)
-look_end g s (Prim op a b l) h = cc
-look_end g s (If c a b l) h = cc
-look_end g s (Let n e b) h = cc
-look_end g s (Match e as' l) h = cc
-look_end g s (Build c es place) h = cc
-look_end g s (Call f es) h = cc
-
-pub looked_plain : (g : Globals Kind) (s0 s1 : State) (e : Expression) (n : Name) (as' : Arms) → e ≡ Var n → some_cell as' ≡ false
-    → s1 ≡ record s0 { position = s0.position + 1 }
-    → Walked (look_flow e as') (next_of g.types s0.next e) (length (kinds_at g s0 e)) s0 s1
-looked_plain g s0 s1 e n as' q h r =
-    subst (λ x. Walked (look_flow x as') (next_of g.types s0.next x) (length (kinds_at g s0 x)) s0 s1) (sym q)
-    (subst (λ b. Walked (if b then Fault (Lent n.word n.line) else Nothing) s0.next 1 s0 s1) (sym h)
-    (nothing_walked s0.next 1 s0 s1 (ap (λ s. s.fault) r) (ap (λ s. s.spent) r) (ap (λ s. s.next) r) (ap (λ s. s.scope) r) (ap (λ s. s.position) r)))
-
-pub looked_cell : (g : Globals Kind) (s0 s1 s2 : State) (e : Expression) (n : Name) (as' : Arms) → e ≡ Var n → some_cell as' ≡ true
-    → s1 ≡ record s0 { position = s0.position + 1 } → s2 ≡ record s1 { fault = option_or s1.fault (Some (Lent n.word n.line)) }
-    → Walked (look_flow e as') (next_of g.types s0.next e) (length (kinds_at g s0 e)) s0 s2
-looked_cell g s0 s1 s2 e n as' q h r f =
-    let at_var : Walked (if true then Fault (Lent n.word n.line) else Nothing) s0.next 1 s0 s2 = record {
-      fault = λ called. ap (λ s. s.fault) f ∙ ap (λ s. option_or s.fault (Some (Lent n.word n.line))) r;
-      spent = ap (λ s. s.spent) f ∙ ap (λ s. s.spent) r ∙ sym (append-nil s0.spent);
-      next = ap (λ s. s.next) f ∙ ap (λ s. s.next) r;
-      scope = ap (λ s. s.scope) f ∙ ap (λ s. s.scope) r;
-      position = ap (λ s. s.position) f ∙ ap (λ s. s.position) r;
-    } in
-    subst (λ x. Walked (look_flow x as') (next_of g.types s0.next x) (length (kinds_at g s0 x)) s0 s2) (sym q)
-    (subst (λ b. Walked (if b then Fault (Lent n.word n.line) else Nothing) s0.next 1 s0 s2) (sym h) at_var)
-
 -- ---- variables of an arm
 
 pub lends_is : (types : List DataType) (lent lends : Bool) (c : Name) → lends ≡ (lent && not (is_inline types (or_else (constructor_number types c.word) 0)))
@@ -200,39 +164,3 @@ arm_scope_is types lent lends c fs x ks next mid s0 s1 s2 l k f m e =
 pub cell_found : (all left rest : Arms) (a : Branch) → left ≡ AndArm a.con a.fields a.cell a.body rest → has_cell a.cell ≡ true → some_cell left ≡ some_cell all
     → true ≡ some_cell all
 cell_found all left rest a q h e = sym (ap (λ b. b || some_cell rest) h) ∙ ap some_cell (sym q) ∙ e
-
-pub cell_on : (all left rest : Arms) (a : Branch) → left ≡ AndArm a.con a.fields a.cell a.body rest → has_cell a.cell ≡ false → some_cell left ≡ some_cell all
-    → some_cell rest ≡ some_cell all
-cell_on all left rest a q h e = sym (ap (λ b. b || some_cell rest) h) ∙ ap some_cell (sym q) ∙ e
-
--- ---- readings, one by one
-
-pub reads_over : (called : List ℕ) (types : List DataType) (s : Scope Variable) (ms : List Bool) (es : Expressions) (n : ℕ) → n ≡ 0 → reads_first called types s ms es n ≡ None
-reads_over called types s ms NoExpressions n e = refl
-reads_over called types s ms (AndExpression x es) n e = ap (reads_first called types s ms (AndExpression x es)) e
-
-pub reads_found : (called : List ℕ) (types : List DataType) (s : Scope Variable) (ms : List Bool) (left rest : Expressions) (e : Expression) (n i : ℕ) (fault : UseFault) (m : Bool) → left ≡ AndExpression e rest → n ≡ suc i
-    → m ≡ is_read_here ms → first_of [] called (argument_flow types s m e Nothing) ≡ Some fault → reads_first called types s ms left n ≡ Some fault
-reads_found called types s ms left rest e n i fault m q c mm h =
-    ap (λ l. reads_first called types s ms l n) q ∙ ap (reads_first called types s ms (AndExpression e rest)) c
-    ∙ or_some (first_of [] called (argument_flow types s (is_read_here ms) e Nothing)) (reads_first called types s (reads_behind ms) rest i) fault
-    (ap (λ b. first_of [] called (argument_flow types s b e Nothing)) (sym mm) ∙ h)
-
-pub reads_on : (called : List ℕ) (types : List DataType) (s : Scope Variable) (ms behind : List Bool) (left rest : Expressions) (e : Expression) (n i : ℕ) (m : Bool) → left ≡ AndExpression e rest → n ≡ suc i
-    → m ≡ is_read_here ms → behind ≡ reads_behind ms → first_of [] called (argument_flow types s m e Nothing) ≡ None → reads_first called types s ms left n ≡ reads_first called types s behind rest i
-reads_on called types s ms behind left rest e n i m q c mm bb h =
-    ap (λ l. reads_first called types s ms l n) q ∙ ap (reads_first called types s ms (AndExpression e rest)) c
-    ∙ or_none (first_of [] called (argument_flow types s (is_read_here ms) e Nothing)) (reads_first called types s (reads_behind ms) rest i)
-    (ap (λ b. first_of [] called (argument_flow types s b e Nothing)) (sym mm) ∙ h) ∙ ap (λ l. reads_first called types s l rest i) (sym bb)
-
-pub reads_none : {A : Type 0} (f : A → UseFault) (o : Option A) (found : Option UseFault) (s : State) → o ≡ None → option_map f o ≡ found
-    → let y : State = record s { fault = option_or found s.fault } in s ≡ y
-reads_none f None found s h e = ap (λ x. let y : State = record s { fault = option_or x s.fault } in y) e
-reads_none f (Some a) found s h e = cc
-
-pub reads_some : {A : Type 0} (f : A → UseFault) (o : Option A) (a : A) (found : Option UseFault) (s0 s1 : State) → o ≡ Some a → option_map f o ≡ found
-    → s1 ≡ record s0 { fault = Some (f a) } → s1 ≡ record s0 { fault = option_or found s0.fault }
-reads_some f None a found s0 s1 h e r = cc
-reads_some f (Some b) a found s0 s1 h e r =
-    let same : found ≡ Some (f a) = sym e ∙ ap (option_map f) h in
-    r ∙ ap (λ x. let y : State = record s0 { fault = option_or x s0.fault } in y) (sym same)

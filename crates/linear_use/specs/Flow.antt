@@ -1,11 +1,11 @@
 -- Cited by contracts.
 -- The check of uses as a walk in text order. An expression is a flow of uses and readings of heap variables: one after
 -- the other, or one of two ways. Each variable that is bound gets a number of its own. A use or a reading of an owned
--- variable that some way up to it used before is a fault; what a call reads, it reads behind all of its arguments. Other
--- faults are an occurrence of a lent variable that isn't a reading, a match on one with an `@`, an arm of a boxed
--- constructor without `@` on anything else, and a lent parameter beside a result of a heap kind. The first fault in text
--- order is answered: a match stands where its scrutinee does, and a function where its name does.
-use Rattle.std.specs.Prelude.{ℕ, suc, ◌+◌, ◌==◌, ◌||◌, ◌&&◌, not, Bool, true, false, if◌then◌else◌, List, [], ◌∷◌, ◌++◌, length, Option, Some, None}
+-- variable that some way up to it used before is a fault; what a call reads, it reads behind all of its arguments.
+-- Other faults are an occurrence of a lent variable that isn't a reading, a match on one with an `@`, an arm of a boxed
+-- constructor without `@` on anything else, and a lent parameter beside a result of a heap kind. The first fault in
+-- text order is answered: a match stands where its scrutinee does, and a function where its name does.
+use Rattle.std.specs.Prelude.{ℕ, suc, ◌+◌, ◌==◌, ◌||◌, ◌&&◌, Bool, true, false, if◌then◌else◌, List, [], ◌∷◌, ◌++◌, length, Option, Some, None}
 use Rattle.std.specs.List.{list_any}
 use Rattle.std.specs.Option.{option_map_or}
 use Rattle.camelot_values.specs.Names.{find}

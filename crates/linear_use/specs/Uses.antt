@@ -1,8 +1,9 @@
 -- Cited by contracts.
--- The rule of use of a program: that of LFPL (Hofmann 2000), by which a value that takes cells is used at most once, with
--- parameters that a function only reads. A variable of a heap kind is lent where it is such a parameter, or a field of an
--- arm of a match on a lent variable; every other one is owned. What is lent is only read, as a scrutinee or as an argument
--- at a parameter that is read. What is owned is taken at most once on each path, and nothing comes behind that.
+-- The rule of use of a program: that of LFPL (Hofmann 2000), by which a value that takes cells is used at most once,
+-- with parameters that a function only reads. A variable of a heap kind is lent where it is such a parameter, or a
+-- field of an arm of a match on a lent variable; every other one is owned. What is lent is only read, as a scrutinee or
+-- as an argument at a parameter that is read. What is owned is taken at most once on each path, and nothing comes
+-- behind that.
 use Rattle.std.specs.Prelude.{◌≡◌, ℕ, ◌&&◌, not, Bool, true, false, if◌then◌else◌, List, [], ◌∷◌, ◌++◌, map, flat_map, Option, Some, None}
 use Rattle.std.specs.List.{AllByRecursion, list_any}
 use Rattle.std.specs.Str.{bytes_eq}
@@ -155,8 +156,8 @@ PlaceIsOwned flags None = Unit {0}
 PlaceIsOwned flags (Some d) = is_lent flags d ≡ false
 
 abbrev mutual
-  -- The rule holds of every variable that is bound in the expression, and of every occurrence and every arm. What stands
-  -- for a value is owned; what is lent stands as a scrutinee, or as an argument that is read.
+  -- The rule holds of every variable that is bound in the expression, and of every occurrence and every arm. What
+  -- stands for a value is owned; what is lent stands as a scrutinee, or as an argument that is read.
   pub IsLinear : Loans → Globals Kind → Scope Kind → Scope Bool → Expression → Type 0
   IsLinear loans g s flags (Num z l) = Unit {0}
   IsLinear loans g s flags (Truth b l) = Unit {0}

@@ -8,7 +8,6 @@ use Rattle.stops.specs.declared.stop.Stop.{Stop}
 use Rattle.stops.specs.Stopping.{FaultIs}
 use Rattle.camelot_values.specs.Kinds.{DataType}
 use Rattle.camelot_values.specs.declared.kinds.Kind.{Kind}
-use Rattle.camelot_tree.specs.declared.tree.Name.{Name}
 use Rattle.camelot_tree.specs.Tree.{Expression, Num, Truth, Var, Prim, If, Let, Match, Build, Call, Expressions, NoExpressions, AndExpression, Arms, Branch}
 use Rattle.camelot_tree.specs.Programs.{program_of}
 use Rattle.camelot_typing.specs.Kinds.{Globals, Scope, bind, arm_scope, atom_of, atoms_of, all_atoms, arms_atoms}

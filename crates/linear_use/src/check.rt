@@ -10,11 +10,11 @@ use camelot_typing::Typed;
 use std::alloc::Global;
 use stops::Stop;
 
-/// A typed program that keeps the rule of use: every owned variable of a heap kind is taken at most once on each path
-/// through its scope, and neither taken nor read behind that. What is lent, as a parameter of a heap kind that is marked
-/// `read`, is only looked at and handed on to parameters that are read. Every arm of a boxed constructor has an `@` but
-/// in a match on a variable that is lent, and a function with a lent parameter has a result that takes no cells
-/// (`specs/Uses.antt`; LFPL, Hofmann 2000).
+/// A typed program that keeps the rule of use (`specs/Uses.antt`; LFPL, Hofmann 2000). Every owned variable of a heap
+/// kind is taken at most once on each path through its scope, and neither taken nor read behind that. What is lent is
+/// only looked at, and handed on to parameters that are read: a parameter of a heap kind that is marked `read`, and such
+/// a field in a match on what is lent. Each other match has an `@` in every arm of a boxed constructor, and a function
+/// with a lent parameter has a result that takes no cells.
 #[derive(Drop)]
 pub struct Linear {
     pub typed: Typed,

@@ -8,7 +8,8 @@ pub enum UseFault {
     /// call reads behind all of its arguments.
     #[error("twice {name} line {line}")]
     Twice { name: Word, line: u64 },
-    /// An arm of a boxed constructor without `@`, by the constructor's name; the scrutinee isn't a variable that is lent.
+    /// An arm of a boxed constructor without `@`, by the constructor's name, where the scrutinee isn't a variable that is
+    /// lent.
     #[error("read-match {name} line {line}")]
     ReadMatch { name: Word, line: u64 },
     /// A variable that is lent stands where it would be taken, or a match on it has an `@`.

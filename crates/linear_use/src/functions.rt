@@ -35,7 +35,8 @@ fn check_result(
     decl: &FunDecl,
     kinds: &FunKinds,
 ) -> Result<(), Stop<UseFault>>
-    ensures { Finds result (first_of [] [] (result_flow (globals_in typed.now) (function_of decl.now) (signature_of (function_of decl.now) (kinds_of kinds.now)))) }
+    ensures { let f = function_of decl.now in
+        Finds result (first_of [] [] (result_flow (globals_in typed.now) f (signature_of f (kinds_of kinds.now)))) }
 {
     if !some_lent(&typed.types, &decl.params, &kinds.params) {
         return Ok(());
@@ -98,7 +99,8 @@ fn walk_function<'a>(
     requires kinds { kinds.now.exprs.items
         ≡ atoms_of known_kind (globals_in typed.now) (params_scope decl.now.params.items kinds.now.params.items)
         (expression_of decl.now.body) }
-    ensures { let f = function_of decl.now in Finds result (first_of [] [] (function_flow (loans_in typed.now) (globals_in typed.now) f (signature_of f (kinds_of kinds.now)))) }
+    ensures { let f = function_of decl.now in
+        Finds result (first_of [] [] (function_flow (loans_in typed.now) (globals_in typed.now) f (signature_of f (kinds_of kinds.now)))) }
 {
     check_result(alloc, typed, decl, kinds)?;
     let known = Known {

@@ -185,7 +185,8 @@ fn bind_field<'a>(
     field: &'a Option<Name>,
     kind: Kind,
 ) -> Result<(), AllocError>
-    ensures scope { OnOk result (state.new.scope ≡ number_fields (λ k. lends && is_heap types.now k) state.old.next (field.now ∷ []) (kind ∷ []) state.old.scope) }
+    ensures scope { OnOk result (state.new.scope
+        ≡ number_fields (λ k. lends && is_heap types.now k) state.old.next (field.now ∷ []) (kind ∷ []) state.old.scope) }
     ensures next { OnOk result (state.new.next ≡ state.old.next + fields_count (field.now ∷ []) (kind ∷ [])) }
     ensures spent { OnOk result (state.new.spent ≡ state.old.spent) }
     ensures position { OnOk result (state.new.position ≡ state.old.position) }

@@ -25,7 +25,7 @@ pub(crate) struct State<'a> {
 }
 
 impl<'a> State<'a> {
-    /// Binds a variable of this kind.
+    /// Binds a variable of this kind, lent or owned.
     pub(crate) fn bind(&mut self, name: &'a Name, kind: Kind, lent: bool) -> Result<(), AllocError>
         ensures scope { OnOk result (self.new.scope ≡ bind name.now.word (record { number = self.old.next; kind = kind; lent = lent }) self.old.scope) }
         ensures next { OnOk result (self.new.next ≡ suc self.old.next) }
@@ -50,7 +50,7 @@ impl<'a> State<'a> {
         self.position += 1;
     }
 
-    /// A fault that stands behind all that was found.
+    /// A variable occurs again that is spent. This stands behind all that was found.
     pub(crate) fn twice(&mut self, alloc: Global, name: &Name) -> Result<(), AllocError>
         ensures { OnOk result (self.new ≡ record self.old { fault = option_or self.old.fault (Some (Twice name.now.word name.now.line)) }) }
     {
@@ -60,7 +60,7 @@ impl<'a> State<'a> {
         self.twice_first(alloc, name)
     }
 
-    /// A fault that stands in front of all that was found.
+    /// The same, in front of all that was found.
     pub(crate) fn twice_first(&mut self, alloc: Global, name: &Name) -> Result<(), AllocError>
         ensures { OnOk result (self.new ≡ record self.old { fault = Some (Twice name.now.word name.now.line) }) }
     {
@@ -72,7 +72,7 @@ impl<'a> State<'a> {
         Ok(())
     }
 
-    /// A fault that stands behind all that was found.
+    /// A variable that is lent would be taken. This stands behind all that was found.
     pub(crate) fn lent(&mut self, alloc: Global, name: &Name) -> Result<(), AllocError>
         ensures { OnOk result (self.new ≡ record self.old { fault = option_or self.old.fault (Some (Lent name.now.word name.now.line)) }) }
     {
@@ -87,7 +87,7 @@ impl<'a> State<'a> {
         Ok(())
     }
 
-    /// A fault that stands behind all that was found.
+    /// An arm of this constructor has no `@`. This stands behind all that was found.
     pub(crate) fn read_match(&mut self, alloc: Global, con: &Name) -> Result<(), AllocError>
         ensures { OnOk result (self.new ≡ record self.old { fault = option_or self.old.fault (Some (ReadMatch con.now.word con.now.line)) }) }
     {

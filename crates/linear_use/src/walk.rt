@@ -127,7 +127,8 @@ fn walk_match<'a>(
     requires { AreAt known.now.exprs.now state.old.position
         (parts_kinds_at (globals_in known.now.typed.now) state.old
         (Match (expression_of on.now) (tree.arms (map branch_of arms.now)) 0)) }
-    ensures { WalksParts (loans_in known.now.typed.now) (globals_in known.now.typed.now) (Match (expression_of on.now) (tree.arms (map branch_of arms.now)) 0) state.old result state.new }
+    ensures { WalksParts (loans_in known.now.typed.now) (globals_in known.now.typed.now)
+        (Match (expression_of on.now) (tree.arms (map branch_of arms.now)) 0) state.old result state.new }
 {
     let lent = looks_on(state, on);
     walk_on(known, state, rooms, lent, on, arms)?;
@@ -168,7 +169,8 @@ fn walk_let<'a>(
     requires { AreAt known.now.exprs.now state.old.position
         (parts_kinds_at (globals_in known.now.typed.now) state.old
         (Let name.now (expression_of value.now) (expression_of body.now))) }
-    ensures { WalksParts (loans_in known.now.typed.now) (globals_in known.now.typed.now) (Let name.now (expression_of value.now) (expression_of body.now)) state.old result state.new }
+    ensures { WalksParts (loans_in known.now.typed.now) (globals_in known.now.typed.now)
+        (Let name.now (expression_of value.now) (expression_of body.now)) state.old result state.new }
 {
     walk(known, state, rooms, value)?;
     let kind = kind_behind(known.exprs, state.position);

@@ -1,9 +1,8 @@
-use Rattle.std.proofs.Common.{◌≡◌, ◌+◌, true, false, refl, sym, ap, ◌∙◌, map, drop}
+use Rattle.std.proofs.Common.{◌≡◌, ◌+◌, true, refl, sym, ap, ◌∙◌, map, drop}
 use Rattle.camelot_tree.specs.Tree.{branch_of, arms}
 use Rattle.camelot_tree.specs.Cells.{has_cell}
-use Rattle.linear_use.specs.Flow.{some_cell}
-use Rattle.linear_use.proofs.Steps.{cell_found, cell_on}
-use Rattle.linear_use.proofs.Lists.{left_arms, over_arms}
+use Rattle.linear_use.proofs.Steps.{cell_found}
+use Rattle.linear_use.proofs.Lists.{left_arms}
 use Rattle.linear_use.proofs.Trees.{arm_is}
 use Rattle.linear_use.proofs.parts.some_cell.Goals as goal
 

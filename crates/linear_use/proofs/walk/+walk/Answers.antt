@@ -1,11 +1,11 @@
-use Rattle.std.proofs.Common.{◌≡◌, ◌+◌, ◌≤◌, ◌<◌, [], ◌++◌, map, length, drop, refl, sym, ap, ◌∙◌, subst, arith, None}
+use Rattle.std.proofs.Common.{◌≡◌, ◌+◌, ◌≤◌, ◌<◌, [], ◌++◌, map, length, drop, refl, sym, ap, ◌∙◌, subst, arith}
 use Rattle.camelot_tree.specs.declared.tree.Build.{Build as BuildParts}
 use Rattle.camelot_tree.specs.Tree.{Expression, Expressions, Prim, If, Match, Build, Arms, expression_of, branch_of, operator_of, expressions, arms}
 use Rattle.camelot_tree.specs.Spine.{size, expressions_size, arms_size}
 use Rattle.camelot_tree.specs.SpineLaws.{leaf_smaller, argument_smaller, arm_smaller}
 use Rattle.linear_use.specs.declared.state.State.{State}
 use Rattle.linear_use.specs.Uses.{lent_params}
-use Rattle.linear_use.specs.Flow.{flow, all_flow, all_next, kinds_in, cell_flow, place_flow}
+use Rattle.linear_use.specs.Flow.{all_flow, all_next, kinds_in, cell_flow, place_flow}
 use Rattle.linear_use.specs.Walk.{globals_in, loans_in, AreAt, Walked, Walks, WalksParts, kinds_at, all_kinds_at, arms_kinds_at}
 use Rattle.linear_use.proofs.Walking.{with_scope, with_spent, with_end, at_front}
 use Rattle.linear_use.proofs.Climbing.{WalkedTerm, climb_begun, leaf_at, leaf_end, climb_smaller, climb_at, climbed_on}

@@ -26,8 +26,8 @@ invariant-walk_arms-arms l = record {
   left : ArmsLeft (loans_in l.known.typed.now) (globals_in l.known.typed.now) l.lent l.known.exprs.now (arms (map branch_of l.arms)) (arms (map branch_of (drop l.arm-index l.arms))) l.held l.initial.state l.state;
 }
 
--- ranks: a call, arms and arguments, one arm, one argument, branches and a scrutinee, an expression, its innermost part and the parts around it, and a let or
--- a match
+-- ranks: a call, arms and arguments, one arm, one argument, branches and a scrutinee, an expression, its innermost part
+-- and the parts around it, and a let or a match
 abbrev pub decreases-walk : goal.decreases-walk
 decreases-walk l = 8 * size (expression_of l.expr.now) + 6
 
