@@ -118,3 +118,21 @@ cuts_done all rest count done c h = by_values c.values c.all_is c.count_is
         → (all ≡ nodes_all (parts done) []) × (length done ≡ count)
     by_values [] a n = (a ∙ ap (λ l. nodes_all (parts l) []) (append-nil done), omega (arith, n, length-append done []))
     by_values (v ∷ vs) a n = absurd (omega (arith, h, n, length-append done (v ∷ vs)))
+
+-- ---- one value alone
+
+sole : (xs : List Item) → OfValues xs 1 → (v : Value) × (xs ≡ items_of v)
+sole xs o = by_values o.values o.is o.count_is
+  where
+    by_values : (vs : List Value) → xs ≡ nodes_all (parts vs) [] → 1 ≡ length vs → (v : Value) × (xs ≡ items_of v)
+    by_values [] e n = absurd (omega (arith, n))
+    by_values (v ∷ []) e n = (v, e)
+    by_values (v ∷ w ∷ vs) e n = absurd (omega (arith, n))
+
+pub only_value : (xs : List Item) → OfValues xs 1 → IsOneValue xs
+only_value xs o = let (v, e) = sole xs o in subst IsOneValue (sym e) (IsOneValue-items_of v)
+
+pub only_cut : (xs : List Item) (vs none : List Value) (v : Value) → none ≡ [] → vs ≡ none ++ v ∷ [] → items_of v ≡ xs
+    → (xs ≡ nodes_all (parts vs) []) × (length vs ≡ 1)
+only_cut xs vs none v z e i =
+    let s : vs ≡ v ∷ [] = e ∙ ap (λ l. l ++ v ∷ []) z in (sym i ∙ ap (λ l. nodes_all (parts l) []) (sym s), ap length s)

@@ -91,7 +91,7 @@ fn read_whole(
             items: items.len() as u64,
         }));
     }
-    match split_values(alloc, &items, kinds.len()) {
+    match split_values(alloc, items, kinds.len()) {
         Ok(values) => Ok(values),
         Err(_) => Err(Stop::Memory),
     }

@@ -35,13 +35,21 @@ fn cut_value<'a>(alloc: Global, items: &'a [Item]) -> Result<(Flat, &'a [Item]),
     Ok((value, &items[length..]))
 }
 
-/// The values whose nodes these are, one after the other.
+// The value whose nodes these are, with no copy of them.
+#[tactic(auto, using(crate::proofs::ValueSteps::only_value, crate::proofs::ValueSteps::only_cut))]
+fn whole_value(alloc: Global, items: Vec<Item>) -> Result<Vec<Flat>, AllocError>
+    requires values { OfValues items.items 1 }
+    ensures nodes { IfOk result (λ values. items.items ≡ nodes_all (parts values.items) []) }
+    ensures count { IfOk result (λ values. length values.items ≡ 1) }
+{
+    let mut values = Vec::with_capacity(alloc, 1)?;
+    values.push(Flat::of(items))?;
+    Ok(values)
+}
+
+// The values whose nodes these are, each with a copy of its own.
 #[tactic(auto, using(crate::proofs::ValueSteps::cuts_first, crate::proofs::ValueSteps::cuts_begin, crate::proofs::ValueSteps::cuts_more, crate::proofs::ValueSteps::cuts_few, crate::proofs::ValueSteps::cuts_done))]
-pub(crate) fn split_values(
-    alloc: Global,
-    items: &[Item],
-    count: usize,
-) -> Result<Vec<Flat>, AllocError>
+fn cut_values(alloc: Global, items: &[Item], count: usize) -> Result<Vec<Flat>, AllocError>
     requires values { OfValues items.now count }
     requires few { length items.now ≤ 65536 }
     ensures nodes { IfOk result (λ values. items.now ≡ nodes_all (parts values.items) []) }
@@ -55,4 +63,22 @@ pub(crate) fn split_values(
         rest = after;
     }
     Ok(values)
+}
+
+/// The values whose nodes these are, one after the other.
+pub(crate) fn split_values(
+    alloc: Global,
+    items: Vec<Item>,
+    count: usize,
+) -> Result<Vec<Flat>, AllocError>
+    requires values { OfValues items.items count }
+    requires few { length items.items ≤ 65536 }
+    ensures nodes { IfOk result (λ values. items.items ≡ nodes_all (parts values.items) []) }
+    ensures count { IfOk result (λ values. length values.items ≡ count) }
+{
+    if count == 1 {
+        whole_value(alloc, items)
+    } else {
+        cut_values(alloc, &items, count)
+    }
 }

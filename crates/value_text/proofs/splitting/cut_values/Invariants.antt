@@ -1,6 +1,6 @@
 use Rattle.std.proofs.Common.{◌≡◌, ◌≤◌, length}
 use Rattle.value_text.specs.Values.{Cuts}
-use Rattle.value_text.proofs.splitting.split_values.Given as goal
+use Rattle.value_text.proofs.splitting.cut_values.Given as goal
 
 abbrev pub invariant-loop-value : goal.invariant-loop-value
 invariant-loop-value l = record {
