@@ -79,13 +79,17 @@ pub(crate) fn ends(rest: &[u8]) -> bool
     true
 }
 
-// The text behind the name, where the name stands in front and ends there.
+// The text behind the name, where the name stands in front and ends there. Most names are told from the text by their
+// first byte.
 #[tactic(auto, using(crate::proofs::WordSteps::behind_here))]
 pub(crate) fn behind_name<'a>(name: &[u8], text: &'a [u8]) -> Option<&'a [u8]>
     ensures { IfSome result (λ rest. IsBehind name.now text.now rest.now) }
 {
-    let count = common(name, text);
-    if count < name.len() {
+    let count = name.len();
+    if count == 0 || count > text.len() || name[0] != text[0] {
+        return None;
+    }
+    if &text[..count] != name {
         return None;
     }
     let rest = &text[count..];
