@@ -8,7 +8,7 @@ use Rattle.camelot_values.specs.Kinds.{DataType, data_type_of, constructor_of, A
 use Rattle.camelot_values.specs.declared.kinds.Kind.{Kind}
 use Rattle.camelot_values.specs.declared.kinds.Con.{Con}
 use Rattle.camelot_values.specs.declared.kinds.TypeDef.{TypeDef}
-use Rattle.value_text.specs.Finite.{is_marked, has_value, is_ready, Sound, NoneReady, ReadyAt, is_next}
+use Rattle.value_text.specs.Finite.{is_marked, has_value, is_ready, all_ready, Sound, NoneReady, ReadyAt, is_next}
 use Rattle.value_text.proofs.Words.{and_parts, and_both, true_false}
 use Rattle.value_text.proofs.Finiteness.{one_more_mark, left_of}
 
@@ -34,6 +34,33 @@ pub any_later : (marks : List Bool) (cs : List Con) (i : ℕ) (c : Con) (b : Boo
     → is_ready marks (constructor_of c) ≡ false → list_any (is_ready marks) (map constructor_of (drop i cs)) ≡ b
     → list_any (is_ready marks) (map constructor_of (drop (i + 1) cs)) ≡ b
 any_later marks cs i c b h is t e = ap (λ x. x || list_any (is_ready marks) (map constructor_of (drop (i + 1) cs))) (sym t) ∙ ap (list_any (is_ready marks)) (sym (cons_at cs i c h is)) ∙ e
+
+-- ---- whether all fields have values
+
+pub con_ready : (marks : List Bool) (cs : List Con) (i : ℕ) (c : Con) (b : Bool) → i < length cs → c ≡ get_or cs i c
+    → is_ready marks (constructor_of c) ≡ true → list_all (is_ready marks) (map constructor_of (drop i cs)) ≡ b
+    → list_all (is_ready marks) (map constructor_of (drop (i + 1) cs)) ≡ b
+con_ready marks cs i c b h is t e = ap (λ x. x && list_all (is_ready marks) (map constructor_of (drop (i + 1) cs))) (sym t) ∙ ap (list_all (is_ready marks)) (sym (cons_at cs i c h is)) ∙ e
+
+pub con_unready : (marks : List Bool) (cs : List Con) (i : ℕ) (c : Con) (b : Bool) → i < length cs → c ≡ get_or cs i c
+    → is_ready marks (constructor_of c) ≡ false → list_all (is_ready marks) (map constructor_of (drop i cs)) ≡ b → false ≡ b
+con_unready marks cs i c b h is t e = ap (λ x. x && list_all (is_ready marks) (map constructor_of (drop (i + 1) cs))) (sym t) ∙ ap (list_all (is_ready marks)) (sym (cons_at cs i c h is)) ∙ e
+
+types_at : (ds : List TypeDef) (i : ℕ) (d : TypeDef) → i < length ds → d ≡ get_or ds i d
+    → map data_type_of (drop i ds) ≡ data_type_of d ∷ map data_type_of (drop (i + 1) ds)
+types_at ds i d h is =
+    ap (map data_type_of) (drop-cons ds i d h) ∙ ap (λ x. data_type_of x ∷ map data_type_of (drop (suc i) ds)) (sym is) ∙ ap (λ n. data_type_of d ∷ map data_type_of (drop n ds)) (sym (add-one i))
+
+pub type_ready : (marks : List Bool) (ds : List TypeDef) (i : ℕ) (d : TypeDef) (b : Bool) → i < length ds → d ≡ get_or ds i d
+    → list_all (is_ready marks) (data_type_of d).cons ≡ true → all_ready marks (map data_type_of (drop i ds)) ≡ b
+    → all_ready marks (map data_type_of (drop (i + 1) ds)) ≡ b
+type_ready marks ds i d b h is t e = ap (λ x. x && all_ready marks (map data_type_of (drop (i + 1) ds))) (sym t) ∙ ap (all_ready marks) (sym (types_at ds i d h is)) ∙ e
+
+pub type_unready : (marks : List Bool) (ds : List TypeDef) (i : ℕ) (d : TypeDef) (b : Bool) → i < length ds → d ≡ get_or ds i d
+    → list_all (is_ready marks) (data_type_of d).cons ≡ false → all_ready marks (map data_type_of (drop i ds)) ≡ b → false ≡ b
+type_unready marks ds i d b h is t e = ap (λ x. x && all_ready marks (map data_type_of (drop (i + 1) ds))) (sym t) ∙ ap (all_ready marks) (sym (types_at ds i d h is)) ∙ e
+
+-- ---- types to be marked
 
 def_at : (ds : List TypeDef) (i : ℕ) (d : TypeDef) → i < length ds → d ≡ get_or ds i d → slice_get (map data_type_of ds) i ≡ Some (data_type_of d)
 def_at [] i d h is = absurd (omega (arith, h))

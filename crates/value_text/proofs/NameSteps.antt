@@ -1,7 +1,7 @@
 -- Steps of the loops over the constructors of a type.
 use Rattle.std.proofs.Common.{◌≡◌, ℕ, zero, suc, ◌+◌, ◌<◌, ◌≤◌, Bool, true, false, List, [], ◌∷◌, length, drop, get_or, map, Option, Some, None, refl, sym, ap, ◌∙◌, arith, drop-cons, drop_of_length-le, add-one}
 use Rattle.std.specs.Prelude.{◌&&◌, if◌then◌else◌, max, vec_len, slice_get}
-use Rattle.std.specs.List.{AllByRecursion}
+use Rattle.std.specs.List.{AllByRecursion, list_all}
 use Rattle.std.specs.Option.{option_map}
 use Rattle.std.specs.Str.{bytes_eq}
 use Rattle.std.proofs.lemmas.List.{length-map}
@@ -13,7 +13,7 @@ use Rattle.value_text.specs.Finite.{is_ready}
 use Rattle.value_text.specs.Choosing.{common, choose, best, first_con, Looked}
 use Rattle.value_text.specs.Splitting.{IsBehind, FrontCon}
 use Rattle.value_text.specs.declared.names.Look.TheVariants as look
-use Rattle.value_text.proofs.Words.{and_both}
+use Rattle.value_text.proofs.Words.{and_both, and_parts}
 
 not_same : (v w : List ℕ) → (v ≡ w → ⊥) → bytes_eq v w ≡ false
 not_same v w n = by_test (bytes_eq v w) refl
@@ -125,3 +125,10 @@ pub front_there : (marks : List Bool) (text rest : List ℕ) (cs : List Con) (i 
     → is_ready marks (constructor_of c) ≡ true → IsBehind (constructor_of c).name text rest → FrontCon marks (map constructor_of cs) text i rest
 front_there marks text rest cs i c h is ready front =
     record { con = constructor_of c; is = con_there cs i c h ∙ ap (λ x. Some (constructor_of x)) (sym is); ready = ready; front = front }
+
+-- where all fields of all constructors have values, those of the one at this place have
+pub ready_there : (marks : List Bool) (cs : List Con) (i : ℕ) (c : Con) → i < length cs → c ≡ get_or cs i c
+    → list_all (is_ready marks) (map constructor_of cs) ≡ true → is_ready marks (constructor_of c) ≡ true
+ready_there marks [] i c h is all = absurd (omega (arith, h))
+ready_there marks (x ∷ cs) zero c h is all = ap (λ y. is_ready marks (constructor_of y)) is ∙ (and_parts (is_ready marks (constructor_of x)) _ all).0
+ready_there marks (x ∷ cs) (suc i) c h is all = ready_there marks cs i c (omega (arith, h)) is (and_parts (is_ready marks (constructor_of x)) _ all).1

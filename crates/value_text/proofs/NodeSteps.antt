@@ -2,7 +2,7 @@
 use Rattle.std.proofs.Common.{◌≡◌, ℕ, zero, suc, ◌+◌, ◌-◌, ◌<◌, ◌≤◌, Bool, List, [], ◌∷◌, length, take, drop, get_or, map, Some, None, refl, sym, ap, ◌∙◌, subst, arith, inl, inr, length-append, to_z, of_z, w32}
 use Rattle.std.proofs.lemmas.Int.{to_z-of_z}
 use Rattle.std.specs.Prelude.{◌⊎◌, IsTrue, true, slice_get, vec_len, ℤ, pos, neg_ℤ, decimal, codes}
-use Rattle.std.specs.List.{AllByRecursion}
+use Rattle.std.specs.List.{AllByRecursion, list_all}
 use Rattle.std.proofs.lemmas.List.{length-map, take_all}
 use Rattle.camelot_values.specs.Kinds.{DataType, constructor, IsConstructor, IsDataType, AreTypes, data_type_of, constructor_of, type_of}
 use Rattle.camelot_values.specs.KindLaws.{located}
@@ -17,13 +17,13 @@ use Rattle.camelot_values.specs.declared.value.Item.{Item}
 use Rattle.camelot_values.specs.declared.value.Item.TheVariants as item
 use Rattle.value_text.specs.Due.{Named, Unnamed}
 use Rattle.value_text.specs.Grammar.{AreNamed, DistinctNames, is_word}
-use Rattle.value_text.specs.Finite.{is_ready, Exact, HasValue}
+use Rattle.value_text.specs.Finite.{is_ready, all_ready, Exact, HasValue}
 use Rattle.value_text.specs.Choosing.{choose, best, first_con, HasPlace, IsConNode, IntRead, IntRefused, DigitsRead, IsPlain, common, IsFlag, NoFlag}
 use Rattle.value_text.specs.Splitting.{skip, IsSplit, FrontCon, FrontInt, FrontRead, NodeRead, NodeRefused, NotFirst}
 use Rattle.value_text.proofs.Comings.{some_is}
 use Rattle.value_text.proofs.Naming.{name_named, con_named, con_unnamed, of_type}
 use Rattle.value_text.proofs.Finiteness.{con_at as con_there}
-use Rattle.value_text.proofs.Words.{word_all}
+use Rattle.value_text.proofs.Words.{word_all, and_parts}
 use Rattle.value_text.proofs.Lives.{con_fine, named_con}
 use Rattle.value_text.proofs.Atoms.{small_pos, small_neg, plus_named, minus_named, plus_unnamed, minus_unnamed, flag_named, flag_unnamed, dia_named, dia_unnamed}
 
@@ -216,6 +216,17 @@ front_named types ds marks t place d text rest x fields names distinct exact e h
       split = record { parts = f.front.parts; all = word_all f.con.name fine; ends = f.front.ends };
       named = subst (λ g. Named types (kind.Of t) f.con.name x g) (sym m.fields_is) (subst (λ y. Named types (kind.Of t) f.con.name y m.con.fields) (sym m.x_is) named);
     }
+
+-- where all fields of all types have values, those of this type have
+pub ready_type : (types : List DataType) (ds : List TypeDef) (marks : List Bool) (t : ℕ) (d : TypeDef) (full : Bool) → full ≡ all_ready marks types
+    → map data_type_of ds ≡ types → t < length ds → full ≡ true → list_all (is_ready marks) (data_type_of (get_or ds t d)).cons ≡ true
+ready_type types ds marks t d full f e h is = at_type ds t d h (ap (all_ready marks) e ∙ sym f ∙ is)
+  where
+    at_type : (ds : List TypeDef) (t : ℕ) (d : TypeDef) → t < length ds → all_ready marks (map data_type_of ds) ≡ true
+        → list_all (is_ready marks) (data_type_of (get_or ds t d)).cons ≡ true
+    at_type [] t d h all = absurd (omega (arith, h))
+    at_type (x ∷ ds) zero d h all = (and_parts (list_all (is_ready marks) (data_type_of x).cons) _ all).0
+    at_type (x ∷ ds) (suc t) d h all = at_type ds t d (omega (arith, h)) (and_parts (list_all (is_ready marks) (data_type_of x).cons) _ all).1
 
 pub front_int_named : (types : List DataType) (q : Kind) (text rest : List ℕ) (z : ℤ) → q ≡ kind.Int → FrontInt text z rest
     → FrontRead types q text (item.Int (to_z w32 (of_z w32 z))) [] rest

@@ -22,6 +22,10 @@ has_value marks q = true
 abbrev pub is_ready : List Bool → Constructor → Bool
 is_ready marks con = list_all (has_value marks) con.fields
 
+-- so are all fields of all constructors of these types
+abbrev pub all_ready : List Bool → List DataType → Bool
+all_ready marks types = list_all (λ d. list_all (is_ready marks) d.cons) types
+
 pub record HasValue (types : List DataType) (q : Kind) : Type 0 where
   pub value : Value
   pub fits : Fits types q value

@@ -4,7 +4,7 @@ ghost use Rattle.camelot_values.specs.Value.{Value};
 ghost use Rattle.stops.specs.Stopping.{FaultIs};
 ghost use Rattle.value_text.specs.Grammar.{AreNamed, DistinctNames, IsRead, IsTooLong, IsBadShape};
 ghost use Rattle.value_text.specs.Answers.{IsFault, IsMemory, IsBadAt, IsLongBy};
-ghost use Rattle.value_text.specs.Finite.{Exact, has_value};
+ghost use Rattle.value_text.specs.Finite.{has_value};
 ghost use Rattle.value_text.specs.Inhabited.{Knows};
 ghost use Rattle.value_text.specs.Due.{Whole, first_due};
 ghost use Rattle.value_text.specs.Only.{OnlyRead, OnlyFault, IsBad};
@@ -51,19 +51,19 @@ fn read_nodes(
     alloc: Global,
     text: &[u8],
     types: &Types,
-    marks: &[bool],
+    inhabited: &Inhabited,
     kinds: &[Kind],
 ) -> Result<Vec<Item>, Stop<ValueFault>>
-    requires exact { Exact types.now marks.now }
+    requires knows { Knows types.now inhabited.now }
     requires named { AreNamed types.now }
     requires distinct { DistinctNames types.now }
     ensures { MatchResult result (λ items. Whole types.now (first_due kinds.now) text.now items.items)
         (λ stop. FaultIs (IsBad types.now kinds.now text.now) stop) }
 {
-    if !all_have_values(marks, kinds) {
+    if !all_have_values(&inhabited.marks, kinds) {
         return Err(Stop::Fault(ValueFault::BadShape { at: 0 }));
     }
-    match read_items(alloc, types, marks, kinds, text) {
+    match read_items(alloc, types, inhabited, kinds, text) {
         Ok(items) => Ok(items),
         Err(TextStop::Memory) => Err(Stop::Memory),
         Err(TextStop::At(at)) => Err(Stop::Fault(ValueFault::BadShape { at: at as u64 })),
@@ -85,7 +85,7 @@ fn read_whole(
     ensures { MatchResult result (λ values. OnlyRead types.now kinds.now text.now values.items)
         (λ stop. FaultIs (OnlyFault types.now kinds.now text.now) stop) }
 {
-    let items = read_nodes(alloc, text, types, &inhabited.marks, kinds)?;
+    let items = read_nodes(alloc, text, types, inhabited, kinds)?;
     if items.len() > MOST_ITEMS {
         return Err(Stop::Fault(ValueFault::TooLong {
             items: items.len() as u64,

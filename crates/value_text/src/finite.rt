@@ -1,7 +1,7 @@
 ghost use Rattle.std.specs.Prelude.{◌≡◌, ◌<◌, ◌≤◌, map, length, MatchOption};
-ghost use Rattle.std.specs.List.{list_any};
+ghost use Rattle.std.specs.List.{list_all, list_any};
 ghost use Rattle.camelot_values.specs.Kinds.{data_type_of, constructor_of};
-ghost use Rattle.value_text.specs.Finite.{is_marked, has_value, is_ready, Sound, NoneReady, ReadyAt, Exact, is_next};
+ghost use Rattle.value_text.specs.Finite.{is_marked, has_value, is_ready, all_ready, Sound, NoneReady, ReadyAt, Exact, is_next};
 
 use camelot_values::{Con, Kind, TypeDef, Types};
 
@@ -52,6 +52,32 @@ fn has_ready(marks: &[bool], def: &TypeDef) -> bool
         }
     }
     false
+}
+
+// Whether all fields of the type's constructors have values.
+#[tactic(auto, using(crate::proofs::FinitySteps::con_ready, crate::proofs::FinitySteps::con_unready))]
+fn has_all_ready(marks: &[bool], def: &TypeDef) -> bool
+    ensures { result ≡ list_all (is_ready marks.now) (data_type_of def.now).cons }
+{
+    'cons: for con in &def.cons {
+        if !is_ready(marks, con) {
+            return false;
+        }
+    }
+    true
+}
+
+// Whether the marks say that each field of each constructor has a value.
+#[tactic(auto, using(crate::proofs::FinitySteps::type_ready, crate::proofs::FinitySteps::type_unready))]
+pub(crate) fn are_ready(marks: &[bool], types: &[TypeDef]) -> bool
+    ensures { result ≡ all_ready marks.now (map data_type_of types.now) }
+{
+    'types: for def in types {
+        if !has_all_ready(marks, def) {
+            return false;
+        }
+    }
+    true
 }
 
 // Whether the type is to be marked next.

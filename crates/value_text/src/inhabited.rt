@@ -1,6 +1,6 @@
 ghost use Rattle.value_text.specs.Inhabited.{Knows};
 
-use super::finite::{MOST_TYPES, finite_types};
+use super::finite::{MOST_TYPES, are_ready, finite_types};
 use camelot_values::Types;
 
 /// Which of a list of types have values: all but those each of whose constructors leads back to one of them. It is
@@ -9,6 +9,8 @@ use camelot_values::Types;
 #[derive(Drop)]
 pub struct Inhabited {
     pub(crate) marks: [bool; MOST_TYPES],
+    // Whether each field of each constructor has a value, so that no field needs to be looked up.
+    pub(crate) full: bool,
 }
 
 impl Inhabited {
@@ -16,8 +18,8 @@ impl Inhabited {
     pub fn of(types: &Types) -> Inhabited
         ensures { Knows types.now result }
     {
-        Inhabited {
-            marks: finite_types(types),
-        }
+        let marks = finite_types(types);
+        let full = are_ready(&marks, types.defs());
+        Inhabited { marks, full }
     }
 }

@@ -1,10 +1,13 @@
-ghost use Rattle.std.specs.Prelude.{◌≡◌, ◌+◌, ◌≤◌, ◌<◌, Some, None, map, length, vec_len, MatchResult, IfOk, IfSome};
+ghost use Rattle.std.specs.Prelude.{◌≡◌, ◌+◌, ◌≤◌, ◌<◌, true, Some, None, map, length, vec_len, MatchResult, IfOk, IfSome};
+ghost use Rattle.std.specs.List.{list_all};
 ghost use Rattle.camelot_values.specs.Kinds.{data_type_of, constructor_of, AreTypes};
 ghost use Rattle.value_text.specs.Choosing.{choose, best, first_con, Looked};
 ghost use Rattle.value_text.specs.Splitting.{FrontCon};
+ghost use Rattle.value_text.specs.Finite.{is_ready};
 
 use super::cutting::{behind_name, common};
 use super::finite::is_ready;
+use super::inhabited::Inhabited;
 use camelot_values::{Con, TypeDef};
 
 // What one constructor says of a word: its name is the word, or it has so many bytes in common with it. A constructor
@@ -47,20 +50,29 @@ pub(crate) fn choose(marks: &[bool], word: &[u8], def: &TypeDef) -> Result<usize
     Err(good)
 }
 
+// Whether all fields of the constructor have values. They are looked up only where some field of a type has none.
+fn has_values(known: &Inhabited, con: &Con) -> bool
+    requires full { known.now.full ≡ true → is_ready known.now.marks (constructor_of con.now) ≡ true }
+    ensures { result ≡ is_ready known.now.marks (constructor_of con.now) }
+{
+    known.full || is_ready(&known.marks, con)
+}
+
 // The place of the type's constructor whose name stands in front, where its fields all have values, and the text behind
 // the name.
-#[tactic(auto, using(crate::proofs::NameSteps::front_there))]
+#[tactic(auto, using(crate::proofs::NameSteps::front_there, crate::proofs::NameSteps::ready_there))]
 pub(crate) fn front_con<'a>(
-    marks: &[bool],
+    known: &Inhabited,
     text: &'a [u8],
     def: &TypeDef,
 ) -> Option<(usize, &'a [u8])>
+    requires full { known.now.full ≡ true → list_all (is_ready known.now.marks) (data_type_of def.now).cons ≡ true }
     ensures within { IfSome result (λ found. found.0 < vec_len def.now.cons) }
-    ensures front { IfSome result (λ found. FrontCon marks.now (data_type_of def.now).cons text.now found.0 found.1.now) }
+    ensures front { IfSome result (λ found. FrontCon known.now.marks (data_type_of def.now).cons text.now found.0 found.1.now) }
 {
     for (place, con) in def.cons.iter().enumerate() {
         if let Some(rest) = behind_name(con.name.bytes(), text) {
-            if is_ready(marks, con) {
+            if has_values(known, con) {
                 return Some((place, rest));
             }
             return None;

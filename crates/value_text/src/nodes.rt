@@ -4,10 +4,12 @@ ghost use Rattle.camelot_values.specs.declared.kinds.Kind.TheVariants.{Of};
 ghost use Rattle.value_text.specs.Due.{Named, Unnamed};
 ghost use Rattle.value_text.specs.Grammar.{AreNamed, DistinctNames};
 ghost use Rattle.value_text.specs.Finite.{Exact, HasValue};
+ghost use Rattle.value_text.specs.Inhabited.{Knows};
 ghost use Rattle.value_text.specs.Choosing.{HasPlace, IsConNode, IsFlag, NoFlag};
 ghost use Rattle.value_text.specs.Splitting.{FrontRead, NodeRead, NodeRefused, NotFirst, before_mark};
 
 use super::cutting::{common, skip_spaces, split_word};
+use super::inhabited::Inhabited;
 use super::ints::{front_int, read_int};
 use super::names::{choose, first_con, front_con};
 use camelot_values::{Item, Kind, TypeDef, Types};
@@ -111,16 +113,16 @@ pub(crate) struct Read<'a, 'b> {
 }
 
 // The node of the type's constructor whose name stands in front, where its fields all have values.
-#[tactic(auto, using(crate::proofs::NodeSteps::has_place))]
+#[tactic(auto, using(crate::proofs::NodeSteps::has_place, crate::proofs::NodeSteps::ready_type))]
 fn front_con_node<'a, 'b>(
     types: &'a Types,
-    marks: &[bool],
+    known: &Inhabited,
     number: u32,
     text: &'b [u8],
 ) -> Option<Read<'a, 'b>>
     requires named { AreNamed types.now }
     requires distinct { DistinctNames types.now }
-    requires exact { Exact types.now marks.now }
+    requires knows { Knows types.now known.now }
     ensures { IfSome result (λ node. FrontRead types.now (Of number) text.now node.item node.fields.now node.rest.now) }
 {
     types.limits();
@@ -129,7 +131,7 @@ fn front_con_node<'a, 'b>(
     if place >= defs.len() {
         return None;
     }
-    match front_con(marks, text, &defs[place]) {
+    match front_con(known, text, &defs[place]) {
         Some((chosen, rest)) => {
             let (item, fields) = con_node(defs, place, chosen);
             Some(Read { item, fields, rest })
@@ -141,13 +143,13 @@ fn front_con_node<'a, 'b>(
 // The node of this kind whose word stands in front, where it is an int without a sign or a constructor.
 fn front_node<'a, 'b>(
     types: &'a Types,
-    marks: &[bool],
+    known: &Inhabited,
     kind: Kind,
     text: &'b [u8],
 ) -> Option<Read<'a, 'b>>
     requires named { AreNamed types.now }
     requires distinct { DistinctNames types.now }
-    requires exact { Exact types.now marks.now }
+    requires knows { Knows types.now known.now }
     ensures { IfSome result (λ node. FrontRead types.now kind text.now node.item node.fields.now node.rest.now) }
 {
     match kind {
@@ -159,7 +161,7 @@ fn front_node<'a, 'b>(
             }),
             None => None,
         },
-        Kind::Of(number) => front_con_node(types, marks, number, text),
+        Kind::Of(number) => front_con_node(types, known, number, text),
         Kind::Flag | Kind::Dia => None,
     }
 }
@@ -169,23 +171,23 @@ fn front_node<'a, 'b>(
 #[tactic(auto, using(crate::proofs::NodeSteps::front_is_read, crate::proofs::NodeSteps::node_read, crate::proofs::NodeSteps::node_refused, crate::proofs::NodeSteps::good_within))]
 pub(crate) fn read_node<'a, 'b>(
     types: &'a Types,
-    marks: &[bool],
+    known: &Inhabited,
     kind: Kind,
     text: &'b [u8],
 ) -> Result<Read<'a, 'b>, usize>
     requires named { AreNamed types.now }
     requires distinct { DistinctNames types.now }
-    requires exact { Exact types.now marks.now }
+    requires knows { Knows types.now known.now }
     requires value { HasValue types.now kind }
     ensures { MatchResult result (λ node. NodeRead types.now kind text.now node.item node.fields.now node.rest.now)
         (λ left. NodeRefused types.now kind text.now left) }
 {
     let text = skip_spaces(text);
-    if let Some(node) = front_node(types, marks, kind, text) {
+    if let Some(node) = front_node(types, known, kind, text) {
         return Ok(node);
     }
     let (word, rest) = split_word(text);
-    match find_node(types, marks, kind, word) {
+    match find_node(types, &known.marks, kind, word) {
         Ok((item, fields)) => Ok(Read { item, fields, rest }),
         Err(good) => Err(text.len() - good),
     }

@@ -3,10 +3,11 @@ ghost use Rattle.value_text.specs.Grammar.{AreNamed, DistinctNames};
 ghost use Rattle.value_text.specs.Dues.{Due, Value, Mark as MarkDue};
 ghost use Rattle.value_text.specs.Due.{Reading, Possible, Whole, first_due, parts_due, further_due, others_due, IsStop};
 ghost use Rattle.value_text.specs.Later.{later_due, NextDue};
-ghost use Rattle.value_text.specs.Finite.{Exact};
+ghost use Rattle.value_text.specs.Inhabited.{Knows};
 
 use super::behind::Later;
 use super::cutting::skip_spaces;
+use super::inhabited::Inhabited;
 use super::nodes::{read_mark, read_node};
 use camelot_values::{Item, Kind, Types};
 use std::alloc::Global;
@@ -186,7 +187,7 @@ fn go_on<'a, 'b>(
 // Reads the word of a node, where a value is due, and what stands behind it up to the next value.
 fn follow_value<'a, 'b>(
     types: &'b Types,
-    marks: &[bool],
+    known: &Inhabited,
     kinds: &[Kind],
     text: &[u8],
     rest: &'a [u8],
@@ -196,7 +197,7 @@ fn follow_value<'a, 'b>(
 ) -> Result<(Option<Kind>, &'a [u8]), TextStop>
     requires named { AreNamed types.now }
     requires distinct { DistinctNames types.now }
-    requires exact { Exact types.now marks.now }
+    requires knows { Knows types.now known.now }
     requires reading { Reading types.now (first_due kinds.now) text.now items.old.items
         (Value kind ∷ later_due later.old.closed later.old.frames.items later.old.others.now) rest.now }
     ensures shorter { IfOk result (λ next. length next.1.now < length rest.now) }
@@ -205,7 +206,7 @@ fn follow_value<'a, 'b>(
         next.0 next.1.now)
         (λ stop. IsStop types.now kinds.now text.now stop) }
 {
-    let node = match read_node(types, marks, kind, rest) {
+    let node = match read_node(types, known, kind, rest) {
         Ok(node) => node,
         Err(left) => return Err(TextStop::At(text.len().saturating_sub(left))),
     };
@@ -240,13 +241,13 @@ fn finish(
 pub(crate) fn read_items(
     alloc: Global,
     types: &Types,
-    marks: &[bool],
+    known: &Inhabited,
     kinds: &[Kind],
     text: &[u8],
 ) -> Result<Vec<Item>, TextStop>
     requires named { AreNamed types.now }
     requires distinct { DistinctNames types.now }
-    requires exact { Exact types.now marks.now }
+    requires knows { Knows types.now known.now }
     requires possible { Possible types.now (first_due kinds.now) }
     ensures { MatchResult result (λ items. Whole types.now (first_due kinds.now) text.now items.items) (λ stop. IsStop types.now kinds.now text.now stop) }
 {
@@ -263,7 +264,7 @@ pub(crate) fn read_items(
     let mut rest = text;
     'values: loop {
         match follow_value(
-            types, marks, kinds, text, rest, kind, &mut later, &mut items,
+            types, known, kinds, text, rest, kind, &mut later, &mut items,
         ) {
             Ok((Some(next), after)) => {
                 kind = next;

@@ -7,6 +7,6 @@ use Rattle.value_text.proofs.nodes.front_con_node.Goals as goal
 
 pub returns-in-Some : goal.returns-in-Some
 returns-in-Some c =
-    front_named c.args.types.now c.defs-defs.result.now c.args.marks.now c.args.number c.in-Some.chosen c.index-defs-place.result c.args.text.now c.in-Some.rest.now c.con_node-item.result.0 c.con_node-item.result.1.now
-    c.requires.named c.requires.distinct c.requires.exact c.defs-defs.ensures c.if-place-defs.false
-    (subst (λ (x : TypeDef). FrontCon c.args.marks.now (data_type_of x).cons c.args.text.now c.in-Some.chosen c.in-Some.rest.now) c.index-defs-place.is c.in-Some.ensures.front) c.con_node-item.ensures
+    front_named c.args.types.now c.defs-defs.result.now c.args.known.now.marks c.args.number c.in-Some.chosen c.index-defs-place.result c.args.text.now c.in-Some.rest.now c.con_node-item.result.0 c.con_node-item.result.1.now
+    c.requires.named c.requires.distinct c.requires.knows.0 c.defs-defs.ensures c.if-place-defs.false
+    (subst (λ (x : TypeDef). FrontCon c.args.known.now.marks (data_type_of x).cons c.args.text.now c.in-Some.chosen c.in-Some.rest.now) c.index-defs-place.is c.in-Some.ensures.front) c.con_node-item.ensures
