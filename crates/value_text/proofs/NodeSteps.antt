@@ -1,7 +1,7 @@
 -- From constructors in the code's lists to nodes and their words.
 use Rattle.std.proofs.Common.{◌≡◌, ℕ, zero, suc, ◌+◌, ◌-◌, ◌<◌, ◌≤◌, Bool, List, [], ◌∷◌, length, take, drop, get_or, map, Some, None, refl, sym, ap, ◌∙◌, subst, arith, inl, inr, length-append, to_z, of_z, w32}
 use Rattle.std.proofs.lemmas.Int.{to_z-of_z}
-use Rattle.std.specs.Prelude.{◌⊎◌, IsTrue, true, slice_get, vec_len, ℤ, pos, neg_ℤ, decimal, codes}
+use Rattle.std.specs.Prelude.{◌⊎◌, IsTrue, true, false, ◌==◌, if◌then◌else◌, slice_get, vec_len, ℤ, pos, neg_ℤ, decimal, codes}
 use Rattle.std.specs.List.{AllByRecursion, list_all}
 use Rattle.std.proofs.lemmas.List.{length-map, take_all}
 use Rattle.camelot_values.specs.Kinds.{DataType, constructor, IsConstructor, IsDataType, AreTypes, data_type_of, constructor_of, type_of}
@@ -19,7 +19,7 @@ use Rattle.value_text.specs.Due.{Named, Unnamed}
 use Rattle.value_text.specs.Grammar.{AreNamed, DistinctNames, is_word}
 use Rattle.value_text.specs.Finite.{is_ready, all_ready, Exact, HasValue}
 use Rattle.value_text.specs.Choosing.{choose, best, first_con, HasPlace, IsConNode, IntRead, IntRefused, DigitsRead, IsPlain, common, IsFlag, NoFlag}
-use Rattle.value_text.specs.Splitting.{skip, IsSplit, FrontCon, FrontInt, FrontRead, NodeRead, NodeRefused, NotFirst}
+use Rattle.value_text.specs.Splitting.{skip, before_mark, IsSplit, FrontCon, FrontInt, FrontRead, NodeRead, NodeRefused, NotFirst}
 use Rattle.value_text.proofs.Comings.{some_is}
 use Rattle.value_text.proofs.Naming.{name_named, con_named, con_unnamed, of_type}
 use Rattle.value_text.proofs.Finiteness.{con_at as con_there}
@@ -172,6 +172,14 @@ pub mark_here : (text rest : List ℕ) (mark first : ℕ) → 1 ≤ length text 
     → rest ≡ take (length text - 1) (drop 1 text) → text ≡ mark ∷ rest
 mark_here [] rest mark first h f e r = absurd (omega (arith, h))
 mark_here (x ∷ text) rest mark first h f e r = ap (λ y. y ∷ text) (sym f ∙ e) ∙ ap (λ l. mark ∷ l) (sym (r ∙ take_all (length (x ∷ text) - 1) text (omega arith)))
+
+pub mark_first : (text rest : List ℕ) (mark first : ℕ) → 1 ≤ length text → first ≡ get_or text 0 0 → first ≡ mark
+    → rest ≡ take (length text - 1) (drop 1 text) → before_mark mark text ≡ mark ∷ rest
+mark_first text rest mark first h f e r = ap (before_mark mark) (mark_here text rest mark first h f e r) ∙ by_test (mark == 32)
+  where
+    by_test : (b : Bool) → (if b then mark ∷ rest else (if b then skip rest else mark ∷ rest)) ≡ mark ∷ rest
+    by_test true = refl
+    by_test false = refl
 
 pub mark_other : (text : List ℕ) (mark first : ℕ) → 1 ≤ length text → first ≡ get_or text 0 0 → (first ≡ mark → ⊥) → NotFirst mark text
 mark_other [] mark first h f n = tt

@@ -5,8 +5,6 @@ use Rattle.std.specs.List.{list_all}
 use Rattle.std.proofs.Math.Seq.{take-suc}
 use Rattle.std.proofs.lemmas.List.{take-append-drop, take_all, length-drop}
 use Rattle.std.proofs.lemmas.Bool.Decides.{nat_tests}
-use Rattle.std.specs.Str.{bytes_eq}
-use Rattle.camelot_values.specs.NameLaws.{same_name}
 use Rattle.value_text.specs.Grammar.{is_word_byte, Ends}
 use Rattle.value_text.specs.Choosing.{common}
 use Rattle.value_text.specs.Splitting.{skip, IsSplit, IsWordLength, IsBehind}
@@ -99,9 +97,15 @@ within_word (x ∷ xs) (y ∷ ys) = common_some x y xs ys (λ n. n ≤ suc (leng
 pub common_within : (xs ys : List ℕ) (at : ℕ) → at ≡ common xs ys → at ≤ length ys
 common_within xs ys at e = omega (arith, e, within_word xs ys)
 
-pub behind_here : (name text front rest : List ℕ) (count : ℕ) → count ≡ length name → front ≡ take count text → bytes_eq front name ≡ true
+whole_name : (xs ys : List ℕ) → length xs ≤ common xs ys → ys ≡ xs ++ drop (length xs) ys
+whole_name [] ys h = refl
+whole_name (x ∷ xs) [] h = absurd (omega (arith, h))
+whole_name (x ∷ xs) (y ∷ ys) h =
+    common_some x y xs ys (λ n. suc (length xs) ≤ n → y ∷ ys ≡ x ∷ (xs ++ drop (length xs) ys))
+    (λ e k. ap (λ b. b ∷ ys) (sym e) ∙ ap (λ l. x ∷ l) (whole_name xs ys (omega (arith, k)))) (λ k. absurd (omega (arith, k))) h
+
+pub behind_here : (name text rest : List ℕ) (count : ℕ) → count ≡ length name → length name ≤ common name text
     → rest ≡ take (length text - count) (drop count text) → Ends rest → IsBehind name text rest
-behind_here name text front rest count size f same is ends =
-    let r : rest ≡ drop count text = is ∙ take_all (length text - count) (drop count text) (omega (arith, length-drop count text)) in
-    let n : take count text ≡ name = sym f ∙ same_name front name same in
-    record { parts = sym (take-append-drop count text) ∙ ap (λ l. l ++ drop count text) n ∙ ap (λ l. name ++ l) (sym r); ends = ends }
+behind_here name text rest count size all is ends =
+    let r : rest ≡ drop (length name) text = is ∙ take_all (length text - count) (drop count text) (omega (arith, length-drop count text)) ∙ ap (λ n. drop n text) size in
+    record { parts = whole_name name text all ∙ ap (λ l. name ++ l) (sym r); ends = ends }

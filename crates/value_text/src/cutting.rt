@@ -79,17 +79,32 @@ pub(crate) fn ends(rest: &[u8]) -> bool
     true
 }
 
-// The text behind the name, where the name stands in front and ends there. Most names are told from the text by their
-// first byte.
+// Whether the text begins with the name, which is no longer.
+#[tactic(auto, using(crate::proofs::WordSteps::common_here))]
+fn begins(name: &[u8], text: &[u8]) -> bool
+    requires { length name.now ≤ length text.now }
+    ensures { IsTrue result → length name.now ≤ common name.now text.now }
+{
+    let mut at = 0;
+    'bytes: while at < name.len() {
+        if name[at] != text[at] {
+            return false;
+        }
+        at += 1;
+    }
+    true
+}
+
+// The text behind the name, where the name stands in front and ends there.
 #[tactic(auto, using(crate::proofs::WordSteps::behind_here))]
 pub(crate) fn behind_name<'a>(name: &[u8], text: &'a [u8]) -> Option<&'a [u8]>
     ensures { IfSome result (λ rest. IsBehind name.now text.now rest.now) }
 {
     let count = name.len();
-    if count == 0 || count > text.len() || name[0] != text[0] {
+    if count > text.len() {
         return None;
     }
-    if &text[..count] != name {
+    if !begins(name, text) {
         return None;
     }
     let rest = &text[count..];

@@ -193,12 +193,18 @@ pub(crate) fn read_node<'a, 'b>(
     }
 }
 
-/// Reads a mark: behind spaces, unless it is a space itself. Else how many bytes are left from the first bad one on.
-#[tactic(auto, using(crate::proofs::NodeSteps::mark_here, crate::proofs::NodeSteps::mark_other, crate::proofs::NodeSteps::mark_none))]
+/// Reads a mark: behind spaces, unless it is a space itself. Else how many bytes are left from the first bad one on. A
+/// mark that stands in front is read at once.
+#[tactic(auto, using(crate::proofs::NodeSteps::mark_first, crate::proofs::NodeSteps::mark_here, crate::proofs::NodeSteps::mark_other, crate::proofs::NodeSteps::mark_none))]
 pub(crate) fn read_mark(text: &[u8], mark: u8) -> Result<&[u8], usize>
     ensures { MatchResult result (λ rest. before_mark mark text.now ≡ mark ∷ rest.now)
         (λ left. (left ≡ length (before_mark mark text.now)) × NotFirst mark (before_mark mark text.now)) }
 {
+    if let [first, rest @ ..] = text {
+        if *first == mark {
+            return Ok(rest);
+        }
+    }
     let text = if mark == b' ' {
         text
     } else {
