@@ -50,12 +50,14 @@ fn close<'a>(
     later: &mut Later,
 ) -> Result<&'a [u8], TextStop>
     requires named { AreNamed types.now }
+    requires inner { later.old.inner.now ≡ [] }
     requires reading { Reading types.now (first_due kinds.now) text.now items.now
-        (later_due later.old.closed later.old.frames.items later.old.others.now) rest.now }
+        (later_due later.old.inner.now later.old.closed later.old.frames.items later.old.others.now) rest.now }
     ensures shorter { IfOk result (λ after. length after.now ≤ length rest.now) }
+    ensures inner { OnOk result (later.new.inner.now ≡ []) }
     ensures closed { OnOk result (later.new.closed ≡ 0) }
     ensures reading { MatchResult result
-        (λ after. Reading types.now (first_due kinds.now) text.now items.now (later_due later.new.closed later.new.frames.items later.new.others.now) after.now)
+        (λ after. Reading types.now (first_due kinds.now) text.now items.now (later_due later.new.inner.now later.new.closed later.new.frames.items later.new.others.now) after.now)
         (λ stop. IsStop types.now kinds.now text.now stop) }
 {
     let mut after = rest;
@@ -79,12 +81,13 @@ fn next_value<'a>(
     later: &mut Later,
 ) -> Result<(Option<Kind>, &'a [u8]), TextStop>
     requires named { AreNamed types.now }
+    requires inner { later.old.inner.now ≡ [] }
     requires closed { later.old.closed ≡ 0 }
     requires frames { later.old.frames.items ≡ [] }
     requires reading { Reading types.now (first_due kinds.now) text.now items.now (others_due later.old.others.now) rest.now }
     ensures shorter { IfOk result (λ next. length next.1.now ≤ length rest.now) }
     ensures reading { MatchResult result
-        (λ next. NextDue types.now (first_due kinds.now) text.now items.now (later_due later.new.closed later.new.frames.items later.new.others.now)
+        (λ next. NextDue types.now (first_due kinds.now) text.now items.now (later_due later.new.inner.now later.new.closed later.new.frames.items later.new.others.now)
         next.0 next.1.now)
         (λ stop. IsStop types.now kinds.now text.now stop) }
 {
@@ -114,10 +117,10 @@ fn enter<'a, 'b>(
 ) -> Result<(Option<Kind>, &'a [u8]), TextStop>
     requires named { AreNamed types.now }
     requires reading { Reading types.now (first_due kinds.now) text.now items.now
-        (MarkDue mark ∷ Value kind ∷ (further_due others.now ++ later_due later.old.closed later.old.frames.items later.old.others.now)) rest.now }
+        (MarkDue mark ∷ Value kind ∷ (further_due others.now ++ later_due later.old.inner.now later.old.closed later.old.frames.items later.old.others.now)) rest.now }
     ensures shorter { IfOk result (λ next. length next.1.now ≤ length rest.now) }
     ensures reading { MatchResult result
-        (λ next. NextDue types.now (first_due kinds.now) text.now items.now (later_due later.new.closed later.new.frames.items later.new.others.now)
+        (λ next. NextDue types.now (first_due kinds.now) text.now items.now (later_due later.new.inner.now later.new.closed later.new.frames.items later.new.others.now)
         next.0 next.1.now)
         (λ stop. IsStop types.now kinds.now text.now stop) }
 {
@@ -142,13 +145,16 @@ fn leave<'a>(
 ) -> Result<(Option<Kind>, &'a [u8]), TextStop>
     requires named { AreNamed types.now }
     requires reading { Reading types.now (first_due kinds.now) text.now items.now
-        (later_due later.old.closed later.old.frames.items later.old.others.now) rest.now }
+        (later_due later.old.inner.now later.old.closed later.old.frames.items later.old.others.now) rest.now }
     ensures shorter { IfOk result (λ next. length next.1.now ≤ length rest.now) }
     ensures reading { MatchResult result
-        (λ next. NextDue types.now (first_due kinds.now) text.now items.now (later_due later.new.closed later.new.frames.items later.new.others.now)
+        (λ next. NextDue types.now (first_due kinds.now) text.now items.now (later_due later.new.inner.now later.new.closed later.new.frames.items later.new.others.now)
         next.0 next.1.now)
         (λ stop. IsStop types.now kinds.now text.now stop) }
 {
+    if let Some((kind, others)) = later.next_inner() {
+        return enter(types, kinds, text, items, rest, b',', kind, others, later);
+    }
     let after = match close(types, kinds, text, items, rest, later) {
         Ok(after) => after,
         Err(stop) => return Err(stop),
@@ -171,10 +177,10 @@ fn go_on<'a, 'b>(
 ) -> Result<(Option<Kind>, &'a [u8]), TextStop>
     requires named { AreNamed types.now }
     requires reading { Reading types.now (first_due kinds.now) text.now items.now
-        (parts_due fields.now ++ later_due later.old.closed later.old.frames.items later.old.others.now) rest.now }
+        (parts_due fields.now ++ later_due later.old.inner.now later.old.closed later.old.frames.items later.old.others.now) rest.now }
     ensures shorter { IfOk result (λ next. length next.1.now ≤ length rest.now) }
     ensures reading { MatchResult result
-        (λ next. NextDue types.now (first_due kinds.now) text.now items.now (later_due later.new.closed later.new.frames.items later.new.others.now)
+        (λ next. NextDue types.now (first_due kinds.now) text.now items.now (later_due later.new.inner.now later.new.closed later.new.frames.items later.new.others.now)
         next.0 next.1.now)
         (λ stop. IsStop types.now kinds.now text.now stop) }
 {
@@ -199,10 +205,10 @@ fn follow_value<'a, 'b>(
     requires distinct { DistinctNames types.now }
     requires knows { Knows types.now known.now }
     requires reading { Reading types.now (first_due kinds.now) text.now items.old.items
-        (Value kind ∷ later_due later.old.closed later.old.frames.items later.old.others.now) rest.now }
+        (Value kind ∷ later_due later.old.inner.now later.old.closed later.old.frames.items later.old.others.now) rest.now }
     ensures shorter { IfOk result (λ next. length next.1.now < length rest.now) }
     ensures reading { MatchResult result
-        (λ next. NextDue types.now (first_due kinds.now) text.now items.new.items (later_due later.new.closed later.new.frames.items later.new.others.now)
+        (λ next. NextDue types.now (first_due kinds.now) text.now items.new.items (later_due later.new.inner.now later.new.closed later.new.frames.items later.new.others.now)
         next.0 next.1.now)
         (λ stop. IsStop types.now kinds.now text.now stop) }
 {

@@ -1,11 +1,12 @@
-use Rattle.std.proofs.Common.{◌≤◌, length}
+use Rattle.std.proofs.Common.{◌≡◌, ◌≤◌, [], length}
 use Rattle.value_text.specs.Due.{Reading, first_due}
 use Rattle.value_text.specs.Later.{later_due}
 use Rattle.value_text.proofs.reading.close.Given as goal
 
 abbrev pub invariant-closed : goal.invariant-closed
 invariant-closed l = record {
-  reading : Reading l.types (first_due l.kinds) l.text l.items (later_due l.later.closed l.later.frames.items l.later.others.now) l.after;
+  reading : Reading l.types (first_due l.kinds) l.text l.items (later_due l.later.inner.now l.later.closed l.later.frames.items l.later.others.now) l.after;
+  inner : l.later.inner.now ≡ [];
   shorter : length l.after ≤ length l.rest;
 }
 

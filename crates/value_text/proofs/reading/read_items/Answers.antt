@@ -15,7 +15,7 @@ finish-requires-clause-reading c =
 
 pub values-init : goal.values-init
 values-init c =
-    let later = later_due c.values-later.result.closed c.values-later.result.frames.items c.values-later.result.others.now in
+    let later = later_due c.values-later.result.inner.now c.values-later.result.closed c.values-later.result.frames.items c.values-later.result.others.now in
     let dues = Value (slice_index_or c.args.kinds.now 0 Int) ∷ later in
     subst (λ xs. Reading c.args.types.now (first_due c.args.kinds.now) c.args.text.now xs dues c.args.text.now) (sym c.in-Ok.ensures.items)
     (reading_first c.args.types.now c.args.kinds.now c.args.text.now dues c.requires.possible (some_first c.args.kinds.now later c.in-len1-up.len_at_least c.values-later.ensures))
