@@ -13,7 +13,7 @@ use Rattle.camelot_values.specs.declared.kinds.Kind.{Kind}
 use Rattle.camelot_values.specs.declared.kinds.Kind.TheVariants.{Int, Flag, Dia, Of}
 use Rattle.value_text.specs.Due.{HaveValues}
 use Rattle.value_text.specs.Finite.{is_marked, has_value, is_ready, HasValue, Sound, NoneReady, Exact}
-use Rattle.value_text.specs.Choosing.{first_con}
+use Rattle.value_text.specs.Inhabited.{first_con}
 use Rattle.value_text.proofs.Words.{and_parts, and_both}
 use Rattle.value_text.proofs.Comings.{some_is, is_some}
 

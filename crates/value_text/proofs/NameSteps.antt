@@ -1,16 +1,18 @@
 -- Steps of the loops over the constructors of a type.
-use Rattle.std.proofs.Common.{◌≡◌, ℕ, zero, suc, ◌+◌, ◌<◌, ◌≤◌, Bool, true, false, List, [], ◌∷◌, length, drop, get_or, map, Option, Some, None, refl, sym, ap, ◌∙◌, arith, drop-cons, drop_of_length-le, add-one}
-use Rattle.std.specs.Prelude.{◌&&◌, if◌then◌else◌, max, vec_len, slice_get}
+use Rattle.std.proofs.Common.{◌≡◌, ℕ, zero, suc, ◌+◌, ◌<◌, ◌≤◌, Bool, true, false, List, [], ◌∷◌, length, drop, get_or, map, Option, Some, None, refl, sym, ap, ◌∙◌, arith, drop-cons, drop_of_length-le, add-one, inl, inr}
+use Rattle.std.specs.Prelude.{◌&&◌, if◌then◌else◌, max, vec_len, slice_get, slice_set, ◌⊎◌}
 use Rattle.std.specs.List.{AllByRecursion, list_all}
 use Rattle.std.specs.Option.{option_map}
 use Rattle.std.specs.Str.{bytes_eq}
-use Rattle.std.proofs.lemmas.List.{length-map}
+use Rattle.std.proofs.lemmas.List.{length-map, length-set, get_or-set_same, get_or-set_other}
+use Rattle.std.proofs.lemmas.Bool.{cases_lt}
 use Rattle.camelot_values.specs.NameLaws.{same_name}
 use Rattle.camelot_values.specs.Kinds.{DataType, Constructor, IsDataType, AreTypes, data_type_of, constructor_of}
 use Rattle.camelot_values.specs.declared.kinds.Con.{Con}
 use Rattle.camelot_values.specs.declared.kinds.TypeDef.{TypeDef}
 use Rattle.value_text.specs.Finite.{is_ready}
-use Rattle.value_text.specs.Choosing.{common, choose, best, first_con, Looked}
+use Rattle.value_text.specs.Choosing.{common, choose, best, Looked}
+use Rattle.value_text.specs.Inhabited.{first_con, AreFirst}
 use Rattle.value_text.specs.Splitting.{IsBehind, FrontCon}
 use Rattle.value_text.specs.declared.names.Look.TheVariants as look
 use Rattle.value_text.proofs.Words.{and_both, and_parts}
@@ -114,6 +116,30 @@ first_zero (t ∷ ts) = refl
 
 pub few_list : (ts : List TypeDef) → AreTypes (map data_type_of ts) → length ts ≤ 64
 few_list ts a = let n : length (map data_type_of ts) ≡ length ts = length-map ts data_type_of in omega (arith, a.few_types, n)
+
+-- the numbers of the first constructors of so many types
+pub record FirstsTo (types : List DataType) (firsts : List ℕ) (n : ℕ) : Type 0 where
+  pub at : (t : ℕ) → t < n → get_or firsts t 0 ≡ first_con types t
+
+pub firsts_size : (firsts : List ℕ) (i first : ℕ) → length firsts ≡ 64 → length (slice_set firsts i first) ≡ 64
+firsts_size firsts i first e = length-set firsts i first ∙ e
+
+pub firsts_more : (types : List DataType) (firsts : List ℕ) (i first : ℕ) → i < length firsts → first ≡ first_con types i → FirstsTo types firsts i
+    → FirstsTo types (slice_set firsts i first) (i + 1)
+firsts_more types firsts i first h e f = record { at = λ t k. by_place t (cases_lt t i) k }
+  where
+    by_place : (t : ℕ) → (t < i) ⊎ (i ≤ t) → t < i + 1 → get_or (slice_set firsts i first) t 0 ≡ first_con types t
+    by_place t (inl l) k = get_or-set_other firsts i t first 0 (λ s. omega (arith, s, l)) ∙ f.at t l
+    by_place t (inr l) k =
+        let s : t ≡ i = omega (arith, l, k) in
+        ap (λ n. get_or (slice_set firsts i first) n 0) s ∙ get_or-set_same firsts i first 0 h ∙ e ∙ ap (first_con types) (sym s)
+
+pub firsts_all : (ts : List TypeDef) (firsts : List ℕ) (i : ℕ) → length ts ≤ i → FirstsTo (map data_type_of ts) firsts i → AreFirst (map data_type_of ts) firsts
+firsts_all ts firsts i h f = record { at = λ t k. f.at t (omega (arith, k, h, length-map ts data_type_of)) }
+
+pub first_there : (ts : List TypeDef) (firsts : List ℕ) (t : ℕ) → AreFirst (map data_type_of ts) firsts → t < length ts
+    → get_or firsts t 0 ≡ first_con (map data_type_of ts) t
+first_there ts firsts t f h = f.at t (omega (arith, h, length-map ts data_type_of))
 
 con_there : (cs : List Con) (i : ℕ) (c : Con) → i < length cs → slice_get (map constructor_of cs) i ≡ Some (constructor_of (get_or cs i c))
 con_there [] i c h = absurd (omega (arith, h))

@@ -21,7 +21,8 @@ use Rattle.value_text.specs.Printing.{node_text}
 use Rattle.value_text.specs.Due.{Comes, IsNode, HaveValues, IsWordFront, Named, Unnamed}
 use Rattle.value_text.specs.Grammar.{AreNamed, DistinctNames}
 use Rattle.value_text.specs.Finite.{is_ready, HasValue, Exact}
-use Rattle.value_text.specs.Choosing.{common, choose, best, first_con}
+use Rattle.value_text.specs.Choosing.{common, choose, best}
+use Rattle.value_text.specs.Inhabited.{first_con}
 use Rattle.value_text.proofs.Words.{and_parts, and_both, true_false}
 use Rattle.value_text.proofs.Lives.{AllFine, fine_comes, named_con, at_place, name_fine}
 use Rattle.value_text.proofs.Finiteness.{con_at, type_at, values_of_kinds, kinds_of_values}

@@ -1,5 +1,5 @@
 -- From constructors in the code's lists to nodes and their words.
-use Rattle.std.proofs.Common.{◌≡◌, ℕ, zero, suc, ◌+◌, ◌-◌, ◌<◌, ◌≤◌, Bool, List, [], ◌∷◌, length, take, drop, get_or, map, Some, None, refl, sym, ap, ◌∙◌, subst, arith, inl, inr, length-append, to_z, of_z, w32}
+use Rattle.std.proofs.Common.{◌≡◌, ℕ, zero, suc, ◌+◌, ◌-◌, ◌*◌, ◌<◌, ◌≤◌, Bool, List, [], ◌∷◌, length, take, drop, get_or, map, Some, None, refl, sym, ap, ◌∙◌, subst, arith, inl, inr, length-append, to_z, of_z, w32}
 use Rattle.std.proofs.lemmas.Int.{to_z-of_z}
 use Rattle.std.specs.Prelude.{◌⊎◌, IsTrue, true, false, ◌==◌, if◌then◌else◌, slice_get, vec_len, ℤ, pos, neg_ℤ, decimal, codes}
 use Rattle.std.specs.List.{AllByRecursion, list_all}
@@ -18,7 +18,8 @@ use Rattle.camelot_values.specs.declared.value.Item.TheVariants as item
 use Rattle.value_text.specs.Due.{Named, Unnamed}
 use Rattle.value_text.specs.Grammar.{AreNamed, DistinctNames, is_word}
 use Rattle.value_text.specs.Finite.{is_ready, all_ready, Exact, HasValue}
-use Rattle.value_text.specs.Choosing.{choose, best, first_con, HasPlace, IsConNode, IntRead, IntRefused, DigitsRead, IsPlain, common, IsFlag, NoFlag}
+use Rattle.value_text.specs.Choosing.{choose, best, HasPlace, IsConNode, IntRead, IntRefused, DigitsRead, IsPlain, common, IsFlag, NoFlag}
+use Rattle.value_text.specs.Inhabited.{first_con}
 use Rattle.value_text.specs.Splitting.{skip, before_mark, IsSplit, FrontCon, FrontInt, FrontRead, NodeRead, NodeRefused, NotFirst}
 use Rattle.value_text.proofs.Comings.{some_is}
 use Rattle.value_text.proofs.Naming.{name_named, con_named, con_unnamed, of_type}
@@ -64,6 +65,14 @@ each_at P (y ∷ xs) (suc i) x e a = each_at P xs i x e a.1
 
 pub few_places : (ds : List TypeDef) (i place : ℕ) → AreTypes (map data_type_of ds) → HasPlace (map data_type_of ds) i place → place < 64
 few_places ds i place a h = let k = each_at IsDataType (map data_type_of ds) i h.def h.is a.each in omega (arith, k.few_cons, h.within)
+
+pub few_firsts : (types : List DataType) (t place : ℕ) → AreTypes types → HasPlace types t place → first_con types t ≤ 4096
+few_firsts types t place a h = omega (arith, each types t a.each, within_list types t h.def h.is, a.few_types)
+  where
+    each : (types : List DataType) (t : ℕ) → AllByRecursion IsDataType types → first_con types t ≤ 64 * t
+    each [] t a = omega arith
+    each (x ∷ types) zero a = omega arith
+    each (x ∷ types) (suc t) a = omega (arith, a.0.few_cons, each types t a.1)
 
 pub few_fields : (ds : List TypeDef) (i place : ℕ) (d : TypeDef) (c : Con) → AreTypes (map data_type_of ds) → HasPlace (map data_type_of ds) i place
     → c ≡ get_or (get_or ds i d).cons.items place c → vec_len c.fields ≤ 4

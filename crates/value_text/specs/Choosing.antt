@@ -1,6 +1,6 @@
 -- Private: words for functions of this crate.
 -- Which constructor a word names, and how much of it begins a name.
-use Rattle.std.specs.Prelude.{◌≡◌, ℕ, zero, suc, max, ◌≤◌, ◌⊎◌, Bool, false, List, [], ◌∷◌, ◌++◌, length, take, slice_get, Option, Some, None, ◌==◌, ◌&&◌, if◌then◌else◌, cond, codes, decimal, ℤ, pos, neg_ℤ, ◌+◌, ◌-◌, ◌*◌, ◌<◌, true}
+use Rattle.std.specs.Prelude.{◌≡◌, ℕ, suc, max, ◌≤◌, ◌⊎◌, Bool, false, List, [], ◌∷◌, ◌++◌, length, take, slice_get, Option, Some, None, ◌==◌, ◌&&◌, if◌then◌else◌, cond, codes, decimal, ℤ, pos, neg_ℤ, ◌+◌, ◌-◌, ◌*◌, ◌<◌, true}
 use Rattle.std.specs.Option.{option_map}
 use Rattle.std.specs.Str.{bytes_eq}
 use Rattle.camelot_values.specs.Kinds.{Constructor}
@@ -10,6 +10,7 @@ use Rattle.camelot_values.specs.declared.kinds.Kind.{Kind}
 use Rattle.camelot_values.specs.declared.value.Item.{Item}
 use Rattle.camelot_values.specs.declared.value.Item.TheVariants as item
 use Rattle.value_text.specs.Finite.{is_ready}
+use Rattle.value_text.specs.Inhabited.{first_con}
 use Rattle.value_text.specs.declared.names.Look.{Look}
 use Rattle.value_text.specs.declared.names.Look.TheVariants as look
 
@@ -64,12 +65,6 @@ pub record IntRefused (word : List ℕ) (good : ℕ) : Type 0 where
   pub part : count ≡ length digits → count ≡ 0
   pub is : ((word ≡ digits) × (good ≡ count) × DigitsRead 2147483647 digits value count × IsPlain word)
       ⊎ ((word ≡ 45 ∷ digits) × (good ≡ count + 1) × DigitsRead 2147483648 digits value count)
-
--- the number of a type's first constructor
-abbrev pub first_con : List DataType → ℕ → ℕ
-first_con [] t = 0
-first_con (d ∷ ds) zero = 0
-first_con (d ∷ ds) (suc t) = length d.cons + first_con ds t
 
 -- what one constructor says of a word
 abbrev pub Looked : List Bool → List ℕ → Constructor → Look → Type 0

@@ -1,12 +1,13 @@
 ghost use Rattle.std.specs.Prelude.{◌≡◌, ◌+◌, ◌≤◌, ◌<◌, true, Some, None, map, length, vec_len, MatchResult, IfOk, IfSome};
 ghost use Rattle.std.specs.List.{list_all};
 ghost use Rattle.camelot_values.specs.Kinds.{data_type_of, constructor_of, AreTypes};
-ghost use Rattle.value_text.specs.Choosing.{choose, best, first_con, Looked};
+ghost use Rattle.value_text.specs.Choosing.{choose, best, Looked};
+ghost use Rattle.value_text.specs.Inhabited.{first_con, AreFirst};
 ghost use Rattle.value_text.specs.Splitting.{FrontCon};
 ghost use Rattle.value_text.specs.Finite.{is_ready};
 
 use super::cutting::{behind_name, common};
-use super::finite::is_ready;
+use super::finite::{MOST_TYPES, is_ready};
 use super::inhabited::Inhabited;
 use camelot_values::{Con, TypeDef};
 
@@ -81,17 +82,28 @@ pub(crate) fn front_con<'a>(
     None
 }
 
-// The number of the type's first constructor.
-#[tactic(auto, using(crate::proofs::NameSteps::first_later, crate::proofs::NameSteps::first_zero, crate::proofs::NameSteps::few_cons, crate::proofs::NameSteps::few_list))]
-pub(crate) fn first_con(types: &[TypeDef], number: usize) -> u32
+// For each type, the number of its first constructor.
+#[tactic(auto, using(crate::proofs::NameSteps::first_later, crate::proofs::NameSteps::first_zero, crate::proofs::NameSteps::few_cons, crate::proofs::NameSteps::few_list, crate::proofs::NameSteps::firsts_size, crate::proofs::NameSteps::firsts_more, crate::proofs::NameSteps::firsts_all))]
+pub(crate) fn first_cons(types: &[TypeDef]) -> [u32; MOST_TYPES]
     requires types { AreTypes (map data_type_of types.now) }
-    requires within { number < length types.now }
-    ensures number { result ≡ first_con (map data_type_of types.now) number }
-    ensures few { result ≤ 4096 }
+    ensures { AreFirst (map data_type_of types.now) result }
 {
+    let mut firsts = [0; MOST_TYPES];
     let mut first = 0;
-    for place in 0..number {
+    for place in 0..types.len() {
+        firsts[place] = first;
         first += types[place].cons.len() as u32;
     }
-    first
+    firsts
+}
+
+// The number of the type's first constructor.
+#[tactic(auto, using(crate::proofs::NameSteps::first_there))]
+pub(crate) fn first_con(known: &Inhabited, types: &[TypeDef], number: usize) -> u32
+    requires types { AreTypes (map data_type_of types.now) }
+    requires firsts { AreFirst (map data_type_of types.now) known.now.firsts }
+    requires within { number < length types.now }
+    ensures { result ≡ first_con (map data_type_of types.now) number }
+{
+    known.firsts[number]
 }

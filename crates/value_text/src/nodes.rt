@@ -3,8 +3,8 @@ ghost use Rattle.camelot_values.specs.Kinds.{data_type_of, AreTypes};
 ghost use Rattle.camelot_values.specs.declared.kinds.Kind.TheVariants.{Of};
 ghost use Rattle.value_text.specs.Due.{Named, Unnamed};
 ghost use Rattle.value_text.specs.Grammar.{AreNamed, DistinctNames};
-ghost use Rattle.value_text.specs.Finite.{Exact, HasValue};
-ghost use Rattle.value_text.specs.Inhabited.{Knows};
+ghost use Rattle.value_text.specs.Finite.{HasValue};
+ghost use Rattle.value_text.specs.Inhabited.{Knows, AreFirst};
 ghost use Rattle.value_text.specs.Choosing.{HasPlace, IsConNode, IsFlag, NoFlag};
 ghost use Rattle.value_text.specs.Splitting.{FrontRead, NodeRead, NodeRefused, NotFirst, before_mark};
 
@@ -15,15 +15,21 @@ use super::names::{choose, first_con, front_con};
 use camelot_values::{Item, Kind, TypeDef, Types};
 
 // The node of the constructor at this place of the type, and the kinds of its fields.
-#[tactic(auto, using(crate::proofs::NodeSteps::node_here, crate::proofs::NodeSteps::number_within, crate::proofs::NodeSteps::place_within, crate::proofs::NodeSteps::few_fields, crate::proofs::NodeSteps::few_places))]
-fn con_node<'a>(defs: &'a [TypeDef], number: usize, place: usize) -> (Item, &'a [Kind])
+#[tactic(auto, using(crate::proofs::NodeSteps::node_here, crate::proofs::NodeSteps::number_within, crate::proofs::NodeSteps::place_within, crate::proofs::NodeSteps::few_fields, crate::proofs::NodeSteps::few_places, crate::proofs::NodeSteps::few_firsts))]
+fn con_node<'a>(
+    known: &Inhabited,
+    defs: &'a [TypeDef],
+    number: usize,
+    place: usize,
+) -> (Item, &'a [Kind])
     requires types { AreTypes (map data_type_of defs.now) }
+    requires firsts { AreFirst (map data_type_of defs.now) known.now.firsts }
     requires place { HasPlace (map data_type_of defs.now) number place }
     ensures { IsConNode (map data_type_of defs.now) number place result.0 result.1.now }
 {
     let con = &defs[number].cons[place];
     let item = Item::Con {
-        con: first_con(defs, number) + place as u32,
+        con: first_con(known, defs, number) + place as u32,
         parts: con.fields.len() as u8,
     };
     (item, &con.fields)
@@ -34,13 +40,13 @@ fn con_node<'a>(defs: &'a [TypeDef], number: usize, place: usize) -> (Item, &'a 
 #[tactic(auto, using(crate::proofs::NodeSteps::named_node, crate::proofs::NodeSteps::unnamed_node, crate::proofs::NodeSteps::absent_node, crate::proofs::NodeSteps::has_place))]
 fn find_con<'a>(
     types: &'a Types,
-    marks: &[bool],
+    known: &Inhabited,
     number: u32,
     word: &[u8],
 ) -> Result<(Item, &'a [Kind]), usize>
     requires named { AreNamed types.now }
     requires distinct { DistinctNames types.now }
-    requires exact { Exact types.now marks.now }
+    requires knows { Knows types.now known.now }
     requires value { HasValue types.now (Of number) }
     ensures { MatchResult result (λ node. Named types.now (Of number) word.now node.0 node.1.now) (λ good. Unnamed types.now (Of number) word.now good) }
 {
@@ -50,8 +56,8 @@ fn find_con<'a>(
     if place >= defs.len() {
         return Err(0);
     }
-    match choose(marks, word, &defs[place]) {
-        Ok(chosen) => Ok(con_node(defs, place, chosen)),
+    match choose(&known.marks, word, &defs[place]) {
+        Ok(chosen) => Ok(con_node(known, defs, place, chosen)),
         Err(good) => Err(good),
     }
 }
@@ -74,13 +80,13 @@ fn find_flag(word: &[u8]) -> Result<bool, usize>
 #[tactic(auto, using(crate::proofs::NodeSteps::int_named, crate::proofs::NodeSteps::int_unnamed, crate::proofs::NodeSteps::flag_is, crate::proofs::NodeSteps::flag_not, crate::proofs::NodeSteps::dia_is, crate::proofs::NodeSteps::dia_not))]
 fn find_node<'a>(
     types: &'a Types,
-    marks: &[bool],
+    known: &Inhabited,
     kind: Kind,
     word: &[u8],
 ) -> Result<(Item, &'a [Kind]), usize>
     requires named { AreNamed types.now }
     requires distinct { DistinctNames types.now }
-    requires exact { Exact types.now marks.now }
+    requires knows { Knows types.now known.now }
     requires value { HasValue types.now kind }
     ensures { MatchResult result (λ node. Named types.now kind word.now node.0 node.1.now) (λ good. Unnamed types.now kind word.now good) }
 {
@@ -100,7 +106,7 @@ fn find_node<'a>(
                 Err(common(b"<>", word))
             }
         }
-        Kind::Of(number) => find_con(types, marks, number, word),
+        Kind::Of(number) => find_con(types, known, number, word),
     }
 }
 
@@ -133,7 +139,7 @@ fn front_con_node<'a, 'b>(
     }
     match front_con(known, text, &defs[place]) {
         Some((chosen, rest)) => {
-            let (item, fields) = con_node(defs, place, chosen);
+            let (item, fields) = con_node(known, defs, place, chosen);
             Some(Read { item, fields, rest })
         }
         None => None,
@@ -187,7 +193,7 @@ pub(crate) fn read_node<'a, 'b>(
         return Ok(node);
     }
     let (word, rest) = split_word(text);
-    match find_node(types, &known.marks, kind, word) {
+    match find_node(types, known, kind, word) {
         Ok((item, fields)) => Ok(Read { item, fields, rest }),
         Err(good) => Err(text.len() - good),
     }
