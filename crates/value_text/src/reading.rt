@@ -57,7 +57,8 @@ fn close<'a>(
     ensures inner { OnOk result (later.new.inner.now ≡ []) }
     ensures closed { OnOk result (later.new.closed ≡ 0) }
     ensures reading { MatchResult result
-        (λ after. Reading types.now (first_due kinds.now) text.now items.now (later_due later.new.inner.now later.new.closed later.new.frames.items later.new.others.now) after.now)
+        (λ after. Reading types.now (first_due kinds.now) text.now items.now
+        (later_due later.new.inner.now later.new.closed later.new.frames.items later.new.others.now) after.now)
         (λ stop. IsStop types.now kinds.now text.now stop) }
 {
     let mut after = rest;
@@ -87,7 +88,8 @@ fn next_value<'a>(
     requires reading { Reading types.now (first_due kinds.now) text.now items.now (others_due later.old.others.now) rest.now }
     ensures shorter { IfOk result (λ next. length next.1.now ≤ length rest.now) }
     ensures reading { MatchResult result
-        (λ next. NextDue types.now (first_due kinds.now) text.now items.now (later_due later.new.inner.now later.new.closed later.new.frames.items later.new.others.now)
+        (λ next. NextDue types.now (first_due kinds.now) text.now items.now
+        (later_due later.new.inner.now later.new.closed later.new.frames.items later.new.others.now)
         next.0 next.1.now)
         (λ stop. IsStop types.now kinds.now text.now stop) }
 {
@@ -117,10 +119,12 @@ fn enter<'a, 'b>(
 ) -> Result<(Option<Kind>, &'a [u8]), TextStop>
     requires named { AreNamed types.now }
     requires reading { Reading types.now (first_due kinds.now) text.now items.now
-        (MarkDue mark ∷ Value kind ∷ (further_due others.now ++ later_due later.old.inner.now later.old.closed later.old.frames.items later.old.others.now)) rest.now }
+        (MarkDue mark ∷ Value kind ∷
+        (further_due others.now ++ later_due later.old.inner.now later.old.closed later.old.frames.items later.old.others.now)) rest.now }
     ensures shorter { IfOk result (λ next. length next.1.now ≤ length rest.now) }
     ensures reading { MatchResult result
-        (λ next. NextDue types.now (first_due kinds.now) text.now items.now (later_due later.new.inner.now later.new.closed later.new.frames.items later.new.others.now)
+        (λ next. NextDue types.now (first_due kinds.now) text.now items.now
+        (later_due later.new.inner.now later.new.closed later.new.frames.items later.new.others.now)
         next.0 next.1.now)
         (λ stop. IsStop types.now kinds.now text.now stop) }
 {
@@ -148,7 +152,8 @@ fn leave<'a>(
         (later_due later.old.inner.now later.old.closed later.old.frames.items later.old.others.now) rest.now }
     ensures shorter { IfOk result (λ next. length next.1.now ≤ length rest.now) }
     ensures reading { MatchResult result
-        (λ next. NextDue types.now (first_due kinds.now) text.now items.now (later_due later.new.inner.now later.new.closed later.new.frames.items later.new.others.now)
+        (λ next. NextDue types.now (first_due kinds.now) text.now items.now
+        (later_due later.new.inner.now later.new.closed later.new.frames.items later.new.others.now)
         next.0 next.1.now)
         (λ stop. IsStop types.now kinds.now text.now stop) }
 {
@@ -180,7 +185,8 @@ fn go_on<'a, 'b>(
         (parts_due fields.now ++ later_due later.old.inner.now later.old.closed later.old.frames.items later.old.others.now) rest.now }
     ensures shorter { IfOk result (λ next. length next.1.now ≤ length rest.now) }
     ensures reading { MatchResult result
-        (λ next. NextDue types.now (first_due kinds.now) text.now items.now (later_due later.new.inner.now later.new.closed later.new.frames.items later.new.others.now)
+        (λ next. NextDue types.now (first_due kinds.now) text.now items.now
+        (later_due later.new.inner.now later.new.closed later.new.frames.items later.new.others.now)
         next.0 next.1.now)
         (λ stop. IsStop types.now kinds.now text.now stop) }
 {
@@ -208,7 +214,8 @@ fn follow_value<'a, 'b>(
         (Value kind ∷ later_due later.old.inner.now later.old.closed later.old.frames.items later.old.others.now) rest.now }
     ensures shorter { IfOk result (λ next. length next.1.now < length rest.now) }
     ensures reading { MatchResult result
-        (λ next. NextDue types.now (first_due kinds.now) text.now items.new.items (later_due later.new.inner.now later.new.closed later.new.frames.items later.new.others.now)
+        (λ next. NextDue types.now (first_due kinds.now) text.now items.new.items
+        (later_due later.new.inner.now later.new.closed later.new.frames.items later.new.others.now)
         next.0 next.1.now)
         (λ stop. IsStop types.now kinds.now text.now stop) }
 {

@@ -65,7 +65,8 @@ fn cut_values(alloc: Global, items: &[Item], count: usize) -> Result<Vec<Flat>, 
     Ok(values)
 }
 
-/// The values whose nodes these are, one after the other.
+/// The values whose nodes these are, one after the other. One value alone keeps the nodes as they were read, unless they
+/// fill less than a quarter of their room, as behind many spaces.
 pub(crate) fn split_values(
     alloc: Global,
     items: Vec<Item>,
@@ -76,7 +77,7 @@ pub(crate) fn split_values(
     ensures nodes { IfOk result (λ values. items.items ≡ nodes_all (parts values.items) []) }
     ensures count { IfOk result (λ values. length values.items ≡ count) }
 {
-    if count == 1 {
+    if count == 1 && items.len() >= items.capacity() / 4 {
         whole_value(alloc, items)
     } else {
         cut_values(alloc, &items, count)
