@@ -1,11 +1,11 @@
-ghost use Rattle.std.specs.Prelude.{◌≡◌, ℕ, ◌+◌, ◌*◌, ◌≤◌, ◌<◌, ◌++◌, ◌∷◌, [], List, length, take, Some, IsSome, IsSomeAnd, vec_len, vec_capacity};
+ghost use Rattle.std.specs.Prelude.{◌≡◌, ℕ, ◌+◌, ◌*◌, ◌≤◌, ◌<◌, ◌++◌, ◌∷◌, [], List, length, take, Some, IsSomeAnd, vec_len, vec_capacity};
 ghost use Rattle.camelot_values.specs.Value.{Value};
 ghost use Rattle.camelot_values.specs.Typing.{Fits};
 ghost use Rattle.cell_machine.specs.Cells.{inline_base};
 ghost use Rattle.cell_machine.specs.Stands.{Stands, footprint, RepeatsNone};
 ghost use Rattle.cell_machine.specs.Homes.{HomesAre};
 ghost use Rattle.cell_machine.specs.Nodes.{node_of, IsReading};
-ghost use Rattle.cell_machine.specs.Due.{kinds_due, words_due, IsNew, IsRead, SameItems, HoldsValue, con_node};
+ghost use Rattle.cell_machine.specs.Due.{kinds_due, words_due, kinds_next, words_next, ahead, ahead_fields, ahead_words, is_leaf, leaf_items, GoesOn, IsNew, IsRead, HasNodeRoom, SameItems, HoldsValue, con_node};
 
 use crate::homes::Homes;
 use crate::state::INLINE_BASE;
@@ -19,7 +19,8 @@ pub(crate) struct Due {
     pub(crate) word: u32,
 }
 
-/// A value that is being read: its nodes up to here, and the words that are still due, the next one last.
+/// A value that is being read: its nodes up to here, and the words that are due behind the next one, the first one of
+/// them last.
 #[derive(Drop)]
 pub(crate) struct Reading {
     pub(crate) items: Vec<Item>,
@@ -27,53 +28,182 @@ pub(crate) struct Reading {
 }
 
 impl Reading {
-    // The words of a cell's fields are due next, the first one before the others.
-    fn due_fields(&mut self, fields: &[Kind], words: [u32; 4])
-        requires few { length fields.now ≤ 4 }
-        requires room { vec_len self.old.due + length fields.now ≤ vec_capacity self.old.due }
-        ensures kinds { kinds_due self.new.due.items ≡ fields.now ++ kinds_due self.old.due.items }
-        ensures words { words_due self.new.due.items ≡ take (length fields.now) words ++ words_due self.old.due.items }
-        ensures len { vec_len self.new.due ≡ vec_len self.old.due + length fields.now }
+    // This word is due next.
+    #[inline(always)]
+    #[tactic(auto, using(crate::proofs::DueLaws::kinds_last, crate::proofs::DueLaws::words_last))]
+    fn due_word(&mut self, due: Due)
+        requires room { vec_len self.old.due < vec_capacity self.old.due }
+        ensures kinds { kinds_due self.new.due.items ≡ due.kind ∷ kinds_due self.old.due.items }
+        ensures words { words_due self.new.due.items ≡ due.word ∷ words_due self.old.due.items }
+        ensures len { vec_len self.new.due ≡ vec_len self.old.due + 1 }
         ensures room { vec_capacity self.new.due ≡ vec_capacity self.old.due }
         ensures items { SameItems self.old self.new }
     {
-        let [first, second, third, fourth] = words;
-        match fields {
-            [] => {}
-            [a] => self.due_word(*a, first),
-            [a, b] => {
-                self.due_word(*b, second);
-                self.due_word(*a, first);
+        self.due.push_reserved(due);
+    }
+
+    // Takes the next one of the words that are due.
+    #[inline(always)]
+    #[tactic(auto, using(crate::proofs::DueLaws::kinds_last, crate::proofs::DueLaws::words_last))]
+    fn take_due(&mut self) -> Option<Due>
+        ensures kinds { kinds_due self.old.due.items ≡ kinds_next result self.new.due.items }
+        ensures words { words_due self.old.due.items ≡ words_next result self.new.due.items }
+        ensures room { vec_capacity self.new.due ≡ vec_capacity self.old.due }
+        ensures items { SameItems self.old self.new }
+    {
+        self.due.pop()
+    }
+
+    // Reads a word at once, unless its kind is a data type.
+    #[inline(always)]
+    fn read_leaf(&mut self, leaf: Due) -> bool
+        requires room { vec_len self.old.items < vec_capacity self.old.items }
+        ensures leaf { result ≡ is_leaf leaf.kind }
+        ensures items { self.new.items.items ≡ self.old.items.items ++ leaf_items leaf.kind leaf.word }
+        ensures items_room { vec_capacity self.new.items ≡ vec_capacity self.old.items }
+        ensures due { self.new.due ≡ self.old.due }
+    {
+        match leaf.kind {
+            Kind::Int => {
+                self.items.push_reserved(Item::Int(leaf.word.cast_signed()));
+                true
             }
+            Kind::Flag => {
+                self.items.push_reserved(Item::Flag(leaf.word == 1));
+                true
+            }
+            Kind::Dia => {
+                self.items.push_reserved(Item::Dia);
+                true
+            }
+            Kind::Of(_) => false,
+        }
+    }
+
+    // Of two words the first one is read at once or next.
+    #[inline(always)]
+    fn read_two(&mut self, a: Due, b: Due) -> Due
+        requires items { vec_len self.old.items < vec_capacity self.old.items }
+        requires due { vec_len self.old.due < vec_capacity self.old.due }
+        ensures goes_on { GoesOn (ahead_words self.old (a ∷ b ∷ [])) (ahead self.new (Some result)) }
+        ensures more { vec_len self.old.items ≤ vec_len self.new.items }
+        ensures items_room { vec_capacity self.new.items ≡ vec_capacity self.old.items }
+        ensures due_room { vec_capacity self.new.due ≡ vec_capacity self.old.due }
+    {
+        if self.read_leaf(a) {
+            return b;
+        }
+        self.due_word(b);
+        a
+    }
+
+    // Of three words the leading ones are read at once, as far as no kind is a data type.
+    #[inline(always)]
+    fn read_three(&mut self, a: Due, b: Due, c: Due) -> Due
+        requires items { vec_len self.old.items + 2 ≤ vec_capacity self.old.items }
+        requires due { vec_len self.old.due + 2 ≤ vec_capacity self.old.due }
+        ensures goes_on { GoesOn (ahead_words self.old (a ∷ b ∷ c ∷ [])) (ahead self.new (Some result)) }
+        ensures more { vec_len self.old.items ≤ vec_len self.new.items }
+        ensures items_room { vec_capacity self.new.items ≡ vec_capacity self.old.items }
+        ensures due_room { vec_capacity self.new.due ≡ vec_capacity self.old.due }
+    {
+        if self.read_leaf(a) {
+            return self.read_two(b, c);
+        }
+        self.due_word(c);
+        self.due_word(b);
+        a
+    }
+
+    // Of four words the leading ones are read at once, as far as no kind is a data type.
+    #[inline(always)]
+    fn read_four(&mut self, a: Due, b: Due, c: Due, d: Due) -> Due
+        requires items { vec_len self.old.items + 3 ≤ vec_capacity self.old.items }
+        requires due { vec_len self.old.due + 3 ≤ vec_capacity self.old.due }
+        ensures goes_on { GoesOn (ahead_words self.old (a ∷ b ∷ c ∷ d ∷ [])) (ahead self.new (Some result)) }
+        ensures more { vec_len self.old.items ≤ vec_len self.new.items }
+        ensures items_room { vec_capacity self.new.items ≡ vec_capacity self.old.items }
+        ensures due_room { vec_capacity self.new.due ≡ vec_capacity self.old.due }
+    {
+        if self.read_leaf(a) {
+            return self.read_three(b, c, d);
+        }
+        self.due_word(d);
+        self.due_word(c);
+        self.due_word(b);
+        a
+    }
+
+    // The words of a cell's fields come next. The leading ones are read at once, as far as no kind is a data type and
+    // others follow; the result is the next word. A list's cells have two fields, so that two are looked for first.
+    #[inline(always)]
+    fn read_fields(&mut self, fields: &[Kind], words: [u32; 4]) -> Option<Due>
+        requires few { length fields.now ≤ 4 }
+        requires items { vec_len self.old.items + length fields.now ≤ vec_capacity self.old.items }
+        requires due { vec_len self.old.due + length fields.now ≤ vec_capacity self.old.due }
+        ensures goes_on { GoesOn (ahead_fields self.old fields.now (take (length fields.now) words)) (ahead self.new result) }
+        ensures more { vec_len self.old.items ≤ vec_len self.new.items }
+        ensures items_room { vec_capacity self.new.items ≡ vec_capacity self.old.items }
+        ensures due_room { vec_capacity self.new.due ≡ vec_capacity self.old.due }
+    {
+        let [first, second, third, fourth] = words;
+        if let [a, b] = fields {
+            let a = Due {
+                kind: *a,
+                word: first,
+            };
+            let b = Due {
+                kind: *b,
+                word: second,
+            };
+            return Some(self.read_two(a, b));
+        }
+        match fields {
+            [] => self.take_due(),
+            [a] => Some(Due {
+                kind: *a,
+                word: first,
+            }),
             [a, b, c] => {
-                self.due_word(*c, third);
-                self.due_word(*b, second);
-                self.due_word(*a, first);
+                let a = Due {
+                    kind: *a,
+                    word: first,
+                };
+                let b = Due {
+                    kind: *b,
+                    word: second,
+                };
+                let c = Due {
+                    kind: *c,
+                    word: third,
+                };
+                Some(self.read_three(a, b, c))
             }
             [a, b, c, d] => {
-                self.due_word(*d, fourth);
-                self.due_word(*c, third);
-                self.due_word(*b, second);
-                self.due_word(*a, first);
+                let a = Due {
+                    kind: *a,
+                    word: first,
+                };
+                let b = Due {
+                    kind: *b,
+                    word: second,
+                };
+                let c = Due {
+                    kind: *c,
+                    word: third,
+                };
+                let d = Due {
+                    kind: *d,
+                    word: fourth,
+                };
+                Some(self.read_four(a, b, c, d))
             }
             _ => unreachable!(),
         }
     }
 
-    // This word is due next.
-    #[tactic(auto, using(crate::proofs::DueLaws::kinds_last, crate::proofs::DueLaws::words_last))]
-    fn due_word(&mut self, kind: Kind, word: u32)
-        requires room { vec_len self.old.due < vec_capacity self.old.due }
-        ensures kinds { kinds_due self.new.due.items ≡ kind ∷ kinds_due self.old.due.items }
-        ensures words { words_due self.new.due.items ≡ word ∷ words_due self.old.due.items }
-        ensures len { vec_len self.new.due ≡ vec_len self.old.due + 1 }
-        ensures room { vec_capacity self.new.due ≡ vec_capacity self.old.due }
-        ensures items { SameItems self.old self.new }
-    {
-        self.due.push_reserved(Due { kind, word });
-    }
-
     // Reads the value that a word of a kind stands for; nothing was read yet.
+    #[inline(never)]
     pub(crate) fn read(
         mut self,
         span: &Span,
@@ -90,53 +220,65 @@ impl Reading {
         ensures { (v : Value) → Fits types.now kind v → Stands types.now span.now.cells v word → result ≡ v }
     {
         types.limits();
-        self.due_word(kind, word);
-        'words: while let Some(next) = self.due.pop() {
-            self.read_node(span, types, homes, next);
+        let mut next = Some(Due { kind, word });
+        'words: while let Some(due) = next {
+            next = self.read_node(span, types, homes, due);
         }
         Flat::of(self.items)
     }
 
-    // Reads the node of a word, whose parts are due next.
-    fn read_node(&mut self, span: &Span, types: &Types, homes: &Homes, next: Due)
+    // Reads the node of a word, with leading parts that are no data. The result is the word that comes next.
+    #[inline(always)]
+    fn read_node(&mut self, span: &Span, types: &Types, homes: &Homes, due: Due) -> Option<Due>
         requires homes { HomesAre types.now homes.now }
-        requires node { IsSome (node_of types.now span.now.cells next.kind next.word) }
-        requires items { vec_len self.old.items < vec_capacity self.old.items }
+        requires node { IsSomeAnd (node_of types.now span.now.cells due.kind due.word) (HasNodeRoom self.old) }
         requires due { vec_len self.old.due + 4 ≤ vec_capacity self.old.due }
-        ensures read { IsSomeAnd (node_of types.now span.now.cells next.kind next.word) (IsRead self.old self.new) }
+        ensures read { IsSomeAnd (node_of types.now span.now.cells due.kind due.word) (IsRead self.old self.new result) }
+        ensures more { vec_len self.old.items < vec_len self.new.items }
         ensures items_room { vec_capacity self.new.items ≡ vec_capacity self.old.items }
         ensures due_room { vec_capacity self.new.due ≡ vec_capacity self.old.due }
     {
-        match next.kind {
-            Kind::Int => self.items.push_reserved(Item::Int(next.word.cast_signed())),
-            Kind::Flag => self.items.push_reserved(Item::Flag(next.word == 1)),
-            Kind::Dia => self.items.push_reserved(Item::Dia),
-            Kind::Of(_) => self.read_con(span, types, homes, next.word),
+        match due.kind {
+            Kind::Int => {
+                self.items.push_reserved(Item::Int(due.word.cast_signed()));
+                self.take_due()
+            }
+            Kind::Flag => {
+                self.items.push_reserved(Item::Flag(due.word == 1));
+                self.take_due()
+            }
+            Kind::Dia => {
+                self.items.push_reserved(Item::Dia);
+                self.take_due()
+            }
+            Kind::Of(_) => self.read_con(span, types, homes, due.word),
         }
     }
 
     // Reads the node of a word of a data type.
-    fn read_con(&mut self, span: &Span, types: &Types, homes: &Homes, word: u32)
+    #[inline(always)]
+    fn read_con(&mut self, span: &Span, types: &Types, homes: &Homes, word: u32) -> Option<Due>
         requires homes { HomesAre types.now homes.now }
-        requires node { IsSome (con_node types.now span.now.cells word) }
-        requires items { vec_len self.old.items < vec_capacity self.old.items }
+        requires node { IsSomeAnd (con_node types.now span.now.cells word) (HasNodeRoom self.old) }
         requires due { vec_len self.old.due + 4 ≤ vec_capacity self.old.due }
-        ensures read { IsSomeAnd (con_node types.now span.now.cells word) (IsRead self.old self.new) }
+        ensures read { IsSomeAnd (con_node types.now span.now.cells word) (IsRead self.old self.new result) }
+        ensures more { vec_len self.old.items < vec_len self.new.items }
         ensures items_room { vec_capacity self.new.items ≡ vec_capacity self.old.items }
         ensures due_room { vec_capacity self.new.due ≡ vec_capacity self.old.due }
     {
         if word >= INLINE_BASE {
             let con = word - INLINE_BASE;
             self.items.push_reserved(Item::Con { con, parts: 0 });
-            return;
+            return self.take_due();
         }
         let cell = span.get(word);
         let con = homes.con(types, cell.tag);
         types.limits();
+        let fields: &[Kind] = &con.fields;
         self.items.push_reserved(Item::Con {
             con: cell.tag,
-            parts: con.fields.len() as u8,
+            parts: fields.len() as u8,
         });
-        self.due_fields(&con.fields, cell.words);
+        self.read_fields(fields, cell.words)
     }
 }

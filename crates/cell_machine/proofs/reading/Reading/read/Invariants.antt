@@ -4,7 +4,7 @@ use Rattle.cell_machine.specs.Due.{IsReadingOf}
 use Rattle.cell_machine.proofs.reading.Reading.read.Given as goal
 
 abbrev pub invariant-words : goal.invariant-words
-invariant-words l = IsReadingOf l.types l.span.cells l.fn.kind l.fn.word l.self
+invariant-words l = IsReadingOf l.types l.span.cells l.fn.kind l.fn.word l.next l.self
 
 abbrev pub decreases-words : goal.decreases-words
 decreases-words l = vec_capacity l.self.items - vec_len l.self.items
