@@ -171,6 +171,6 @@ pub fn view(text: &[u8], token: Token) -> TokenView<'_>
 pub fn to_name(alloc: Global, word: &[u8], line: u32) -> Result<Name, Halt>
     ensures { MatchResult result (λ name. name ≡ record { word = word.now; line = line }) (λ halt. halt ≡ Memory) }
 {
-    let word = Word::new(Vec::from_slice(alloc, word)?);
+    let word = Word::new(alloc, word)?;
     Ok(Name { word, line })
 }

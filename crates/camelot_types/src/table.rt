@@ -18,7 +18,7 @@ use stops::Stop;
 pub(crate) fn word(alloc: Global, bytes: &[u8]) -> Result<Word, AllocError>
     ensures { IfOk result (λ word. word ≡ bytes.now) }
 {
-    Ok(Word::new(Vec::from_slice(alloc, bytes)?))
+    Word::new(alloc, bytes)
 }
 
 // How a kind is written.

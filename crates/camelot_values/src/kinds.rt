@@ -1,17 +1,18 @@
-ghost use Rattle.std.specs.Prelude.{◌≡◌, ℕ, List, ◌↔◌, IfOk, IsTrue};
+ghost use Rattle.std.specs.Prelude.{◌≡◌, ◌≤◌, ℕ, List, length, ◌↔◌, IfOk, IsOk, IsTrue};
 ghost use Rattle.std.specs.Option.{option_map};
 ghost use Rattle.camelot_values.specs.Kinds.{data_type_of};
 ghost use Rattle.camelot_values.specs.Heap.{has_boxed};
 
 use super::reach::{MOST_TYPES, leads};
+use smallvec::SmallVec;
 use std::alloc::{AllocError, Global};
 use std::fmt::{self, Display, Formatter};
 use std::marker::Model;
 
-/// A name: its bytes.
+/// A name: its bytes. One of at most 16 bytes takes no memory of its own.
 #[derive(Debug, Drop)]
 pub struct Word {
-    bytes: Vec<u8>,
+    bytes: SmallVec<u8, 16>,
 }
 
 impl Model for Word {
@@ -23,11 +24,15 @@ impl Model for Word {
 }
 
 impl Word {
-    /// The name of these bytes.
-    pub fn new(bytes: Vec<u8>) -> Word
-        ensures { result ≡ bytes.items }
+    /// The name of these bytes; `AllocError` where memory runs out, which a name of at most 16 bytes doesn't take.
+    pub fn new(alloc: Global, bytes: &[u8]) -> Result<Word, AllocError>
+        ensures word { IfOk result (λ word. word ≡ bytes.now) }
+        // A short name is never refused.
+        ensures short { length bytes.now ≤ 16 → IsOk result }
     {
-        Word { bytes }
+        Ok(Word {
+            bytes: SmallVec::from_slice(alloc, bytes)?,
+        })
     }
 
     /// The bytes of the name.
@@ -41,15 +46,13 @@ impl Word {
     pub fn copy(&self, alloc: Global) -> Result<Word, AllocError>
         ensures { IfOk result (λ copy. copy ≡ self.now) }
     {
-        Ok(Word {
-            bytes: Vec::from_slice(alloc, &self.bytes)?,
-        })
+        Word::new(alloc, self.bytes())
     }
 }
 
 impl Display for Word {
     fn fmt<W: fmt::Write>(&self, f: &mut Formatter<W>) -> fmt::Result {
-        write!(f, "{}", self.bytes.escape_ascii())
+        write!(f, "{}", self.bytes().escape_ascii())
     }
 }
 

@@ -5,7 +5,7 @@ ghost use Rattle.cell_machine.specs.Cells.{no_cell, inline_base, padded};
 ghost use Rattle.cell_machine.specs.Loading.{free_from};
 ghost use Rattle.cell_machine.specs.Homes.{HomesAre};
 ghost use Rattle.cell_machine.specs.Nodes.{Laying, lay, lay_all, takes_cell, cell_count};
-ghost use Rattle.cell_machine.specs.Laid.{IsLaid, SameRange, ItemFits, ItemsFit, words_with, word_count, all_nodes, ValuesFit, node_total, ItemIsKnown};
+ghost use Rattle.cell_machine.specs.Laid.{IsLaid, SameRange, ItemFits, ItemsFit, words_with, word_count, all_nodes, ValuesFit, node_total};
 
 use crate::homes::Homes;
 use crate::state::INLINE_BASE;
@@ -211,44 +211,14 @@ pub(crate) fn lay_args(
     }
 }
 
-// How many cells a node takes.
-fn count_item(types: &Types, homes: &Homes, item: Item) -> u32
-    requires homes { HomesAre types.now homes.now }
-    requires fits { ItemIsKnown types.now item }
-    ensures { result ≡ (if takes_cell types.now item then 1 else 0) }
-{
-    match item {
-        Item::Int(_) | Item::Flag(_) => 0,
-        Item::Dia => 1,
-        Item::Con { con, parts: _ } => { if homes.con(types, con).inline { 0 } else { 1 } }
-    }
-}
-
-// How many cells these nodes take.
-#[tactic(auto, using(crate::proofs::LaidLaws::known_at))]
-fn count_items(types: &Types, homes: &Homes, items: &[Item]) -> u32
-    requires homes { HomesAre types.now homes.now }
-    requires fits { ItemsFit types.now items.now }
-    requires few { length items.now ≤ 65536 }
-    ensures { result ≡ cell_count types.now items.now }
-{
-    let mut total = 0;
-    'items: for item in items {
-        total += count_item(types, homes, *item);
-    }
-    total
-}
-
 /// How many cells the arguments take.
-pub(crate) fn count_args(types: &Types, homes: &Homes, args: &[Flat]) -> u32
-    requires homes { HomesAre types.now homes.now }
-    requires fits { ValuesFit types.now args.now }
+pub(crate) fn count_args(types: &Types, args: &[Flat]) -> u32
     requires few { node_total args.now ≤ 65536 }
     ensures { result ≡ cell_count types.now (all_nodes args.now) }
 {
     let mut total = 0;
     'args: for arg in args {
-        total += count_items(types, homes, arg.items());
+        total += arg.cells(types);
     }
-    total
+    total as u32
 }

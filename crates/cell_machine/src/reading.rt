@@ -1,11 +1,12 @@
-ghost use Rattle.std.specs.Prelude.{◌≡◌, ℕ, ◌+◌, ◌*◌, ◌≤◌, ◌<◌, ◌++◌, ◌∷◌, [], List, length, take, Some, IsSomeAnd, vec_len, vec_capacity};
+ghost use Rattle.std.specs.Prelude.{◌≡◌, ℕ, ◌+◌, ◌*◌, ◌≤◌, ◌<◌, ◌++◌, ◌∷◌, [], List, length, take, Some, IsSome, IsSomeAnd, vec_len, vec_capacity};
+ghost use Rattle.camelot_values.specs.Kinds.{constructor};
 ghost use Rattle.camelot_values.specs.Value.{Value};
 ghost use Rattle.camelot_values.specs.Typing.{Fits};
 ghost use Rattle.cell_machine.specs.Cells.{inline_base};
 ghost use Rattle.cell_machine.specs.Stands.{Stands, footprint, RepeatsNone};
 ghost use Rattle.cell_machine.specs.Homes.{HomesAre};
 ghost use Rattle.cell_machine.specs.Nodes.{node_of, IsReading};
-ghost use Rattle.cell_machine.specs.Due.{kinds_due, words_due, kinds_next, words_next, ahead, ahead_fields, ahead_words, is_leaf, leaf_items, GoesOn, IsNew, IsRead, HasNodeRoom, SameItems, HoldsValue, con_node};
+ghost use Rattle.cell_machine.specs.Due.{IfThere, kinds_due, words_due, kinds_next, words_next, ahead, ahead_fields, ahead_words, is_leaf, leaf_items, GoesOn, IsNew, IsRead, HasNodeRoom, SameItems, HoldsValue, con_node};
 
 use crate::homes::Homes;
 use crate::state::INLINE_BASE;
@@ -25,6 +26,43 @@ pub(crate) struct Due {
 pub(crate) struct Reading {
     pub(crate) items: Vec<Item>,
     pub(crate) due: Vec<Due>,
+}
+
+// The constructor that was looked up last, with the kinds of its fields. The cells of a list repeat one constructor.
+#[derive(Clone, Copy)]
+struct Known<'a> {
+    con: u32,
+    fields: &'a [Kind],
+}
+
+// The first constructor, as the known one.
+fn first_known(types: &Types) -> Known<'_>
+    ensures { IfThere types.now result.con result.fields.now }
+{
+    let fields: &[Kind] = match types.con(0) {
+        Some(con) => &con.fields,
+        None => &[],
+    };
+    Known { con: 0, fields }
+}
+
+// The kinds of a constructor's fields. It is looked up where it isn't the known one.
+#[inline(always)]
+#[tactic(auto, using(crate::proofs::DueLaws::found_there))]
+fn fields_at<'a>(types: &'a Types, homes: &Homes, known: &mut Known<'a>, con: u32) -> &'a [Kind]
+    requires homes { HomesAre types.now homes.now }
+    requires there { IsSome (constructor types.now con) }
+    requires known { IfThere types.now known.old.con known.old.fields.now }
+    ensures known { IfThere types.now known.new.con known.new.fields.now }
+    ensures fields { IsSomeAnd (constructor types.now con) (λ k. k.fields ≡ result.now) }
+{
+    if con != known.con {
+        *known = Known {
+            con,
+            fields: &homes.con(types, con).fields,
+        };
+    }
+    known.fields
 }
 
 impl Reading {
@@ -220,19 +258,29 @@ impl Reading {
         ensures { (v : Value) → Fits types.now kind v → Stands types.now span.now.cells v word → result ≡ v }
     {
         types.limits();
+        let mut known = first_known(types);
         let mut next = Some(Due { kind, word });
         'words: while let Some(due) = next {
-            next = self.read_node(span, types, homes, due);
+            next = self.read_node(span, types, homes, &mut known, due);
         }
         Flat::of(self.items)
     }
 
     // Reads the node of a word, with leading parts that are no data. The result is the word that comes next.
     #[inline(always)]
-    fn read_node(&mut self, span: &Span, types: &Types, homes: &Homes, due: Due) -> Option<Due>
+    fn read_node<'a>(
+        &mut self,
+        span: &Span,
+        types: &'a Types,
+        homes: &Homes,
+        known: &mut Known<'a>,
+        due: Due,
+    ) -> Option<Due>
         requires homes { HomesAre types.now homes.now }
+        requires known { IfThere types.now known.old.con known.old.fields.now }
         requires node { IsSomeAnd (node_of types.now span.now.cells due.kind due.word) (HasNodeRoom self.old) }
         requires due { vec_len self.old.due + 4 ≤ vec_capacity self.old.due }
+        ensures known { IfThere types.now known.new.con known.new.fields.now }
         ensures read { IsSomeAnd (node_of types.now span.now.cells due.kind due.word) (IsRead self.old self.new result) }
         ensures more { vec_len self.old.items < vec_len self.new.items }
         ensures items_room { vec_capacity self.new.items ≡ vec_capacity self.old.items }
@@ -251,16 +299,25 @@ impl Reading {
                 self.items.push_reserved(Item::Dia);
                 self.take_due()
             }
-            Kind::Of(_) => self.read_con(span, types, homes, due.word),
+            Kind::Of(_) => self.read_con(span, types, homes, known, due.word),
         }
     }
 
     // Reads the node of a word of a data type.
     #[inline(always)]
-    fn read_con(&mut self, span: &Span, types: &Types, homes: &Homes, word: u32) -> Option<Due>
+    fn read_con<'a>(
+        &mut self,
+        span: &Span,
+        types: &'a Types,
+        homes: &Homes,
+        known: &mut Known<'a>,
+        word: u32,
+    ) -> Option<Due>
         requires homes { HomesAre types.now homes.now }
+        requires known { IfThere types.now known.old.con known.old.fields.now }
         requires node { IsSomeAnd (con_node types.now span.now.cells word) (HasNodeRoom self.old) }
         requires due { vec_len self.old.due + 4 ≤ vec_capacity self.old.due }
+        ensures known { IfThere types.now known.new.con known.new.fields.now }
         ensures read { IsSomeAnd (con_node types.now span.now.cells word) (IsRead self.old self.new result) }
         ensures more { vec_len self.old.items < vec_len self.new.items }
         ensures items_room { vec_capacity self.new.items ≡ vec_capacity self.old.items }
@@ -272,9 +329,8 @@ impl Reading {
             return self.take_due();
         }
         let cell = span.get(word);
-        let con = homes.con(types, cell.tag);
         types.limits();
-        let fields: &[Kind] = &con.fields;
+        let fields = fields_at(types, homes, known, cell.tag);
         self.items.push_reserved(Item::Con {
             con: cell.tag,
             parts: fields.len() as u8,

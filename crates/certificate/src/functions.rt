@@ -212,9 +212,9 @@ fn five_words(rest: &[u8]) -> Option<(&[u8], &[u8], &[u8], &[u8], &[u8])>
 fn bare_function(alloc: Global, name: &[u8], need: u64, back: u64) -> Result<FuncCert, LineStop>
     ensures { MatchResult result (λ f. func_of f ≡ bare_func name.now need back) (λ stop. IsNoMemory stop) }
 {
-    match Vec::from_slice(alloc, name) {
-        Ok(bytes) => Ok(FuncCert {
-            name: Word::new(bytes),
+    match Word::new(alloc, name) {
+        Ok(name) => Ok(FuncCert {
+            name,
             need,
             back,
             params: Vec::new(alloc),

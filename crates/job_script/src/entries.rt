@@ -9,13 +9,6 @@ use super::types::Entry;
 use camelot_values::Word;
 use std::alloc::{AllocError, Global};
 
-// A word of these bytes, in memory of its own.
-fn word(alloc: Global, bytes: &[u8]) -> Result<Word, AllocError>
-    ensures { IfOk result (λ word. word ≡ bytes.now) }
-{
-    Ok(Word::new(Vec::from_slice(alloc, bytes)?))
-}
-
 /// A program.
 pub(crate) fn program_entry(
     alloc: Global,
@@ -26,7 +19,7 @@ pub(crate) fn program_entry(
     ensures { IfOk result (λ entry. entry_of entry ≡ program_by name.now camelot text.now) }
 {
     Ok(Entry::Program {
-        name: word(alloc, name)?,
+        name: Word::new(alloc, name)?,
         camelot,
         text: Vec::from_slice(alloc, text)?,
     })
@@ -37,9 +30,9 @@ pub(crate) fn job_entry(alloc: Global, job: &JobLine<'_>) -> Result<Entry, Alloc
     ensures { IfOk result (λ entry. entry_of entry ≡ AJob (job_view job.now)) }
 {
     Ok(Entry::Job {
-        name: word(alloc, job.name)?,
-        program: word(alloc, job.program)?,
-        entry: word(alloc, job.entry)?,
+        name: Word::new(alloc, job.name)?,
+        program: Word::new(alloc, job.program)?,
+        entry: Word::new(alloc, job.entry)?,
         fuel: job.fuel,
         args: Vec::from_slice(alloc, job.args)?,
     })

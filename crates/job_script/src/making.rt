@@ -102,13 +102,6 @@ fn list_text(alloc: Global, fronts: &Fronts, count: u32) -> Result<Vec<u8>, Allo
     Ok(out)
 }
 
-// A name.
-fn word(alloc: Global, name: &[u8]) -> Result<Word, AllocError>
-    ensures { IfOk result (λ word. word ≡ name.now) }
-{
-    Ok(Word::new(Vec::from_slice(alloc, name)?))
-}
-
 // The name of a job.
 #[tactic(auto, using(crate::proofs::Counted::name_written))]
 fn job_name(alloc: Global, number: u32) -> Result<Word, AllocError>
@@ -116,7 +109,7 @@ fn job_name(alloc: Global, number: u32) -> Result<Word, AllocError>
 {
     let mut name = Vec::from_slice(alloc, b"j")?;
     push_number(&mut name, number as u64)?;
-    Ok(Word::new(name))
+    Word::new(alloc, &name)
 }
 
 // The fuel of a job.
@@ -133,8 +126,8 @@ fn make_job(alloc: Global, fronts: &Fronts, number: u32) -> Result<Entry, AllocE
     ensures { IfOk result (λ entry. entry_of entry ≡ AJob (made_job number)) }
 {
     let name = job_name(alloc, number)?;
-    let program = word(alloc, b"drill")?;
-    let entry = word(alloc, b"dup")?;
+    let program = Word::new(alloc, b"drill")?;
+    let entry = Word::new(alloc, b"dup")?;
     let args = list_text(alloc, fronts, 37 * number % 1000)?;
     Ok(Entry::Job {
         name,
@@ -150,7 +143,7 @@ fn make_job(alloc: Global, fronts: &Fronts, number: u32) -> Result<Entry, AllocE
 fn make_program(alloc: Global) -> Result<Entry, AllocError>
     ensures { IfOk result (λ entry. entry_of entry ≡ AProgram made_program) }
 {
-    let name = word(alloc, b"drill")?;
+    let name = Word::new(alloc, b"drill")?;
     let text = Vec::from_slice(alloc, SOURCE)?;
     Ok(Entry::Program {
         name,

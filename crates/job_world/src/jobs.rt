@@ -105,6 +105,46 @@ impl Jobs {
             (λ fault. (self.new ≡ self.old) × IsLarger self.old.licences licence entry args.items arena fault) }
     {
         let needs = self.lease_of(licence, entry, &args);
+        self.add_leased(licence, entry, args, fuel, needs, arena)
+    }
+
+    /// Plans a run as [`Jobs::add`] does, of which the caller has the lease already, so that the arguments aren't walked
+    /// once more.
+    ///
+    /// # Errors
+    ///
+    /// Those of [`Jobs::add`].
+    pub fn add_leased(
+        &mut self,
+        licence: u32,
+        entry: u32,
+        args: Vec<Flat>,
+        fuel: u64,
+        needs: u64,
+        arena: u32,
+    ) -> Result<u32, AddFault>
+        requires can { CanPlan self.old.licences licence entry args.items fuel }
+        requires leased { (l : Licensed) → slice_get self.old.licences licence ≡ Some l → needs ≡ lease l.code l.cert entry args.items }
+        requires arena { arena ≤ 2147483648 }
+        requires few { length self.old.plans < 4294967295 }
+        // Where it is planned, its number is the next one, and its lease is the licence's, within the arena.
+        ensures planned { IfOk result (λ job. (l : Licensed) → slice_get self.old.licences licence ≡ Some l
+            → (job ≡ length self.old.plans) × (lease l.code l.cert entry args.items ≤ arena)
+            × (self.new.plans ≡ self.old.plans
+            ++ record {
+              licence = licence;
+              entry = entry;
+              args = args.items;
+              fuel = fuel;
+              lease = lease l.code l.cert
+                  entry args.items;
+            } ∷ [])) }
+        // Where it is planned the licences stay. Else all stays, and `Larger` has the lease, which is more than the
+        // arena.
+        ensures refused { MatchResult result (λ job. self.new.licences ≡ self.old.licences)
+            (λ fault. (self.new ≡ self.old) × IsLarger self.old.licences licence entry args.items arena fault) }
+    {
+        self.licensed(licence, entry, &args);
         if needs > arena as u64 {
             return Err(AddFault::Larger { needs });
         }
@@ -131,6 +171,16 @@ impl Jobs {
         let licence = &self.licences[licence as usize];
         licence.kept();
         licence.lease(entry, args)
+    }
+
+    // The licence of this number is one by its type. It does nothing.
+    fn licensed(&self, licence: u32, entry: u32, args: &[Flat])
+        requires can { NeedsOf self.now.licences licence entry args.now }
+        ensures { IsSomeAnd (slice_get self.now.licences licence) IsLicensed }
+    {
+        let _ = entry;
+        let _ = args;
+        self.licences[licence as usize].kept();
     }
 
     /// The sizes of the plans' leases, in order. `AllocError` where memory runs out.

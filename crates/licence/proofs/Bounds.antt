@@ -19,9 +19,9 @@ use Rattle.certificate.specs.declared.types.FuncCert.{FuncCert as DeclaredFunc}
 use Rattle.certificate.specs.Certificates.{FuncCert, FuncIsWithin, Cert, IsCert}
 use Rattle.licence.specs.Books.{vector_of, book_of}
 use Rattle.licence.specs.Fitting.{Right}
-use Rattle.licence.specs.Bound.{arguments_carry, units_at, bound, lease}
+use Rattle.licence.specs.Bound.{arguments_carry, units_at, bound}
 use Rattle.licence.specs.Licensed.{Licensed, IsLicensed, FitsEntry}
-use Rattle.licence.specs.PotentialLaws.{peak_bound, lease_suffices}
+use Rattle.licence.specs.PotentialLaws.{peak_bound}
 
 below_length : {A : Type 0} (xs : List A) (i : ℕ) (x : A) → slice_get xs i ≡ Some x → i < length xs
 below_length [] i x e = let c : None ≡ Some x = e in absurd cc
@@ -91,13 +91,6 @@ pub peak_within : (l : Licensed) (entry : ℕ) (args : List Value) → IsLicense
 peak_within l entry args h limits some fit limit fuel =
     let f = func_of_entry l entry args fit in
     peak_bound l.code l.cert h.well some limits.types h.grants.pays limit entry fuel args f.0 f.1 f.2
-
-pub cells_suffice : (l : Licensed) (entry : ℕ) (args : List Value) → IsLicensed l → IsWithinLimits l.code → HaveBlocks l.code
-    → FitsEntry l entry args → (limit fuel : ℕ)
-    → cells_among l.code.types args + peak_of (run_of l.code limit entry fuel args) ≤ lease l.code l.cert entry args
-cells_suffice l entry args h limits some fit limit fuel =
-    let f = func_of_entry l entry args fit in
-    lease_suffices l.code l.cert h.well some limits.types h.grants.pays limit entry fuel args f.0 f.1 f.2
 
 -- ---- the sums of a bound and a lease
 

@@ -81,6 +81,15 @@ fn certified<'a>(licence: &'a Licence, entry: u32, args: &[Flat]) -> &'a FuncCer
     &licence.cert().funcs()[entry as usize]
 }
 
+/// What a run is given, in cells: its bound, and its lease.
+#[derive(Clone, Copy, Debug, PartialEq, Eq)]
+pub struct Needs {
+    /// How many cells beyond those of its arguments it may take at once.
+    pub bound: u64,
+    /// How many cells it is given.
+    pub lease: u64,
+}
+
 // In units, what the function needs and these arguments carry.
 #[tactic(auto, using(crate::proofs::Vectors::carry_few, crate::proofs::Vectors::count_few))]
 fn units_of(func: &FuncCert, types: &Types, args: &[Flat]) -> u128
@@ -127,9 +136,33 @@ impl Licence {
         (units_at(self, entry, args) / self.cert().unit() as u128) as u64
     }
 
+    /// The bound and the lease of a run, as [`Licence::bound`] and [`Licence::lease`] say them, by one walk over what the
+    /// arguments carry. It takes no memory.
+    pub fn needs(&self, entry: u32, args: &[Flat]) -> Needs
+        requires fits { FitsEntry self.now entry args.now }
+        requires few { size_all (parts args.now) ≤ 65536 }
+        // It has the bound by the code and the certificate of the licence, and their lease.
+        ensures bound { result.bound ≡ bound self.now.code self.now.cert entry args.now }
+        ensures lease { result.lease ≡ lease self.now.code self.now.cert entry args.now }
+        // The peak of every run is within the bound, whatever the fuel and the limit of waiting calls.
+        ensures peak { (limit fuel : ℕ) → peak_of (run_of self.now.code limit entry fuel args.now) ≤ result.bound }
+        // The cells of the arguments and the peak of every run fit into the lease together.
+        ensures suffices { (limit fuel : ℕ) → cells_among self.now.code.types args.now + peak_of (run_of self.now.code limit entry fuel args.now) ≤ result.lease }
+        // The bound is at most 2^48.
+        ensures bound_range { result.bound ≤ 281474976710656 }
+        // The lease is at most 2^48 + 65,536.
+        ensures lease_range { result.lease ≤ 281474976776192 }
+    {
+        let bound = self.bound(entry, args);
+        let cells = cells_of(&self.code().types, args);
+        Needs {
+            bound,
+            lease: (cells + bound).max(1),
+        }
+    }
+
     /// How many cells a run from this entry on these arguments is given: those of the arguments and as many more as the
     /// bound says, and at least one. They suffice for every run. It takes no memory.
-    #[tactic(auto, using(crate::proofs::Bounds::cells_suffice))]
     pub fn lease(&self, entry: u32, args: &[Flat]) -> u64
         requires fits { FitsEntry self.now entry args.now }
         requires few { size_all (parts args.now) ≤ 65536 }
@@ -140,8 +173,6 @@ impl Licence {
         // It is at most 2^48 + 65,536.
         ensures range { result ≤ 281474976776192 }
     {
-        self.kept();
-        self.code().limits();
-        (cells_of(&self.code().types, args) + self.bound(entry, args)).max(1)
+        self.needs(entry, args).lease
     }
 }

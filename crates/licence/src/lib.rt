@@ -7,6 +7,7 @@ pub mod laws;
 mod licence;
 mod site;
 
+pub use bound::Needs;
 pub use constructors::first_con_of;
 pub use licence::Licence;
 pub use site::Site;

@@ -14,8 +14,9 @@ use Rattle.grail_code.specs.Code.{Code, Func}
 use Rattle.grail_code.specs.Meaning.{run_of}
 use Rattle.grail_code.specs.ByName.{IsFirstNamed}
 use Rattle.value_text.specs.Grammar.{IsRead, IsTooLong, IsBadShape}
-use Rattle.licence.specs.Bound.{bound}
+use Rattle.licence.specs.Bound.{bound, lease}
 use Rattle.licence.specs.Licensed.{Licensed, FitsEntry}
+use Rattle.licence.specs.declared.bound.Needs.{Needs}
 use Rattle.cell_machine.specs.State.{most_calls}
 use Rattle.job_world.specs.Plans.{Plan, Planned, run_at, run_with, job_run, cells_with}
 use Rattle.job_world.specs.Plans as world
@@ -75,7 +76,7 @@ of_entry l name text number a first each =
 
     by_case : (a : Asked) → IsOfEntry l name text a → IsAsked l name text a
     by_case (asked.Unfit c) h = by_cause c h
-    by_case (asked.Fits entry args most) h = h
+    by_case (asked.Fits entry args needs) h = h
 
 fits_entry : (l : Licensed) (number : ℕ) (f : Func) (args : List Value) → slice_get l.code.funcs number ≡ Some f
     → ArgumentsFit l.code.types f.params args → FitsEntry l number args
@@ -88,12 +89,18 @@ read_fits l p number f text args e at r = fits_entry l number f args at (subst (
 pub can_be_planned : (licences : List Licensed) (licence fuel : ℕ) (l : Licensed) (name text : List ℕ) (a : Asked)
     → slice_get licences licence ≡ Some l → 1 ≤ fuel → IsAsked l name text a → CanBePlanned licences licence fuel a
 can_be_planned licences licence fuel l name text (asked.Unfit cause) at some h = tt
-can_be_planned licences licence fuel l name text (asked.Fits entry args most) at some h =
+can_be_planned licences licence fuel l name text (asked.Fits entry args needs) at some h =
     let fits : FitsEntry l entry args.items = subst (λ (n : ℕ). FitsEntry l n args.items) (sym h.of_args.0) (fits_entry l h.number h.func args.items h.is h.of_args.1.text_of.fit) in
-    record {
-      needs = record { fits = subst (λ (o : Option Licensed). IsSomeAnd o (λ l. FitsEntry l entry args.items)) (sym at) fits; few = h.of_args.1.few };
-      some_fuel = some;
-    }
+    let leased : needs.lease ≡ lease l.code l.cert entry args.items = subst (λ (n : ℕ). needs.lease ≡ lease l.code l.cert n args.items) (sym h.of_args.0) h.of_args.2.leased in (
+      record {
+        needs = record { fits = subst (λ (o : Option Licensed). IsSomeAnd o (λ l. FitsEntry l entry args.items)) (sym at) fits; few = h.of_args.1.few };
+        some_fuel = some;
+      },
+      λ k there. leased_too l k (sym at ∙ there) leased,
+    )
+  where
+    leased_too : (l k : Licensed) → Some l ≡ Some k → needs.lease ≡ lease l.code l.cert entry args.items → needs.lease ≡ lease k.code k.cert entry args.items
+    leased_too l k e h = let same : l ≡ k = cc in subst (λ (x : Licensed). needs.lease ≡ lease x.code x.cert entry args.items) same h
 
 -- ---- no run
 
@@ -170,16 +177,17 @@ same_left m l number values n fuel (Some f) = refl
 new_plans : (old new : Planned) (p : Plan) → new.licences ≡ old.licences → new.plans ≡ old.plans ++ p ∷ [] → new ≡ record { licences = old.licences; plans = old.plans ++ p ∷ [] }
 new_plans old new p e f = λ i. record { licences = e i; plans = f i }
 
-comes_call : (p : ProgramText) (name args : List ℕ) (fuel arena n : ℕ) (old new : Planned) (m : Meaning) (l : Licensed) (number : ℕ) (values : List Value) (most : ℕ) (q : JobPlan) → slice_get old.licences n ≡ Some l
-    → IsCallFate p name args m l number values → IsBoundOf l number values most → IsAdded arena (plan_for n fuel l number values) most old new q → Comes (Some p) name args fuel arena old new q
-comes_call p name args fuel arena n old new m l number values most (plan.Refused cause) at c b h = absurd h
-comes_call p name args fuel arena n old new m l number values most (plan.TooLarge needs) at c b h =
+comes_call : (p : ProgramText) (name args : List ℕ) (fuel arena n : ℕ) (old new : Planned) (m : Meaning) (l : Licensed) (number : ℕ) (values : List Value) (needs : Needs) (q : JobPlan) → slice_get old.licences n ≡ Some l
+    → IsCallFate p name args m l number values → IsBoundOf l number values needs → IsAdded arena (plan_for n fuel l number values) needs.bound old new q
+    → Comes (Some p) name args fuel arena old new q
+comes_call p name args fuel arena n old new m l number values needs (plan.Refused cause) at c b h = absurd h
+comes_call p name args fuel arena n old new m l number values needs (plan.TooLarge cells) at c b h =
     let call : Call = record { meaning = m; licence = l; entry = number; args = values } in
     let large : nat_lt arena (lease_of call) ≡ true = grind (arith, nat_tests, h.1) in
     record {
       fate = Calls call;
       is = c.is;
-      within = subst (λ (x : ℕ). peak_of (outcome_of call fuel) ≤ x) b.is (subst (λ (o : Outcome Value). peak_of o ≤ most) (c.same fuel) (b.peak fuel));
+      within = subst (λ (x : ℕ). peak_of (outcome_of call fuel) ≤ x) b.is (subst (λ (o : Outcome Value). peak_of o ≤ needs.bound) (c.same fuel) (b.peak fuel));
       licences = ap (λ (ps : Planned). ps.licences) h.2;
       more = [];
       plans = none_added old new h.2;
@@ -189,14 +197,14 @@ comes_call p name args fuel arena n old new m l number values most (plan.TooLarg
       places = λ place. ap (λ b. places_with (if b then [] else lease_of call ∷ []) place) large;
       line = ap (λ x. TooLarge x arena) h.0 ∙ sym (ap (λ b. if b then TooLarge (lease_of call) arena else Ended (value_types m) (outcome_of call fuel) fuel (bound_of call)) large);
     }
-comes_call p name args fuel arena n old new m l number values most (plan.Runs job bound) at c b h =
+comes_call p name args fuel arena n old new m l number values needs (plan.Runs job bound) at c b h =
     let call : Call = record { meaning = m; licence = l; entry = number; args = values } in
     let added : Plan = plan_for n fuel l number values in
     let fits : nat_lt arena (lease_of call) ≡ false = grind (arith, nat_tests, h.2) in
     record {
       fate = Calls call;
       is = c.is;
-      within = subst (λ (x : ℕ). peak_of (outcome_of call fuel) ≤ x) b.is (subst (λ (o : Outcome Value). peak_of o ≤ most) (c.same fuel) (b.peak fuel));
+      within = subst (λ (x : ℕ). peak_of (outcome_of call fuel) ≤ x) b.is (subst (λ (o : Outcome Value). peak_of o ≤ needs.bound) (c.same fuel) (b.peak fuel));
       licences = h.3;
       more = added ∷ [];
       plans = h.4;
@@ -222,19 +230,21 @@ pub comes_planned : (p : ProgramText) (name args : List ℕ) (fuel arena n : ℕ
     → IsAsked l name args a → IsPlanned arena fuel n l a old new q → Comes (Some p) name args fuel arena old new q
 comes_planned p name args fuel arena n old new m l (asked.Unfit cause) q has agree at h k =
     subst (Comes (Some p) name args fuel arena old new) (sym k.0) (comes_refused (Some p) name args fuel arena old new cause (unfit_fate p name args m l cause has agree h) k.1)
-comes_planned p name args fuel arena n old new m l (asked.Fits entry values most) q has agree at h k =
+comes_planned p name args fuel arena n old new m l (asked.Fits entry values needs) q has agree at h k =
     let same : h.number ≡ entry = sym h.of_args.0 in
-    let b : IsBoundOf l entry values.items most = subst (λ (x : ℕ). IsBoundOf l x values.items most) same h.of_args.2 in
+    let b : IsBoundOf l entry values.items needs = subst (λ (x : ℕ). IsBoundOf l x values.items needs) same h.of_args.2 in
     let first : IsFirstNamed l.code entry name = subst (λ (x : ℕ). IsFirstNamed l.code x name) same h.first in
     let is : slice_get l.code.funcs entry ≡ Some h.func = subst (λ (x : ℕ). slice_get l.code.funcs x ≡ Some h.func) same h.is in
-    comes_call p name args fuel arena n old new m l entry values.items most q at (call_fate p name args m l entry values.items h.func has agree first is h.of_args.1) b k
+    comes_call p name args fuel arena n old new m l entry values.items needs q at (call_fate p name args m l entry values.items h.func has agree first is h.of_args.1) b k
 
 -- ---- rows
 
-pub bounded_is : (l : Licensed) (number : ℕ) (args given : List Value) (most : ℕ) → given ≡ args → most ≡ bound l.code l.cert number given
-    → ((limit fuel : ℕ) → peak_of (run_of l.code limit number fuel given) ≤ most)
-    → IsBoundOf l number args most
-bounded_is l number args given most same e h = subst (λ (xs : List Value). IsBoundOf l number xs most) same (record { is = e; peak = λ fuel. h most_calls fuel })
+pub bounded_is : (l : Licensed) (number : ℕ) (args given : List Value) (needs : Needs) → given ≡ args → needs.bound ≡ bound l.code l.cert number given
+    → needs.lease ≡ lease l.code l.cert number given
+    → ((limit fuel : ℕ) → peak_of (run_of l.code limit number fuel given) ≤ needs.bound)
+    → IsBoundOf l number args needs
+bounded_is l number args given needs same e f h =
+    subst (λ (xs : List Value). IsBoundOf l number xs needs) same (record { is = e; leased = f; peak = λ fuel. h most_calls fuel })
 
 -- the function of a number that is there
 func_at : (p : Code) (number : ℕ) → number < length p.funcs → There p number
@@ -266,8 +276,8 @@ read_entry l p number text args e there each =
 by_bounded : (l : Licensed) (number : ℕ) (f : Func) (text : List ℕ) (args : List Value) (a : Asked) → IsRead l.code.types f.params text args
     → IsBounded l number args a → IsOfArgs l number f text a
 by_bounded l number f text args (asked.Unfit cause) r b = absurd b
-by_bounded l number f text args (asked.Fits entry xs most) r b =
-    (b.0, subst (λ (vs : List Value). IsRead l.code.types f.params text vs) (sym b.1) r, subst (λ (vs : List Value). IsBoundOf l number vs most) (sym b.1) b.2)
+by_bounded l number f text args (asked.Fits entry xs needs) r b =
+    (b.0, subst (λ (vs : List Value). IsRead l.code.types f.params text vs) (sym b.1) r, subst (λ (vs : List Value). IsBoundOf l number vs needs) (sym b.1) b.2)
 
 pub args_bounded : (l : Licensed) (p : Code) (number : ℕ) (text : List ℕ) (args : List Value) (a : Asked) → p ≡ l.code → AreReadAt p number text args
     → IsBounded l number args a

@@ -11,6 +11,7 @@ use Rattle.value_text.specs.Grammar.{AreNamed, IsRead, IsTooLong, IsBadShape}
 use Rattle.value_text.specs.Inhabited.{Knows}
 use Rattle.licence.specs.Bound.{bound, lease}
 use Rattle.licence.specs.Licensed.{Licensed}
+use Rattle.licence.specs.declared.bound.Needs.{Needs}
 use Rattle.cell_machine.specs.State.{most_calls}
 use Rattle.job_script.specs.Scripts.{Entry, AProgram, AJob}
 use Rattle.job_world.specs.Plans.{Plan, Planned}
@@ -30,22 +31,23 @@ use Rattle.script_plans.specs.Rows.{Row, row_program, row_among}
 
 -- ---- what is asked of a licence
 
--- the bound of a call of this function, which its peak is within
-pub record IsBoundOf (l : Licensed) (number : ℕ) (args : List Value) (most : ℕ) : Type 0 where
-  pub is : most ≡ bound l.code l.cert number args
-  pub peak : (fuel : ℕ) → peak_of (run_of l.code most_calls number fuel args) ≤ most
+-- the bound of a call of this function, which its peak is within, and its lease
+pub record IsBoundOf (l : Licensed) (number : ℕ) (args : List Value) (needs : Needs) : Type 0 where
+  pub is : needs.bound ≡ bound l.code l.cert number args
+  pub leased : needs.lease ≡ lease l.code l.cert number args
+  pub peak : (fuel : ℕ) → peak_of (run_of l.code most_calls number fuel args) ≤ needs.bound
 
--- the call of this function on these arguments, with its bound
+-- the call of this function on these arguments, with its bound and lease
 abbrev pub IsBounded : Licensed → (number : ℕ) → List Value → Asked → Type 0
 IsBounded l number args (asked.Unfit cause) = ⊥
-IsBounded l number args (asked.Fits entry xs most) = (entry ≡ number) × (xs.items ≡ args) × IsBoundOf l number args most
+IsBounded l number args (asked.Fits entry xs needs) = (entry ≡ number) × (xs.items ≡ args) × IsBoundOf l number args needs
 
 -- what a text of arguments comes to at this function: a call on what it is read as, or why it isn't read
 abbrev pub IsOfArgs : Licensed → (number : ℕ) → Func → (text : List ℕ) → Asked → Type 0
 IsOfArgs l number f text (asked.Unfit (job_cause.Argument at)) = IsBadShape l.code.types f.params text at
 IsOfArgs l number f text (asked.Unfit (job_cause.Long items)) = IsTooLong l.code.types f.params text items
 IsOfArgs l number f text (asked.Unfit cause) = ⊥
-IsOfArgs l number f text (asked.Fits entry args most) = (entry ≡ number) × IsRead l.code.types f.params text args.items × IsBoundOf l number args.items most
+IsOfArgs l number f text (asked.Fits entry args needs) = (entry ≡ number) × IsRead l.code.types f.params text args.items × IsBoundOf l number args.items needs
 
 -- the function of this name, and what the arguments come to there
 pub record IsOfEntry (l : Licensed) (name text : List ℕ) (a : Asked) : Type 0 where
@@ -61,10 +63,14 @@ IsAsked l name text a = IsOfEntry l name text a
 
 -- ---- what is planned
 
+-- its lease is that of the licence of this number
+abbrev pub IsLeased : List Licensed → (licence entry : ℕ) → List Value → Needs → Type 0
+IsLeased licences licence entry args needs = (l : Licensed) → slice_get licences licence ≡ Some l → needs.lease ≡ lease l.code l.cert entry args
+
 -- it can be planned
 abbrev pub CanBePlanned : List Licensed → (licence fuel : ℕ) → Asked → Type 0
 CanBePlanned licences licence fuel (asked.Unfit cause) = Unit {0}
-CanBePlanned licences licence fuel (asked.Fits entry args most) = CanPlan licences licence entry args.items fuel
+CanBePlanned licences licence fuel (asked.Fits entry args needs) = CanPlan licences licence entry args.items fuel × IsLeased licences licence entry args.items needs
 
 -- the plan is added where its lease is within the arena
 abbrev pub IsAdded : (arena : ℕ) → Plan → (most : ℕ) → (old new : Planned) → JobPlan → Type 0
@@ -78,7 +84,7 @@ plan_for licence fuel l entry args = record { licence = licence; entry = entry; 
 
 abbrev pub IsPlanned : (arena fuel licence : ℕ) → Licensed → Asked → (old new : Planned) → JobPlan → Type 0
 IsPlanned arena fuel licence l (asked.Unfit cause) old new p = (p ≡ plan.Refused cause) × (new ≡ old)
-IsPlanned arena fuel licence l (asked.Fits entry args most) old new p = IsAdded arena (plan_for licence fuel l entry args.items) most old new p
+IsPlanned arena fuel licence l (asked.Fits entry args needs) old new p = IsAdded arena (plan_for licence fuel l entry args.items) needs.bound old new p
 
 -- the licence has this number, it is known which of its types have values, and its constructors have upper names
 pub record IsUsable (licences : List Licensed) (k : Known) : Type 0 where

@@ -1,4 +1,4 @@
-//! What a licence says of a call: the number of its entry, its arguments and its bound, or why it doesn't run.
+//! What a licence says of a call: the number of its entry, its arguments, its bound and its lease, or why it doesn't run.
 ghost use Rattle.std.specs.Prelude.{◌≡◌, ◌<◌, ◌≤◌, length, slice_get, Some, MatchResult, IfOk};
 ghost use Rattle.camelot_values.specs.Value.{parts};
 ghost use Rattle.camelot_values.specs.Counts.{size_all};
@@ -13,7 +13,7 @@ ghost use Rattle.script_plans.specs.Turns.{IsAsked, IsBounded, IsOfArgs};
 
 use camelot_values::{Flat, Kind};
 use grail_code::Code;
-use licence::Licence;
+use licence::{Licence, Needs};
 use script_outcomes::JobCause;
 use std::alloc::{AllocError, Global};
 use stops::Stop;
@@ -22,11 +22,11 @@ use value_text::{Inhabited, ValueFault, read_known};
 /// What is asked of a licence.
 #[derive(Drop)]
 pub(crate) enum Asked {
-    /// The call of this function on these arguments, and its bound.
+    /// The call of this function on these arguments, and its bound and lease.
     Fits {
         entry: u32,
         args: Vec<Flat>,
-        bound: u64,
+        needs: Needs,
     },
     /// No call.
     Unfit {
@@ -69,11 +69,11 @@ fn bounded(licence: &Licence, number: u32, args: Vec<Flat>) -> Asked
     requires few { size_all (parts args.items) ≤ 65536 }
     ensures { IsBounded licence.now number args.items result }
 {
-    let bound = licence.bound(number, &args);
+    let needs = licence.needs(number, &args);
     Asked::Fits {
         entry: number,
         args,
-        bound,
+        needs,
     }
 }
 

@@ -3,7 +3,7 @@ ghost use Rattle.std.specs.Prelude.{◌≡◌, ◌<◌, ◌≤◌, ℕ, List, Op
 ghost use Rattle.licence.specs.Licensed.{Licensed};
 ghost use Rattle.job_world.specs.Asking.{CanPlan};
 ghost use Rattle.script_plans.specs.Programs.{ProgramText};
-ghost use Rattle.script_plans.specs.Turns.{CanBePlanned, IsAdded, IsPlanned, Comes, plan_for};
+ghost use Rattle.script_plans.specs.Turns.{CanBePlanned, IsLeased, IsAdded, IsPlanned, Comes, plan_for};
 ghost use Rattle.script_plans.specs.Wanted.{CanBeTaken, IsWanted};
 
 use crate::asking::Asked;
@@ -12,26 +12,31 @@ use crate::wanting::Wanted;
 use camelot_values::Flat;
 use code_gen::laws::law_of_compiler;
 use job_world::{AddFault, Jobs};
+use licence::Needs;
 use std::alloc::AllocError;
 
-// Plans a call, where its lease is within the arena.
+// Plans a call of this lease, where it is within the arena.
 fn plan_call(
     jobs: &mut Jobs,
     licence: u32,
     entry: u32,
     args: Vec<Flat>,
-    bound: u64,
+    needs: Needs,
     fuel: u64,
     arena: u32,
 ) -> Result<JobPlan, AllocError>
     requires can { CanPlan jobs.old.licences licence entry args.items fuel }
+    requires leased { IsLeased jobs.old.licences licence entry args.items needs }
     requires arena { arena ≤ 2147483648 }
     requires few { length jobs.old.plans < 4294967295 }
     ensures { (l : Licensed) → slice_get jobs.old.licences licence ≡ Some l
-        → IfOk result (IsAdded arena (plan_for licence fuel l entry args.items) bound jobs.old jobs.new) }
+        → IfOk result (IsAdded arena (plan_for licence fuel l entry args.items) needs.bound jobs.old jobs.new) }
 {
-    match jobs.add(licence, entry, args, fuel, arena) {
-        Ok(job) => Ok(JobPlan::Runs { job, bound }),
+    match jobs.add_leased(licence, entry, args, fuel, needs.lease, arena) {
+        Ok(job) => Ok(JobPlan::Runs {
+            job,
+            bound: needs.bound,
+        }),
         Err(AddFault::Larger { needs }) => Ok(JobPlan::TooLarge { needs }),
         Err(AddFault::Memory) => Err(AllocError),
     }
@@ -51,8 +56,8 @@ fn plan_asked(
     ensures { (l : Licensed) → slice_get jobs.old.licences licence ≡ Some l → IfOk result (IsPlanned arena fuel licence l asked jobs.old jobs.new) }
 {
     match asked {
-        Asked::Fits { entry, args, bound } => {
-            plan_call(jobs, licence, entry, args, bound, fuel, arena)
+        Asked::Fits { entry, args, needs } => {
+            plan_call(jobs, licence, entry, args, needs, fuel, arena)
         }
         Asked::Unfit { cause } => Ok(JobPlan::Refused { cause }),
     }

@@ -326,3 +326,23 @@ front_digits text rest value good z d some is ends z_is =
     by_text : (good ≡ 0) ⊎ (take good text ≡ decimal value) → take good text ≡ decimal value
     by_text (inl e) = absurd (some e)
     by_text (inr e) = e
+
+-- the same with `-` before them
+pub front_below : (digits rest : List ℕ) (value good : ℕ) (z : ℤ) → DigitsRead 2147483648 digits value good → (good ≡ 0 → ⊥)
+    → rest ≡ take (length digits - good) (drop good digits) → Ends rest → z ≡ neg_ℤ (pos value) → FrontInt (45 ∷ digits) z rest
+front_below digits rest value good z d some is ends z_is =
+    let word : take good digits ≡ decimal value = by_text d.text in
+    let r : rest ≡ drop good digits = is ∙ take_all (length digits - good) (drop good digits) (omega (arith, length-drop good digits)) in
+    record {
+      word = 45 ∷ decimal value;
+      split = record {
+        parts = ap (λ l. 45 ∷ l) (sym (ap (λ l. l ++ rest) (sym word) ∙ ap (λ l. take good digits ++ l) r ∙ take-append-drop good digits));
+        all = word_all (decimal value) (decimal_fine value (omega (arith, d.small)));
+        ends = ends;
+      };
+      read = record { size = value; is = inr (d.small, refl, z_is) };
+    }
+  where
+    by_text : (good ≡ 0) ⊎ (take good digits ≡ decimal value) → take good digits ≡ decimal value
+    by_text (inl e) = absurd (some e)
+    by_text (inr e) = e

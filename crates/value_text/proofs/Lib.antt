@@ -16,6 +16,7 @@ pub mod NameSteps
 pub mod NodeSteps
 pub mod Following
 pub mod LaterSteps
+pub mod PartSteps
 pub mod ValueSteps
 pub mod Answering
 pub mod RoundTrip

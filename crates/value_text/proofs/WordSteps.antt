@@ -1,13 +1,13 @@
 -- Steps of the loops over spaces, words and common fronts.
 use Rattle.std.proofs.Common.{◌≡◌, ℕ, suc, ◌+◌, ◌-◌, ◌<◌, ◌≤◌, true, false, List, [], ◌∷◌, ◌++◌, length, take, drop, get_or, refl, sym, ap, ◌∙◌, subst, arith, drop-cons, drop_of_length-le, add-one, inl, inr, Bool}
-use Rattle.std.specs.Prelude.{◌⊎◌, IsTrue, ◌==◌, if◌then◌else◌}
+use Rattle.std.specs.Prelude.{◌⊎◌, IsTrue, ◌==◌, ◌&&◌, if◌then◌else◌}
 use Rattle.std.specs.List.{list_all}
 use Rattle.std.proofs.Math.Seq.{take-suc}
 use Rattle.std.proofs.lemmas.List.{take-append-drop, take_all, length-drop}
 use Rattle.std.proofs.lemmas.Bool.Decides.{nat_tests}
 use Rattle.value_text.specs.Grammar.{is_word_byte, Ends}
 use Rattle.value_text.specs.Choosing.{common}
-use Rattle.value_text.specs.Splitting.{skip, IsSplit, IsWordLength, IsBehind}
+use Rattle.value_text.specs.Splitting.{skip, IsSplit, IsWordLength, IsSameFour, IsBehind}
 use Rattle.value_text.proofs.Words.{and_parts, and_both}
 
 pub skip_here : (text all : List ℕ) (at : ℕ) → at < length text → get_or text at 0 ≡ 32 → skip (drop at text) ≡ all → skip (drop (at + 1) text) ≡ all
@@ -24,6 +24,14 @@ skip_done text all result at h not is e =
 
 pub skip_end : (text all : List ℕ) (at : ℕ) → length text ≤ at → skip (drop at text) ≡ all → [] ≡ all
 skip_end text all at h e = ap skip (sym (drop_of_length-le text {i = at} h)) ∙ e
+
+pub skip_empty : (text : List ℕ) → length text ≡ 0 → text ≡ skip text
+skip_empty [] h = refl
+skip_empty (b ∷ text) h = absurd (omega (arith, h))
+
+pub skip_none : (text : List ℕ) → (length text ≡ 0 → ⊥) → (get_or text 0 0 ≡ 32 → ⊥) → text ≡ skip text
+skip_none [] h n = refl
+skip_none (b ∷ text) h n = ap (λ t. if t then skip text else b ∷ text) (let t : false ≡ (b == 32) = grind (arith, nat_tests, n) in t)
 
 all_more : (xs : List ℕ) (c : ℕ) → IsTrue (list_all is_word_byte xs) → is_word_byte c ≡ true → IsTrue (list_all is_word_byte (xs ++ c ∷ []))
 all_more [] c h k = and_both (is_word_byte c) true k refl
@@ -109,3 +117,33 @@ pub behind_here : (name text rest : List ℕ) (count : ℕ) → count ≡ length
 behind_here name text rest count size all is ends =
     let r : rest ≡ drop (length name) text = is ∙ take_all (length text - count) (drop count text) (omega (arith, length-drop count text)) ∙ ap (λ n. drop n text) size in
     record { parts = whole_name name text all ∙ ap (λ l. name ++ l) (sym r); ends = ends }
+
+-- four more bytes are the same
+pub common_fours : (xs ys : List ℕ) (at all : ℕ) → at + 4 ≤ length xs → at + 4 ≤ length ys → IsSameFour xs ys at
+    → at + common (drop at xs) (drop at ys) ≡ all → at + 4 + common (drop (at + 4) xs) (drop (at + 4) ys) ≡ all
+common_fours xs ys at all h k f e =
+    let a = common_here xs ys at all (omega (arith, h)) (omega (arith, k)) f.first e in
+    let b = common_here xs ys (at + 1) all (omega (arith, h)) (omega (arith, k)) f.second a in
+    let c : at + 1 + 1 + common (drop (at + 2) xs) (drop (at + 2) ys) ≡ all =
+    subst (λ n. at + 1 + 1 + common (drop n xs) (drop n ys) ≡ all) (let p : at + 1 + 1 ≡ at + 2 = omega arith in p) b in
+    let d = common_here xs ys (at + 2) all (omega (arith, h)) (omega (arith, k)) f.third (subst (λ n. n + common (drop (at + 2) xs) (drop (at + 2) ys) ≡ all) (let p : at + 1 + 1 ≡ at + 2 = omega arith in p) c) in
+    let g = subst (λ n. n + common (drop n xs) (drop n ys) ≡ all) (let p : at + 2 + 1 ≡ at + 3 = omega arith in p) d in
+    let i = common_here xs ys (at + 3) all (omega (arith, h)) (omega (arith, k)) f.fourth g in
+    subst (λ n. n + common (drop n xs) (drop n ys) ≡ all) (let p : at + 3 + 1 ≡ at + 4 = omega arith in p) i
+
+same_byte : (x y : ℕ) → (x == y) ≡ true → x ≡ y
+same_byte x y e = grind (arith, nat_tests, e)
+
+pub four_same : (xs ys : List ℕ) (at : ℕ)
+    → ((((get_or xs at 0 == get_or ys at 0) && (get_or xs (at + 1) 0 == get_or ys (at + 1) 0)) && (get_or xs (at + 2) 0 == get_or ys (at + 2) 0)) && (get_or xs (at + 3) 0 == get_or ys (at + 3) 0)) ≡ true
+    → IsSameFour xs ys at
+four_same xs ys at e =
+    let p = and_parts _ (get_or xs (at + 3) 0 == get_or ys (at + 3) 0) e in
+    let q = and_parts _ (get_or xs (at + 2) 0 == get_or ys (at + 2) 0) p.0 in
+    let r = and_parts (get_or xs at 0 == get_or ys at 0) (get_or xs (at + 1) 0 == get_or ys (at + 1) 0) q.0 in
+    record {
+      first = same_byte (get_or xs at 0) (get_or ys at 0) r.0;
+      second = same_byte (get_or xs (at + 1) 0) (get_or ys (at + 1) 0) r.1;
+      third = same_byte (get_or xs (at + 2) 0) (get_or ys (at + 2) 0) q.1;
+      fourth = same_byte (get_or xs (at + 3) 0) (get_or ys (at + 3) 0) p.1;
+    }

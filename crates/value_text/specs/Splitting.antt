@@ -1,6 +1,6 @@
 -- Private: words for functions of this crate.
 -- Spaces, words and marks at the front of a text.
-use Rattle.std.specs.Prelude.{◌≡◌, ℕ, ℤ, Bool, true, List, [], ◌∷◌, ◌++◌, if◌then◌else◌, ◌==◌, ◌+◌, ◌≤◌, length, take, drop, slice_get, Some, IsTrue}
+use Rattle.std.specs.Prelude.{◌≡◌, ℕ, ℤ, Bool, true, List, [], ◌∷◌, ◌++◌, if◌then◌else◌, ◌==◌, ◌+◌, ◌≤◌, length, take, drop, get_or, slice_get, Some, IsTrue}
 use Rattle.std.specs.List.{list_all}
 use Rattle.camelot_values.specs.Kinds.{DataType, Constructor}
 use Rattle.camelot_values.specs.declared.kinds.Kind.{Kind}
@@ -42,6 +42,13 @@ pub record FrontInt (text : List ℕ) (z : ℤ) (rest : List ℕ) : Type 0 where
   pub split : IsSplit text word rest
   pub read : IntRead word z
 
+-- four bytes from this place on are the same in both
+pub record IsSameFour (xs ys : List ℕ) (at : ℕ) : Type 0 where
+  pub first : get_or xs at 0 ≡ get_or ys at 0
+  pub second : get_or xs (at + 1) 0 ≡ get_or ys (at + 1) 0
+  pub third : get_or xs (at + 2) 0 ≡ get_or ys (at + 2) 0
+  pub fourth : get_or xs (at + 3) 0 ≡ get_or ys (at + 3) 0
+
 -- the text is the name, which ends there, and the rest
 pub record IsBehind (name text rest : List ℕ) : Type 0 where
   pub parts : text ≡ name ++ rest
@@ -53,6 +60,14 @@ pub record FrontCon (marks : List Bool) (cons : List Constructor) (text : List �
   pub is : slice_get cons place ≡ Some con
   pub ready : is_ready marks con ≡ true
   pub front : IsBehind con.name text rest
+
+-- Behind spaces stands the word of this node, which has no parts and is due with others behind it, and then the comma in
+-- front of the next one.
+pub record FrontPart (q : Kind) (others : List Kind) (text : List ℕ) (x : Item) (next : Kind) (further : List Kind) (after : List ℕ) : Type 0 where
+  pub parts : others ≡ next ∷ further
+  pub behind : List ℕ
+  pub read : (types : List DataType) → FrontRead types q (skip text) x [] behind
+  pub mark : before_mark 44 behind ≡ 44 ∷ after
 
 -- behind spaces stands the word of this node
 pub record NodeRead (types : List DataType) (q : Kind) (text : List ℕ) (x : Item) (fields : List Kind) (rest : List ℕ) : Type 0 where

@@ -45,6 +45,7 @@ impl<'a> Later<'a> {
     }
 
     // Makes a frame of what is left of the innermost node, so that another may become the innermost.
+    #[inline(always)]
     #[tactic(auto, using(crate::proofs::LaterSteps::frame_put, crate::proofs::LaterSteps::nothing))]
     fn shut(&mut self) -> Result<(), AllocError>
         ensures inner { OnOk result (self.new.inner.now ≡ []) }
@@ -68,6 +69,7 @@ impl<'a> Later<'a> {
     }
 
     /// The same behind parts of these kinds of one more node, whose other parts are read.
+    #[inline(always)]
     #[tactic(auto, using(crate::proofs::LaterSteps::one_closed, crate::proofs::LaterSteps::one_inner))]
     pub fn put_off(&mut self, kinds: &'a [Kind]) -> Result<(), AllocError>
         ensures { OnOk result (later_due self.new.inner.now self.new.closed self.new.frames.items self.new.others.now
@@ -86,6 +88,7 @@ impl<'a> Later<'a> {
     }
 
     /// The kind of the next part of the innermost node, and those of the parts behind it. None where it is complete.
+    #[inline(always)]
     #[tactic(auto, using(crate::proofs::LaterSteps::nothing))]
     pub fn next_inner(&mut self) -> Option<(Kind, &'a [Kind])>
         ensures { MatchOption result
@@ -105,6 +108,7 @@ impl<'a> Later<'a> {
 
     /// The kind of the next part of the innermost node that has one, and those of the parts behind it, where no node is
     /// complete. None where all nodes are complete.
+    #[inline(always)]
     pub fn next_part(&mut self) -> Option<(Kind, &'a [Kind])>
         requires inner { self.old.inner.now ≡ [] }
         requires closed { self.old.closed ≡ 0 }

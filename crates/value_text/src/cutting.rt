@@ -1,11 +1,12 @@
-ghost use Rattle.std.specs.Prelude.{◌≡◌, ◌≤◌, length, IsTrue, IfSome};
+ghost use Rattle.std.specs.Prelude.{◌≡◌, ◌+◌, ◌≤◌, length, IsTrue, IfSome};
 ghost use Rattle.value_text.specs.Grammar.{is_word_byte, Ends};
 ghost use Rattle.value_text.specs.Choosing.{common};
-ghost use Rattle.value_text.specs.Splitting.{skip, IsSplit, IsWordLength, IsBehind};
+ghost use Rattle.value_text.specs.Splitting.{skip, IsSplit, IsWordLength, IsSameFour, IsBehind};
 
-// The text without the spaces in front.
+// The text without the spaces in front, of which there are some.
+#[inline(never)]
 #[tactic(auto, using(crate::proofs::WordSteps::skip_here, crate::proofs::WordSteps::skip_done, crate::proofs::WordSteps::skip_end))]
-pub(crate) fn skip_spaces(text: &[u8]) -> &[u8]
+fn skip_some(text: &[u8]) -> &[u8]
     ensures { result.now ≡ skip text.now }
 {
     let mut at = 0;
@@ -16,6 +17,21 @@ pub(crate) fn skip_spaces(text: &[u8]) -> &[u8]
         at += 1;
     }
     &[]
+}
+
+// The text without the spaces in front. Most often there are none, and then nothing is called.
+#[inline(always)]
+#[tactic(auto, using(crate::proofs::WordSteps::skip_none, crate::proofs::WordSteps::skip_empty))]
+pub(crate) fn skip_spaces(text: &[u8]) -> &[u8]
+    ensures { result.now ≡ skip text.now }
+{
+    if text.is_empty() {
+        return text;
+    }
+    if text[0] != b' ' {
+        return text;
+    }
+    skip_some(text)
 }
 
 // Whether the byte is no space, parenthesis or comma.
@@ -79,14 +95,34 @@ pub(crate) fn ends(rest: &[u8]) -> bool
     true
 }
 
+// Whether four bytes from this place on are the same in both. All are compared, so that it becomes one comparison.
+fn same_four(name: &[u8], text: &[u8], at: usize) -> bool
+    requires name { at + 4 ≤ length name.now }
+    requires text { at + 4 ≤ length text.now }
+    ensures { IsTrue result → IsSameFour name.now text.now at }
+{
+    let first = name[at] == text[at];
+    let second = name[at + 1] == text[at + 1];
+    let third = name[at + 2] == text[at + 2];
+    let fourth = name[at + 3] == text[at + 3];
+    first & second & third & fourth
+}
+
 // Whether the text begins with the name, which is no longer.
-#[tactic(auto, using(crate::proofs::WordSteps::common_here))]
+#[tactic(auto, using(crate::proofs::WordSteps::common_here, crate::proofs::WordSteps::common_fours))]
 fn begins(name: &[u8], text: &[u8]) -> bool
     requires { length name.now ≤ length text.now }
     ensures { IsTrue result → length name.now ≤ common name.now text.now }
 {
+    let count = name.len();
     let mut at = 0;
-    'bytes: while at < name.len() {
+    'fours: while count - at >= 4 {
+        if !same_four(name, text, at) {
+            return false;
+        }
+        at += 4;
+    }
+    'bytes: while at < count {
         if name[at] != text[at] {
             return false;
         }

@@ -110,7 +110,7 @@ pub(crate) fn read_int(word: &[u8]) -> Result<i32, usize>
 
 // The int without a sign that stands in front, and the text behind it, where its word ends with its digits.
 #[tactic(auto, using(crate::proofs::Digits::front_digits))]
-pub(crate) fn front_int(text: &[u8]) -> Option<(i32, &[u8])>
+fn front_plus(text: &[u8]) -> Option<(i32, &[u8])>
     ensures { IfSome result (λ found. FrontInt text.now found.0 found.1.now) }
 {
     let (value, good) = read_digits(text, 2147483647);
@@ -122,5 +122,38 @@ pub(crate) fn front_int(text: &[u8]) -> Option<(i32, &[u8])>
         Some((value as i32, rest))
     } else {
         None
+    }
+}
+
+// The int that stands in front as these digits with `-` before them, and the text behind it, where its word ends with
+// its digits.
+#[inline(never)]
+fn front_minus(digits: &[u8]) -> Option<(i32, &[u8])>
+    ensures { IfSome result (λ found. FrontInt (45 ∷ digits.now) found.0 found.1.now) }
+{
+    let (value, good) = read_digits(digits, 2147483648);
+    if good == 0 {
+        return None;
+    }
+    let rest = &digits[good..];
+    if ends(rest) {
+        Some((negated(value), rest))
+    } else {
+        None
+    }
+}
+
+// The int that stands in front, and the text behind it, where its word ends with its digits.
+#[tactic(auto, using(crate::proofs::Digits::minus_tail))]
+pub(crate) fn front_int(text: &[u8]) -> Option<(i32, &[u8])>
+    ensures { IfSome result (λ found. FrontInt text.now found.0 found.1.now) }
+{
+    if text.is_empty() {
+        return None;
+    }
+    if text[0] == b'-' {
+        front_minus(&text[1..])
+    } else {
+        front_plus(text)
     }
 }

@@ -6,7 +6,7 @@ ghost use Rattle.value_text.specs.Grammar.{AreNamed, DistinctNames};
 ghost use Rattle.value_text.specs.Finite.{HasValue};
 ghost use Rattle.value_text.specs.Inhabited.{Knows, AreFirst};
 ghost use Rattle.value_text.specs.Choosing.{HasPlace, IsConNode, IsFlag, NoFlag};
-ghost use Rattle.value_text.specs.Splitting.{FrontRead, NodeRead, NodeRefused, NotFirst, before_mark};
+ghost use Rattle.value_text.specs.Splitting.{FrontPart, FrontRead, NodeRead, NodeRefused, NotFirst, before_mark};
 
 use super::cutting::{common, skip_spaces, split_word};
 use super::inhabited::Inhabited;
@@ -225,5 +225,43 @@ pub(crate) fn read_mark(text: &[u8], mark: u8) -> Result<&[u8], usize>
             }
         }
         [] => Err(0),
+    }
+}
+
+/// The node of an int that was read with the comma behind it, the kind of the next part, those of the parts behind that,
+/// and the text behind the comma.
+#[derive(Drop)]
+pub(crate) struct IntPart<'a, 'b> {
+    pub item: Item,
+    pub next: Kind,
+    pub others: &'a [Kind],
+    pub rest: &'b [u8],
+}
+
+/// Reads an int and the comma behind it, where a part of this kind is due with others behind it.
+pub(crate) fn front_part<'a, 'b>(
+    kind: Kind,
+    others: &'a [Kind],
+    text: &'b [u8],
+) -> Option<IntPart<'a, 'b>>
+    ensures { IfSome result (λ part. FrontPart kind others.now text.now part.item part.next part.others.now part.rest.now) }
+{
+    match kind {
+        Kind::Int => match others {
+            [] => None,
+            [next, others @ ..] => match front_int(skip_spaces(text)) {
+                None => None,
+                Some((number, behind)) => match read_mark(behind, b',') {
+                    Err(_) => None,
+                    Ok(rest) => Some(IntPart {
+                        item: Item::Int(number),
+                        next: *next,
+                        others,
+                        rest,
+                    }),
+                },
+            },
+        },
+        _ => None,
     }
 }

@@ -67,8 +67,8 @@ fn word(alloc: Global, letter: Letter, count: u32, bytes: &[u8]) -> Result<(Word
         [] => Err(Halt::Short),
         [first, others @ ..] if starts_name(letter, *first) => {
             let rest = tails(count - 1, others)?;
-            let text = Vec::from_slice(alloc, &bytes[..count as usize])?;
-            Ok((Word::new(text), rest))
+            let name = Word::new(alloc, &bytes[..count as usize])?;
+            Ok((name, rest))
         }
         [_, ..] => Err(Halt::Bad { left: bytes.len() }),
     }

@@ -6,15 +6,15 @@ use Rattle.value_text.proofs.reading.close.Goals as goal
 
 pub returns-in-Err-clause-reading : goal.returns-in-Err-clause-reading
 returns-in-Err-clause-reading c =
-    c.in-Err.ensures.reading (later_due c.closed.later.inner.now (c.closed.later.closed - 1) c.closed.later.frames.items c.closed.later.others.now)
-    (subst (λ d. Reading c.args.types.now (first_due c.args.kinds.now) c.args.text.now c.args.items.now d c.closed.after.now)
-    (less_closed c.closed.later.inner.now c.closed.later.closed c.closed.later.frames.items c.closed.later.others.now c.closed.invariant.inner c.closed-test.true) c.closed.invariant.reading)
+    c.in-Err.ensures.reading c.args.items.now.items (later_due c.args.later.now.inner.now (c.closed.closed - 1) c.args.later.now.frames.items c.args.later.now.others.now)
+    (subst (λ d. Reading c.args.types.now (first_due c.args.kinds.now) c.args.text.now c.args.items.now.items d c.closed.after.now)
+    (less_closed c.args.later.now.inner.now c.closed.closed c.args.later.now.frames.items c.args.later.now.others.now c.closed.invariant.inner c.closed-test.true) c.closed.invariant.reading)
 
 pub closed-preserved : goal.closed-preserved
 closed-preserved c = record {
-  reading = c.in-Ok.ensures.reading (later_due c.closed.later.inner.now (c.closed.later.closed - 1) c.closed.later.frames.items c.closed.later.others.now)
-      (subst (λ d. Reading c.args.types.now (first_due c.args.kinds.now) c.args.text.now c.args.items.now d c.closed.after.now)
-      (less_closed c.closed.later.inner.now c.closed.later.closed c.closed.later.frames.items c.closed.later.others.now c.closed.invariant.inner c.closed-test.true) c.closed.invariant.reading);
+  reading = c.in-Ok.ensures.reading c.args.items.now.items (later_due c.args.later.now.inner.now (c.closed.closed - 1) c.args.later.now.frames.items c.args.later.now.others.now)
+      (subst (λ d. Reading c.args.types.now (first_due c.args.kinds.now) c.args.text.now c.args.items.now.items d c.closed.after.now)
+      (less_closed c.args.later.now.inner.now c.closed.closed c.args.later.now.frames.items c.args.later.now.others.now c.closed.invariant.inner c.closed-test.true) c.closed.invariant.reading);
   inner = c.closed.invariant.inner;
   shorter = omega (arith, c.in-Ok.ensures.shorter, c.closed.invariant.shorter);
 }

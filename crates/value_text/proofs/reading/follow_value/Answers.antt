@@ -13,9 +13,9 @@ returns-in-Err-clause-reading c =
 
 pub go_on-requires-clause-reading : goal.go_on-requires-clause-reading
 go_on-requires-clause-reading c =
-    node_step c.args.types.now (first_due c.args.kinds.now) c.args.text.now c.args.items.now.items c.deref.result.now c.args.kind
+    node_step c.args.types.now (first_due c.args.kinds.now) c.args.text.now c.args.items.now.items _ c.args.kind
     (later_due c.args.later.now.inner.now c.args.later.now.closed c.args.later.now.frames.items c.args.later.now.others.now) _ c.args.rest.now c.in-Ok.node.rest.now c.in-Ok.node.item c.in-Ok.node.fields.now
-    c.requires.named c.requires.reading c.in-Ok.ensures (c.deref.ensures.value ∙ c.in-Ok-push.ensures.items) refl
+    c.requires.named c.requires.reading c.in-Ok.ensures c.in-Ok-push.ensures.items refl
 
 pub returns-clause-shorter : goal.returns-clause-shorter
 returns-clause-shorter c =

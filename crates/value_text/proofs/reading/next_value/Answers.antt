@@ -11,15 +11,15 @@ returns-in-Ok-clause-reading c =
     let kinds = c.args.later.now.others.now in
     let others = take (length kinds - 1) (drop 1 kinds) in
     let q = slice_index_or kinds 0 Int in
-    subst (λ d. Reading c.args.types.now (first_due c.args.kinds.now) c.args.text.now c.args.items.now (Value q ∷ d) c.in-Ok.after.now)
+    subst (λ d. Reading c.args.types.now (first_due c.args.kinds.now) c.args.text.now c.args.items.now.items (Value q ∷ d) c.in-Ok.after.now)
     (sym (no_frames c.args.later.now.inner.now c.args.later.now.closed c.args.later.now.frames.items others c.requires.inner c.requires.closed c.requires.frames))
-    (c.in-Ok.ensures.reading (Value q ∷ others_due others)
-    (subst (λ d. Reading c.args.types.now (first_due c.args.kinds.now) c.args.text.now c.args.items.now d c.args.rest.now)
+    (c.in-Ok.ensures.reading c.args.items.now.items (Value q ∷ others_due others)
+    (subst (λ d. Reading c.args.types.now (first_due c.args.kinds.now) c.args.text.now c.args.items.now.items d c.args.rest.now)
     (some_other kinds c.in-len1-up.len_at_least) c.requires.reading))
 
 pub returns-in-Err-clause-reading : goal.returns-in-Err-clause-reading
 returns-in-Err-clause-reading c =
     let kinds = c.args.later.now.others.now in
-    c.in-Err.ensures.reading (Value (slice_index_or kinds 0 Int) ∷ others_due (take (length kinds - 1) (drop 1 kinds)))
-    (subst (λ d. Reading c.args.types.now (first_due c.args.kinds.now) c.args.text.now c.args.items.now d c.args.rest.now)
+    c.in-Err.ensures.reading c.args.items.now.items (Value (slice_index_or kinds 0 Int) ∷ others_due (take (length kinds - 1) (drop 1 kinds)))
+    (subst (λ d. Reading c.args.types.now (first_due c.args.kinds.now) c.args.text.now c.args.items.now.items d c.args.rest.now)
     (some_other kinds c.in-len1-up.len_at_least) c.requires.reading)

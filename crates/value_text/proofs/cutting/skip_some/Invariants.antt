@@ -1,6 +1,6 @@
 use Rattle.std.proofs.Common.{◌≡◌, ◌-◌, drop, length}
 use Rattle.value_text.specs.Splitting.{skip}
-use Rattle.value_text.proofs.cutting.skip_spaces.Given as goal
+use Rattle.value_text.proofs.cutting.skip_some.Given as goal
 
 abbrev pub invariant-spaces : goal.invariant-spaces
 invariant-spaces l = skip (drop l.at l.text) ≡ skip l.text
