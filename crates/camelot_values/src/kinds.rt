@@ -26,6 +26,7 @@ impl Model for Word {
 impl Word {
     /// The name of these bytes; `AllocError` where memory runs out, which a name of at most 16 bytes doesn't take.
     pub fn new(alloc: Global, bytes: &[u8]) -> Result<Word, AllocError>
+        // The name has just these bytes.
         ensures word { IfOk result (λ word. word ≡ bytes.now) }
         // A short name is never refused.
         ensures short { length bytes.now ≤ 16 → IsOk result }

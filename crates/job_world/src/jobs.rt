@@ -108,8 +108,8 @@ impl Jobs {
         self.add_leased(licence, entry, args, fuel, needs, arena)
     }
 
-    /// Plans a run as [`Jobs::add`] does, of which the caller has the lease already, so that the arguments aren't walked
-    /// once more.
+    /// Plans a run as [`Jobs::add`] does, of which the caller has the lease already, so that the arguments aren't
+    /// walked once more.
     ///
     /// # Errors
     ///

@@ -136,18 +136,19 @@ impl Licence {
         (units_at(self, entry, args) / self.cert().unit() as u128) as u64
     }
 
-    /// The bound and the lease of a run, as [`Licence::bound`] and [`Licence::lease`] say them, by one walk over what the
-    /// arguments carry. It takes no memory.
+    /// The bound and the lease of a run, as [`Licence::bound`] and [`Licence::lease`] say them, by one walk over what
+    /// the arguments carry. It takes no memory.
     pub fn needs(&self, entry: u32, args: &[Flat]) -> Needs
         requires fits { FitsEntry self.now entry args.now }
         requires few { size_all (parts args.now) ≤ 65536 }
-        // It has the bound by the code and the certificate of the licence, and their lease.
+        // It has the bound by the code and the certificate of the licence.
         ensures bound { result.bound ≡ bound self.now.code self.now.cert entry args.now }
+        // It has the lease by both.
         ensures lease { result.lease ≡ lease self.now.code self.now.cert entry args.now }
         // The peak of every run is within the bound, whatever the fuel and the limit of waiting calls.
         ensures peak { (limit fuel : ℕ) → peak_of (run_of self.now.code limit entry fuel args.now) ≤ result.bound }
         // The cells of the arguments and the peak of every run fit into the lease together.
-        ensures suffices { (limit fuel : ℕ) → cells_among self.now.code.types args.now + peak_of (run_of self.now.code limit entry fuel args.now) ≤ result.lease }
+        ensures suffices { (most fuel : ℕ) → cells_among self.now.code.types args.now + peak_of (run_of self.now.code most entry fuel args.now) ≤ result.lease }
         // The bound is at most 2^48.
         ensures bound_range { result.bound ≤ 281474976710656 }
         // The lease is at most 2^48 + 65,536.

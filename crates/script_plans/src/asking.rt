@@ -1,4 +1,5 @@
-//! What a licence says of a call: the number of its entry, its arguments, its bound and its lease, or why it doesn't run.
+//! What a licence says of a call: the number of its entry, its arguments, its bound and its lease, or why it doesn't
+//! run.
 ghost use Rattle.std.specs.Prelude.{◌≡◌, ◌<◌, ◌≤◌, length, slice_get, Some, MatchResult, IfOk};
 ghost use Rattle.camelot_values.specs.Value.{parts};
 ghost use Rattle.camelot_values.specs.Counts.{size_all};

@@ -228,8 +228,8 @@ pub(crate) fn read_mark(text: &[u8], mark: u8) -> Result<&[u8], usize>
     }
 }
 
-/// The node of an int that was read with the comma behind it, the kind of the next part, those of the parts behind that,
-/// and the text behind the comma.
+/// The node of an int that was read with the comma behind it, the kind of the next part, those of the parts behind
+/// that, and the text behind the comma.
 #[derive(Drop)]
 pub(crate) struct IntPart<'a, 'b> {
     pub item: Item,

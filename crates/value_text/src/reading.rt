@@ -176,8 +176,8 @@ fn leave<'a>(
     }
 }
 
-// Reads an int that is due in front of other parts of its node, with the comma behind it, where both stand there as they
-// are printed, and gives the next part's kind, those of the parts behind it, and the text from there.
+// Reads an int that is due in front of other parts of its node, with the comma behind it, where both stand there as
+// they are printed, and gives the next part's kind, those of the parts behind it, and the text from there.
 #[inline(always)]
 fn pass_int<'a, 'b>(
     types: &Types,
