@@ -13,3 +13,4 @@ pub mod Joining
 pub mod Counted
 pub mod Fronts
 pub mod MadeRight
+pub mod Keys

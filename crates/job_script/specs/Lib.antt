@@ -13,3 +13,4 @@ pub mod Faults
 pub mod HeadLaws
 pub mod StateLaws
 pub mod TextLaws
+pub mod Known

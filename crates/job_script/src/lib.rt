@@ -5,6 +5,7 @@ mod bodies;
 mod cutting;
 mod entries;
 mod heads;
+mod known;
 pub mod laws;
 mod making;
 mod names;

@@ -5,8 +5,8 @@ ghost use Rattle.job_script.specs.Scripts.{is_letter};
 ghost use Rattle.job_script.specs.Reading.{is_word};
 ghost use Rattle.job_script.specs.Steps.{IsAdded, IsRefused};
 
+use super::known::KnownNames;
 use super::stop::LineStop;
-use camelot_names::Names;
 
 // Whether the byte is a lower letter.
 fn is_lower(byte: u8) -> bool
@@ -80,7 +80,7 @@ pub(crate) fn is_lower_name(word: &[u8]) -> bool
 /// Adds a name to fewer than the most, unless it stands.
 #[tactic(auto, using(crate::proofs::Naming::name_added, crate::proofs::Naming::name_stood))]
 pub(crate) fn add_name<'a>(
-    names: &mut Names<'a>,
+    names: &mut KnownNames<'a>,
     most: usize,
     name: &'a [u8],
 ) -> Result<(), LineStop>

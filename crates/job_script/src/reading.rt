@@ -16,11 +16,11 @@ use super::bodies::read_body;
 use super::cutting::next_line;
 use super::entries::{job_entry, program_entry};
 use super::heads::{Head, JobLine, read_head};
+use super::known::KnownNames;
 use super::names::add_name;
 use super::numbers::read_sized;
 use super::stop::LineStop;
 use super::types::{Entry, Script};
-use camelot_names::Names;
 use std::alloc::Global;
 use stops::Stop;
 use thiserror::Error;
@@ -101,8 +101,8 @@ pub(crate) struct Reader<'a> {
     arena: u32,
     workers: u32,
     items: Vec<Entry>,
-    programs: Names<'a>,
-    jobs: Names<'a>,
+    programs: KnownNames<'a>,
+    jobs: KnownNames<'a>,
     // What is left, and the number of its first line.
     rest: &'a [u8],
     number: u64,
@@ -127,8 +127,8 @@ impl<'a> Reader<'a> {
             arena,
             workers,
             items: Vec::new(alloc),
-            programs: Names::new(alloc),
-            jobs: Names::new(alloc),
+            programs: KnownNames::new(alloc),
+            jobs: KnownNames::new(alloc),
             rest,
             number: 3,
         })
