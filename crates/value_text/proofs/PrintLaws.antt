@@ -60,22 +60,14 @@ comma_due old rest new all left e z push h =
     let some : left ≡ suc (left - 1) = omega (arith, z) in
     last_first new rest (left - 1) push ∙ ap closing_due (sym (last_first old rest left e ∙ ap (λ n. n ∷ reverse rest) some)) ∙ h
 
-pub open_text : (due out new : List ℕ) (parts : ℕ) → (parts ≡ 0 → ⊥) → new ≡ out ++ 40 ∷ [] → new ≡ out ++ opening_text due parts
-open_text due out new parts h push = push ∙ ap (λ n. out ++ opening_text due n) (let some : suc (parts - 1) ≡ parts = omega (arith, h) in some)
-
-pub open_due : (due new : List ℕ) (parts : ℕ) → (parts ≡ 0 → ⊥) → new ≡ due ++ (parts - 1) ∷ [] → reverse new ≡ opening_due (reverse due) parts
-open_due due new parts h push = last_first new due (parts - 1) push ∙ ap (opening_due (reverse due)) (let some : suc (parts - 1) ≡ parts = omega (arith, h) in some)
-
-pub node_written : (names : ℕ → List ℕ) (xs : List Item) (i : ℕ) (x : Item) (due new out mid end all : List ℕ) (parts : ℕ) → i < length xs → x ≡ get_or xs i x
-    → out ++ nodes_text names (reverse due) (drop i xs) ≡ all → mid ≡ out ++ node_text names x → parts ≡ parts_of x → end ≡ mid ++ opening_text (reverse due) parts → reverse new ≡ opening_due (reverse due) parts
+pub node_written : (names : ℕ → List ℕ) (xs : List Item) (i : ℕ) (x : Item) (due new out end all : List ℕ) → i < length xs → x ≡ get_or xs i x
+    → out ++ nodes_text names (reverse due) (drop i xs) ≡ all → end ≡ out ++ node_text names x ++ opening_text (reverse due) (parts_of x) → reverse new ≡ opening_due (reverse due) (parts_of x)
     → end ++ nodes_text names (reverse new) (drop (i + 1) xs) ≡ all
-node_written names xs i x due new out mid end all parts h is e first p second next =
+node_written names xs i x due new out end all h is e first next =
     let rest = nodes_text names (reverse new) (drop (i + 1) xs) in
-    let here : reverse new ≡ opening_due (reverse due) (parts_of x) = next ∙ ap (opening_due (reverse due)) p in
-    let tail : rest ≡ nodes_text names (opening_due (reverse due) (parts_of x)) (drop (suc i) xs) = ap (λ n. nodes_text names (reverse new) (drop n xs)) (add-one i) ∙ ap (λ d. nodes_text names d (drop (suc i) xs)) here in
-    ap (λ l. l ++ rest) (second ∙ ap (λ l. l ++ opening_text (reverse due) parts) first) ∙ append_assoc (out ++ node_text names x) (opening_text (reverse due) parts) rest
-    ∙ append_assoc out (node_text names x) (opening_text (reverse due) parts ++ rest)
-    ∙ ap (λ n. out ++ (node_text names x ++ (opening_text (reverse due) n ++ rest))) p
+    let tail : rest ≡ nodes_text names (opening_due (reverse due) (parts_of x)) (drop (suc i) xs) = ap (λ n. nodes_text names (reverse new) (drop n xs)) (add-one i) ∙ ap (λ d. nodes_text names d (drop (suc i) xs)) next in
+    ap (λ l. l ++ rest) first ∙ append_assoc (out ++ node_text names x) (opening_text (reverse due) (parts_of x)) rest
+    ∙ append_assoc out (node_text names x) (opening_text (reverse due) (parts_of x) ++ rest)
     ∙ ap (λ l. out ++ (node_text names x ++ (opening_text (reverse due) (parts_of x) ++ l))) tail
     ∙ ap (λ ys. out ++ nodes_text names (reverse due) ys) (sym (drop-cons xs i x h ∙ ap (λ y. y ∷ drop (suc i) xs) (sym is))) ∙ e
 

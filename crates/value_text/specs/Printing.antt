@@ -1,7 +1,7 @@
 -- Private: words for functions of this crate.
 -- The text of a value node by node, over the numbers of parts that are still to come, those of the innermost
 -- constructor first.
-use Rattle.std.specs.Prelude.{ℕ, zero, suc, cond, List, [], ◌∷◌, ◌++◌, codes}
+use Rattle.std.specs.Prelude.{◌≡◌, ℕ, zero, suc, ◌+◌, ◌<◌, cond, List, [], ◌∷◌, ◌++◌, length, take, codes}
 use Rattle.std.specs.Fmt.{signed_decimal}
 use Rattle.camelot_values.specs.declared.value.Item.{Item}
 use Rattle.camelot_values.specs.declared.value.Item.TheVariants as item
@@ -42,3 +42,11 @@ parts_of x = 0
 abbrev pub nodes_text : (ℕ → List ℕ) → List ℕ → List Item → List ℕ
 nodes_text names due [] = []
 nodes_text names due (x ∷ xs) = node_text names x ++ (opening_text due (parts_of x) ++ nodes_text names (opening_due due (parts_of x)) xs)
+
+-- the array begins with the name and `(`, where the name has at most 15 bytes
+abbrev pub IsWord : List ℕ → List ℕ → Type 0
+IsWord name word = length name < 16 → take (length name + 1) word ≡ name ++ codes "("
+
+-- a constructor's number, with its name and the name's word
+abbrev pub IsKnown : (ℕ → List ℕ) → ℕ → List ℕ → List ℕ → Type 0
+IsKnown names con name word = (name ≡ names con) × IsWord name word

@@ -1,32 +1,29 @@
-ghost use Rattle.std.specs.Prelude.{◌≡◌, ◌++◌, ◌<◌, decimal, reverse, IfOk, OnOk};
+ghost use Rattle.std.specs.Prelude.{◌≡◌, [], ◌++◌, ◌<◌, codes, cond, decimal, reverse, IfOk, OnOk};
 ghost use Rattle.std.specs.Fmt.{signed_decimal};
 ghost use Rattle.camelot_values.specs.Kinds.{constructor_name};
 ghost use Rattle.value_text.specs.Text.{value_text};
-ghost use Rattle.value_text.specs.Printing.{node_text, closing_text, closing_due, opening_text, opening_due, parts_of};
+ghost use Rattle.value_text.specs.Printing.{IsWord, IsKnown, node_text, closing_text, closing_due, opening_text, opening_due, parts_of};
 
 use camelot_values::{Flat, Item, Types};
 use itoa::Buffer;
 use std::alloc::{AllocError, Global};
 
-/// Writes a number below 1,000 in decimal at the end, digit by digit. `AllocError` where memory runs out.
+/// Writes a number below 1,000 in decimal at the end, in one piece. `AllocError` where memory runs out.
 #[tactic(auto, using(crate::proofs::DigitSteps::one_digit, crate::proofs::DigitSteps::two_digits, crate::proofs::DigitSteps::three_digits))]
 pub fn push_small(out: &mut Vec<u8>, number: u32) -> Result<(), AllocError>
     requires { number < 1000 }
     ensures { OnOk result (out.new.items ≡ out.old.items ++ decimal number) }
 {
     if number < 10 {
-        out.push(b'0' + number as u8)?;
-        return Ok(());
+        return out.extend_from_slice(&[b'0' + number as u8]);
     }
+    let tens = number / 10;
+    let last = b'0' + (number % 10) as u8;
     if number < 100 {
-        out.push(b'0' + (number / 10) as u8)?;
-        out.push(b'0' + (number % 10) as u8)?;
-        return Ok(());
+        return out.extend_from_slice(&[b'0' + tens as u8, last]);
     }
-    out.push(b'0' + (number / 100) as u8)?;
-    out.push(b'0' + (number / 10 % 10) as u8)?;
-    out.push(b'0' + (number % 10) as u8)?;
-    Ok(())
+    let first = b'0' + (number / 100) as u8;
+    out.extend_from_slice(&[first, b'0' + (tens % 10) as u8, last])
 }
 
 // Writes an int in decimal.
@@ -36,7 +33,7 @@ fn push_long(out: &mut Vec<u8>, number: i32) -> Result<(), AllocError>
     out.extend_from_slice(Buffer::new().format(number).as_bytes())
 }
 
-// Writes an int in decimal, a small one digit by digit.
+// Writes an int in decimal, a small one in one piece.
 #[tactic(auto, using(crate::proofs::DigitSteps::plain_text))]
 fn push_int(out: &mut Vec<u8>, number: i32) -> Result<(), AllocError>
     ensures { OnOk result (out.new.items ≡ out.old.items ++ signed_decimal number) }
@@ -52,6 +49,17 @@ fn push_int(out: &mut Vec<u8>, number: i32) -> Result<(), AllocError>
     Ok(())
 }
 
+// Writes a truth value.
+fn push_flag(out: &mut Vec<u8>, flag: bool) -> Result<(), AllocError>
+    ensures { OnOk result (out.new.items ≡ out.old.items ++ cond flag (codes "true") (codes "false")) }
+{
+    if flag {
+        out.extend_from_slice(b"true")
+    } else {
+        out.extend_from_slice(b"false")
+    }
+}
+
 // The name of a constructor; that of one that isn't there is empty.
 fn name_of(types: &Types, con: u32) -> &[u8]
     ensures { result.now ≡ constructor_name types.now con }
@@ -62,39 +70,93 @@ fn name_of(types: &Types, con: u32) -> &[u8]
     }
 }
 
-// The constructor that was looked up last, with its name. The items of a list repeat one constructor.
+// The name with `(` behind it, then zeros; zeros alone where the name has more than 15 bytes.
+fn word_of(name: &[u8]) -> [u8; 16]
+    ensures { IsWord name.now result }
+{
+    let mut word = [0; 16];
+    let len = name.len();
+    if len < 16 {
+        word[..len].copy_from_slice(name);
+        word[len] = b'(';
+    }
+    word
+}
+
+// A constructor that was looked up, with its name and the name's word.
 #[derive(Clone, Copy)]
 struct Known<'a> {
     con: u32,
     name: &'a [u8],
+    word: [u8; 16],
 }
 
-// Writes the node's own word. Its constructor is looked up where it isn't the known one.
-fn push_node<'a>(
-    out: &mut Vec<u8>,
-    types: &'a Types,
-    known: &mut Known<'a>,
-    item: &Item,
-) -> Result<(), AllocError>
-    requires known { known.old.name.now ≡ constructor_name types.now known.old.con }
-    ensures known { known.new.name.now ≡ constructor_name types.now known.new.con }
-    ensures text { OnOk result (out.new.items ≡ out.old.items ++ node_text (constructor_name types.now) item.now) }
+// Looks a constructor up.
+fn known_of(types: &Types, con: u32) -> Known<'_>
+    ensures con { result.con ≡ con }
+    ensures known { IsKnown (constructor_name types.now) result.con result.name.now result.word }
 {
-    match *item {
-        Item::Int(number) => push_int(out, number),
-        Item::Flag(true) => out.extend_from_slice(b"true"),
-        Item::Flag(false) => out.extend_from_slice(b"false"),
-        Item::Dia => out.extend_from_slice(b"<>"),
-        Item::Con { con, parts: _ } => {
-            if con != known.con {
-                *known = Known {
-                    con,
-                    name: name_of(types, con),
-                };
-            }
-            out.extend_from_slice(known.name)
-        }
+    let name = name_of(types, con);
+    Known {
+        con,
+        name,
+        word: word_of(name),
     }
+}
+
+// Looks a constructor up in place of the known one.
+#[inline(never)]
+fn change<'a>(types: &'a Types, known: &mut Known<'a>, con: u32)
+    ensures con { known.new.con ≡ con }
+    ensures known { IsKnown (constructor_name types.now) known.new.con known.new.name.now known.new.word }
+{
+    *known = known_of(types, con);
+}
+
+// Makes a constructor the known one. It is looked up where it isn't.
+#[inline(always)]
+fn look_up<'a>(types: &'a Types, known: &mut Known<'a>, con: u32)
+    requires { IsKnown (constructor_name types.now) known.old.con known.old.name.now known.old.word }
+    ensures con { known.new.con ≡ con }
+    ensures known { IsKnown (constructor_name types.now) known.new.con known.new.name.now known.new.word }
+{
+    if con != known.con {
+        change(types, known, con);
+    }
+}
+
+// Writes a name of any length, and `(` behind it where it opens.
+#[inline(never)]
+fn push_long_name(out: &mut Vec<u8>, name: &[u8], opens: bool) -> Result<(), AllocError>
+    ensures { OnOk result (out.new.items ≡ out.old.items ++ name.now ++ cond opens (codes "(") []) }
+{
+    out.extend_from_slice(name)?;
+    if opens {
+        out.push(b'(')?;
+    }
+    Ok(())
+}
+
+// The same of the known constructor's name. A short one is the word's beginning: the whole word is written, since its
+// length is known when compiling, and then cut.
+#[inline(always)]
+fn push_known(out: &mut Vec<u8>, known: &Known, opens: bool) -> Result<(), AllocError>
+    requires { IsWord known.now.name.now known.now.word }
+    ensures { OnOk result (out.new.items ≡ out.old.items ++ known.now.name.now ++ cond opens (codes "(") []) }
+{
+    let len = known.name.len();
+    if len > 15 {
+        return push_long_name(out, known.name, opens);
+    }
+    let start = out.len();
+    let word = known.word;
+    out.extend_from_slice(&word)?;
+    if opens {
+        out.truncate(start + len + 1);
+    } else {
+        out.truncate(start + len);
+    }
+    Ok(())
 }
 
 // The number of the node's parts.
@@ -115,7 +177,7 @@ fn close(out: &mut Vec<u8>, due: &mut Vec<u8>) -> Result<(), AllocError>
 {
     'closed: while let Some(left) = due.pop() {
         if left > 0 {
-            due.push(left - 1)?;
+            due.push_reserved(left - 1);
             out.push(b',')?;
             return Ok(());
         }
@@ -124,18 +186,62 @@ fn close(out: &mut Vec<u8>, due: &mut Vec<u8>) -> Result<(), AllocError>
     Ok(())
 }
 
-// Writes what stands behind the node's own word.
-#[tactic(auto, using(crate::proofs::PrintLaws::open_text, crate::proofs::PrintLaws::open_due))]
-fn open(out: &mut Vec<u8>, due: &mut Vec<u8>, parts: u8) -> Result<(), AllocError>
-    ensures text { OnOk result (out.new.items ≡ out.old.items ++ opening_text (reverse due.old.items) parts) }
-    ensures due { OnOk result (reverse due.new.items ≡ opening_due (reverse due.old.items) parts) }
+// Writes a constructor's name, and `(` behind it where it opens.
+#[inline(always)]
+fn push_name<'a>(
+    out: &mut Vec<u8>,
+    types: &'a Types,
+    known: &mut Known<'a>,
+    con: u32,
+    opens: bool,
+) -> Result<(), AllocError>
+    requires { IsKnown (constructor_name types.now) known.old.con known.old.name.now known.old.word }
+    ensures known { IsKnown (constructor_name types.now) known.new.con known.new.name.now known.new.word }
+    ensures text { OnOk result (out.new.items ≡ out.old.items ++ constructor_name types.now con ++ cond opens (codes "(") []) }
 {
-    if parts == 0 {
-        close(out, due)
-    } else {
-        due.push(parts - 1)?;
-        out.push(b'(')?;
-        Ok(())
+    look_up(types, known, con);
+    push_known(out, known, opens)
+}
+
+// Writes the node's own word, and what stands behind it. Of the constructors with parts one is known, and one of the
+// others: the items of a list repeat the first, and the leaves of a tree the second.
+fn push_node<'a>(
+    out: &mut Vec<u8>,
+    due: &mut Vec<u8>,
+    types: &'a Types,
+    opening: &mut Known<'a>,
+    bare: &mut Known<'a>,
+    item: &Item,
+) -> Result<(), AllocError>
+    requires opening { IsKnown (constructor_name types.now) opening.old.con opening.old.name.now opening.old.word }
+    requires bare { IsKnown (constructor_name types.now) bare.old.con bare.old.name.now bare.old.word }
+    ensures opening { IsKnown (constructor_name types.now) opening.new.con opening.new.name.now opening.new.word }
+    ensures bare { IsKnown (constructor_name types.now) bare.new.con bare.new.name.now bare.new.word }
+    ensures text { OnOk result (out.new.items ≡ out.old.items ++ node_text (constructor_name types.now) item.now ++ opening_text (reverse due.old.items) (parts_of item.now)) }
+    ensures due { OnOk result (reverse due.new.items ≡ opening_due (reverse due.old.items) (parts_of item.now)) }
+{
+    match *item {
+        Item::Int(number) => {
+            push_int(out, number)?;
+            close(out, due)
+        }
+        Item::Flag(flag) => {
+            push_flag(out, flag)?;
+            close(out, due)
+        }
+        Item::Dia => {
+            out.extend_from_slice(b"<>")?;
+            close(out, due)
+        }
+        Item::Con { con, parts } => {
+            if parts == 0 {
+                push_name(out, types, bare, con, false)?;
+                return close(out, due);
+            }
+            push_name(out, types, opening, con, true)?;
+            due.push(parts - 1)?;
+            Ok(())
+        }
     }
 }
 
@@ -152,14 +258,11 @@ pub fn push_value(
 ) -> Result<(), AllocError>
     ensures { OnOk result (out.new.items ≡ out.old.items ++ value_text (constructor_name types.now) value.now) }
 {
-    let mut known = Known {
-        con: 0,
-        name: name_of(types, 0),
-    };
+    let mut opening = known_of(types, 0);
+    let mut bare = opening;
     room.clear();
     'items: for item in value.items() {
-        push_node(out, types, &mut known, item)?;
-        open(out, room, parts_of(item))?;
+        push_node(out, room, types, &mut opening, &mut bare, item)?;
     }
     Ok(())
 }
