@@ -1,5 +1,6 @@
 pub mod DigitSteps
 pub mod PrintLaws
+pub mod WordTexts
 pub mod Words
 pub mod Comings
 pub mod Steps
