@@ -1,6 +1,6 @@
 -- Private: words for functions of this crate.
 -- How the names of a script are kept: as a set of keys, each a number with the name itself.
-use Rattle.std.specs.Prelude.{◌≡◌, ℕ, ◌-◌, Bool, List, length, drop}
+use Rattle.std.specs.Prelude.{◌≡◌, ℕ, ◌-◌, ◌≤◌, nat_lt, ◌==◌, ◌&&◌, ◌||◌, Bool, false, List, length, take, drop, IsTrue}
 use Rattle.std.specs.Borrow.{Bor}
 use Rattle.std.specs.List.{list_any}
 use Rattle.std.specs.declared.cmp.Ordering.{Ordering}
@@ -28,3 +28,20 @@ has_key keys name = list_any (λ key. is_eq (against (number_of (back name)) nam
 -- these are the keys of each of these words, and no others
 abbrev pub AreKeys : List (ℕ × Bor (List ℕ)) → List (List ℕ) → Type 0
 AreKeys keys words = (name : List ℕ) → has_key keys name ≡ stands words name
+
+-- the first words, so many of them, are filed: these are their keys
+pub record AreFiled (keys : List (ℕ × Bor (List ℕ))) (words : List (List ℕ)) (filed : ℕ) : Type 0 where
+  pub are : AreKeys keys (take filed words)
+  pub within : filed ≤ length words
+
+-- a name of this size and number is past those up to here: it is longer, or as long with a greater number
+unfoldable pub is_past : ℕ → ℕ → ℕ → ℕ → Bool
+is_past size number longest greatest = nat_lt longest size || (size == longest && nat_lt greatest number)
+
+-- no word is past these
+abbrev pub AreUpTo : ℕ → ℕ → List (List ℕ) → Type 0
+AreUpTo longest greatest words = (word : List ℕ) → IsTrue (stands words word) → is_past (length word) (number_of (back word)) longest greatest ≡ false
+
+-- what is kept beside the words: the keys of the first ones, and a size and a number that no word is past
+abbrev pub AreKept : List (ℕ × Bor (List ℕ)) → List (List ℕ) → ℕ → ℕ → ℕ → Type 0
+AreKept keys words filed longest greatest = AreFiled keys words filed × AreUpTo longest greatest words

@@ -12,7 +12,6 @@ use Rattle.cell_machine.specs.State.{most_calls}
 use Rattle.cell_machine.specs.Plans.{IsPlan}
 use Rattle.cell_machine.specs.Loading.{last_cells}
 use Rattle.cell_machine.specs.Endings.{EndsWith}
-use Rattle.job_workers.specs.Served.{EndsAsMeant}
 use Rattle.job_workers.specs.Serving.{IsStackAt, IsServed}
 use Rattle.lease_desk.specs.Lease.{LeaseView, ClaimView, lease, claim_of}
 use Rattle.cell_span.specs.Range.{Range}
@@ -98,7 +97,7 @@ room_now ps job l p li now range_in room is has = subst (λ n. HasRoom n room) (
 
 pub meant_now : (ps : Planned) (job : ℕ) (l : LeaseView) (p : Plan) (li : Licensed) → RunIs ps job p li (length l.range.cells)
     → (args : List Value) (ending : Ending) → args ≡ p.args
-    → EndsWith (run_of li.code most_calls p.entry p.fuel args) ending → EndsAsMeant ps job ending
+    → EndsWith (run_of li.code most_calls p.entry p.fuel args) ending → EndsWith (job_run ps job) ending
 meant_now ps job l p li now args ending same ends = subst (λ o. EndsWith o ending) (ap (run_of li.code most_calls p.entry p.fuel) same ∙ sym now.run) ends
 
 pub served_now : (ps : Planned) (job : ℕ) (l : LeaseView) (p : Plan) (li : Licensed) → RunIs ps job p li (length l.range.cells)

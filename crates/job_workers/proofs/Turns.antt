@@ -11,7 +11,7 @@ use Rattle.lease_desk.specs.Journal.{DeskState, Move, move, leased, took_left, a
 use Rattle.lease_desk.specs.Progress.{IsSound}
 use Rattle.lease_desk.specs.Lease.{LeaseView}
 use Rattle.lease_desk.specs.Desk.{DeskView, Takes}
-use Rattle.job_world.specs.Plans.{Plan, Planned, leases_of}
+use Rattle.job_world.specs.Plans.{Plan, leases_of}
 use Rattle.job_workers.specs.Serving.{IsOnlyOut}
 
 -- ---- leases that are out

@@ -1,14 +1,8 @@
 -- Cited by contracts.
--- What comes of jobs that are served: for each job what its own plan comes to, and the cells that its run leaves.
+-- The cells that the runs of jobs leave that are served.
 use Rattle.std.specs.Prelude.{ℕ, List, slice_get, Option, Some, None}
 use Rattle.cell_span.specs.declared.cell.Cell.{Cell}
-use Rattle.cell_machine.specs.Endings.{EndsWith}
-use Rattle.cell_machine.specs.declared.machine.Ending.{Ending}
-use Rattle.job_world.specs.Plans.{Plan, Planned, job_run, job_cells}
-
--- a job's ending is the one that the meaning of its own plan's code says
-abbrev pub EndsAsMeant : Planned → (job : ℕ) → Ending → Type 0
-EndsAsMeant ps job ending = EndsWith (job_run ps job) ending
+use Rattle.job_world.specs.Plans.{Plan, Planned, job_cells}
 
 -- the cells that a job leaves, where it has a plan
 abbrev pub cells_for : Planned → (job : ℕ) → Option Plan → Option (List Cell)

@@ -4,7 +4,7 @@ use Rattle.std.specs.Prelude.{◌≡◌, ℕ, List, [], length, slice_get, slice
 use Rattle.licence.specs.Licensed.{Licensed}
 use Rattle.cell_machine.specs.Views.{IsStackFor}
 use Rattle.cell_machine.specs.declared.machine.Stack.{Stack}
-use Rattle.job_world.specs.Plans.{Planned, leases_of, job_cells}
+use Rattle.job_world.specs.Plans.{Planned, job_cells}
 use Rattle.lease_desk.specs.Journal.{leased}
 use Rattle.lease_desk.specs.Lease.{LeaseView}
 use Rattle.lease_desk.specs.Desk.{DeskView, Knows}

@@ -1,25 +1,24 @@
 ghost use Rattle.job_world.specs.Plans.{job_run, job_cells};
-ghost use Rattle.cell_machine.specs.EndingLaws.{EndsWith-prop};
-ghost use Rattle.job_workers.specs.Served.{EndsAsMeant};
 
-use cell_machine::Ending;
+use crate::kept::Kept;
 use job_world::JobName;
 use lease_desk::Filed;
 use std::marker::PhantomData;
 
-/// The ending of one of the jobs that are served. Its type keeps that the meaning of the job's own plan says this one.
+/// The ending of one of the jobs that are served, or what is kept of it. Its type keeps that the meaning of the job's
+/// own plan says this ending.
 #[derive(Drop)]
-pub struct Answer<N: JobName> {
+pub struct Answer<N: JobName, K: Kept> {
     /// The number of the job.
     pub job: u32,
-    /// How its run ended.
-    pub ending: Ending,
+    /// How its run ended, as far as it is kept.
+    pub ending: K,
     /// Which jobs are served.
     pub of: PhantomData<N>,
-    ghost meant: { EndsAsMeant N.planned job ending } by { EndsWith-prop (job_run N.planned job) ending },
+    ghost meant: { K.keeps (job_run N.planned job) ending } by { K.keeps_prop (job_run N.planned job) ending },
 }
 
-impl<N: JobName> Filed for Answer<N> {
+impl<N: JobName, K: Kept> Filed for Answer<N, K> {
     ghost job = { λ a. a.job };
 
     // the cells that the machine leaves that runs the job's plan

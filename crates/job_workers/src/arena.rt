@@ -10,8 +10,8 @@ ghost use Rattle.job_workers.specs.Served.{all_cells};
 
 use crate::answer::Answer;
 use crate::gate::Gate;
+use crate::kept::Kept;
 use crate::workers::{Home, serve_jobs};
-use cell_machine::Ending;
 use cell_span::Span;
 use job_world::{JobName, Jobs};
 use lease_desk::{Desk, DeskRefused, Event, Finished};
@@ -21,17 +21,17 @@ use std::sync::Wait;
 use std::thread::Threads;
 
 /// What comes of jobs that are served. It can't be dropped, as its span can't.
-pub struct ServedJobs {
+pub struct ServedJobs<K> {
     /// The whole arena, with the cells that the runs left.
     pub span: Span,
     /// All events of the desk, in order.
     pub journal: Vec<Event>,
-    /// The ending of each job, in the place of its number.
-    pub endings: Vec<Option<Ending>>,
+    /// The ending of each job, as far as it is kept, in the place of its number.
+    pub endings: Vec<Option<K>>,
 }
 
 // The ending of an answer that is there.
-fn ending_in<N: JobName>(payload: Option<Answer<N>>) -> Option<Ending>
+fn ending_in<N: JobName, K: Kept>(payload: Option<Answer<N, K>>) -> Option<K>
     ensures { result ≡ ending_in payload }
 {
     match payload {
@@ -41,10 +41,10 @@ fn ending_in<N: JobName>(payload: Option<Answer<N>>) -> Option<Ending>
 }
 
 // The endings of answers, without the name of the jobs.
-fn endings_in<N: JobName>(
+fn endings_in<N: JobName, K: Kept>(
     alloc: Global,
-    payloads: Vec<Option<Answer<N>>>,
-) -> Result<Vec<Option<Ending>>, AllocError>
+    payloads: Vec<Option<Answer<N, K>>>,
+) -> Result<Vec<Option<K>>, AllocError>
     ensures { IfOk result (λ endings. endings.items ≡ map ending_in payloads.items) }
 {
     let mut endings = Vec::with_capacity(alloc, payloads.len())?;
@@ -56,14 +56,14 @@ fn endings_in<N: JobName>(
 
 // Serves the jobs of the name on its desk, which is a new one. Nothing that it takes or hands out is of the name, so
 // that its caller may pick it.
-fn serve_named<N: JobName + Send + Sync, R: Threads + Wait + Sync, G: Gate + Sync>(
+fn serve_named<N: JobName + Send + Sync, K: Kept + Send, R: Threads + Wait + Sync, G: Gate + Sync>(
     rt: &R,
     alloc: Global,
     span: Span,
     jobs: &Jobs,
     workers: u32,
     gate: &G,
-) -> Result<ServedJobs, Home>
+) -> Result<ServedJobs<K>, Home>
     requires plans { jobs.now ≡ N.planned }
     requires arena { span.arena ≡ N.arena }
     requires named { N.sizes ≡ leases_of N.planned.plans }
@@ -72,7 +72,7 @@ fn serve_named<N: JobName + Send + Sync, R: Threads + Wait + Sync, G: Gate + Syn
     requires few { length jobs.now.plans ≤ 4096 }
     requires sizes { AreSizes span.arena.cells (leases_of jobs.now.plans) }
     ensures legal { IfOk result (λ served. IsLegal span.arena.cells (leases_of jobs.now.plans) served.journal.items) }
-    ensures ended { IfOk result (λ served. AllEnded jobs.now served.endings.items) }
+    ensures ended { IfOk result (λ served. AllEnded K.keeps jobs.now served.endings.items) }
     ensures count { IfOk result (λ served. length served.endings.items ≡ length jobs.now.plans) }
     ensures whole { IfOk result (λ served. IsWhole served.span) }
     ensures arena { IfOk result (λ served. served.span.arena ≡ span.arena) }
@@ -83,7 +83,7 @@ fn serve_named<N: JobName + Send + Sync, R: Threads + Wait + Sync, G: Gate + Syn
     let Ok(sizes) = jobs.sizes(alloc) else {
         return Err(Home { span });
     };
-    let desk = match Desk::<N, Answer<N>>::new(alloc, span, sizes) {
+    let desk = match Desk::<N, Answer<N, K>>::new(alloc, span, sizes) {
         Ok(desk) => desk,
         Err(DeskRefused { span }) => return Err(Home { span }),
     };
@@ -113,22 +113,22 @@ fn serve_named<N: JobName + Send + Sync, R: Threads + Wait + Sync, G: Gate + Syn
 /// # Errors
 ///
 /// [`Home`] where memory ran out. The whole arena comes home then.
-pub fn serve_planned<R: Threads + Wait + Sync, G: Gate + Sync>(
+pub fn serve_planned<K: Kept + Send, R: Threads + Wait + Sync, G: Gate + Sync>(
     rt: &R,
     alloc: Global,
     span: Span,
     jobs: &Jobs,
     workers: u32,
     gate: &G,
-) -> Result<ServedJobs, Home>
+) -> Result<ServedJobs<K>, Home>
     requires whole { IsWhole span }
     requires blanks { span.cells ≡ replicate span.arena.cells blank }
     requires few { length jobs.now.plans ≤ 4096 }
     requires sizes { AreSizes span.arena.cells (leases_of jobs.now.plans) }
     // The journal is legal, from the first event to the last.
     ensures legal { IfOk result (λ served. IsLegal span.arena.cells (leases_of jobs.now.plans) served.journal.items) }
-    // Each job has its ending, which is the one that the meaning of its own plan says.
-    ensures ended { IfOk result (λ served. AllEnded jobs.now served.endings.items) }
+    // Each job has its ending, as far as it is kept, which is the one that the meaning of its own plan says.
+    ensures ended { IfOk result (λ served. AllEnded K.keeps jobs.now served.endings.items) }
     // There are as many endings as jobs.
     ensures count { IfOk result (λ served. length served.endings.items ≡ length jobs.now.plans) }
     // The whole arena comes back, the one that was handed in.
@@ -143,5 +143,5 @@ pub fn serve_planned<R: Threads + Wait + Sync, G: Gate + Sync>(
     // The run that comes home is of that arena too.
     ensures home_arena { IfErr result (λ home. home.span.arena ≡ span.arena) }
 {
-    serve_named::<Brand, R, G>(rt, alloc, span, jobs, workers, gate)
+    serve_named::<Brand, K, R, G>(rt, alloc, span, jobs, workers, gate)
 }

@@ -5,6 +5,7 @@
 mod answer;
 mod arena;
 mod gate;
+mod kept;
 mod rest;
 mod serving;
 mod stacks;
@@ -13,4 +14,5 @@ mod workers;
 pub use answer::Answer;
 pub use arena::{ServedJobs, serve_planned};
 pub use gate::{Gate, OpenGate};
+pub use kept::Kept;
 pub use workers::{Home, serve_jobs};

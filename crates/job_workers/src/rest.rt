@@ -8,6 +8,7 @@ ghost use Rattle.job_workers.specs.Turns.{AskedBy, LeftBy};
 
 use crate::answer::Answer;
 use crate::gate::OpenGate;
+use crate::kept::Kept;
 use crate::serving::{Served, serve_lease};
 use crate::stacks::SpareStack;
 use job_world::{JobName, Jobs};
@@ -25,9 +26,9 @@ pub(crate) enum Turn<N: JobName> {
 
 // Runs the job of a lease, and gives the lease back with the job's answer. Where memory for the run is lacking, the
 // lease goes back without one. No lease is out then.
-fn run_and_give<N: JobName>(
+fn run_and_give<N: JobName, K: Kept>(
     alloc: Global,
-    desk: &mut Desk<N, Answer<N>>,
+    desk: &mut Desk<N, Answer<N, K>>,
     jobs: &Jobs,
     lease: Lease<N>,
     kept: Option<SpareStack<N>>,
@@ -58,9 +59,9 @@ fn run_and_give<N: JobName>(
 }
 
 // Asks for the next job; where it is given a lease, runs it and gives the lease back.
-fn serve_next<N: JobName>(
+fn serve_next<N: JobName, K: Kept>(
     alloc: Global,
-    desk: &mut Desk<N, Answer<N>>,
+    desk: &mut Desk<N, Answer<N, K>>,
     jobs: &Jobs,
     kept: Option<SpareStack<N>>,
 ) -> Turn<N>
@@ -91,7 +92,7 @@ fn serve_next<N: JobName>(
 }
 
 // Asks for every job that wasn't asked for yet.
-fn serve_asked<N: JobName>(alloc: Global, desk: &mut Desk<N, Answer<N>>, jobs: &Jobs)
+fn serve_asked<N: JobName, K: Kept>(alloc: Global, desk: &mut Desk<N, Answer<N, K>>, jobs: &Jobs)
     requires plans { jobs.now ≡ N.planned }
     requires sizes { N.sizes ≡ leases_of N.planned.plans }
     requires none_out { leased desk.old.state.leases ≡ [] }
@@ -108,9 +109,9 @@ fn serve_asked<N: JobName>(alloc: Global, desk: &mut Desk<N, Answer<N>>, jobs: &
 }
 
 // Takes the job that waits first, once no lease is out, runs it and gives its lease back.
-fn serve_next_left<N: JobName>(
+fn serve_next_left<N: JobName, K: Kept>(
     alloc: Global,
-    desk: &mut Desk<N, Answer<N>>,
+    desk: &mut Desk<N, Answer<N, K>>,
     jobs: &Jobs,
     kept: Option<SpareStack<N>>,
 ) -> Turn<N>
@@ -133,7 +134,7 @@ fn serve_next_left<N: JobName>(
 }
 
 // Serves the jobs that wait.
-fn serve_left<N: JobName>(alloc: Global, desk: &mut Desk<N, Answer<N>>, jobs: &Jobs)
+fn serve_left<N: JobName, K: Kept>(alloc: Global, desk: &mut Desk<N, Answer<N, K>>, jobs: &Jobs)
     requires plans { jobs.now ≡ N.planned }
     requires sizes { N.sizes ≡ leases_of N.planned.plans }
     requires none_out { leased desk.old.state.leases ≡ [] }
@@ -153,7 +154,11 @@ fn serve_left<N: JobName>(alloc: Global, desk: &mut Desk<N, Answer<N>>, jobs: &J
 
 /// Serves, alone, each job that wasn't asked for yet, and then those that wait. No lease is out before it, and none
 /// behind it; every job was asked for then, and none waits. A job for which memory is lacking has its lease withdrawn.
-pub(crate) fn serve_rest<N: JobName>(alloc: Global, desk: &mut Desk<N, Answer<N>>, jobs: &Jobs)
+pub(crate) fn serve_rest<N: JobName, K: Kept>(
+    alloc: Global,
+    desk: &mut Desk<N, Answer<N, K>>,
+    jobs: &Jobs,
+)
     requires plans { jobs.now ≡ N.planned }
     requires sizes { N.sizes ≡ leases_of N.planned.plans }
     requires none_out { leased desk.old.state.leases ≡ [] }

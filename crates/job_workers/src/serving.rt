@@ -13,9 +13,9 @@ ghost use Rattle.job_workers.specs.Serving.{IsServed};
 
 use crate::answer::Answer;
 use crate::gate::Gate;
+use crate::kept::Kept;
 use crate::stacks::{SpareStack, stack_for};
-use camelot_values::Flat;
-use cell_machine::{Ending, Ran, Room, Stack, run};
+use cell_machine::{Ran, Room, Stack, run};
 use cell_span::Span;
 use job_world::{JobName, Jobs, Plan};
 use lease_desk::Lease;
@@ -25,9 +25,9 @@ use std::marker::PhantomData;
 
 /// What the run of a lease hands back: the lease with the cells as the run left them, the answer, and the stack for the
 /// next run.
-pub(crate) struct Served<N: JobName> {
+pub(crate) struct Served<N: JobName, K: Kept> {
     pub(crate) lease: Lease<N>,
-    pub(crate) answer: Answer<N>,
+    pub(crate) answer: Answer<N, K>,
     pub(crate) kept: SpareStack<N>,
 }
 
@@ -45,31 +45,6 @@ fn run_plan(licence: &Licence, plan: &Plan, span: Span, stack: Stack, room: Room
     run(
         licence, plan.entry, &plan.args, plan.fuel, span, stack, room,
     )
-}
-
-// The same value, in just the memory that it needs; in the memory that it has where there is no more.
-fn compact_value(alloc: Global, value: Flat) -> Flat
-    ensures { result ≡ value }
-{
-    match value.copy(alloc) {
-        Ok(copy) => copy,
-        Err(_) => value,
-    }
-}
-
-// The same ending, its value in just the memory that it needs: a run has room for the largest value that its cells may
-// hold.
-fn compact(alloc: Global, ending: Ending) -> Ending
-    ensures { result ≡ ending }
-{
-    match ending {
-        Ending::Done { value, calls, peak } => Ending::Done {
-            value: compact_value(alloc, value),
-            calls,
-            peak,
-        },
-        stopped => stopped,
-    }
 }
 
 // A stack for a run, room for its value, and behind them the gate.
@@ -95,13 +70,13 @@ fn make_ready<N: JobName, G: Gate>(
 /// Runs the job of a lease in the lease's cells, which are as many as its plan says, once the gate lets it pass. It
 /// needs no desk. Where memory for a stack or for room runs out, or the gate refuses, the lease comes back as it was.
 /// Once the lease is opened nothing fails.
-pub(crate) fn serve_lease<N: JobName, G: Gate>(
+pub(crate) fn serve_lease<N: JobName, K: Kept, G: Gate>(
     alloc: Global,
     jobs: &Jobs,
     gate: &G,
     lease: Lease<N>,
     kept: Option<SpareStack<N>>,
-) -> Result<Served<N>, Lease<N>>
+) -> Result<Served<N, K>, Lease<N>>
     requires plans { jobs.now ≡ N.planned }
     requires sizes { N.sizes ≡ leases_of N.planned.plans }
     ensures { MatchResult result (λ served. IsServed jobs.now lease served.lease served.answer.job) (λ back. back ≡ lease) }
@@ -123,7 +98,7 @@ pub(crate) fn serve_lease<N: JobName, G: Gate>(
     } = ran;
     let answer = Answer {
         job,
-        ending: compact(alloc, ending),
+        ending: K::keep(alloc, ending),
         of: PhantomData,
     };
     let kept = SpareStack::new(plan.licence, stack);

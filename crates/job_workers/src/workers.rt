@@ -12,6 +12,7 @@ ghost use Rattle.job_workers.specs.Filings.{AllAnswered};
 
 use crate::answer::Answer;
 use crate::gate::Gate;
+use crate::kept::Kept;
 use crate::rest::serve_rest;
 use crate::serving::{Served, serve_lease};
 use crate::stacks::SpareStack;
@@ -30,14 +31,14 @@ pub struct Home {
 }
 
 // The desk behind its lock, and what wakes the workers that wait for a lease to come back.
-struct SharedDesk<N: JobName> {
-    desk: Mutex<Desk<N, Answer<N>>>,
+struct SharedDesk<N: JobName, K: Kept> {
+    desk: Mutex<Desk<N, Answer<N, K>>>,
     came_back: Condvar,
 }
 
 // Asks the desk for the next job, once it fits or no lease is out. A job that is asked for where it doesn't fit is left
 // for the end, when the caller serves such jobs one by one.
-fn ask<N: JobName, R: Wait>(rt: &R, shared: &SharedDesk<N>) -> Next<N> {
+fn ask<N: JobName, K: Kept, R: Wait>(rt: &R, shared: &SharedDesk<N, K>) -> Next<N> {
     let SharedDesk { desk, came_back } = shared;
     came_back
         .wait_while(rt, desk.lock(rt), |desk| {
@@ -47,11 +48,11 @@ fn ask<N: JobName, R: Wait>(rt: &R, shared: &SharedDesk<N>) -> Next<N> {
 }
 
 // Gives a lease back with its answer, once the desk knows it.
-fn give_back<N: JobName, R: Wait>(
+fn give_back<N: JobName, K: Kept, R: Wait>(
     rt: &R,
-    desk: &Mutex<Desk<N, Answer<N>>>,
+    desk: &Mutex<Desk<N, Answer<N, K>>>,
     lease: Lease<N>,
-    answer: Answer<N>,
+    answer: Answer<N, K>,
 )
     requires number { answer.job ≡ lease.job }
     requires cells { job_cells N.planned answer.job ≡ lease.range.cells }
@@ -67,7 +68,11 @@ fn give_back<N: JobName, R: Wait>(
 }
 
 // Gives a lease back without an answer, once the desk knows it.
-fn withdraw_back<N: JobName, R: Wait>(rt: &R, desk: &Mutex<Desk<N, Answer<N>>>, lease: Lease<N>) {
+fn withdraw_back<N: JobName, K: Kept, R: Wait>(
+    rt: &R,
+    desk: &Mutex<Desk<N, Answer<N, K>>>,
+    lease: Lease<N>,
+) {
     for _ in rt.forever() {
         let mut here = desk.lock(rt);
         if here.knows(&lease) {
@@ -80,10 +85,10 @@ fn withdraw_back<N: JobName, R: Wait>(rt: &R, desk: &Mutex<Desk<N, Answer<N>>>, 
 
 // Runs the job of a lease without the lock, and gives the lease back: with the job's answer, or without one where
 // memory for the run is lacking or the gate refuses. Those that wait for it are woken. The stack of the run is kept.
-fn serve_granted<N: JobName, R: Wait, G: Gate>(
+fn serve_granted<N: JobName, K: Kept, R: Wait, G: Gate>(
     rt: &R,
     alloc: Global,
-    shared: &SharedDesk<N>,
+    shared: &SharedDesk<N, K>,
     jobs: &Jobs,
     gate: &G,
     lease: Lease<N>,
@@ -113,10 +118,10 @@ fn serve_granted<N: JobName, R: Wait, G: Gate>(
 }
 
 // The turns of one worker: it asks for jobs and serves them, until every job was asked for.
-fn work<N: JobName, R: Wait, G: Gate>(
+fn work<N: JobName, K: Kept, R: Wait, G: Gate>(
     rt: &R,
     alloc: Global,
-    shared: &SharedDesk<N>,
+    shared: &SharedDesk<N, K>,
     jobs: &Jobs,
     gate: &G,
 )
@@ -141,7 +146,7 @@ fn work<N: JobName, R: Wait, G: Gate>(
 }
 
 // Goes on where no lease is out, and else waits for ever.
-fn settle<N: JobName, R: Wait>(rt: &R, desk: &Desk<N, Answer<N>>)
+fn settle<N: JobName, K: Kept, R: Wait>(rt: &R, desk: &Desk<N, Answer<N, K>>)
     ensures { leased desk.now.state.leases ≡ [] }
 {
     if desk.out() == 0 {
@@ -152,7 +157,7 @@ fn settle<N: JobName, R: Wait>(rt: &R, desk: &Desk<N, Answer<N>>)
 }
 
 // The whole arena of a desk with no lease out, whose journal and answers are let go.
-fn bring_home<N: JobName>(desk: Desk<N, Answer<N>>) -> Home
+fn bring_home<N: JobName, K: Kept>(desk: Desk<N, Answer<N, K>>) -> Home
     requires none_out { leased desk.state.leases ≡ [] }
     ensures whole { IsWhole result.span }
     ensures arena { result.span.arena ≡ N.arena }
@@ -178,19 +183,24 @@ fn bring_home<N: JobName>(desk: Desk<N, Answer<N>>) -> Home
 /// # Errors
 ///
 /// [`Home`] where memory ran out: for a worker, a stack, room, or at the gate. The whole arena comes home then.
-pub fn serve_jobs<N: JobName + Send + Sync, R: Threads + Wait + Sync, G: Gate + Sync>(
+pub fn serve_jobs<
+    N: JobName + Send + Sync,
+    K: Kept + Send,
+    R: Threads + Wait + Sync,
+    G: Gate + Sync,
+>(
     rt: &R,
     alloc: Global,
-    desk: Desk<N, Answer<N>>,
+    desk: Desk<N, Answer<N, K>>,
     jobs: &Jobs,
     workers: u32,
     gate: &G,
-) -> Result<Finished<Answer<N>>, Home>
+) -> Result<Finished<Answer<N, K>>, Home>
     requires plans { jobs.now ≡ N.planned }
     requires sizes { N.sizes ≡ leases_of N.planned.plans }
     // The journal is legal, from the first event to the last.
     ensures legal { IfOk result (λ f. IsLegal N.arena.cells (leases_of jobs.now.plans) f.journal.items) }
-    // Each job has its answer, which is the ending that the meaning of its own plan says.
+    // Each job has its answer, which is the ending that the meaning of its own plan says, as far as it is kept.
     ensures answered { IfOk result (λ f. AllAnswered jobs.now f.payloads.items) }
     // There is a place for each job.
     ensures count { IfOk result (λ f. length f.payloads.items ≡ length jobs.now.plans) }

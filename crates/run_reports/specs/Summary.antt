@@ -1,6 +1,6 @@
 -- Cited by contracts.
 -- The summary of a script in one line: how many of its jobs ended how, and the sums of their calls and peaks.
-use Rattle.std.specs.Prelude.{ℕ, ◌+◌, List, [], ◌∷◌, ◌++◌, length, codes, decimal}
+use Rattle.std.specs.Prelude.{ℕ, ◌+◌, List, [], ◌∷◌, ◌++◌, length, map, codes, decimal}
 use Rattle.camelot_values.specs.Value.{Value}
 use Rattle.camelot_values.specs.Outcome.{Outcome, Done, Fuel, Deep, Trap, Stuck}
 use Rattle.run_reports.specs.declared.summing.Tally.{Tally}
@@ -36,10 +36,14 @@ added t u = record {
   peaks = t.peaks + u.peaks;
 }
 
+-- all together
+abbrev pub sum : List Tally → Tally
+sum [] = none
+sum (t ∷ ts) = added t (sum ts)
+
 -- all lines together
 abbrev pub total : List JobLine → Tally
-total [] = none
-total (line ∷ lines) = added (tally_of line) (total lines)
+total lines = sum (map tally_of lines)
 
 -- ---- the line
 

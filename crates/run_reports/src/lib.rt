@@ -9,4 +9,4 @@ mod summing;
 pub use cause_texts::{Cause, cause_text};
 pub use reporting::report;
 pub use script_outcomes::{JobCause, JobLine, Outcome, ProgramLine};
-pub use summing::{Tally, summary};
+pub use summing::{Counted, Tally, count_run, summarize, summary};

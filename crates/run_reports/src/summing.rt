@@ -1,7 +1,8 @@
 //! The summary of a script in one line.
-ghost use Rattle.std.specs.Prelude.{◌≡◌, ◌++◌, ◌^◌, List, map, IfOk, OnOk};
+ghost use Rattle.std.specs.Prelude.{◌≡◌, ◌++◌, ◌^◌, [], List, Some, length, map, IfOk, OnOk};
 ghost use Rattle.licence.specs.Licensed.{Licensed};
-ghost use Rattle.run_reports.specs.Summary.{added, counts_text, sums_text, summary_text, tally_of, tally_of_run, tally_text, total};
+ghost use Rattle.run_reports.specs.Counts.{count_of, tally_of_count};
+ghost use Rattle.run_reports.specs.Summary.{added, counts_text, sum, sums_text, summary_text, tally_of, tally_text};
 ghost use Rattle.run_reports.specs.Summing.{IsUnder};
 ghost use Rattle.script_outcomes.specs.Told.{line_of, outcome_of, told_of};
 
@@ -40,47 +41,69 @@ const NONE: Tally = Tally {
     peaks: 0,
 };
 
-// What a run counts for.
-fn tally_run(ending: &Ending) -> Tally
-    ensures tally { result ≡ tally_of_run (outcome_of ending.now) }
-    ensures small { IsUnder (2 ^ 64) result }
+/// What a job counts for in a summary.
+#[derive(Clone, Copy, Debug, PartialEq, Eq)]
+pub enum Counted {
+    /// It came to a value, after so many functions were entered; `peak` is the greatest net number of cells taken.
+    Done { calls: u64, peak: u64 },
+    /// It stopped on fuel.
+    Fuel { peak: u64 },
+    /// It went too deep.
+    Deep { peak: u64 },
+    /// It was trapped.
+    Trap { peak: u64 },
+    /// It needs more cells than the arena has.
+    TooLarge,
+    /// It didn't run for another cause.
+    Refused,
+}
+
+/// What a run counts for that ended so.
+pub fn count_run(ending: &Ending) -> Counted
+    ensures { count_of (outcome_of ending.now) ≡ Some result }
 {
     match ending {
-        Ending::Done { calls, peak, .. } => Tally {
-            done: 1,
-            calls: u128::from(*calls),
-            peaks: u128::from(*peak),
-            ..NONE
+        Ending::Done { calls, peak, .. } => Counted::Done {
+            calls: *calls,
+            peak: *peak,
         },
-        Ending::Fuel { peak } => Tally {
-            fuel: 1,
-            peaks: u128::from(*peak),
-            ..NONE
-        },
-        Ending::Deep { peak } => Tally {
-            deep: 1,
-            peaks: u128::from(*peak),
-            ..NONE
-        },
-        Ending::Trap { peak } => Tally {
-            peaks: u128::from(*peak),
-            ..NONE
-        },
+        Ending::Fuel { peak } => Counted::Fuel { peak: *peak },
+        Ending::Deep { peak } => Counted::Deep { peak: *peak },
+        Ending::Trap { peak } => Counted::Trap { peak: *peak },
     }
 }
 
-// What a job's line counts for, whatever its licence is.
-fn tally_line(line: &JobLine) -> Tally
-    ensures tally { (licences : List Licensed) → result ≡ tally_of (line_of licences line.now) }
+// What is counted of a job.
+fn tally_job(job: &Counted) -> Tally
+    ensures tally { result ≡ tally_of_count job.now }
     ensures small { IsUnder (2 ^ 64) result }
 {
-    match line {
-        JobLine::Ended { ending, .. } => tally_run(ending),
-        JobLine::TooLarge { .. } => Tally {
+    match *job {
+        Counted::Done { calls, peak } => Tally {
+            done: 1,
+            calls: u128::from(calls),
+            peaks: u128::from(peak),
+            ..NONE
+        },
+        Counted::Fuel { peak } => Tally {
+            fuel: 1,
+            peaks: u128::from(peak),
+            ..NONE
+        },
+        Counted::Deep { peak } => Tally {
+            deep: 1,
+            peaks: u128::from(peak),
+            ..NONE
+        },
+        Counted::Trap { peak } => Tally {
+            peaks: u128::from(peak),
+            ..NONE
+        },
+        Counted::TooLarge => Tally {
             too_large: 1,
             ..NONE
         },
-        JobLine::Refused { .. } => Tally { refused: 1, ..NONE },
+        Counted::Refused => Tally { refused: 1, ..NONE },
     }
 }
 
@@ -101,14 +124,14 @@ fn add(one: Tally, more: Tally) -> Tally
     }
 }
 
-// All lines together.
+// All jobs together.
 #[tactic(auto, using(crate::proofs::Tallying::counted_none, crate::proofs::Tallying::one_behind, crate::proofs::Tallying::none_behind, crate::proofs::Tallying::still_small))]
-fn total(lines: &[JobLine]) -> Tally
-    ensures { (licences : List Licensed) → result ≡ total (map (line_of licences) lines.now) }
+fn total(jobs: &[Counted]) -> Tally
+    ensures { result ≡ sum (map tally_of_count jobs.now) }
 {
     let mut all = NONE;
-    'lines: for line in lines {
-        all = add(all, tally_line(line));
+    'jobs: for job in jobs {
+        all = add(all, tally_job(job));
     }
     all
 }
@@ -146,6 +169,40 @@ fn push_tally(out: &mut Vec<u8>, jobs: usize, tally: &Tally, free: u64) -> Resul
     out.extend_from_slice(b"\n")
 }
 
+/// The summary of what came of these jobs, in one line, as [`summary`] tells it of all jobs of a script. `AllocError`
+/// where memory runs out.
+pub fn summarize(alloc: Global, jobs: &[Counted], free: u64) -> Result<Vec<u8>, AllocError>
+    // It has the number of the jobs, and what is counted of all of them.
+    ensures { IfOk result (λ text. text.items ≡ tally_text (length jobs.now) (sum (map tally_of_count jobs.now)) free) }
+{
+    let tally = total(jobs);
+    let mut out = Vec::new(alloc);
+    push_tally(&mut out, jobs.len(), &tally, free)?;
+    Ok(out)
+}
+
+// What a job's line counts for, whatever its licence is.
+fn count_line(line: &JobLine) -> Counted
+    ensures { tally_of_count result ≡ tally_of (line_of [] line.now) }
+{
+    match line {
+        JobLine::Ended { ending, .. } => count_run(ending),
+        JobLine::TooLarge { .. } => Counted::TooLarge,
+        JobLine::Refused { .. } => Counted::Refused,
+    }
+}
+
+// What each line counts for.
+fn count_lines(alloc: Global, lines: &[JobLine]) -> Result<Vec<Counted>, AllocError>
+    ensures { IfOk result (λ counts. map tally_of_count counts.items ≡ map tally_of (map (line_of []) lines.now)) }
+{
+    let mut counts = Vec::with_capacity(alloc, lines.len())?;
+    'lines: for line in lines {
+        counts.push(count_line(line))?;
+    }
+    Ok(counts)
+}
+
 /// The summary of what came of a script, in one line: how many jobs it has, how many of them came to a value, stopped
 /// on fuel, went too deep, needed more cells than the arena has, and were refused; the sum of the calls of those that
 /// came to a value; the sum of the peaks of all that ran; and the free cells at the end. `AllocError` where memory runs
@@ -154,8 +211,7 @@ pub fn summary(alloc: Global, outcome: &Outcome) -> Result<Vec<u8>, AllocError>
     // Whichever licences the lines are told with.
     ensures { (licences : List Licensed) → IfOk result (λ text. text.items ≡ summary_text (told_of licences outcome.now)) }
 {
-    let tally = total(&outcome.jobs);
-    let mut out = Vec::new(alloc);
-    push_tally(&mut out, outcome.jobs.len(), &tally, outcome.free)?;
-    Ok(out)
+    let counts = count_lines(alloc, &outcome.jobs)?;
+    let text = summarize(alloc, &counts, outcome.free)?;
+    Ok(text)
 }

@@ -3,6 +3,11 @@ use Rattle.std.proofs.Common.{◌≡◌, ℕ, ◌<◌, ◌≤◌, List, length, 
 use Rattle.std.proofs.lemmas.Option.{slice_get-map}
 use Rattle.std.specs.List.{AllByRecursion}
 use Rattle.std.specs.Option.{option_map}
+use Rattle.camelot_values.specs.Value.{Value}
+use Rattle.camelot_values.specs.Outcome as plain
+use Rattle.camelot_values.specs.Outcome.{Outcome}
+use Rattle.cell_machine.specs.Endings.{EndsWith}
+use Rattle.cell_machine.specs.declared.machine.Ending.{Ending}
 use Rattle.cell_span.specs.declared.cell.Cell.{Cell}
 use Rattle.cell_span.specs.Range.{Range, IsWhole}
 use Rattle.job_script.specs.Scripts.{Entry, Script, IsFormed, IsScript}
@@ -20,9 +25,11 @@ use Rattle.job_workers.specs.Served.{all_cells, cells_for}
 use Rattle.lease_desk.specs.declared.event.Event.{Event}
 use Rattle.lease_desk.specs.Filing.{FiledCells, HoldsFiled}
 use Rattle.lease_desk.specs.Journal.{IsLegal}
+use Rattle.script_service.specs.declared.counting.Tallied.{Tallied}
 use Rattle.script_plans.specs.Lines.{AreProgramLines, ArePlanned, planned_cells, sizes_of, all_left}
 use Rattle.script_plans.specs.ScriptLaws.{numbers_below}
 use Rattle.script_service.specs.Service.{TellsMeaning, IsReportIn, IsSummary, report_of, summary_of}
+use Rattle.script_service.specs.Counting.{Counts}
 use Rattle.script_service.specs.Handed.{service_of, IsHanded, IsHandedFor, IsRefused}
 use Rattle.script_service.specs.Steps.{IsOf, serve_fault}
 use Rattle.script_service.specs.declared.service.ServedScript.{ServedScript}
@@ -54,11 +61,11 @@ cells_held ps lefts journal arena e h =
 same_legal : (arena : ℕ) (sizes leases : List ℕ) (journal : List Event) → leases ≡ sizes → IsLegal arena leases journal → IsLegal arena sizes journal
 same_legal arena sizes leases journal e h = subst (λ s. IsLegal arena s journal) e h
 
-pub handed : (s : ServedScript) → AreProgramLines (script_of s.script).items s.plans.programs.items
-    → ArePlanned (script_of s.script).arena (script_of s.script).items s.plans.jobs s.plans.plans.items s.plans.asked.items → length s.plans.jobs.plans ≤ 4096 → AllEnded s.plans.jobs s.endings.items
+pub handed : {K : Type 0} (keeps : Outcome Value → K → Type 0) → ((k : K) → keeps plain.Stuck k → ⊥) → (s : ServedScript K) → AreProgramLines (script_of s.script).items s.plans.programs.items
+    → ArePlanned (script_of s.script).arena (script_of s.script).items s.plans.jobs s.plans.plans.items s.plans.asked.items → length s.plans.jobs.plans ≤ 4096 → AllEnded keeps s.plans.jobs s.endings.items
     → IsLegal (script_of s.script).arena (leases_of s.plans.jobs.plans) s.journal.items → IsWhole s.arena → s.arena.arena.cells ≡ (script_of s.script).arena → HoldsFiled (all_cells s.plans.jobs) s.journal.items s.arena
-    → IsOf (script_of s.script) s
-handed s programs planned few ended legal whole size cells =
+    → IsOf keeps (script_of s.script) s
+handed keeps never s programs planned few ended legal whole size cells =
     let script = script_of s.script in
     let ps = s.plans.jobs in
     record {
@@ -70,7 +77,7 @@ handed s programs planned few ended legal whole size cells =
         comes = record {
           are_programs = programs;
           are_fates = planned.are;
-          meant = subst (AllByRecursion TellsMeaning) planned.lines (all_meant ps script.arena s.endings.items ended s.plans.plans.items (numbers_below s.plans.plans.items (length ps.plans) planned.numbers));
+          meant = subst (AllByRecursion TellsMeaning) planned.lines (all_meant keeps never ps script.arena s.endings.items ended s.plans.plans.items (numbers_below s.plans.plans.items (length ps.plans) planned.numbers));
           legal = same_legal script.arena (sizes_of script.arena planned.fates) (leases_of ps.plans) s.journal.items planned.leases legal;
           whole = whole;
           size = size;
@@ -97,7 +104,7 @@ abbrev pub OneScript : Type 0
 OneScript = (s t : Script) → IsFormed s → IsFormed t → script_text s ≡ script_text t → s ≡ t
 
 -- what is handed out for a script that was read, for an input that is its text
-pub handed_for : (input : List ℕ) (script : Script) (s : ServedScript) → OneScript → IsScriptText input script → IsOf script s → IsHandedFor input s
+pub handed_for : (input : List ℕ) (script : Script) (s : ServedScript Ending) → OneScript → IsScriptText input script → IsOf EndsWith script s → IsHandedFor input s
 handed_for input script s one text h = record {
   text = subst (IsScriptText input) (sym h.same) text;
   only = λ t is. one t script is.right.formed text.right.formed (is.is ∙ sym text.is) ∙ sym h.same;
@@ -113,16 +120,16 @@ refused input x y e h = subst (IsRefused input) (sym e) (by_stop x h)
 
 -- ---- the report
 
-pub is_report : (input output : List ℕ) (s : ServedScript) (arena : Range) (h : IsHandedFor input s)
-    → ((handed : IsHanded s) → output ≡ report_of (service_of s handed.planned.fates)) → arena ≡ s.arena
+pub is_report : (input output : List ℕ) (s : ServedScript Ending) (arena : Range) (h : IsHandedFor input s)
+    → ((handed : IsHanded EndsWith s) → output ≡ report_of (service_of s handed.planned.fates)) → arena ≡ s.arena
     → IsReportIn input output arena
 is_report input output s arena h each left =
     record { service = service_of s h.handed.planned.fates; served = record { text = h.text; only = h.only; comes = h.handed.comes }; is = each h.handed; left = left }
 
 -- ---- the summary
 
-pub is_summary : (jobs workers : ℕ) (script : Script) (output : List ℕ) (s : ServedScript) → script ≡ made_script jobs workers → (h : IsOf script s)
-    → ((handed : IsHanded s) → output ≡ summary_of (service_of s handed.planned.fates))
+pub is_summary : (jobs workers : ℕ) (script : Script) (output : List ℕ) (s : ServedScript Tallied) → script ≡ made_script jobs workers → (h : IsOf Counts script s)
+    → ((handed : IsHanded Counts s) → output ≡ summary_of (service_of s handed.planned.fates))
     → IsSummary jobs workers output
 is_summary jobs workers script output s made h each =
     record { service = service_of s h.handed.planned.fates; script = h.same ∙ made; comes = h.handed.comes; is = each h.handed }

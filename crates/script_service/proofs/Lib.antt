@@ -1,3 +1,4 @@
+pub mod RunCounts
 pub mod Filing
 pub mod SameReports
 pub mod Handing

@@ -3,3 +3,5 @@ pub mod Service
 pub mod Handed
 pub mod Steps
 pub mod Filed
+pub mod Counting
+pub mod CountingLaws

@@ -1,6 +1,7 @@
 //! Scripts served by workers: from the bytes of a script to what comes of it, and its report.
 #![tactic(auto)]
 
+mod counting;
 mod faults;
 pub mod laws;
 mod lines;
@@ -8,7 +9,8 @@ mod reporting;
 mod running;
 mod service;
 
+pub use counting::Tallied;
 pub use faults::fault_line;
-pub use job_workers::{Gate, OpenGate};
+pub use job_workers::{Gate, Kept, OpenGate};
 pub use reporting::{ReportedScript, report_served, summarize_served};
 pub use service::{ServeFault, ServedScript, drill, run_script, serve_script};

@@ -3,6 +3,7 @@ ghost use Rattle.std.specs.Prelude.{◌≡◌, List, length, IfOk};
 ghost use Rattle.std.specs.List.{range_with_len};
 ghost use Rattle.job_script.specs.Scripts.{Script as PlainScript};
 ghost use Rattle.job_script.specs.Words.{script_of};
+ghost use Rattle.cell_machine.specs.Endings.{EndsWith};
 ghost use Rattle.job_workers.specs.Ended.{AllEnded};
 ghost use Rattle.lease_desk.specs.declared.event.Event.{Event as PlainEvent};
 ghost use Rattle.script_outcomes.specs.declared.outcome.ProgramLine.{ProgramLine as PlainLine};
@@ -10,15 +11,17 @@ ghost use Rattle.run_reports.specs.Report.{report_text};
 ghost use Rattle.run_reports.specs.Summary.{summary_text};
 ghost use Rattle.script_plans.specs.Lines.{ArePlanned, run_numbers};
 ghost use Rattle.script_service.specs.Service.{report_of, summary_of, told_of};
+ghost use Rattle.script_service.specs.Counting.{Counts};
 ghost use Rattle.script_service.specs.Handed.{IsHanded, service_of};
 
-use crate::lines::job_lines;
+use crate::counting::Tallied;
+use crate::lines::{job_counts, job_lines};
 use crate::service::ServedScript;
 use cell_machine::Ending;
 use cell_span::Span;
 use job_script::Script;
 use lease_desk::Event;
-use run_reports::{Outcome, report, summary};
+use run_reports::{Outcome, report, summarize};
 use script_plans::Plans;
 use std::alloc::{AllocError, Global};
 
@@ -40,7 +43,7 @@ fn report_plans(
     endings: Vec<Option<Ending>>,
 ) -> Result<Vec<u8>, AllocError>
     requires numbers { run_numbers plans.plans.items ≡ range_with_len 0 (length plans.jobs.plans) }
-    requires ended { AllEnded plans.jobs endings.items }
+    requires ended { AllEnded EndsWith plans.jobs endings.items }
     ensures { (planned : ArePlanned (script_of script.now).arena (script_of script.now).items plans.jobs plans.plans.items plans.asked.items)
         → IfOk result (λ text. text.items ≡ report_text (script_of script.now).items
         (told_of (script_of script.now) plans.programs.items planned.fates journal.items)) }
@@ -60,10 +63,13 @@ fn report_plans(
 
 /// The report of a script that was served. The arena is handed on. `AllocError` where memory runs out: the arena is
 /// ended then.
-pub fn report_served(alloc: Global, served: ServedScript) -> Result<ReportedScript, AllocError>
-    requires { IsHanded served }
+pub fn report_served(
+    alloc: Global,
+    served: ServedScript<Ending>,
+) -> Result<ReportedScript, AllocError>
+    requires { IsHanded EndsWith served }
     // It is the report of what comes of the script, by the fates of its jobs.
-    ensures text { (handed : IsHanded served) → IfOk result (λ r. r.text.items ≡ report_of (service_of served handed.planned.fates)) }
+    ensures text { (handed : IsHanded EndsWith served) → IfOk result (λ r. r.text.items ≡ report_of (service_of served handed.planned.fates)) }
     // The arena is the one that was left by serving.
     ensures arena { IfOk result (λ r. r.arena ≡ served.arena) }
 {
@@ -83,39 +89,32 @@ pub fn report_served(alloc: Global, served: ServedScript) -> Result<ReportedScri
     }
 }
 
-// The summary of a script, from its plans and the endings of its runs.
+// The summary of a script, from its plans and what its runs count for.
 #[tactic(auto, using(crate::proofs::Filing::all_own))]
 fn summarize_plans(
     alloc: Global,
     arena: u32,
     plans: Plans,
-    endings: Vec<Option<Ending>>,
+    endings: Vec<Option<Tallied>>,
 ) -> Result<Vec<u8>, AllocError>
     requires numbers { run_numbers plans.plans.items ≡ range_with_len 0 (length plans.jobs.plans) }
-    requires ended { AllEnded plans.jobs endings.items }
+    requires ended { AllEnded Counts plans.jobs endings.items }
     ensures { (script : PlainScript) (planned : ArePlanned script.arena script.items plans.jobs plans.plans.items
         plans.asked.items) (programs : List PlainLine) (journal : List PlainEvent)
         → arena ≡ script.arena → IfOk result (λ text. text.items ≡ summary_text (told_of script programs planned.fates journal)) }
 {
     let mut endings = endings;
-    let lines = job_lines(alloc, &plans.jobs, arena, &plans.plans, &mut endings)?;
-    let outcome = Outcome {
-        programs: plans.programs,
-        jobs: lines,
-        asked: plans.asked,
-        journal: Vec::new(alloc),
-        free: arena as u64,
-    };
-    let text = summary(alloc, &outcome)?;
+    let counts = job_counts(alloc, &plans.jobs, arena, &plans.plans, &mut endings)?;
+    let text = summarize(alloc, &counts, arena as u64)?;
     Ok(text)
 }
 
 /// The summary of a script that was served, in one line. The arena is ended. `AllocError` where memory runs out: the
 /// arena is ended then too.
-pub fn summarize_served(alloc: Global, served: ServedScript) -> Result<Vec<u8>, AllocError>
-    requires { IsHanded served }
+pub fn summarize_served(alloc: Global, served: ServedScript<Tallied>) -> Result<Vec<u8>, AllocError>
+    requires { IsHanded Counts served }
     // It is the summary of what comes of the script, by the fates of its jobs.
-    ensures { (handed : IsHanded served) → IfOk result (λ text. text.items ≡ summary_of (service_of served handed.planned.fates)) }
+    ensures { (handed : IsHanded Counts served) → IfOk result (λ text. text.items ≡ summary_of (service_of served handed.planned.fates)) }
 {
     let ServedScript {
         script,

@@ -7,13 +7,14 @@ ghost use Rattle.script_service.specs.Service.{IsReportIn, IsSummary};
 ghost use Rattle.script_service.specs.Handed.{IsHandedFor, IsRefused};
 ghost use Rattle.script_service.specs.Steps.{IsOf, serve_fault};
 
+use crate::counting::Tallied;
 use crate::reporting::{ReportedScript, report_served, summarize_served};
 use crate::running::run_jobs;
 use cell_machine::Ending;
 use cell_span::Span;
 use job_script::laws::{law_of_lengths, law_of_scripts};
 use job_script::{Script, ScriptFault, make_script, read_script};
-use job_workers::{Gate, ServedJobs};
+use job_workers::{Gate, Kept, ServedJobs};
 use lease_desk::Event;
 use script_plans::laws::law_of_short;
 use script_plans::{Plans, plan_script};
@@ -23,16 +24,16 @@ use std::thread::Threads;
 use stops::Stop;
 use thiserror::Error;
 
-/// What serving a script hands out. It can't be dropped, as its arena can't.
-pub struct ServedScript {
+/// What serving a script hands out, with as much of each ending as is kept. It can't be dropped, as its arena can't.
+pub struct ServedScript<K> {
     /// The script, as it was read.
     pub script: Script,
     /// One line for each program, and what was planned of the jobs.
     pub plans: Plans,
     /// What the desk did.
     pub journal: Vec<Event>,
-    /// The ending of each run that was planned, in the place of its number.
-    pub endings: Vec<Option<Ending>>,
+    /// The ending of each run that was planned, as far as it is kept, in the place of its number.
+    pub endings: Vec<Option<K>>,
     /// The whole arena, with the cells that the runs left.
     pub arena: Span,
 }
@@ -60,22 +61,22 @@ fn serve_fault(stop: Stop<ScriptFault>) -> ServeFault
 
 // Serves a script that was read.
 #[tactic(auto, using(crate::proofs::Handing::some_cells, crate::proofs::Handing::few_cells))]
-fn serve_read<R: Threads + Wait + Sync, G: Gate + Sync>(
+fn serve_read<K: Kept + Send, R: Threads + Wait + Sync, G: Gate + Sync>(
     rt: &R,
     alloc: Global,
     script: Script,
     gate: &G,
-) -> Result<ServedScript, AllocError>
+) -> Result<ServedScript<K>, AllocError>
     requires script { IsScript (script_of script) }
     requires short { AllByRecursion (EntryIsShort 4294967295) (script_of script).items }
-    ensures { IfOk result (IsOf (script_of script)) }
+    ensures { IfOk result (IsOf K.keeps (script_of script)) }
 {
     let plans = plan_script(rt, alloc, &script)?;
     let ServedJobs {
         span,
         journal,
         endings,
-    } = run_jobs(rt, alloc, script.arena, &plans.jobs, script.workers, gate)?;
+    } = run_jobs::<K, R, G>(rt, alloc, script.arena, &plans.jobs, script.workers, gate)?;
     Ok(ServedScript {
         script,
         plans,
@@ -99,7 +100,7 @@ pub fn run_script<R: Threads + Wait + Sync, G: Gate + Sync>(
     alloc: Global,
     input: Vec<u8>,
     gate: &G,
-) -> Result<ServedScript, ServeFault>
+) -> Result<ServedScript<Ending>, ServeFault>
     requires { length input.items < 4294967296 }
     // What is handed out is what comes of the script that the input is the text of; an input is refused for its cause.
     ensures { MatchResult result (IsHandedFor input.items) (IsRefused input.items) }
@@ -110,7 +111,7 @@ pub fn run_script<R: Threads + Wait + Sync, G: Gate + Sync>(
     match read_script(alloc, &input) {
         Ok(script) => {
             drop(input);
-            match serve_read(rt, alloc, script, gate) {
+            match serve_read::<Ending, R, G>(rt, alloc, script, gate) {
                 Ok(served) => Ok(served),
                 Err(_) => Err(ServeFault::Memory),
             }
@@ -150,8 +151,8 @@ pub fn serve_script<R: Threads + Wait + Sync, G: Gate + Sync>(
 }
 
 /// Serves the drill's script with so many jobs, from 1 to 4,096, by so many workers, from 1 to 16, each of which passes
-/// the gate, and tells its summary in one line. It may wait for the lock and the desk. `AllocError` where memory runs
-/// out. The arena is ended.
+/// the gate, and tells its summary in one line. No value is kept for longer than its run. It may wait for the lock and
+/// the desk. `AllocError` where memory runs out. The arena is ended.
 pub fn drill<R: Threads + Wait + Sync, G: Gate + Sync>(
     rt: &R,
     alloc: Global,
@@ -165,7 +166,7 @@ pub fn drill<R: Threads + Wait + Sync, G: Gate + Sync>(
     ensures { IfOk result (λ text. IsSummary jobs workers text.items) }
 {
     let script = make_script(alloc, jobs, workers)?;
-    let served = serve_read(rt, alloc, script, gate)?;
+    let served = serve_read::<Tallied, R, G>(rt, alloc, script, gate)?;
     let text = summarize_served(alloc, served)?;
     Ok(text)
 }

@@ -8,6 +8,7 @@ use crate::arenas::new_arena;
 use crate::desks::fit;
 use crate::licences::gates::{Holds, Refuses};
 use crate::licences::jobs::{arguments_of, licence_of};
+use cell_machine::Ending;
 use job_workers::{Gate, Home, OpenGate, ServedJobs, serve_planned};
 use job_world::Jobs;
 use licence::Licence;
@@ -72,7 +73,7 @@ fn print_served<R: Threads + Wait + Sync, G: Gate + Sync>(
 {
     let alloc = rt.alloc();
     let span = new_arena(alloc, call.arena)?;
-    match serve_planned(threads, alloc, span, jobs, call.workers, gate) {
+    match serve_planned::<Ending, R, G>(threads, alloc, span, jobs, call.workers, gate) {
         Ok(
             ServedJobs {
                 span,

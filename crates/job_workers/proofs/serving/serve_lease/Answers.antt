@@ -1,7 +1,6 @@
-use Rattle.std.proofs.Common.{length, refl, sym, subst}
-use Rattle.job_world.specs.Plans.{Planned}
+use Rattle.std.proofs.Common.{length, refl, subst}
+use Rattle.job_world.specs.Plans.{Planned, job_run}
 use Rattle.job_world.specs.Words.{plan_of}
-use Rattle.job_workers.specs.Served.{EndsAsMeant}
 use Rattle.job_workers.proofs.Planned.{due_now, lease_now, plan_now, room_now, meant_now, served_now, stack_now, licence_now}
 use Rattle.job_workers.proofs.serving.serve_lease.Goals as goal
 
@@ -17,7 +16,7 @@ run_plan-ran-requires-clause-room g c = room_now c.args.jobs.now c.job-job.resul
 
 pub invariant_of-answer : goal.invariant_of-answer
 invariant_of-answer g c = record {
-  meant = subst (λ (ps : Planned). EndsAsMeant ps c.job-job.result c.compact.result) c.requires.plans (subst (EndsAsMeant c.args.jobs.now c.job-job.result) (sym c.compact.ensures)
+  meant = subst (λ (ps : Planned). g.K.Kept.keeps (job_run ps c.job-job.result) c.keep.result) c.requires.plans (c.keep.ensures (job_run c.args.jobs.now c.job-job.result)
       (meant_now c.args.jobs.now c.job-job.result c.args.lease (plan_of c.plan-plan.result.now) c.licence-licence.result.now
       (lease_now c.args.jobs.now c.job-job.result c.args.lease (plan_of c.plan-plan.result.now) c.licence-licence.result.now c.kept.ensures c.job-job.ensures (due_now c.args.jobs.now g.N.JobName.planned g.N.DeskName.sizes c.args.lease.job (length c.args.lease.range.cells) c.requires.plans c.requires.sizes c.kept-2.ensures.size).1 c.plan-plan.ensures.is c.licence-licence.ensures.is)
       c.plan-plan.result.now.args.items c.run_plan-ran.result.ending refl c.run_plan-ran.ensures.ending));

@@ -2,10 +2,10 @@ use Rattle.std.proofs.Common.{arith}
 use Rattle.run_reports.proofs.Tallying.{one_behind, none_behind}
 use Rattle.run_reports.proofs.summing.total.Goals as goal
 
-pub lines-preserved : goal.lines-preserved
-lines-preserved c =
-    one_behind c.args.lines.now c.lines.line-index c.line-item.result c.lines.all c.tally_line.result c.add-all.result (omega (arith, c.lines-test.true)) c.line-item.is c.lines.invariant c.tally_line.ensures.tally c.tally_line.ensures.small
+pub jobs-preserved : goal.jobs-preserved
+jobs-preserved c =
+    one_behind c.args.jobs.now c.jobs.job-index _ c.jobs.all c.tally_job.result c.add-all.result (omega (arith, c.jobs-test.true)) c.jobs.invariant c.tally_job.ensures.tally c.tally_job.ensures.small
     c.add-all.ensures
 
 pub returns : goal.returns
-returns c = none_behind c.args.lines.now c.lines.line-index c.lines.all (omega (arith, c.lines-test.false)) c.lines.invariant
+returns c = none_behind c.args.jobs.now c.jobs.job-index c.jobs.all (omega (arith, c.jobs-test.false)) c.jobs.invariant
