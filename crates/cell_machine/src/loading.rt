@@ -1,11 +1,13 @@
-ghost use Rattle.std.specs.Prelude.{◌≡◌, ℕ, ◌+◌, ◌-◌, ◌==◌, ◌≤◌, ◌<◌, ◌++◌, ◌∷◌, if◌then◌else◌, List, length, take, drop, reverse, vec_len, vec_capacity};
+ghost use Rattle.std.specs.Prelude.{◌≡◌, ℕ, ◌+◌, ◌-◌, ◌==◌, ◌≤◌, ◌<◌, ◌++◌, ◌∷◌, [], if◌then◌else◌, true, ℤ, List, length, take, drop, reverse, IsSome, IfSome, vec_len, vec_capacity};
+ghost use Rattle.camelot_values.specs.Kinds.{constructor};
 ghost use Rattle.camelot_values.specs.declared.value.Item.{Item};
+ghost use Rattle.camelot_values.specs.declared.value.Item.TheVariants.{Int, Con};
 ghost use Rattle.cell_span.specs.declared.cell.Cell.{Cell};
-ghost use Rattle.cell_machine.specs.Cells.{no_cell, inline_base, padded};
+ghost use Rattle.cell_machine.specs.Cells.{no_cell, inline_base, padded, int_word, built_cell, is_boxed};
 ghost use Rattle.cell_machine.specs.Loading.{free_from};
 ghost use Rattle.cell_machine.specs.Homes.{HomesAre};
 ghost use Rattle.cell_machine.specs.Nodes.{Laying, lay, lay_all, takes_cell, cell_count};
-ghost use Rattle.cell_machine.specs.Laid.{IsLaid, SameRange, ItemFits, ItemsFit, words_with, word_count, all_nodes, ValuesFit, node_total};
+ghost use Rattle.cell_machine.specs.Laid.{IsLaid, SameRange, ItemFits, ItemsFit, IsTwo, IsBoxed, words_with, word_count, all_nodes, ValuesFit, node_total};
 
 use crate::homes::Homes;
 use crate::state::INLINE_BASE;
@@ -150,7 +152,125 @@ fn take_words(words: &mut Vec<u32>, count: u8) -> [u32; 4]
     }
 }
 
-// Lays the nodes of a value in front of others, the last one first. Answers the offset of what was laid so far.
+// The number of a constructor with two parts, and the word of the int behind it, where the node at this place is that
+// int.
+#[inline(always)]
+fn two_before(items: &[Item], left: usize) -> Option<(u32, u32)>
+    requires { left < length items.now }
+    ensures { IfSome result (λ two. IsTwo items.now left two.0 two.1) }
+{
+    if left == 0 {
+        return None;
+    }
+    if let Item::Int(number) = items[left] {
+        if let Item::Con { con, parts } = items[left - 1] {
+            if parts == 2 {
+                return Some((con, number.cast_unsigned()));
+            }
+        }
+    }
+    None
+}
+
+// Whether a constructor takes a cell. It is looked up where it isn't the one that is known to take one: the cells of a
+// list repeat one constructor.
+#[inline(always)]
+#[tactic(auto, using(crate::proofs::LaidLaws::boxed_as))]
+fn takes_cell(types: &Types, homes: &Homes, known: &mut Option<u32>, con: u32) -> bool
+    requires homes { HomesAre types.now homes.now }
+    requires there { IsSome (constructor types.now con) }
+    requires known { IfSome known.old (IsBoxed types.now) }
+    ensures known { IfSome known.new (IsBoxed types.now) }
+    ensures boxed { result ≡ is_boxed types.now con }
+{
+    if let Some(boxed) = *known {
+        if boxed == con {
+            return true;
+        }
+    }
+    if homes.con(types, con).inline {
+        return false;
+    }
+    *known = Some(con);
+    true
+}
+
+// The number of a constructor that takes a cell and has two parts, and the word of the int behind it, where the node at
+// this place is that int.
+#[inline(always)]
+fn boxed_two(
+    types: &Types,
+    homes: &Homes,
+    known: &mut Option<u32>,
+    items: &[Item],
+    left: usize,
+) -> Option<(u32, u32)>
+    requires homes { HomesAre types.now homes.now }
+    requires known { IfSome known.old (IsBoxed types.now) }
+    requires fits { ItemsFit types.now items.now }
+    requires within { left < length items.now }
+    ensures known { IfSome known.new (IsBoxed types.now) }
+    ensures two { IfSome result (λ two. IsTwo items.now left two.0 two.1) }
+    ensures boxed { IfSome result (λ two. is_boxed types.now two.0 ≡ true) }
+{
+    match two_before(items, left) {
+        Some((con, word)) => {
+            if takes_cell(types, homes, known, con) {
+                Some((con, word))
+            } else {
+                None
+            }
+        }
+        None => None,
+    }
+}
+
+// The cell of a constructor with two words.
+#[inline(always)]
+fn two_cell(con: u32, first: u32, second: u32) -> Cell
+    ensures { result ≡ built_cell con (first ∷ second ∷ []) }
+{
+    Cell {
+        tag: con,
+        words: [first, second, 0, 0],
+    }
+}
+
+// Lays a constructor with two parts, the first of them the int of this word, in front of others: its cell is the one
+// before this offset. Answers that cell's offset. It is what laying the int and then the constructor comes to.
+#[inline(always)]
+#[tactic(auto, using(crate::proofs::LaidLaws::two_laid))]
+fn lay_two(
+    span: &mut Span,
+    words: &mut Vec<u32>,
+    types: &Types,
+    con: u32,
+    first: u32,
+    at: u32,
+) -> u32
+    requires boxed { is_boxed types.now con ≡ true }
+    requires inside { at ≤ length span.old.cells }
+    requires cell { 1 ≤ at }
+    requires word { 1 ≤ vec_len words.old }
+    requires room { vec_len words.old ≤ vec_capacity words.old }
+    ensures at { result + 1 ≡ at }
+    ensures laid { (z : ℤ) (behind : Laying) (others : List Cell) → int_word z ≡ first
+        → IsLaid at behind others span.old.cells words.old.items
+        → IsLaid result (lay types.now result (Con 2 con) (lay types.now at (Int z) behind)) others span.new.cells words.new.items }
+    ensures range { SameRange span.old span.new }
+    ensures room { vec_capacity words.new ≡ vec_capacity words.old }
+    ensures len { vec_len words.new ≡ vec_len words.old }
+{
+    let _ = types;
+    let second = take_word(words);
+    span.set(at - 1, two_cell(con, first, second));
+    put_word(words, at - 1);
+    at - 1
+}
+
+// Lays the nodes of a value in front of others, the last one first. Answers the offset of what was laid so far. It is
+// no part of its caller, so that the compiler keeps what the loop needs in registers.
+#[inline(never)]
 fn lay_value(
     span: &mut Span,
     words: &mut Vec<u32>,
@@ -174,9 +294,16 @@ fn lay_value(
 {
     let mut at = before;
     let mut left = items.len();
+    let mut known = None;
     'items: while left > 0 {
         left -= 1;
-        at = lay_item(span, words, types, homes, items[left], at);
+        match boxed_two(types, homes, &mut known, items, left) {
+            Some((con, word)) => {
+                left -= 1;
+                at = lay_two(span, words, types, con, word, at);
+            }
+            None => at = lay_item(span, words, types, homes, items[left], at),
+        }
     }
     at
 }

@@ -23,6 +23,7 @@ pub trait Kept: Drop {
 
     /// What is kept of this ending. A copy may take memory; where there is none, what is kept stays where it is.
     fn keep(alloc: Global, ending: Ending) -> Self
+        // Of whatever run this is the ending, what comes back may be kept.
         ensures { (o : Outcome Value) → EndsWith o ending → keeps o result };
 }
 

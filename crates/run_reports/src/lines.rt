@@ -239,7 +239,8 @@ pub(crate) fn push_job(
     out.extend_from_slice(b"\n")
 }
 
-// A line of a name and two numbers, each behind its label.
+// A line of a name and two numbers, each behind its label. It stands in place, where the labels are known.
+#[inline(always)]
 #[tactic(auto, using(crate::proofs::Joining::four))]
 fn push_named(
     out: &mut Vec<u8>,

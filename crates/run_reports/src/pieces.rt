@@ -5,7 +5,8 @@ use itoa::Buffer;
 use std::alloc::AllocError;
 use value_text::push_small;
 
-// Writes a label and a text at the end.
+// Writes a label and a text at the end. It stands in place, where the label's length is known.
+#[inline(always)]
 #[tactic(auto, using(crate::proofs::Joining::two))]
 pub(crate) fn push_text(out: &mut Vec<u8>, label: &[u8], text: &[u8]) -> Result<(), AllocError>
     ensures { OnOk result (out.new.items ≡ out.old.items ++ (label.now ++ text.now)) }
@@ -25,7 +26,8 @@ fn push_decimal(out: &mut Vec<u8>, number: u64) -> Result<(), AllocError>
     out.extend_from_slice(Buffer::new().format(number).as_bytes())
 }
 
-// Writes a label and a number in decimal at the end.
+// Writes a label and a number in decimal at the end. It stands in place, as `push_text` does.
+#[inline(always)]
 #[tactic(auto, using(crate::proofs::Joining::two))]
 pub(crate) fn push_number(out: &mut Vec<u8>, label: &[u8], number: u64) -> Result<(), AllocError>
     ensures { OnOk result (out.new.items ≡ out.old.items ++ (label.now ++ decimal number)) }

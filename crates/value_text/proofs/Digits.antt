@@ -1,5 +1,5 @@
 -- Fronts of numbers in decimal.
-use Rattle.std.proofs.Common.{◌≡◌, ℕ, zero, suc, ◌+◌, ◌-◌, ◌*◌, ◌/◌, ◌%◌, ◌^◌, ◌<◌, ◌≤◌, true, false, List, [], ◌∷◌, ◌++◌, length, take, drop, get_or, refl, sym, ap, ◌∙◌, subst, arith, append_assoc, append-nil, length-append, inl, inr}
+use Rattle.std.proofs.Common.{◌≡◌, ℕ, zero, suc, ◌+◌, ◌-◌, ◌*◌, ◌/◌, ◌%◌, ◌^◌, ◌<◌, ◌≤◌, true, false, List, [], ◌∷◌, ◌++◌, length, take, drop, get_or, refl, sym, ap, ◌∙◌, subst, arith, add-one, append_assoc, append-nil, length-append, inl, inr}
 use Rattle.std.specs.Prelude.{◌⊎◌, decimal, ℤ, pos, neg_ℤ}
 use Rattle.std.specs.List.{list_all}
 use Rattle.std.proofs.lemmas.Bool.{cases_lt}
@@ -7,8 +7,9 @@ use Rattle.std.proofs.lemmas.Bool.Decides.{nat_tests}
 use Rattle.std.proofs.lemmas.Fmt.{decimal_digit, decimal_step, decimal_by_steps, signed_decimal_injective}
 use Rattle.std.proofs.lemmas.List.{length-take-le, take_all, take-append-drop, length-drop}
 use Rattle.std.proofs.Math.Seq.{take-suc}
+use Rattle.std.proofs.Math.Nat.{pow-suc, pow-le-pow_right}
 use Rattle.camelot_values.specs.Names.{is_digit}
-use Rattle.value_text.specs.Choosing.{DigitsRead, IntRead, IntRefused, NoDigit, NextDigit, IsPlain}
+use Rattle.value_text.specs.Choosing.{DigitsRead, FewDigits, IntRead, IntRefused, NoDigit, NextDigit, IsPlain}
 use Rattle.value_text.specs.Grammar.{Ends}
 use Rattle.value_text.specs.Splitting.{FrontInt}
 use Rattle.value_text.proofs.Words.{and_parts, and_both, true_false, same_tail, word_all}
@@ -129,7 +130,7 @@ digit_text most word value i c next d low high lead next_is wide = by_text lead 
     by_text (inr v) (inr t) = longer v t
 
 pub one_digit_more : (most : ℕ) (word : List ℕ) (value i c next : ℕ) → Digits most word value i → i < length word → c ≡ get_or word i 0 → 48 ≤ c
-    → c ≤ 57 → (i ≡ 0) ⊎ (1 ≤ value) → next ≡ value * 10 + (c - 48) → next ≤ most → most < 2 ^ 32
+    → c ≤ 57 → (i ≡ 0) ⊎ (1 ≤ value) → next ≡ value * 10 + (c - 48) → next ≤ most → most < 2 ^ 36
     → Digits most word next (i + 1)
 one_digit_more most word value i c next d h is low high lead next_is fit wide = record {
   within = omega (arith, h);
@@ -307,42 +308,81 @@ minus_tail (x ∷ word) digits h is e = ap (λ l. 45 ∷ l) (e ∙ take_all (len
 pub plain_head : (word : List ℕ) → (get_or word 0 0 ≡ 45 → ⊥) → IsPlain word
 plain_head word n = record { head = λ rest e. n (ap (λ l. get_or l 0 0) e) }
 
+-- ---- ints that are read at once
+
+-- so many digits of a number without a leading zero were read
+pub record Begun (word : List ℕ) (value at : ℕ) : Type 0 where
+  pub digits : Digits 9999999999 word value at
+  pub first : is_digit (get_or word 0 0) ≡ true
+  pub lead : 1 ≤ value
+  pub below : value < 10 ^ at
+
+pub zero_alone : (word : List ℕ) → (length word ≡ 0 → ⊥) → get_or word 0 0 ≡ 48 → FewDigits word 0 1
+zero_alone [] h e = absurd (h refl)
+zero_alone (c ∷ word) h e = record { within = omega arith; first = ap is_digit e; text = ap (λ x. x ∷ []) e ∙ sym (decimal_digit 0 (omega arith)) }
+
+pub begun_one : (word : List ℕ) (value : ℕ) → (length word ≡ 0 → ⊥) → is_digit (get_or word 0 0) ≡ true → (get_or word 0 0 ≡ 48 → ⊥)
+    → value ≡ get_or word 0 0 - 48 → Begun word value 1
+begun_one word value h digit some is =
+    let r = digit_range (get_or word 0 0) digit in
+    record {
+      digits = one_digit_more 9999999999 word 0 0 (get_or word 0 0) value (no_digits 9999999999 word) (omega (arith, h)) refl r.0 r.1 (inl refl) (omega (arith, is)) (omega (arith, is, r.1)) (omega arith);
+      first = digit;
+      lead = omega (arith, is, r.0, some);
+      below = omega (arith, is, r.1);
+    }
+
+pub begun_small : (word : List ℕ) (value at : ℕ) → Begun word value at → at < 10 → value < 1000000000
+begun_small word value at b h = omega (arith, b.below, pow-le-pow_right {n = 10} (omega arith) {i = at} {j = 9} (omega (arith, h)))
+
+pub begun_more : (word : List ℕ) (value at next : ℕ) → Begun word value at → at < length word → at < 10 → is_digit (get_or word at 0) ≡ true
+    → next ≡ value * 10 + (get_or word at 0 - 48) → Begun word next (at + 1)
+begun_more word value at next b h few digit is =
+    let r = digit_range (get_or word at 0) digit in
+    let small = begun_small word value at b few in
+    let more : 10 ^ (at + 1) ≡ 10 ^ at * 10 = ap (λ n. 10 ^ n) (add-one at) ∙ pow-suc 10 at in
+    record {
+      digits = one_digit_more 9999999999 word value at (get_or word at 0) next b.digits h refl r.0 r.1 (inr b.lead) is (omega (arith, is, r.1, small)) (omega arith);
+      first = b.first;
+      lead = omega (arith, is, b.lead);
+      below = omega (arith, is, r.1, b.below, more);
+    }
+
+pub begun_all : (word : List ℕ) (value at : ℕ) → Begun word value at → 1 ≤ at → FewDigits word value at
+begun_all word value at b some = record { within = b.digits.within; first = b.first; text = by_text b.digits.text }
+  where
+    by_text : (at ≡ 0) ⊎ (take at word ≡ decimal value) → take at word ≡ decimal value
+    by_text (inl e) = absurd (omega (arith, e, some))
+    by_text (inr e) = e
+
 -- the digits in front of a text are a word, where it ends with them
-pub front_digits : (text rest : List ℕ) (value good : ℕ) (z : ℤ) → DigitsRead 2147483647 text value good → (good ≡ 0 → ⊥)
+pub front_digits : (text rest : List ℕ) (value good : ℕ) (z : ℤ) → FewDigits text value good → value ≤ 2147483647
     → rest ≡ take (length text - good) (drop good text) → Ends rest → z ≡ pos value → FrontInt text z rest
-front_digits text rest value good z d some is ends z_is =
-    let word : take good text ≡ decimal value = by_text d.text in
+front_digits text rest value good z d small is ends z_is =
+    let word = d.text in
     let r : rest ≡ drop good text = is ∙ take_all (length text - good) (drop good text) (omega (arith, length-drop good text)) in
     record {
       word = decimal value;
       split = record {
         parts = sym (ap (λ l. l ++ rest) (sym word) ∙ ap (λ l. take good text ++ l) r ∙ take-append-drop good text);
-        all = word_all (decimal value) (decimal_fine value (omega (arith, d.small)));
+        all = word_all (decimal value) (decimal_fine value (omega (arith, small)));
         ends = ends;
       };
-      read = record { size = value; is = inl (d.small, refl, z_is) };
+      read = record { size = value; is = inl (small, refl, z_is) };
     }
-  where
-    by_text : (good ≡ 0) ⊎ (take good text ≡ decimal value) → take good text ≡ decimal value
-    by_text (inl e) = absurd (some e)
-    by_text (inr e) = e
 
 -- the same with `-` before them
-pub front_below : (digits rest : List ℕ) (value good : ℕ) (z : ℤ) → DigitsRead 2147483648 digits value good → (good ≡ 0 → ⊥)
+pub front_below : (digits rest : List ℕ) (value good : ℕ) (z : ℤ) → FewDigits digits value good → value ≤ 2147483648
     → rest ≡ take (length digits - good) (drop good digits) → Ends rest → z ≡ neg_ℤ (pos value) → FrontInt (45 ∷ digits) z rest
-front_below digits rest value good z d some is ends z_is =
-    let word : take good digits ≡ decimal value = by_text d.text in
+front_below digits rest value good z d small is ends z_is =
+    let word = d.text in
     let r : rest ≡ drop good digits = is ∙ take_all (length digits - good) (drop good digits) (omega (arith, length-drop good digits)) in
     record {
       word = 45 ∷ decimal value;
       split = record {
         parts = ap (λ l. 45 ∷ l) (sym (ap (λ l. l ++ rest) (sym word) ∙ ap (λ l. take good digits ++ l) r ∙ take-append-drop good digits));
-        all = word_all (decimal value) (decimal_fine value (omega (arith, d.small)));
+        all = word_all (decimal value) (decimal_fine value (omega (arith, small)));
         ends = ends;
       };
-      read = record { size = value; is = inr (d.small, refl, z_is) };
+      read = record { size = value; is = inr (small, refl, z_is) };
     }
-  where
-    by_text : (good ≡ 0) ⊎ (take good digits ≡ decimal value) → take good digits ≡ decimal value
-    by_text (inl e) = absurd (some e)
-    by_text (inr e) = e

@@ -1,6 +1,6 @@
 -- Private: words for functions of this crate.
 -- Which constructor a word names, and how much of it begins a name.
-use Rattle.std.specs.Prelude.{◌≡◌, ℕ, suc, max, ◌≤◌, ◌⊎◌, Bool, false, List, [], ◌∷◌, ◌++◌, length, take, slice_get, Option, Some, None, ◌==◌, ◌&&◌, if◌then◌else◌, cond, codes, decimal, ℤ, pos, neg_ℤ, ◌+◌, ◌-◌, ◌*◌, ◌<◌, true}
+use Rattle.std.specs.Prelude.{◌≡◌, ℕ, suc, max, ◌≤◌, ◌⊎◌, Bool, false, List, [], ◌∷◌, ◌++◌, length, take, get_or, slice_get, Option, Some, None, ◌==◌, ◌&&◌, if◌then◌else◌, cond, codes, decimal, ℤ, pos, neg_ℤ, ◌+◌, ◌-◌, ◌*◌, ◌<◌, true}
 use Rattle.std.specs.Option.{option_map}
 use Rattle.std.specs.Str.{bytes_eq}
 use Rattle.camelot_values.specs.Kinds.{Constructor}
@@ -36,6 +36,12 @@ pub record DigitsRead (most : ℕ) (word : List ℕ) (value good : ℕ) : Type 0
   pub small : value ≤ most
   pub text : (good ≡ 0) ⊎ (take good word ≡ decimal value)
   pub longest : (n : ℕ) (front last rest : List ℕ) → n ≤ most → word ≡ front ++ last → decimal n ≡ front ++ rest → length front ≤ good
+
+-- so many digits in front are the number's
+pub record FewDigits (word : List ℕ) (value good : ℕ) : Type 0 where
+  pub within : good ≤ length word
+  pub first : is_digit (get_or word 0 0) ≡ true
+  pub text : take good word ≡ decimal value
 
 -- no number goes on with the byte: it is no digit, stands behind a leading zero, or makes the number too large
 pub record NoDigit (most value at byte : ℕ) : Type 0 where

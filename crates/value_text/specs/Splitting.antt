@@ -42,6 +42,12 @@ pub record FrontInt (text : List ℕ) (z : ℤ) (rest : List ℕ) : Type 0 where
   pub split : IsSplit text word rest
   pub read : IntRead word z
 
+-- behind spaces stands the word of this int, and then the comma in front of what is left
+pub record FrontIntPart (text : List ℕ) (z : ℤ) (after : List ℕ) : Type 0 where
+  pub behind : List ℕ
+  pub read : FrontInt (skip text) z behind
+  pub mark : before_mark 44 behind ≡ 44 ∷ after
+
 -- four bytes from this place on are the same in both
 pub record IsSameFour (xs ys : List ℕ) (at : ℕ) : Type 0 where
   pub first : get_or xs at 0 ≡ get_or ys at 0

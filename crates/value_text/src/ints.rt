@@ -1,7 +1,7 @@
 ghost use Rattle.std.specs.Prelude.{◌≡◌, ◌+◌, ◌≤◌, ◌<◌, ◌∷◌, neg_ℤ, pos, IfSome, MatchResult, MatchOption};
 ghost use Rattle.camelot_values.specs.Names.{is_digit};
-ghost use Rattle.value_text.specs.Choosing.{DigitsRead, IntRead, IntRefused, NoDigit, NextDigit, IsPlain};
-ghost use Rattle.value_text.specs.Splitting.{FrontInt};
+ghost use Rattle.value_text.specs.Choosing.{DigitsRead, FewDigits, IntRead, IntRefused, NoDigit, NextDigit, IsPlain};
+ghost use Rattle.value_text.specs.Splitting.{FrontInt, FrontIntPart};
 
 use super::cutting::ends;
 
@@ -108,13 +108,45 @@ pub(crate) fn read_int(word: &[u8]) -> Result<i32, usize>
     }
 }
 
+// The number of the digits in front, and how many of them it has: a zero alone, or at most ten digits without a leading
+// zero.
+#[tactic(auto, using(crate::proofs::Digits::zero_alone, crate::proofs::Digits::begun_one, crate::proofs::Digits::begun_more, crate::proofs::Digits::begun_all))]
+fn few_digits(text: &[u8]) -> Option<(u64, usize)>
+    ensures { IfSome result (λ found. FewDigits text.now found.0 found.1) }
+{
+    if text.is_empty() {
+        return None;
+    }
+    let first = text[0];
+    if !is_digit(first) {
+        return None;
+    }
+    if first == b'0' {
+        return Some((0, 1));
+    }
+    let most = text.len().min(10);
+    let mut value = (first - b'0') as u64;
+    let mut at = 1;
+    'few: while at < most {
+        let byte = text[at];
+        if !is_digit(byte) {
+            return Some((value, at));
+        }
+        value = value * 10 + (byte - b'0') as u64;
+        at += 1;
+    }
+    Some((value, at))
+}
+
 // The int without a sign that stands in front, and the text behind it, where its word ends with its digits.
-#[tactic(auto, using(crate::proofs::Digits::front_digits))]
 fn front_plus(text: &[u8]) -> Option<(i32, &[u8])>
     ensures { IfSome result (λ found. FrontInt text.now found.0 found.1.now) }
 {
-    let (value, good) = read_digits(text, 2147483647);
-    if good == 0 {
+    let (value, good) = match few_digits(text) {
+        Some(found) => found,
+        None => return None,
+    };
+    if value > 2147483647 {
         return None;
     }
     let rest = &text[good..];
@@ -131,13 +163,16 @@ fn front_plus(text: &[u8]) -> Option<(i32, &[u8])>
 fn front_minus(digits: &[u8]) -> Option<(i32, &[u8])>
     ensures { IfSome result (λ found. FrontInt (45 ∷ digits.now) found.0 found.1.now) }
 {
-    let (value, good) = read_digits(digits, 2147483648);
-    if good == 0 {
+    let (value, good) = match few_digits(digits) {
+        Some(found) => found,
+        None => return None,
+    };
+    if value > 2147483648 {
         return None;
     }
     let rest = &digits[good..];
     if ends(rest) {
-        Some((negated(value), rest))
+        Some((negated(value as u32), rest))
     } else {
         None
     }
@@ -155,5 +190,28 @@ pub(crate) fn front_int(text: &[u8]) -> Option<(i32, &[u8])>
         front_minus(&text[1..])
     } else {
         front_plus(text)
+    }
+}
+
+// The int without a sign that stands in front, where a comma stands behind it, and the text behind the comma.
+pub(crate) fn plain_part(text: &[u8]) -> Option<(i32, &[u8])>
+    ensures { IfSome result (λ found. FrontIntPart text.now found.0 found.1.now) }
+{
+    let (value, good) = match few_digits(text) {
+        Some(found) => found,
+        None => return None,
+    };
+    if value > 2147483647 {
+        return None;
+    }
+    match &text[good..] {
+        [] => None,
+        [first, rest @ ..] => {
+            if *first == b',' {
+                Some((value as i32, rest))
+            } else {
+                None
+            }
+        }
     }
 }

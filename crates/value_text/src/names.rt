@@ -60,7 +60,7 @@ fn has_values(known: &Inhabited, con: &Con) -> bool
 }
 
 // The place of the type's constructor whose name stands in front, where its fields all have values, and the text behind
-// the name.
+// the name. The last one is tried first, since the first ones of a type are mostly those that end a value.
 #[tactic(auto, using(crate::proofs::NameSteps::front_there, crate::proofs::NameSteps::ready_there))]
 pub(crate) fn front_con<'a>(
     known: &Inhabited,
@@ -71,7 +71,10 @@ pub(crate) fn front_con<'a>(
     ensures within { IfSome result (λ found. found.0 < vec_len def.now.cons) }
     ensures front { IfSome result (λ found. FrontCon known.now.marks (data_type_of def.now).cons text.now found.0 found.1.now) }
 {
-    for (place, con) in def.cons.iter().enumerate() {
+    let mut place = def.cons.len();
+    'names: while place > 0 {
+        place -= 1;
+        let con = &def.cons[place];
         if let Some(rest) = behind_name(con.name.bytes(), text) {
             if has_values(known, con) {
                 return Some((place, rest));

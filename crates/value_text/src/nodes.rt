@@ -6,11 +6,11 @@ ghost use Rattle.value_text.specs.Grammar.{AreNamed, DistinctNames};
 ghost use Rattle.value_text.specs.Finite.{HasValue};
 ghost use Rattle.value_text.specs.Inhabited.{Knows, AreFirst};
 ghost use Rattle.value_text.specs.Choosing.{HasPlace, IsConNode, IsFlag, NoFlag};
-ghost use Rattle.value_text.specs.Splitting.{FrontPart, FrontRead, NodeRead, NodeRefused, NotFirst, before_mark};
+ghost use Rattle.value_text.specs.Splitting.{FrontIntPart, FrontPart, FrontRead, NodeRead, NodeRefused, NotFirst, before_mark};
 
 use super::cutting::{common, skip_spaces, split_word};
 use super::inhabited::Inhabited;
-use super::ints::{front_int, read_int};
+use super::ints::{front_int, plain_part, read_int};
 use super::names::{choose, first_con, front_con};
 use camelot_values::{Item, Kind, TypeDef, Types};
 
@@ -228,6 +228,32 @@ pub(crate) fn read_mark(text: &[u8], mark: u8) -> Result<&[u8], usize>
     }
 }
 
+// The int behind spaces that a comma stands behind, and the text behind the comma.
+#[inline(never)]
+fn spaced_part(text: &[u8]) -> Option<(i32, &[u8])>
+    ensures { IfSome result (λ found. FrontIntPart text.now found.0 found.1.now) }
+{
+    match front_int(skip_spaces(text)) {
+        None => None,
+        Some((number, behind)) => match read_mark(behind, b',') {
+            Err(_) => None,
+            Ok(rest) => Some((number, rest)),
+        },
+    }
+}
+
+// The int that a comma stands behind, and the text behind the comma. Most often both stand there as they are printed,
+// and then nothing is called.
+#[inline(always)]
+fn int_part(text: &[u8]) -> Option<(i32, &[u8])>
+    ensures { IfSome result (λ found. FrontIntPart text.now found.0 found.1.now) }
+{
+    if let Some(found) = plain_part(text) {
+        return Some(found);
+    }
+    spaced_part(text)
+}
+
 /// The node of an int that was read with the comma behind it, the kind of the next part, those of the parts behind
 /// that, and the text behind the comma.
 #[derive(Drop)]
@@ -249,17 +275,14 @@ pub(crate) fn front_part<'a, 'b>(
     match kind {
         Kind::Int => match others {
             [] => None,
-            [next, others @ ..] => match front_int(skip_spaces(text)) {
+            [next, others @ ..] => match int_part(text) {
                 None => None,
-                Some((number, behind)) => match read_mark(behind, b',') {
-                    Err(_) => None,
-                    Ok(rest) => Some(IntPart {
-                        item: Item::Int(number),
-                        next: *next,
-                        others,
-                        rest,
-                    }),
-                },
+                Some((number, rest)) => Some(IntPart {
+                    item: Item::Int(number),
+                    next: *next,
+                    others,
+                    rest,
+                }),
             },
         },
         _ => None,

@@ -75,8 +75,9 @@ fn close<'a>(
     Ok(after)
 }
 
-// Reads the space in front of the next value, where there is one, and gives its kind.
-#[inline(always)]
+// Reads the space in front of the next value, where there is one, and gives its kind. It is called, so that the loop
+// over nodes carries nothing of the other values.
+#[inline(never)]
 fn next_value<'a>(
     types: &Types,
     kinds: &[Kind],

@@ -1,4 +1,4 @@
-use Rattle.std.proofs.Common.{◌≤◌, ◌∙◌, length, subst, sym, refl, arith}
+use Rattle.std.proofs.Common.{◌≤◌, length, subst, sym, refl, arith}
 use Rattle.value_text.specs.Due.{first_due, Stops}
 use Rattle.value_text.specs.Later.{later_due}
 use Rattle.value_text.proofs.Following.{node_step, node_stop, node_shorter}

@@ -1,4 +1,4 @@
-use Rattle.std.proofs.Common.{◌<◌, arith, length}
+use Rattle.std.proofs.Common.{arith}
 use Rattle.value_text.specs.Due.{first_due}
 use Rattle.value_text.proofs.PartSteps.{part_step, part_shorter}
 use Rattle.value_text.proofs.reading.pass_int.Goals as goal
