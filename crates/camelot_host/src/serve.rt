@@ -20,7 +20,7 @@ pub(crate) fn serve<R: Threads + Wait + Sync, G: Gate + Sync>(
     requires few { length input.items ≤ input_limit }
     ensures { IfOk result (IsReply Serve input.items) }
 {
-    match serve_script(rt, alloc, input, gate) {
+    match serve_script(rt, alloc, &input, gate) {
         Ok(ReportedScript { text, arena }) => Ok(Reply::Done {
             output: text,
             arena: Some(arena),

@@ -1,13 +1,12 @@
 -- Numbers within limits, and names.
-use Rattle.std.proofs.Common.{◌≡◌, ℕ, suc, ◌+◌, ◌-◌, ◌*◌, ◌<◌, ◌≤◌, Bool, true, false, List, [], ◌∷◌, length, drop, get_or, Option, Some, None, refl, sym, ap, ◌∙◌, arith, drop-cons, drop_of_length-le, add-one, inl, inr}
-use Rattle.std.specs.Prelude.{◌⊎◌, ◌==◌, ◌&&◌, nat_le, if◌then◌else◌}
+use Rattle.std.proofs.Common.{◌≡◌, ℕ, ◌<◌, ◌≤◌, Bool, true, false, List, [], ◌∷◌, length, Option, Some, None, refl, sym, ap, ◌∙◌, arith}
+use Rattle.std.specs.Prelude.{◌&&◌, nat_le}
 use Rattle.std.specs.Option.{option_map}
 use Rattle.std.specs.List.{list_all}
 use Rattle.std.specs.Str.{bytes_eq}
 use Rattle.std.proofs.lemmas.Bool.Decides.{nat_tests}
-use Rattle.camelot_values.specs.Names.{is_digit, is_tail, has_form, is_name}
-use Rattle.certificate.specs.Reading.{only_if, upto, from, capped, digits_on, number_of}
-use Rattle.certificate.specs.NumberLaws as law
+use Rattle.camelot_values.specs.Names.{is_tail, has_form, is_name}
+use Rattle.certificate.specs.Reading.{only_if, upto, from, capped, number_of}
 use Rattle.certificate.specs.OptionLaws.{some_same}
 use Rattle.job_script.specs.Scripts.{IsUpTo}
 use Rattle.job_script.specs.Reading.{number_in, number_behind, IsRead, IsWide}

@@ -32,8 +32,17 @@ made_items i = (37 * i) % 1000
 abbrev pub made_name : ℕ → List ℕ
 made_name i = 106 ∷ number i
 
+-- the text of its list
+abbrev pub made_list : ℕ → List ℕ
+made_list i = list_text (made_items i)
+
+-- what so many numbers have, from this one on
+abbrev pub counted : (ℕ → List ℕ) → (count first : ℕ) → List (List ℕ)
+counted f zero first = []
+counted f (suc count) first = f first ∷ counted f count (suc first)
+
 abbrev pub made_job : ℕ → Job
-made_job i = record { name = made_name i; program = codes "drill"; entry = codes "dup"; fuel = made_fuel i; args = list_text (made_items i) }
+made_job i = record { name = made_name i; program = codes "drill"; entry = codes "dup"; fuel = made_fuel i; args = made_list i }
 
 -- so many jobs, from this one on
 abbrev pub made_jobs : (count first : ℕ) → List Entry

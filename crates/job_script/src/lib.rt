@@ -15,7 +15,7 @@ mod stop;
 mod types;
 mod writing;
 
-pub use making::make_script;
+pub use making::{make_script, make_texts};
 pub use reading::{ScriptFault, read_script};
-pub use types::{Entry, Script};
+pub use types::{Entry, MadeTexts, Script};
 pub use writing::write_script;

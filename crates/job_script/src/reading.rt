@@ -14,7 +14,7 @@ ghost use Rattle.stops.specs.declared.stop.Stop.TheVariants.{Memory};
 
 use super::bodies::read_body;
 use super::cutting::next_line;
-use super::entries::{job_entry, program_entry};
+use super::entries::job_entry;
 use super::heads::{Head, JobLine, read_head};
 use super::known::KnownNames;
 use super::names::add_name;
@@ -36,6 +36,9 @@ const MOST_PROGRAMS: usize = 64;
 
 /// The most jobs of a script.
 const MOST_JOBS: usize = 4096;
+
+// No entry takes fewer bytes: the shortest is a line as `job j p f 1`.
+const LEAST_ENTRY: usize = 12;
 
 /// What is wrong with a text that is no script's. Lines are counted from 1.
 #[derive(Clone, Copy, Debug, PartialEq, Eq, Error)]
@@ -100,7 +103,7 @@ pub(crate) struct Reader<'a> {
     text: &'a [u8],
     arena: u32,
     workers: u32,
-    items: Vec<Entry>,
+    items: Vec<Entry<'a>>,
     programs: KnownNames<'a>,
     jobs: KnownNames<'a>,
     // What is left, and the number of its first line.
@@ -122,11 +125,15 @@ impl<'a> Reader<'a> {
             Ok(second) => second,
             Err(stop) => return Err(stop),
         };
+        let most = (text.len() / LEAST_ENTRY + 1).min(MOST_PROGRAMS + MOST_JOBS);
+        let Ok(items) = Vec::with_capacity(alloc, most) else {
+            return Err(Stop::Memory);
+        };
         Ok(Reader {
             text,
             arena,
             workers,
-            items: Vec::new(alloc),
+            items,
             programs: KnownNames::new(alloc),
             jobs: KnownNames::new(alloc),
             rest,
@@ -137,7 +144,6 @@ impl<'a> Reader<'a> {
     // A program, whose first line this is, and its text.
     fn add_program(
         &mut self,
-        alloc: Global,
         line: &'a [u8],
         after: &'a [u8],
         name: &'a [u8],
@@ -160,8 +166,10 @@ impl<'a> Reader<'a> {
                 }));
             }
         };
-        let Ok(entry) = program_entry(alloc, name, camelot, body.text) else {
-            return Err(Stop::Memory);
+        let entry = Entry::Program {
+            name,
+            camelot,
+            text: body.text,
         };
         let Ok(()) = self.items.push(entry) else {
             return Err(Stop::Memory);
@@ -174,7 +182,6 @@ impl<'a> Reader<'a> {
     // A job, whose line this is.
     fn add_job(
         &mut self,
-        alloc: Global,
         line: &'a [u8],
         after: &'a [u8],
         job: &JobLine<'a>,
@@ -190,9 +197,7 @@ impl<'a> Reader<'a> {
             Ok(()) => {}
             Err(stop) => return Err(stop_at(stop, self.number)),
         }
-        let Ok(entry) = job_entry(alloc, job) else {
-            return Err(Stop::Memory);
-        };
+        let entry = job_entry(job);
         let Ok(()) = self.items.push(entry) else {
             return Err(Stop::Memory);
         };
@@ -202,7 +207,7 @@ impl<'a> Reader<'a> {
     }
 
     // The next program or job.
-    fn add_entry(&mut self, alloc: Global) -> Result<(), Stop<ScriptFault>>
+    fn add_entry(&mut self) -> Result<(), Stop<ScriptFault>>
         requires going { IsGoing self.old.text.now self.old }
         requires more { 0 < length self.old.rest.now }
         ensures { MatchResult result (λ done. IsFurther self.old self.new) (λ stop. FaultIs (HasCause self.old.text.now) stop) }
@@ -211,17 +216,15 @@ impl<'a> Reader<'a> {
             return Err(Stop::Fault(ScriptFault::Line { line: self.number }));
         };
         match read_head(line) {
-            Ok(Head::Program { name, camelot }) => {
-                self.add_program(alloc, line, after, name, camelot)
-            }
-            Ok(Head::Job(job)) => self.add_job(alloc, line, after, &job),
+            Ok(Head::Program { name, camelot }) => { self.add_program(line, after, name, camelot) }
+            Ok(Head::Job(job)) => self.add_job(line, after, &job),
             Err(stop) => Err(stop_at(stop, self.number)),
         }
     }
 }
 
 // The script of the text, or why there is none.
-fn read_whole(alloc: Global, text: &[u8]) -> Result<Script, Stop<ScriptFault>>
+fn read_whole(alloc: Global, text: &[u8]) -> Result<Script<'_>, Stop<ScriptFault>>
     requires { length text.now < 4294967296 }
     ensures { MatchResult result (λ script. IsScriptText text.now (script_of script)) (λ stop. FaultIs (HasCause text.now) stop) }
 {
@@ -230,7 +233,7 @@ fn read_whole(alloc: Global, text: &[u8]) -> Result<Script, Stop<ScriptFault>>
         Err(stop) => return Err(stop),
     };
     'entries: while !reader.rest.is_empty() {
-        match reader.add_entry(alloc) {
+        match reader.add_entry() {
             Ok(()) => {}
             Err(stop) => return Err(stop),
         }
@@ -245,9 +248,10 @@ fn read_whole(alloc: Global, text: &[u8]) -> Result<Script, Stop<ScriptFault>>
 /// Reads the text of a script (`SCRIPTS.md`), in time that is linear in its bytes. `Ok` comes exactly where the text
 /// is a script's, and is this script, within its limits and with no name twice. `Line` comes exactly at the first
 /// line that has no form, `Count` exactly at the first that has one but is beyond a limit, and `Repeat` exactly at
-/// the first that only repeats a name. [`Stop::Memory`] where memory runs out. The text has fewer than 2^32 bytes.
-#[tactic(auto, using(crate::proofs::Answering::script_same, crate::proofs::Answering::script_stop))]
-pub fn read_script(alloc: Global, bytes: &[u8]) -> Result<Script, Stop<ScriptFault>>
+/// the first that only repeats a name. [`Stop::Memory`] where memory runs out. The text has fewer than 2^32 bytes. The
+/// script's names and texts are parts of it.
+#[tactic(auto, using(crate::proofs::Answering::script_same))]
+pub fn read_script(alloc: Global, bytes: &[u8]) -> Result<Script<'_>, Stop<ScriptFault>>
     requires { length bytes.now < 4294967296 }
     // What is answered is so: the text is this script's, or it has this fault.
     ensures found { MatchResult result (λ script. IsScriptText bytes.now (script_of script)) (λ stop. FaultIs (HasCause bytes.now) stop) }

@@ -6,7 +6,6 @@ ghost use Rattle.job_script.specs.Text.{IsScriptText, args_part, entry_text, lan
 ghost use Rattle.job_script.specs.Words.{entry_of, script_of};
 
 use crate::types::{Entry, Script};
-use camelot_values::Word;
 use itoa::Buffer;
 use std::alloc::{AllocError, Global};
 
@@ -57,14 +56,14 @@ fn language(camelot: bool) -> &'static [u8]
 #[tactic(auto, using(crate::proofs::Joining::program_written))]
 fn push_program(
     out: &mut Vec<u8>,
-    name: &Word,
+    name: &[u8],
     camelot: bool,
     text: &[u8],
 ) -> Result<(), AllocError>
     ensures { OnOk result (out.new.items ≡ out.old.items ++ entry_text (AProgram (record { name = name.now; camelot = camelot; text = text.now }))) }
 {
     out.extend_from_slice(b"program")?;
-    push_word(out, name.bytes())?;
+    push_word(out, name)?;
     push_word(out, language(camelot))?;
     out.extend_from_slice(b"\n")?;
     out.extend_from_slice(text)?;
@@ -85,9 +84,9 @@ fn push_args(out: &mut Vec<u8>, args: &[u8]) -> Result<(), AllocError>
 #[tactic(auto, using(crate::proofs::Joining::job_written))]
 fn push_job(
     out: &mut Vec<u8>,
-    name: &Word,
-    program: &Word,
-    entry: &Word,
+    name: &[u8],
+    program: &[u8],
+    entry: &[u8],
     fuel: u64,
     args: &[u8],
 ) -> Result<(), AllocError>
@@ -95,37 +94,37 @@ fn push_job(
         (AJob (record { name = name.now; program = program.now; entry = entry.now; fuel = fuel; args = args.now }))) }
 {
     out.extend_from_slice(b"job")?;
-    push_word(out, name.bytes())?;
-    push_word(out, program.bytes())?;
-    push_word(out, entry.bytes())?;
+    push_word(out, name)?;
+    push_word(out, program)?;
+    push_word(out, entry)?;
     push_count(out, fuel)?;
     push_args(out, args)?;
     out.extend_from_slice(b"\n")
 }
 
 // Writes an entry.
-fn push_entry(out: &mut Vec<u8>, entry: &Entry) -> Result<(), AllocError>
+fn push_entry(out: &mut Vec<u8>, entry: &Entry<'_>) -> Result<(), AllocError>
     ensures { OnOk result (out.new.items ≡ out.old.items ++ entry_text (entry_of entry.now)) }
 {
-    match entry {
+    match *entry {
         Entry::Program {
             name,
             camelot,
             text,
-        } => push_program(out, name, *camelot, text),
+        } => push_program(out, name, camelot, text),
         Entry::Job {
             name,
             program,
             entry,
             fuel,
             args,
-        } => push_job(out, name, program, entry, *fuel, args),
+        } => push_job(out, name, program, entry, fuel, args),
     }
 }
 
 // Writes all entries.
 #[tactic(auto, using(crate::proofs::Joining::one_mapped, crate::proofs::Joining::all_mapped))]
-fn push_entries(out: &mut Vec<u8>, entries: &[Entry]) -> Result<(), AllocError>
+fn push_entries(out: &mut Vec<u8>, entries: &[Entry<'_>]) -> Result<(), AllocError>
     ensures { OnOk result (out.new.items ≡ out.old.items ++ flat_map entry_text (map entry_of entries.now)) }
 {
     'entries: for entry in entries {
@@ -136,7 +135,7 @@ fn push_entries(out: &mut Vec<u8>, entries: &[Entry]) -> Result<(), AllocError>
 
 /// The text of a script. `AllocError` where memory runs out.
 #[tactic(auto, using(crate::proofs::Joining::script_written, crate::proofs::Joining::same_bytes))]
-pub fn write_script(alloc: Global, script: &Script) -> Result<Vec<u8>, AllocError>
+pub fn write_script(alloc: Global, script: &Script<'_>) -> Result<Vec<u8>, AllocError>
     // It is the text of this script.
     ensures text { IfOk result (λ text. text.items ≡ script_text (script_of script.now)) }
     // Where the script was read, these are the bytes that it was read from.

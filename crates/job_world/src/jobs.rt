@@ -46,6 +46,14 @@ impl Jobs {
         }
     }
 
+    /// Makes room for so many more plans. `AllocError` where memory runs out.
+    pub fn reserve(&mut self, more: usize) -> Result<(), AllocError>
+        // Nothing is planned.
+        ensures { self.new ≡ self.old }
+    {
+        self.plans.reserve(more)
+    }
+
     /// The licences.
     pub fn licences(&self) -> &[Licence]
         ensures { result.now ≡ self.now.licences }

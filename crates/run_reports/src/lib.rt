@@ -7,6 +7,7 @@ mod reporting;
 mod summing;
 
 pub use cause_texts::{Cause, cause_text};
-pub use reporting::report;
+pub use lines::{push_end, push_job};
+pub use reporting::{push_events, push_programs, report};
 pub use script_outcomes::{JobCause, JobLine, Outcome, ProgramLine};
 pub use summing::{Counted, Tally, count_run, summarize, summary};

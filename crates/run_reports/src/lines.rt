@@ -222,9 +222,9 @@ fn push_told(
     }
 }
 
-/// Writes the line of a job. `room` is memory that one line leaves to the next.
+/// Writes the line of the job of this name. `room` is memory that one line leaves to the next.
 #[tactic(auto, using(crate::proofs::Joining::three))]
-pub(crate) fn push_job(
+pub fn push_job(
     alloc: Global,
     out: &mut Vec<u8>,
     room: &mut Vec<u8>,
@@ -232,6 +232,7 @@ pub(crate) fn push_job(
     licences: &[Licence],
     line: &JobLine,
 ) -> Result<(), AllocError>
+    // The line stands behind what was there.
     ensures { OnOk result (out.new.items ≡ out.old.items ++ job_text name.now (line_of licences.now line.now)) }
 {
     push_text(out, b"job ", name)?;
@@ -296,9 +297,10 @@ pub(crate) fn push_event(out: &mut Vec<u8>, name: &[u8], event: &Event) -> Resul
     }
 }
 
-/// Writes the last line.
+/// Writes the last line of a report, with the free cells at the end.
 #[tactic(auto, using(crate::proofs::Joining::two))]
-pub(crate) fn push_end(out: &mut Vec<u8>, free: u64) -> Result<(), AllocError>
+pub fn push_end(out: &mut Vec<u8>, free: u64) -> Result<(), AllocError>
+    // The line stands behind what was there.
     ensures { OnOk result (out.new.items ≡ out.old.items ++ end_text free) }
 {
     push_number(out, b"end free ", free)?;

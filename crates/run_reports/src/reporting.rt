@@ -1,5 +1,5 @@
 //! The report of a script.
-ghost use Rattle.std.specs.Prelude.{◌≡◌, ◌++◌, ◌∷◌, ℕ, List, map, slice_get, IfOk, OnOk};
+ghost use Rattle.std.specs.Prelude.{◌≡◌, ◌++◌, ◌∷◌, ℕ, List, Some, map, slice_get, IfOk, OnOk};
 ghost use Rattle.job_script.specs.Scripts.{Entry as PlainEntry};
 ghost use Rattle.job_script.specs.Words.{entry_of, script_of};
 ghost use Rattle.run_reports.specs.Report.{asked_name, event_lines, job_lines, name_of, program_lines, report_text};
@@ -17,17 +17,17 @@ use std::alloc::{AllocError, Global};
 fn push_program_of<'a>(
     alloc: Global,
     out: &mut Vec<u8>,
-    entry: &Entry,
+    entry: &Entry<'_>,
     lines: &'a [ProgramLine],
 ) -> Result<&'a [ProgramLine], AllocError>
     ensures { (entries : List PlainEntry)
         → IfOk result (λ left. out.new.items ++ program_lines entries left.now ≡ out.old.items ++ program_lines
         (entry_of entry.now ∷ entries) lines.now) }
 {
-    match entry {
+    match *entry {
         Entry::Program { name, .. } => match lines {
             [line, others @ ..] => {
-                push_program(alloc, out, name.bytes(), line)?;
+                push_program(alloc, out, name, line)?;
                 Ok(others)
             }
             [] => Ok(lines),
@@ -36,14 +36,15 @@ fn push_program_of<'a>(
     }
 }
 
-// A line for each program.
+/// Writes a line for each program of these entries. `AllocError` where memory runs out, as in each call that writes.
 #[tactic(auto, using(crate::proofs::Lists::no_more))]
-fn push_programs(
+pub fn push_programs(
     alloc: Global,
     out: &mut Vec<u8>,
-    items: &[Entry],
+    items: &[Entry<'_>],
     lines: &[ProgramLine],
 ) -> Result<(), AllocError>
+    // The lines stand behind what was there.
     ensures { OnOk result (out.new.items ≡ out.old.items ++ program_lines (map entry_of items.now) lines.now) }
 {
     let mut rest = lines;
@@ -59,7 +60,7 @@ fn push_job_of<'a>(
     alloc: Global,
     out: &mut Vec<u8>,
     room: &mut Vec<u8>,
-    entry: &Entry,
+    entry: &Entry<'_>,
     licences: &[Licence],
     lines: &'a [JobLine],
 ) -> Result<&'a [JobLine], AllocError>
@@ -67,11 +68,11 @@ fn push_job_of<'a>(
         → IfOk result (λ left. out.new.items ++ job_lines entries (map (line_of licences.now) left.now)
         ≡ out.old.items ++ job_lines (entry_of entry.now ∷ entries) (map (line_of licences.now) lines.now)) }
 {
-    match entry {
+    match *entry {
         Entry::Program { .. } => Ok(lines),
         Entry::Job { name, .. } => match lines {
             [line, others @ ..] => {
-                push_job(alloc, out, room, name.bytes(), licences, line)?;
+                push_job(alloc, out, room, name, licences, line)?;
                 Ok(others)
             }
             [] => Ok(lines),
@@ -84,7 +85,7 @@ fn push_job_of<'a>(
 fn push_jobs(
     alloc: Global,
     out: &mut Vec<u8>,
-    items: &[Entry],
+    items: &[Entry<'_>],
     licences: &[Licence],
     lines: &[JobLine],
 ) -> Result<(), AllocError>
@@ -98,20 +99,29 @@ fn push_jobs(
     Ok(())
 }
 
+// The name of an entry.
+fn entry_name<'a>(entry: &Entry<'a>) -> &'a [u8]
+    ensures { result.now ≡ name_of (Some (entry_of entry.now)) }
+{
+    match *entry {
+        Entry::Program { name, .. } => name,
+        Entry::Job { name, .. } => name,
+    }
+}
+
 // The name of the entry at a place.
-fn name_at(items: &[Entry], place: u32) -> &[u8]
+fn name_at<'a>(items: &[Entry<'a>], place: u32) -> &'a [u8]
     ensures { result.now ≡ name_of (slice_get (map entry_of items.now) place) }
 {
     match items.get(place as usize) {
         None => b"",
-        Some(Entry::Program { name, .. }) => name.bytes(),
-        Some(Entry::Job { name, .. }) => name.bytes(),
+        Some(entry) => entry_name(entry),
     }
 }
 
 // The name of the desk's job of this number.
 #[tactic(auto, unfolding(crate::specs::Report::asked_name))]
-fn asked_name<'a>(items: &'a [Entry], asked: &[u32], job: u32) -> &'a [u8]
+fn asked_name<'a>(items: &[Entry<'a>], asked: &[u32], job: u32) -> &'a [u8]
     ensures { result.now ≡ asked_name (map entry_of items.now) asked.now job }
 {
     match asked.get(job as usize) {
@@ -120,14 +130,15 @@ fn asked_name<'a>(items: &'a [Entry], asked: &[u32], job: u32) -> &'a [u8]
     }
 }
 
-// A line for each event.
+/// Writes a line for each event of the journal. A job of the desk has the name of the entry at its place.
 #[tactic(auto, using(crate::proofs::Lists::no_more, crate::proofs::Lists::event_here))]
-fn push_events(
+pub fn push_events(
     out: &mut Vec<u8>,
-    items: &[Entry],
+    items: &[Entry<'_>],
     asked: &[u32],
     journal: &[Event],
 ) -> Result<(), AllocError>
+    // The lines stand behind what was there.
     ensures { OnOk result (out.new.items ≡ out.old.items ++ event_lines (asked_name (map entry_of items.now) asked.now) journal.now) }
 {
     'events: for event in journal {
@@ -143,7 +154,7 @@ fn push_events(
 #[tactic(auto, unfolding(crate::specs::Report::report_text))]
 pub fn report(
     alloc: Global,
-    script: &Script,
+    script: &Script<'_>,
     licences: &[Licence],
     outcome: &Outcome,
 ) -> Result<Vec<u8>, AllocError>

@@ -1,5 +1,5 @@
 -- What jobs ask for: one by one, in two parts, and as it is planned.
-use Rattle.std.proofs.Common.{◌≡◌, ℕ, ◌+◌, ◌<◌, ◌≤◌, List, [], ◌∷◌, ◌++◌, length, map, drop, Some, None, sym, ap, subst, append_assoc, append-nil, arith}
+use Rattle.std.proofs.Common.{◌≡◌, ℕ, zero, suc, ◌+◌, ◌<◌, ◌≤◌, List, [], ◌∷◌, ◌++◌, length, map, drop, get_or, Some, None, sym, ap, ◌∙◌, subst, append_assoc, append-nil, drop-cons, add-one, arith}
 use Rattle.std.proofs.lemmas.List.{drop_all}
 use Rattle.std.specs.Prelude.{slice_get, Option, Result, Ok, Err, IfOk}
 use Rattle.std.specs.declared.alloc.AllocError.{AllocError}
@@ -150,3 +150,51 @@ taking_end arena script rows place t h = go h.rest h.going h.are
     go : (rest : List Entry) → Going arena script rest rows place t → AreWanted t.jobs.licences rows rest [] → ArePlanned arena script t.jobs t.plans t.asked
     go [] going are = going_done arena script rows place t going
     go (x ∷ rest) going are = absurd are
+
+-- ---- one by one, each planned before the next is read
+
+here : (P : List Entry → Type 0) (entries : List DeclaredEntry) (i : ℕ) (d : DeclaredEntry) → i < length entries → P (map entry_of (drop i entries))
+    → P (entry_of (get_or entries i d) ∷ map entry_of (drop (i + 1) entries))
+here P entries i d h p =
+    let next : drop (suc i) entries ≡ drop (i + 1) entries = ap (λ n. drop n entries) (sym (add-one i)) in
+    subst (λ (l : List DeclaredEntry). P (entry_of (get_or entries i d) ∷ map entry_of l)) next (subst (λ (l : List DeclaredEntry). P (map entry_of l)) (drop-cons entries i d h) p)
+
+pub turn_first : (arena : ℕ) (entries : List DeclaredEntry) (rows : List Row) (ps qs : Planned) (licences : List Licensed) (plans : List JobPlan) (asked : List ℕ) → AreRows licences rows
+    → ps ≡ record { licences = licences; plans = [] } → qs ≡ ps → plans ≡ [] → asked ≡ []
+    → Going arena (map entry_of entries) (map entry_of entries) rows 0 (record { jobs = qs; plans = plans; asked = asked })
+turn_first arena entries rows ps qs licences plans asked h e f g k =
+    let script = map entry_of entries in
+    subst (λ p. Going arena script script rows 0 (record { jobs = qs; plans = p; asked = asked })) (sym g)
+    (subst (λ a. Going arena script script rows 0 (record { jobs = qs; plans = []; asked = a })) (sym k) (going_first arena script rows qs licences h (f ∙ e)))
+
+pub turn_can : (entries : List DeclaredEntry) (rows : List Row) (i : ℕ) (d : DeclaredEntry) (licences mine : List Licensed) (o : Option Wanted) → i < length entries
+    → AllByRecursion EntryIsWithin (map entry_of (drop i entries)) → licences ≡ mine → IsWantedBy licences rows (entry_of (get_or entries i d)) o → CanAllBeTaken mine o
+turn_can entries rows i d licences mine o h within e is =
+    wanted_can mine rows (entry_of (get_or entries i d)) o (here (AllByRecursion EntryIsWithin) entries i d h within).0 (subst (λ ls. IsWantedBy ls rows (entry_of (get_or entries i d)) o) e is)
+
+pub turn_rest : (P : Entry → Type 0) (entries : List DeclaredEntry) (i : ℕ) → AllByRecursion P (map entry_of (drop i entries))
+    → AllByRecursion P (map entry_of (drop (i + 1) entries))
+turn_rest P entries i all = subst (λ n. AllByRecursion P (map entry_of (drop n entries))) (sym (add-one i)) (go entries i all)
+  where
+    go : (entries : List DeclaredEntry) (i : ℕ) → AllByRecursion P (map entry_of (drop i entries)) → AllByRecursion P (map entry_of (drop (suc i) entries))
+    go [] zero all = tt
+    go [] (suc i) all = tt
+    go (x ∷ xs) zero all = all.1
+    go (x ∷ xs) (suc i) all = go xs i all
+
+pub turn_more : (arena : ℕ) (entries : List DeclaredEntry) (rows : List Row) (place i : ℕ) (d : DeclaredEntry) (old new : Planning) (licences : List Licensed) (o : Option Wanted)
+    → ((name : List ℕ) → program_named (map entry_of entries) name ≡ row_program (row_among rows name)) → i < length entries
+    → Going arena (map entry_of entries) (map entry_of (drop i entries)) rows place old → licences ≡ old.jobs.licences → IsWantedBy licences rows (entry_of (get_or entries i d)) o
+    → ((rows : List Row) (e : Entry) → IsWantedBy old.jobs.licences rows e o → IsEntryTaken rows arena place e old new)
+    → Going arena (map entry_of entries) (map entry_of (drop (i + 1) entries)) rows (place + 1) new
+turn_more arena entries rows place i d old new licences o programs h going e is each =
+    let x = entry_of (get_or entries i d) in
+    let t : IsEntryTaken rows arena place x old new = each rows x (subst (λ ls. IsWantedBy ls rows x o) e is) in
+    going_on arena (map entry_of entries) (map entry_of (drop (i + 1) entries)) rows x place old new programs
+    (here (λ (l : List Entry). Going arena (map entry_of entries) l rows place old) entries i d h going) t
+
+pub turn_end : (arena : ℕ) (entries : List DeclaredEntry) (rows : List Row) (place i : ℕ) (t : Planning) → length entries ≤ i
+    → Going arena (map entry_of entries) (map entry_of (drop i entries)) rows place t → ArePlanned arena (map entry_of entries) t.jobs t.plans t.asked
+turn_end arena entries rows place i t h going =
+    going_done arena (map entry_of entries) rows place t
+    (subst (λ (l : List DeclaredEntry). Going arena (map entry_of entries) (map entry_of l) rows place t) (drop_all i entries h) going)

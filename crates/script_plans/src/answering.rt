@@ -11,7 +11,6 @@ ghost use Rattle.script_plans.specs.Answers.{IsAnswerAdded, AreAnswered};
 use crate::cutting::{Texts, middle};
 use bundle_licence::license_bundle;
 use camelot_compiler::license;
-use camelot_values::Word;
 use cause_texts::Cause;
 use job_script::Entry;
 use licence::Licence;
@@ -22,7 +21,7 @@ use stops::Stop;
 /// A program of a script, with its licence or why it has none.
 #[derive(Drop)]
 pub(crate) struct Answered<'a> {
-    pub(crate) name: &'a Word,
+    pub(crate) name: &'a [u8],
     pub(crate) camelot: bool,
     pub(crate) text: &'a [u8],
     pub(crate) licence: Result<Licence, Cause>,
@@ -74,21 +73,21 @@ fn license_program(
 fn answer_entry<'a>(
     alloc: Global,
     answers: &mut Vec<Answered<'a>>,
-    entry: &'a Entry,
+    entry: &Entry<'a>,
 ) -> Result<(), AllocError>
     requires { EntryIsShort 4294967295 (entry_of entry.now) }
     ensures { OnOk result (IsAnswerAdded (entry_of entry.now) answers.old.items answers.new.items) }
 {
-    match entry {
+    match *entry {
         Entry::Program {
             name,
             camelot,
             text,
         } => {
-            let licence = license_program(alloc, *camelot, text)?;
+            let licence = license_program(alloc, camelot, text)?;
             answers.push(Answered {
                 name,
-                camelot: *camelot,
+                camelot,
                 text,
                 licence,
             })?;
@@ -100,7 +99,7 @@ fn answer_entry<'a>(
 
 // The answers to all programs of these entries, one after the other.
 #[tactic(auto, using(crate::proofs::AllAnswered::none_answered, crate::proofs::AllAnswered::answered_more))]
-fn answer_each<'a>(alloc: Global, entries: &'a [Entry]) -> Result<Vec<Answered<'a>>, AllocError>
+fn answer_each<'a>(alloc: Global, entries: &[Entry<'a>]) -> Result<Vec<Answered<'a>>, AllocError>
     requires { AllByRecursion (EntryIsShort 4294967295) (map entry_of entries.now) }
     ensures { IfOk result (λ v. AreAnswered (map entry_of entries.now) v.items) }
 {
@@ -117,9 +116,9 @@ fn answer_each<'a>(alloc: Global, entries: &'a [Entry]) -> Result<Vec<Answered<'
 fn answer_both<'a, R: Threads + Sync>(
     rt: &R,
     alloc: Global,
-    front: &'a [Entry],
+    front: &[Entry<'a>],
     low: usize,
-    back: &'a [Entry],
+    back: &[Entry<'a>],
     high: usize,
 ) -> Result<Vec<Answered<'a>>, AllocError>
     requires low { 1 ≤ low }
@@ -149,7 +148,7 @@ fn answer_both<'a, R: Threads + Sync>(
 pub(crate) fn answer_programs<'a, R: Threads + Sync>(
     rt: &R,
     alloc: Global,
-    entries: &'a [Entry],
+    entries: &[Entry<'a>],
     parts: usize,
 ) -> Result<Vec<Answered<'a>>, AllocError>
     requires { AllByRecursion (EntryIsShort 4294967295) (map entry_of entries.now) }

@@ -27,7 +27,7 @@ fn least(texts: Texts) -> u64 {
 }
 
 // How many bytes are read of an entry.
-fn weigh(entry: &Entry, texts: Texts) -> u64 {
+fn weigh(entry: &Entry<'_>, texts: Texts) -> u64 {
     match entry {
         Entry::Program { text, .. } => match texts {
             Texts::Programs => text.len() as u64,
@@ -41,7 +41,7 @@ fn weigh(entry: &Entry, texts: Texts) -> u64 {
 }
 
 // How many bytes are read of all of them.
-fn weigh_all(entries: &[Entry], texts: Texts) -> u64 {
+fn weigh_all(entries: &[Entry<'_>], texts: Texts) -> u64 {
     let mut total: u64 = 0;
     'entries: for entry in entries {
         total = total.wrapping_add(weigh(entry, texts));
@@ -51,7 +51,7 @@ fn weigh_all(entries: &[Entry], texts: Texts) -> u64 {
 
 /// Where to cut these entries, so that about as much is read of those in front as of those behind. It is one of the
 /// ends where there is nothing to share.
-pub(crate) fn middle(entries: &[Entry], texts: Texts) -> usize
+pub(crate) fn middle(entries: &[Entry<'_>], texts: Texts) -> usize
     ensures { result ≤ length entries.now }
 {
     let total = weigh_all(entries, texts);

@@ -9,7 +9,6 @@ ghost use Rattle.script_plans.specs.Answers.{AreAnswered};
 
 use crate::answering::{Answered, answer_programs};
 use crate::rows::{Known, Row};
-use camelot_values::Word;
 use cause_texts::Cause;
 use job_script::Entry;
 use licence::Licence;
@@ -30,7 +29,7 @@ pub(crate) struct Programs<'a> {
 #[tactic(auto, using(crate::proofs::Programs::accepted))]
 fn accept<'a>(
     programs: &mut Programs<'a>,
-    name: &'a Word,
+    name: &'a [u8],
     camelot: bool,
     text: &'a [u8],
     licence: Licence,
@@ -59,7 +58,7 @@ fn accept<'a>(
 #[tactic(auto, using(crate::proofs::Programs::refused))]
 fn refuse<'a>(
     programs: &mut Programs<'a>,
-    name: &'a Word,
+    name: &'a [u8],
     camelot: bool,
     text: &'a [u8],
     cause: Cause,
@@ -99,7 +98,7 @@ fn add_program<'a>(programs: &mut Programs<'a>, answered: Answered<'a>) -> Resul
 #[tactic(auto, using(crate::proofs::AllAnswered::none_added, crate::proofs::AllAnswered::next_answer, crate::proofs::AllAnswered::next_few, crate::proofs::AllAnswered::added_more, crate::proofs::AllAnswered::added_all))]
 fn add_all<'a>(
     alloc: Global,
-    entries: &'a [Entry],
+    entries: &[Entry<'a>],
     answers: Vec<Answered<'a>>,
 ) -> Result<Programs<'a>, AllocError>
     requires answers { AreAnswered (map entry_of entries.now) answers.items }
@@ -122,7 +121,7 @@ fn add_all<'a>(
 pub(crate) fn license_all<'a, R: Threads + Sync>(
     rt: &R,
     alloc: Global,
-    entries: &'a [Entry],
+    entries: &[Entry<'a>],
     parts: usize,
 ) -> Result<Programs<'a>, AllocError>
     requires short { AllByRecursion (EntryIsShort 4294967295) (map entry_of entries.now) }

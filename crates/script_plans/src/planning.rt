@@ -16,7 +16,7 @@ use crate::calling::plan_wanted;
 use crate::licensing::license_all;
 use crate::rows::Row;
 use crate::types::{JobPlan, Plans};
-use crate::wanting::{Wanted, want_jobs};
+use crate::wanting::{Wanted, want_entry, want_jobs};
 use job_script::laws::law_of_lengths;
 use job_script::{Entry, Script};
 use job_world::Jobs;
@@ -83,7 +83,7 @@ fn take_all(
     licences: Vec<Licence>,
     rows: &[Row<'_>],
     arena: u32,
-    entries: &[Entry],
+    entries: &[Entry<'_>],
     wanted: Vec<Option<Wanted>>,
 ) -> Result<Taken, AllocError>
     requires rows { AreRows licences.items (map row_of rows.now) }
@@ -109,6 +109,63 @@ fn take_all(
     Ok(taken)
 }
 
+// Plans what all of these entries ask for, each before the next one is read.
+fn take_in_turn(
+    alloc: Global,
+    licences: Vec<Licence>,
+    rows: &[Row<'_>],
+    arena: u32,
+    entries: &[Entry<'_>],
+) -> Result<Taken, AllocError>
+    requires rows { AreRows licences.items (map row_of rows.now) }
+    requires short { AllByRecursion (EntryIsShort 4294967295) (map entry_of entries.now) }
+    requires within { AllByRecursion EntryIsWithin (map entry_of entries.now) }
+    requires few { length (map entry_of entries.now) ≤ 4160 }
+    requires arena { arena ≤ 2147483648 }
+    requires programs { (name : List ℕ) → program_named (map entry_of entries.now) name ≡ row_program (row_among (map row_of rows.now) name) }
+    ensures { IfOk result (λ t. ArePlanned arena (map entry_of entries.now) t.jobs t.plans.items t.asked.items) }
+{
+    let mut taken = Taken {
+        jobs: Jobs::new(alloc, licences),
+        plans: Vec::with_capacity(alloc, entries.len())?,
+        asked: Vec::with_capacity(alloc, entries.len())?,
+    };
+    taken.jobs.reserve(entries.len())?;
+    let mut place: u32 = 0;
+    'entries: for entry in entries {
+        let wanted = want_entry(alloc, taken.jobs.licences(), rows, entry)?;
+        take_entry(&mut taken, arena, place, wanted)?;
+        place += 1;
+    }
+    Ok(taken)
+}
+
+// Plans what all of these entries ask for. With one part each is read and planned in turn. With more all are read
+// first, by so many parts side by side.
+fn take_jobs<R: Threads + Sync>(
+    rt: &R,
+    alloc: Global,
+    licences: Vec<Licence>,
+    rows: &[Row<'_>],
+    arena: u32,
+    entries: &[Entry<'_>],
+    parts: usize,
+) -> Result<Taken, AllocError>
+    requires rows { AreRows licences.items (map row_of rows.now) }
+    requires short { AllByRecursion (EntryIsShort 4294967295) (map entry_of entries.now) }
+    requires within { AllByRecursion EntryIsWithin (map entry_of entries.now) }
+    requires few { length (map entry_of entries.now) ≤ 4160 }
+    requires arena { arena ≤ 2147483648 }
+    requires programs { (name : List ℕ) → program_named (map entry_of entries.now) name ≡ row_program (row_among (map row_of rows.now) name) }
+    ensures { IfOk result (λ t. ArePlanned arena (map entry_of entries.now) t.jobs t.plans.items t.asked.items) }
+{
+    if parts < 2 {
+        return take_in_turn(alloc, licences, rows, arena, entries);
+    }
+    let wanted = want_jobs(rt, alloc, &licences, rows, entries, parts)?;
+    take_all(alloc, licences, rows, arena, entries, wanted)
+}
+
 /// Plans a script: each program's licence is asked for, once, of the compiler for a source in Camelot and of the
 /// verifier for a bundle of Grail code. Each job is planned on its own, by the text of its program, its entry, its fuel
 /// and its arguments. Licences are asked for, and arguments read, by as many parts side by side as the script has
@@ -120,7 +177,7 @@ fn take_all(
 pub fn plan_script<R: Threads + Sync>(
     rt: &R,
     alloc: Global,
-    script: &Script,
+    script: &Script<'_>,
 ) -> Result<Plans, AllocError>
     requires script { IsScript (script_of script.now) }
     requires short { AllByRecursion (EntryIsShort 4294967295) (script_of script.now).items }
@@ -135,21 +192,14 @@ pub fn plan_script<R: Threads + Sync>(
 {
     law_of_lengths();
     let programs = license_all(rt, alloc, &script.items, script.workers as usize)?;
-    let wanted = want_jobs(
+    let taken = take_jobs(
         rt,
-        alloc,
-        &programs.licences,
-        &programs.rows,
-        &script.items,
-        script.workers as usize,
-    )?;
-    let taken = take_all(
         alloc,
         programs.licences,
         &programs.rows,
         script.arena,
         &script.items,
-        wanted,
+        script.workers as usize,
     )?;
     Ok(Plans {
         programs: programs.lines,

@@ -3,7 +3,6 @@ ghost use Rattle.std.specs.Prelude.{◌≡◌, map};
 ghost use Rattle.std.specs.Option.{option_map};
 ghost use Rattle.script_plans.specs.Rows.{row_of, row_among};
 
-use camelot_values::Word;
 use value_text::Inhabited;
 
 /// What is known of a program that has a licence: the licence's number, and which of its types have values.
@@ -16,7 +15,7 @@ pub(crate) struct Known {
 /// A program of the script: its name, its language, its text, and what is known of it, where it isn't refused.
 #[derive(Drop)]
 pub(crate) struct Row<'a> {
-    pub(crate) name: &'a Word,
+    pub(crate) name: &'a [u8],
     pub(crate) camelot: bool,
     pub(crate) text: &'a [u8],
     pub(crate) known: Option<Known>,
@@ -29,7 +28,7 @@ pub(crate) fn find<'a, 'b>(rows: &'a [Row<'b>], name: &[u8]) -> Option<&'a Row<'
 {
     let mut rest = rows;
     'rows: while let [row, others @ ..] = rest {
-        if row.name.bytes() == name {
+        if row.name == name {
             return Some(row);
         }
         rest = others;

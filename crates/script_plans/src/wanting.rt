@@ -109,18 +109,18 @@ fn want(
     }
 }
 
-// What an entry wants, where it is a job.
-fn want_entry(
+/// What an entry wants, where it is a job.
+pub(crate) fn want_entry(
     alloc: Global,
     licences: &[Licence],
     rows: &[Row<'_>],
-    entry: &Entry,
+    entry: &Entry<'_>,
 ) -> Result<Option<Wanted>, AllocError>
     requires rows { AreRows licences.now (map row_of rows.now) }
     requires short { EntryIsShort 4294967295 (entry_of entry.now) }
     ensures { IfOk result (IsWantedBy licences.now (map row_of rows.now) (entry_of entry.now)) }
 {
-    match entry {
+    match *entry {
         Entry::Program { .. } => Ok(None),
         Entry::Job {
             program,
@@ -130,10 +130,10 @@ fn want_entry(
             ..
         } => {
             let request = Request {
-                program: program.bytes(),
-                entry: entry.bytes(),
+                program,
+                entry,
                 args,
-                fuel: *fuel,
+                fuel,
             };
             let wanted = want(alloc, licences, rows, &request)?;
             Ok(Some(wanted))
@@ -147,7 +147,7 @@ fn want_each(
     alloc: Global,
     licences: &[Licence],
     rows: &[Row<'_>],
-    entries: &[Entry],
+    entries: &[Entry<'_>],
 ) -> Result<Vec<Option<Wanted>>, AllocError>
     requires rows { AreRows licences.now (map row_of rows.now) }
     requires short { AllByRecursion (EntryIsShort 4294967295) (map entry_of entries.now) }
@@ -169,9 +169,9 @@ fn want_both<R: Threads + Sync>(
     alloc: Global,
     licences: &[Licence],
     rows: &[Row<'_>],
-    front: &[Entry],
+    front: &[Entry<'_>],
     low: usize,
-    back: &[Entry],
+    back: &[Entry<'_>],
     high: usize,
 ) -> Result<Vec<Option<Wanted>>, AllocError>
     requires rows { AreRows licences.now (map row_of rows.now) }
@@ -204,7 +204,7 @@ pub(crate) fn want_jobs<R: Threads + Sync>(
     alloc: Global,
     licences: &[Licence],
     rows: &[Row<'_>],
-    entries: &[Entry],
+    entries: &[Entry<'_>],
     parts: usize,
 ) -> Result<Vec<Option<Wanted>>, AllocError>
     requires rows { AreRows licences.now (map row_of rows.now) }

@@ -1,51 +1,47 @@
--- Reports whose lines have the same texts are the same, and summaries whose jobs count for the same.
+-- The report that is written is that of the fates, and so is the summary.
 use Rattle.std.specs.Prelude.{codes}
-use Rattle.std.proofs.Common.{◌≡◌, ℕ, List, [], ◌∷◌, ◌++◌, length, map, refl, sym, ap, ◌∙◌}
+use Rattle.std.proofs.Common.{◌≡◌, ℕ, List, [], ◌++◌, length, map, sym, ap, ◌∙◌, append-nil}
 use Rattle.std.proofs.lemmas.List.{length-map}
-use Rattle.job_script.specs.Scripts.{Entry, AProgram, AJob, Script}
+use Rattle.licence.specs.Licensed.{Licensed}
+use Rattle.job_script.specs.Scripts.{Entry, Script}
 use Rattle.job_world.specs.Plans.{Planned}
 use Rattle.script_plans.specs.declared.types.JobPlan.{JobPlan}
 use Rattle.script_plans.specs.Lines.{ArePlanned, planned_lines}
 use Rattle.script_service.specs.Service.{told_of}
 use Rattle.lease_desk.specs.declared.event.Event.{Event}
 use Rattle.script_outcomes.specs.declared.outcome.ProgramLine.{ProgramLine}
-use Rattle.script_outcomes.specs.Told.{JobLine, Told}
+use Rattle.script_outcomes.specs.Told.{JobLine, line_of}
+use Rattle.script_outcomes.specs.declared.outcome.JobLine.{JobLine as DeclaredLine}
 use Rattle.run_reports.specs.declared.summing.Counted.{Counted}
-use Rattle.run_reports.specs.Report.{program_lines, job_lines, told_text, event_lines, asked_name, end_text, report_text}
+use Rattle.run_reports.specs.Report.{program_lines, job_lines, job_text, told_text, event_lines, asked_name, end_text, report_text}
 use Rattle.run_reports.specs.Counts.{tally_of_count}
 use Rattle.run_reports.specs.Summary.{sum, summary_text, tally_of, tally_text, total}
 
-head_is : {A : Type 0} (x y : A) (xs ys : List A) → x ∷ xs ≡ y ∷ ys → x ≡ y
-head_is x y xs ys e = cc
+-- the line of a job is that of another line with the same text, told with the same licences
+pub same_job : (name out old : List ℕ) (licences : List Licensed) (mine : List Licensed) (line : DeclaredLine) (other : JobLine) → out ≡ old ++ job_text name (line_of mine line) → mine ≡ licences
+    → told_text (line_of licences line) ≡ told_text other → out ≡ old ++ job_text name other
+same_job name out old licences mine line other e f same =
+    e ∙ ap (λ l. old ++ job_text name (line_of l line)) f ∙ ap (λ t. old ++ ((codes "job " ++ name) ++ t ++ codes "\n")) same
 
-tail_is : {A : Type 0} (x y : A) (xs ys : List A) → x ∷ xs ≡ y ∷ ys → xs ≡ ys
-tail_is x y xs ys e = cc
+-- none are to come
+pub no_more : (out whole : List ℕ) → out ++ [] ≡ whole → out ≡ whole
+no_more out whole e = sym (append-nil out) ∙ e
 
-same_lines : (entries : List Entry) (ls ms : List JobLine) → map told_text ls ≡ map told_text ms → job_lines entries ls ≡ job_lines entries ms
-same_lines [] ls ms e = refl
-same_lines (AProgram p ∷ entries) ls ms e = same_lines entries ls ms e
-same_lines (AJob j ∷ entries) [] [] e = same_lines entries [] [] refl
-same_lines (AJob j ∷ entries) [] (m ∷ ms) e = cc
-same_lines (AJob j ∷ entries) (l ∷ ls) [] e = cc
-same_lines (AJob j ∷ entries) (l ∷ ls) (m ∷ ms) e =
-    let here : told_text l ≡ told_text m = head_is (told_text l) (told_text m) (map told_text ls) (map told_text ms) e in
-    let rest : job_lines entries ls ≡ job_lines entries ms = same_lines entries ls ms (tail_is (told_text l) (told_text m) (map told_text ls) (map told_text ms) e) in
-    λ i. ((codes "job " ++ j.name) ++ here i ++ codes "\n") ++ rest i
-
-pub same_report : (entries : List Entry) (t u : Told) → t.programs ≡ u.programs → map told_text t.jobs ≡ map told_text u.jobs → t.asked ≡ u.asked
-    → t.journal ≡ u.journal → t.free ≡ u.free → report_text entries t ≡ report_text entries u
-unfolding report_text
-same_report entries t u programs jobs asked journal free =
-    let lines : job_lines entries t.jobs ≡ job_lines entries u.jobs = same_lines entries t.jobs u.jobs jobs in
-    λ i. program_lines entries (programs i) ++ lines i ++ event_lines (asked_name entries (asked i)) (journal i) ++ end_text (free i)
-
--- the report that is written of plans and of what was filed for them is that of the fates that they are planned by
-pub report_is : (script : Script) (ps : Planned) (programs : List ProgramLine) (plans : List JobPlan) (asked : List ℕ) (lines : List JobLine) (journal : List Event) (told : Told) (output : List ℕ)
-    → map told_text lines ≡ map told_text (planned_lines ps script.arena plans)
-    → told.programs ≡ programs → told.jobs ≡ lines → told.asked ≡ asked → told.journal ≡ journal → told.free ≡ script.arena → output ≡ report_text script.items told
+-- The report that is written of plans and of what was filed for them is that of the fates that they are planned by. The
+-- lists that its parts were written of are those of the script, the plans and the journal.
+pub report_is : (script : Script) (ps : Planned) (programs ps1 : List ProgramLine) (plans ps2 : List JobPlan) (asked as3 : List ℕ) (journal es3 : List Event) (is1 is2 is3 : List Entry) (n o p q output : List ℕ)
+    → is1 ≡ script.items → ps1 ≡ programs → is2 ≡ script.items → ps2 ≡ plans → is3 ≡ script.items → as3 ≡ asked → es3 ≡ journal
+    → n ≡ [] → o ≡ n ++ program_lines is1 ps1 → p ≡ o ++ job_lines is2 (planned_lines ps script.arena ps2)
+    → q ≡ p ++ event_lines (asked_name is3 as3) es3 → output ≡ q ++ end_text script.arena
     → (planned : ArePlanned script.arena script.items ps plans asked) → output ≡ report_text script.items (told_of script programs planned.fates journal)
-report_is script ps programs plans asked lines journal told output same ep ej ea el ef is planned =
-    is ∙ same_report script.items told (told_of script programs planned.fates journal) ep (ap (map told_text) ej ∙ same ∙ ap (map told_text) planned.lines) (ea ∙ planned.places) el ef
+unfolding report_text
+report_is script ps programs ps1 plans ps2 asked as3 journal es3 is1 is2 is3 n o p q output i1 e1 i2 e2 i3 e3 f3 a b c d e planned =
+    let front : o ≡ program_lines is1 ps1 = b ∙ ap (λ l. l ++ program_lines is1 ps1) a in
+    let jobs : p ≡ program_lines is1 ps1 ++ job_lines is2 (planned_lines ps script.arena ps2) = c ∙ ap (λ l. l ++ job_lines is2 (planned_lines ps script.arena ps2)) front in
+    let events : q ≡ program_lines is1 ps1 ++ job_lines is2 (planned_lines ps script.arena ps2) ++ event_lines (asked_name is3 as3) es3 = d ∙ ap (λ l. l ++ event_lines (asked_name is3 as3) es3) jobs in
+    e ∙ ap (λ l. l ++ end_text script.arena) events
+    ∙ (λ i. program_lines (i1 i) (e1 i) ++ job_lines (i2 i) (planned_lines ps script.arena (e2 i)) ++ event_lines (asked_name (i3 i) (e3 i)) (f3 i) ++ end_text script.arena)
+    ∙ (λ i. program_lines script.items programs ++ job_lines script.items (planned.lines i) ++ event_lines (asked_name script.items (planned.places i)) journal ++ end_text script.arena)
 
 -- the summary that is written of what the plans count for is that of the fates that they are planned by
 pub summary_is : (script : Script) (ps : Planned) (plans : List JobPlan) (asked : List ℕ) (arena : ℕ) (counts slice : List Counted) (output : List ℕ)

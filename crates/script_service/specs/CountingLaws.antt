@@ -8,7 +8,6 @@ use Rattle.cell_machine.specs.Endings.{EndsWith}
 use Rattle.cell_machine.specs.declared.machine.Ending.{Ending}
 use Rattle.cell_machine.specs.declared.machine.Ending.TheVariants as ending
 use Rattle.run_reports.specs.contracts.summing.Counted as row
-use Rattle.run_reports.specs.declared.summing.Counted.{Counted}
 use Rattle.run_reports.specs.declared.summing.Counted.TheVariants as counted
 use Rattle.run_reports.specs.Counts.{count_of}
 use Rattle.script_outcomes.specs.Told.{outcome_of}

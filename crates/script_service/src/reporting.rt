@@ -15,13 +15,13 @@ ghost use Rattle.script_service.specs.Counting.{Counts};
 ghost use Rattle.script_service.specs.Handed.{IsHanded, service_of};
 
 use crate::counting::Tallied;
-use crate::lines::{job_counts, job_lines};
+use crate::lines::{job_counts, push_lines};
 use crate::service::ServedScript;
 use cell_machine::Ending;
 use cell_span::Span;
 use job_script::Script;
 use lease_desk::Event;
-use run_reports::{Outcome, report, summarize};
+use run_reports::{push_end, push_events, push_programs, summarize};
 use script_plans::Plans;
 use std::alloc::{AllocError, Global};
 
@@ -33,11 +33,14 @@ pub struct ReportedScript {
     pub arena: Span,
 }
 
+// Room for a job's line and those of its lease, so that the text of many jobs is seldom moved.
+const LINE_ROOM: usize = 128;
+
 // The report of a script, from its plans, the endings of its runs and the journal.
 #[tactic(auto, using(crate::proofs::Filing::all_own))]
 fn report_plans(
     alloc: Global,
-    script: &Script,
+    script: &Script<'_>,
     plans: Plans,
     journal: Vec<Event>,
     endings: Vec<Option<Ending>>,
@@ -49,29 +52,33 @@ fn report_plans(
         (told_of (script_of script.now) plans.programs.items planned.fates journal.items)) }
 {
     let mut endings = endings;
-    let lines = job_lines(alloc, &plans.jobs, script.arena, &plans.plans, &mut endings)?;
-    let outcome = Outcome {
-        programs: plans.programs,
-        jobs: lines,
-        asked: plans.asked,
-        journal,
-        free: script.arena as u64,
-    };
-    let text = report(alloc, script, plans.jobs.licences(), &outcome)?;
-    Ok(text)
+    let mut out = Vec::with_capacity(alloc, LINE_ROOM.saturating_mul(plans.plans.len()))?;
+    push_programs(alloc, &mut out, &script.items, &plans.programs)?;
+    push_lines(
+        alloc,
+        &mut out,
+        &script.items,
+        &plans.jobs,
+        script.arena,
+        &plans.plans,
+        &mut endings,
+    )?;
+    push_events(&mut out, &script.items, &plans.asked, &journal)?;
+    push_end(&mut out, script.arena as u64)?;
+    Ok(out)
 }
 
 /// The report of a script that was served. The arena is handed on. `AllocError` where memory runs out: the arena is
 /// ended then.
 pub fn report_served(
     alloc: Global,
-    served: ServedScript<Ending>,
+    served: ServedScript<'_, Ending>,
 ) -> Result<ReportedScript, AllocError>
     requires { IsHanded EndsWith served }
     // It is the report of what comes of the script, by the fates of its jobs.
-    ensures text { (handed : IsHanded EndsWith served) → IfOk result (λ r. r.text.items ≡ report_of (service_of served handed.planned.fates)) }
+    ensures text { (handed : IsHanded EndsWith served.entry) → IfOk result (λ r. r.text.items ≡ report_of (service_of served.entry handed.planned.fates)) }
     // The arena is the one that was left by serving.
-    ensures arena { IfOk result (λ r. r.arena ≡ served.arena) }
+    ensures arena { IfOk result (λ r. r.arena ≡ served.entry.arena) }
 {
     let ServedScript {
         script,
@@ -109,12 +116,22 @@ fn summarize_plans(
     Ok(text)
 }
 
+// The cells of a script's arena.
+fn cells_of(script: &Script<'_>) -> u32
+    ensures { result ≡ script.now.arena }
+{
+    script.arena
+}
+
 /// The summary of a script that was served, in one line. The arena is ended. `AllocError` where memory runs out: the
 /// arena is ended then too.
-pub fn summarize_served(alloc: Global, served: ServedScript<Tallied>) -> Result<Vec<u8>, AllocError>
+pub fn summarize_served(
+    alloc: Global,
+    served: ServedScript<'_, Tallied>,
+) -> Result<Vec<u8>, AllocError>
     requires { IsHanded Counts served }
     // It is the summary of what comes of the script, by the fates of its jobs.
-    ensures { (handed : IsHanded Counts served) → IfOk result (λ text. text.items ≡ summary_of (service_of served handed.planned.fates)) }
+    ensures { (handed : IsHanded Counts served.entry) → IfOk result (λ text. text.items ≡ summary_of (service_of served.entry handed.planned.fates)) }
 {
     let ServedScript {
         script,
@@ -123,7 +140,8 @@ pub fn summarize_served(alloc: Global, served: ServedScript<Tallied>) -> Result<
         endings,
         arena,
     } = served;
+    let cells = cells_of(&script);
     drop(journal);
     arena.end();
-    summarize_plans(alloc, script.arena, plans, endings)
+    summarize_plans(alloc, cells, plans, endings)
 }

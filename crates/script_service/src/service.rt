@@ -13,7 +13,7 @@ use crate::running::run_jobs;
 use cell_machine::Ending;
 use cell_span::Span;
 use job_script::laws::{law_of_lengths, law_of_scripts};
-use job_script::{Script, ScriptFault, make_script, read_script};
+use job_script::{Script, ScriptFault, make_script, make_texts, read_script};
 use job_workers::{Gate, Kept, ServedJobs};
 use lease_desk::Event;
 use script_plans::laws::law_of_short;
@@ -25,9 +25,9 @@ use stops::Stop;
 use thiserror::Error;
 
 /// What serving a script hands out, with as much of each ending as is kept. It can't be dropped, as its arena can't.
-pub struct ServedScript<K> {
+pub struct ServedScript<'a, K> {
     /// The script, as it was read.
-    pub script: Script,
+    pub script: Script<'a>,
     /// One line for each program, and what was planned of the jobs.
     pub plans: Plans,
     /// What the desk did.
@@ -61,15 +61,15 @@ fn serve_fault(stop: Stop<ScriptFault>) -> ServeFault
 
 // Serves a script that was read.
 #[tactic(auto, using(crate::proofs::Handing::some_cells, crate::proofs::Handing::few_cells))]
-fn serve_read<K: Kept + Send, R: Threads + Wait + Sync, G: Gate + Sync>(
+fn serve_read<'a, K: Kept + Send, R: Threads + Wait + Sync, G: Gate + Sync>(
     rt: &R,
     alloc: Global,
-    script: Script,
+    script: Script<'a>,
     gate: &G,
-) -> Result<ServedScript<K>, AllocError>
+) -> Result<ServedScript<'a, K>, AllocError>
     requires script { IsScript (script_of script) }
     requires short { AllByRecursion (EntryIsShort 4294967295) (script_of script).items }
-    ensures { IfOk result (IsOf K.keeps (script_of script)) }
+    ensures { IfOk result (IsOf K.keeps (script_of script.entry)) }
 {
     let plans = plan_script(rt, alloc, &script)?;
     let ServedJobs {
@@ -89,33 +89,30 @@ fn serve_read<K: Kept + Send, R: Threads + Wait + Sync, G: Gate + Sync>(
 /// Serves a script. Each of its programs is compiled from its source, or accepted from its bundle's bytes alone. Its
 /// jobs run in one arena, by as many workers as it says, each of which passes the gate. Hands out the script, what was
 /// planned of it, the journal of the leases, the endings of the runs, and the arena as they left it. The input has
-/// fewer than 2^32 bytes; it is let go once the script is read. It may wait for the lock and the desk.
+/// fewer than 2^32 bytes; the script's names and texts are parts of it. It may wait for the lock and the desk.
 ///
 /// # Errors
 ///
 /// [`ServeFault::NoScript`] exactly where the input is no script, with its first wrong line. [`ServeFault::Memory`]
 /// where memory runs out: the arena is ended then.
-pub fn run_script<R: Threads + Wait + Sync, G: Gate + Sync>(
+pub fn run_script<'a, R: Threads + Wait + Sync, G: Gate + Sync>(
     rt: &R,
     alloc: Global,
-    input: Vec<u8>,
+    input: &'a [u8],
     gate: &G,
-) -> Result<ServedScript<Ending>, ServeFault>
-    requires { length input.items < 4294967296 }
+) -> Result<ServedScript<'a, Ending>, ServeFault>
+    requires { length input.now < 4294967296 }
     // What is handed out is what comes of the script that the input is the text of; an input is refused for its cause.
-    ensures { MatchResult result (IsHandedFor input.items) (IsRefused input.items) }
+    ensures { MatchResult result (IsHandedFor input.now) (IsRefused input.now) }
 {
     law_of_scripts();
     law_of_lengths();
     law_of_short();
-    match read_script(alloc, &input) {
-        Ok(script) => {
-            drop(input);
-            match serve_read::<Ending, R, G>(rt, alloc, script, gate) {
-                Ok(served) => Ok(served),
-                Err(_) => Err(ServeFault::Memory),
-            }
-        }
+    match read_script(alloc, input) {
+        Ok(script) => match serve_read::<Ending, R, G>(rt, alloc, script, gate) {
+            Ok(served) => Ok(served),
+            Err(_) => Err(ServeFault::Memory),
+        },
         Err(stop) => Err(serve_fault(stop)),
     }
 }
@@ -123,8 +120,7 @@ pub fn run_script<R: Threads + Wait + Sync, G: Gate + Sync>(
 /// The report of a script: each of its programs, compiled from its source or accepted from its bundle's bytes alone,
 /// with its unit or why it is refused; each of its jobs with what it comes to by the meaning of its own program, its
 /// peak and its bound; and the journal of the leases that they had in one arena. With it comes that arena, as the jobs
-/// left it. The input has fewer than 2^32 bytes; it is let go once the script is read. It may wait for the lock and the
-/// desk.
+/// left it. The input has fewer than 2^32 bytes. It may wait for the lock and the desk.
 ///
 /// # Errors
 ///
@@ -133,13 +129,13 @@ pub fn run_script<R: Threads + Wait + Sync, G: Gate + Sync>(
 pub fn serve_script<R: Threads + Wait + Sync, G: Gate + Sync>(
     rt: &R,
     alloc: Global,
-    input: Vec<u8>,
+    input: &[u8],
     gate: &G,
 ) -> Result<ReportedScript, ServeFault>
-    requires { length input.items < 4294967296 }
+    requires { length input.now < 4294967296 }
     // What is answered is the report of what comes of the input, and the arena that this leaves; an input is refused
     // for its cause.
-    ensures { MatchResult result (λ r. IsReportIn input.items r.text.items r.arena) (IsRefused input.items) }
+    ensures { MatchResult result (λ r. IsReportIn input.now r.text.items r.arena) (IsRefused input.now) }
 {
     match run_script(rt, alloc, input, gate) {
         Ok(served) => match report_served(alloc, served) {
@@ -165,7 +161,8 @@ pub fn drill<R: Threads + Wait + Sync, G: Gate + Sync>(
     // What is answered is the summary of what comes of the script.
     ensures { IfOk result (λ text. IsSummary jobs workers text.items) }
 {
-    let script = make_script(alloc, jobs, workers)?;
+    let texts = make_texts(alloc, jobs)?;
+    let script = make_script(alloc, &texts, jobs, workers)?;
     let served = serve_read::<Tallied, R, G>(rt, alloc, script, gate)?;
     let text = summarize_served(alloc, served)?;
     Ok(text)

@@ -15,7 +15,7 @@ fn shown(alloc: Global, bytes: &[u8]) -> io::Result<String> {
 }
 
 // An entry, as its parts.
-fn shown_entry(alloc: Global, entry: Option<&Entry>) -> io::Result<String> {
+fn shown_entry(alloc: Global, entry: Option<&Entry<'_>>) -> io::Result<String> {
     match entry {
         None => Ok(format!(in alloc; "no entry")?),
         Some(
@@ -24,7 +24,11 @@ fn shown_entry(alloc: Global, entry: Option<&Entry>) -> io::Result<String> {
                 camelot,
                 text,
             },
-        ) => Ok(format!(in alloc; "program {name} camelot {camelot} {}", shown(alloc, text)?)?),
+        ) => Ok(format!(in alloc;
+            "program {} camelot {camelot} {}",
+            name.escape_ascii(),
+            shown(alloc, text)?
+        )?),
         Some(
             Entry::Job {
                 name,
@@ -34,7 +38,10 @@ fn shown_entry(alloc: Global, entry: Option<&Entry>) -> io::Result<String> {
                 args,
             },
         ) => Ok(format!(in alloc;
-            "job {name} {program} {entry} {fuel} {}",
+            "job {} {} {} {fuel} {}",
+            name.escape_ascii(),
+            program.escape_ascii(),
+            entry.escape_ascii(),
             shown(alloc, args)?
         )?),
     }

@@ -7,4 +7,8 @@ abbrev pub decreases-jobs : goal.decreases-jobs
 decreases-jobs l = l.left
 
 abbrev pub invariant-jobs : goal.invariant-jobs
-invariant-jobs l = record { items : map entry_of l.items.items ++ made_jobs l.left l.number ≡ map entry_of l.initial.items.items ++ made_jobs l.count 1; few : l.left + l.number ≤ 4097 }
+invariant-jobs l = record {
+  items : map entry_of l.items.items ++ made_jobs l.left l.number ≡ map entry_of l.initial.items.items ++ made_jobs l.count 1;
+  sum : l.left + l.number ≡ l.count + 1;
+  least : 1 ≤ l.number;
+}

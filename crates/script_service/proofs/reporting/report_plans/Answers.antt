@@ -1,15 +1,11 @@
-use Rattle.std.proofs.Common.{◌≡◌, map, refl, ap, subst}
-use Rattle.job_script.specs.Words.{script_of}
-use Rattle.script_outcomes.specs.Told.{line_of}
-use Rattle.run_reports.specs.Report.{told_text}
-use Rattle.script_plans.specs.Lines.{planned_lines}
+use Rattle.std.proofs.Common.{map, ap}
+use Rattle.job_script.specs.Words.{entry_of, script_of}
 use Rattle.script_service.proofs.SameReports.{report_is}
 use Rattle.script_service.proofs.reporting.report_plans.Goals as goal
 
 pub returns : goal.returns
 returns c =
-    let jobs = c.args.plans.jobs in
-    let lines = map (line_of jobs.licences) c.in_ok-lines.lines.items in
-    report_is (script_of c.args.script.now) jobs c.args.plans.programs.items c.args.plans.plans.items c.args.plans.asked.items lines c.args.journal.items _ c.in_ok-text.text.items
-    (subst (λ l. map told_text lines ≡ map told_text (planned_lines jobs c.args.script.now.arena l)) c.deref.ensures.value c.in_ok-lines.ensures) refl
-    (ap (λ l. map (line_of l) c.in_ok-lines.lines.items) c.licences.ensures) refl refl refl c.in_ok-text.ensures
+    report_is (script_of c.args.script.now) c.args.plans.jobs c.args.plans.programs.items c.deref-2.result.now c.args.plans.plans.items c.deref-4.result.now c.args.plans.asked.items c.deref-6.result.now c.args.journal.items c.deref-7.result.now
+    (map entry_of c.deref.result.now) (map entry_of c.deref-3.result.now) (map entry_of c.deref-5.result.now) c.in_ok-out.out.items c.push_programs.new.out.items c.push_lines.new.out.items c.push_events.new.out.items c.push_end.new.out.items
+    (ap (map entry_of) c.deref.ensures.value) c.deref-2.ensures.value (ap (map entry_of) c.deref-3.ensures.value) c.deref-4.ensures.value (ap (map entry_of) c.deref-5.ensures.value) c.deref-6.ensures.value c.deref-7.ensures.value
+    c.in_ok-out.ensures.items c.in_ok-push_programs.ensures c.in_ok-push_lines.ensures c.in_ok-push_events.ensures c.in_ok-push_end.ensures

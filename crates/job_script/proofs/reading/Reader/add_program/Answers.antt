@@ -23,7 +23,7 @@ returns c = record {
     text = refl;
     short = c.requires.going.short;
     going = subst (λ l. Going c.args.self.now.text.now c.args.self.now.arena c.args.self.now.workers l c.add_name.new.names c.args.self.now.jobs c.in-Ok-read_body.body.after.now (c.args.self.now.number + 2 + c.in-Ok-read_body.body.lines))
-        (sym (items_more c.args.self.now.items.items c.push.new.self.items c.in-Ok-program_entry.entry (program_by c.args.name.now c.args.camelot c.in-Ok-read_body.body.text.now) c.in-Ok-push.ensures.items c.in-Ok-program_entry.ensures))
+        (sym (items_more c.args.self.now.items.items c.push.new.self.items _ (program_by c.args.name.now c.args.camelot c.in-Ok-read_body.body.text.now) c.in-Ok-push.ensures.items refl))
         (program_done c.args.self.now.text.now c.args.self.now.arena c.args.self.now.workers (map entry_of c.args.self.now.items.items) c.args.self.now.programs c.args.self.now.jobs c.add_name.new.names c.args.self.now.rest.now c.args.line.now
         c.args.after.now c.args.name.now c.args.camelot c.args.self.now.number c.in-Ok-read_body.body.lines c.in-Ok-read_body.body.text.now c.in-Ok-read_body.body.after.now c.requires.going.going c.requires.line c.requires.head c.in-Ok.ensures
         c.in-Ok-read_body.ensures.found);

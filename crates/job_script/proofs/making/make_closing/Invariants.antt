@@ -1,8 +1,8 @@
 use Rattle.std.proofs.Common.{◌≡◌, ◌++◌, replicate}
-use Rattle.job_script.proofs.making.push_ends.Given as goal
+use Rattle.job_script.proofs.making.make_closing.Given as goal
 
 abbrev pub decreases-ends : goal.decreases-ends
 decreases-ends l = l.left
 
 abbrev pub invariant-ends : goal.invariant-ends
-invariant-ends l = l.out.items ++ replicate l.left 41 ≡ l.initial.out.items ++ replicate l.count 41
+invariant-ends l = l.out.items ++ replicate l.left 41 ≡ replicate l.count 41
