@@ -17,7 +17,7 @@ fn main(rt: HostRuntime) -> ExitCode {
         Ok(words) => {
             let mut source = StdSource::new(rt.reader());
             let mut sink = StdSink::new(io::writer(&rt));
-            host_gated(&rt, rt.alloc(), &words, &mut source, &mut sink, &OpenGate).end()
+            host_gated(&rt, rt.alloc(), &words, &mut source, &mut sink, &OpenGate).leave()
         }
         Err(error) => status_without_words(&error),
     };

@@ -6,11 +6,10 @@ use Rattle.std.specs.Io.KnownBytes.{Consumes, IsAtEnd}
 use Rattle.cell_span.specs.Range.{Range, IsWhole}
 use Rattle.host_io.specs.Sink.{Tells}
 use Rattle.host_io.specs.Source.{Took}
-use Rattle.script_service.specs.Service.{IsReportIn}
 use Rattle.camelot_host.specs.Commands.{Command, Serve, Compile, Verify, Migrate, Drill, IsCommand, reads}
 use Rattle.camelot_host.specs.Answers.{input_limit, devices, Broken}
 use Rattle.camelot_host.specs.Served.{Leaves, ArenaBy}
-use Rattle.camelot_host.specs.Replies.{verdict_of, bytes_of, IsReply, KeptBy, Keeps, WholeIn, Writes, Responds, RespondsIn}
+use Rattle.camelot_host.specs.Replies.{verdict_of, bytes_of, IsReply, Keeps, WholeIn, Writes, Responds, RespondsIn}
 use Rattle.camelot_host.specs.declared.reply.Reply.{Reply}
 use Rattle.camelot_host.specs.declared.reply.Reply.TheVariants as reply
 use Rattle.camelot_host.specs.declared.status.Status.{Status}

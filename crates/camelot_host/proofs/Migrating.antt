@@ -1,7 +1,6 @@
 -- What is due for a bundle that is migrated.
-use Rattle.std.proofs.Common.{◌≡◌, ℕ, ◌<◌, ◌≤◌, ◌+◌, List, length, sym, subst, ap, arith, ◌∙◌}
+use Rattle.std.proofs.Common.{◌≡◌, ℕ, ◌≤◌, List, length, sym, subst, ap, arith, ◌∙◌}
 use Rattle.std.specs.Prelude.{take}
-use Rattle.stops.specs.declared.stop.Stop.{Stop}
 use Rattle.grail_code.specs.Spelling.{Second, spelling, Decoded, Spelled, Front, Broken, Means, IsSpelling}
 use Rattle.grail_code.specs.RangeLaws.{fits_second}
 use Rattle.licence.specs.Licensed.{Licensed}
@@ -12,11 +11,9 @@ use Rattle.grail_code.specs.declared.fault.DecodeFault.{DecodeFault}
 use Rattle.grail_code.specs.declared.fault.DecodeFault.TheVariants as code_fault
 use Rattle.grail_bundle.specs.Bundles.{Bundle, IsBundle, HasParts, first_line, bundle_text}
 use Rattle.grail_bundle.specs.Faults.{IsFault}
-use Rattle.bundle_licence.specs.Bundled.{IsTextOf}
 use Rattle.hex.specs.Hex.{IsBytes}
 use Rattle.cause_texts.specs.declared.cause.Cause.{Cause}
 use Rattle.cause_texts.specs.declared.cause.Cause.TheVariants as cause
-use Rattle.grail_verifier.specs.declared.refusal.Refusal.{Refusal}
 use Rattle.grail_verifier.specs.declared.refusal.Refusal.TheVariants as refusal
 use Rattle.camelot_host.specs.Due.{IsMigrationOf, HasWrongCode, IsUnmigratedFor, IsUnmigrated, refused_line}
 use Rattle.camelot_host.specs.Migrating.{IsMigratedAs}

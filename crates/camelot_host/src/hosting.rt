@@ -11,7 +11,7 @@ ghost use Rattle.camelot_host.specs.Served.{ArenaBy};
 use super::command::{Command, command_of, reads};
 use super::drill::drill_jobs;
 use super::migration::migrate_bundle;
-use super::reply::Reply;
+use super::reply::{Reply, Work};
 use super::serve::serve;
 use super::served::Served;
 use super::sources::compile_source;
@@ -34,29 +34,47 @@ fn work<R: Threads + Wait + Sync, G: Gate + Sync>(
     command: Command,
     input: Vec<u8>,
     gate: &G,
-) -> Result<Reply, AllocError>
+) -> Result<Work, AllocError>
     requires within { IsWithin command }
     requires few { length input.items ≤ input_limit }
-    ensures { IfOk result (IsReply (command_named command) input.items) }
+    ensures { IfOk result (λ work. IsReply (command_named command) input.items work.reply) }
 {
     match command {
         Command::Serve => serve(rt, alloc, input, gate),
-        Command::Compile => compile_source(alloc, &input),
-        Command::Verify => verify_bundle(alloc, input),
-        Command::Migrate => migrate_bundle(alloc, &input),
-        Command::Drill { jobs, workers } => drill_jobs(rt, alloc, jobs, workers, gate),
+        Command::Compile => Ok(Work {
+            reply: compile_source(alloc, &input)?,
+            left: None,
+        }),
+        Command::Verify => Ok(Work {
+            reply: verify_bundle(alloc, input)?,
+            left: None,
+        }),
+        Command::Migrate => Ok(Work {
+            reply: migrate_bundle(alloc, &input)?,
+            left: None,
+        }),
+        Command::Drill { jobs, workers } => Ok(Work {
+            reply: drill_jobs(rt, alloc, jobs, workers, gate)?,
+            left: None,
+        }),
     }
 }
 
+// How writing ended, and the arena that is left.
+struct Written {
+    status: Status,
+    arena: Option<Span>,
+}
+
 // Writes the output of a command that was done, and hands on the arena that it leaves, which is ended where that fails.
-fn write_done<K: Sink>(sink: &mut K, output: &[u8], arena: Option<Span>) -> Served
+fn write_done<K: Sink>(sink: &mut K, output: &[u8], arena: Option<Span>) -> Written
     requires whole { IfSome arena IsWhole }
     ensures told { Writes result.status Done output.now (K.told sink.old) (K.told sink.new) }
     ensures arena { KeptBy result.status arena result.arena }
     ensures faults { SinkFaults result.status (K.faults sink.old) (K.faults sink.new) }
 {
     match write_all(sink, output) {
-        Ok(()) => Served {
+        Ok(()) => Written {
             status: Status::Ok,
             arena,
         },
@@ -64,7 +82,7 @@ fn write_done<K: Sink>(sink: &mut K, output: &[u8], arena: Option<Span>) -> Serv
             if let Some(span) = arena {
                 span.end();
             }
-            Served {
+            Written {
                 status: Status::WriteFault,
                 arena: None,
             }
@@ -73,17 +91,17 @@ fn write_done<K: Sink>(sink: &mut K, output: &[u8], arena: Option<Span>) -> Serv
 }
 
 // Writes the line of a refusal.
-fn write_refusal<K: Sink>(sink: &mut K, line: &[u8]) -> Served
+fn write_refusal<K: Sink>(sink: &mut K, line: &[u8]) -> Written
     ensures told { Writes result.status Refused line.now (K.told sink.old) (K.told sink.new) }
     ensures arena { result.arena ≡ None }
     ensures faults { SinkFaults result.status (K.faults sink.old) (K.faults sink.new) }
 {
     match write_all(sink, line) {
-        Ok(()) => Served {
+        Ok(()) => Written {
             status: Status::Refused,
             arena: None,
         },
-        Err(_) => Served {
+        Err(_) => Written {
             status: Status::WriteFault,
             arena: None,
         },
@@ -91,7 +109,7 @@ fn write_refusal<K: Sink>(sink: &mut K, line: &[u8]) -> Served
 }
 
 // Writes a reply, and hands on its arena.
-fn write<K: Sink>(sink: &mut K, reply: Reply) -> Served
+fn write<K: Sink>(sink: &mut K, reply: Reply) -> Written
     requires whole { WholeIn reply }
     ensures told { Writes result.status (verdict_of reply) (bytes_of reply) (K.told sink.old) (K.told sink.new) }
     ensures arena { Keeps result.status reply result.arena }
@@ -121,10 +139,18 @@ fn respond<R: Threads + Wait + Sync, K: Sink, G: Gate + Sync>(
     ensures quiet { Quiet result.status sink.old sink.new }
 {
     match work(rt, alloc, command, input, gate) {
-        Ok(reply) => write(sink, reply),
+        Ok(Work { reply, left }) => {
+            let Written { status, arena } = write(sink, reply);
+            Served {
+                status,
+                arena,
+                left,
+            }
+        }
         Err(_) => Served {
             status: Status::Memory,
             arena: None,
+            left: None,
         },
     }
 }
@@ -185,6 +211,7 @@ pub fn host_gated<R: Threads + Wait + Sync, S: Source, K: Sink, G: Gate + Sync>(
         return Served {
             status: Status::Usage,
             arena: None,
+            left: None,
         };
     };
     if !reads(command) {
@@ -195,14 +222,17 @@ pub fn host_gated<R: Threads + Wait + Sync, S: Source, K: Sink, G: Gate + Sync>(
         Err(ReadStop::Fault) => Served {
             status: Status::ReadFault,
             arena: None,
+            left: None,
         },
         Err(ReadStop::TooLong) => Served {
             status: Status::TooLong,
             arena: None,
+            left: None,
         },
         Err(ReadStop::Memory) => Served {
             status: Status::Memory,
             arena: None,
+            left: None,
         },
     }
 }

@@ -1,4 +1,5 @@
 use cell_span::Span;
+use script_service::Leftovers;
 
 /// The answer to an input that was read whole, before any of it is written.
 pub(crate) enum Reply {
@@ -13,4 +14,10 @@ pub(crate) enum Reply {
     Refused {
         line: Vec<u8>,
     },
+}
+
+/// A reply, and what its making left in memory.
+pub(crate) struct Work {
+    pub(crate) reply: Reply,
+    pub(crate) left: Option<Leftovers>,
 }

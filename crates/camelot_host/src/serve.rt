@@ -3,7 +3,7 @@ ghost use Rattle.camelot_host.specs.Answers.{input_limit};
 ghost use Rattle.camelot_host.specs.Commands.{Serve};
 ghost use Rattle.camelot_host.specs.Replies.{IsReply};
 
-use super::reply::Reply;
+use super::reply::{Reply, Work};
 use script_service::{Gate, ReportedScript, ServeFault, fault_line, serve_script};
 use std::alloc::{AllocError, Global};
 use std::sync::Wait;
@@ -16,17 +16,23 @@ pub(crate) fn serve<R: Threads + Wait + Sync, G: Gate + Sync>(
     alloc: Global,
     input: Vec<u8>,
     gate: &G,
-) -> Result<Reply, AllocError>
+) -> Result<Work, AllocError>
     requires few { length input.items ≤ input_limit }
-    ensures { IfOk result (IsReply Serve input.items) }
+    ensures { IfOk result (λ work. IsReply Serve input.items work.reply) }
 {
     match serve_script(rt, alloc, &input, gate) {
-        Ok(ReportedScript { text, arena }) => Ok(Reply::Done {
-            output: text,
-            arena: Some(arena),
+        Ok(ReportedScript { text, arena, left }) => Ok(Work {
+            reply: Reply::Done {
+                output: text,
+                arena: Some(arena),
+            },
+            left: Some(left),
         }),
-        Err(ServeFault::NoScript(fault)) => Ok(Reply::Refused {
-            line: fault_line(alloc, &fault)?,
+        Err(ServeFault::NoScript(fault)) => Ok(Work {
+            reply: Reply::Refused {
+                line: fault_line(alloc, &fault)?,
+            },
+            left: None,
         }),
         Err(ServeFault::Memory) => Err(AllocError),
     }

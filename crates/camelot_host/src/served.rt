@@ -1,14 +1,17 @@
-ghost use Rattle.std.specs.Prelude.{◌≡◌, MatchOption, None, Some};
+ghost use Rattle.std.specs.Prelude.{◌≡◌, MatchOption, None, Some, IfSome};
+ghost use Rattle.cell_span.specs.Range.{IsWhole};
 
 use super::status::Status;
 use cell_span::Span;
+use script_service::Leftovers;
 use std::marker::Model;
 
-/// How a run of the host ended, and the arena that it leaves where it served a script. It can't be dropped: who has it
-/// ends it, and the arena with it.
+/// How a run of the host ended, the arena that it leaves where it served a script, and what else is left in memory. It
+/// can't be dropped: who has it ends it, and the arena with it.
 pub struct Served {
     pub(crate) status: Status,
     pub(crate) arena: Option<Span>,
+    pub(crate) left: Option<Leftovers>,
 }
 
 impl Model for Served {
@@ -21,6 +24,15 @@ impl Model for Served {
     ghost view = { λ s. record { status = s.status; arena = s.arena } };
 
     ghost invariant = { λ s. IfSome s.arena IsWhole };
+}
+
+// Ends an arena where there is one.
+fn end_arena(arena: Option<Span>)
+    requires { IfSome arena IsWhole }
+{
+    if let Some(span) = arena {
+        span.end();
+    }
 }
 
 impl Served {
@@ -41,14 +53,34 @@ impl Served {
         }
     }
 
-    /// Ends the arena where there is one, and answers how the run ended.
+    /// Ends the arena where there is one, gives all memory back, and answers how the run ended.
     pub fn end(self) -> Status
         ensures { result ≡ self.status }
     {
-        let Served { status, arena } = self;
-        if let Some(span) = arena {
-            span.end();
+        let Served {
+            status,
+            arena,
+            left,
+        } = self;
+        drop(left);
+        end_arena(arena);
+        status
+    }
+
+    /// As [`Served::end`], for a process that ends next: what is left in memory beside the arena is left to the system,
+    /// which takes it all at once.
+    pub fn leave(self) -> Status
+        ensures { result ≡ self.status }
+    {
+        let Served {
+            status,
+            arena,
+            left,
+        } = self;
+        if let Some(left) = left {
+            left.leave();
         }
+        end_arena(arena);
         status
     }
 }

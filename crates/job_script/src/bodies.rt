@@ -1,4 +1,4 @@
-ghost use Rattle.std.specs.Prelude.{◌≡◌, ◌≤◌, ◌<◌, ◌+◌, length, MatchResult};
+ghost use Rattle.std.specs.Prelude.{◌≤◌, ◌<◌, ◌+◌, length, MatchResult};
 ghost use Rattle.job_script.specs.Steps.{HasBody, IsOpen};
 
 use super::cutting::next_line;

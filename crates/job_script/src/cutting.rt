@@ -1,4 +1,4 @@
-ghost use Rattle.std.specs.Prelude.{◌≡◌, length, MatchOption, OnSome, IfSome};
+ghost use Rattle.std.specs.Prelude.{◌≡◌, MatchOption};
 ghost use Rattle.certificate.specs.Reading.{upto, from};
 ghost use Rattle.job_script.specs.Scripts.{IsOneLine};
 ghost use Rattle.job_script.specs.Reading.{word_of};

@@ -1,4 +1,4 @@
-ghost use Rattle.std.specs.Prelude.{◌≡◌, ◌≤◌, length, Some, MatchResult, MatchOption};
+ghost use Rattle.std.specs.Prelude.{◌≡◌, Some, MatchResult};
 ghost use Rattle.job_script.specs.Reading.{HeadFits, language_of, args_of, program_of, fuel_of, entry_of_job, job_of, head_of, IsRead, IsStopped};
 ghost use Rattle.job_script.specs.Heads.{head_view, SameBytes};
 

@@ -1,6 +1,6 @@
-ghost use Rattle.std.specs.Prelude.{◌≡◌, ◌<◌, MatchResult, length};
+ghost use Rattle.std.specs.Prelude.{◌≡◌, ◌<◌, MatchResult};
 ghost use Rattle.std.specs.List.{list_all};
-ghost use Rattle.camelot_values.specs.Names.{is_lower, is_tail, has_form, is_lower_name};
+ghost use Rattle.camelot_values.specs.Names.{is_lower, is_tail, is_lower_name};
 ghost use Rattle.job_script.specs.Scripts.{is_letter};
 ghost use Rattle.job_script.specs.Reading.{is_word};
 ghost use Rattle.job_script.specs.Steps.{IsAdded, IsRefused};

@@ -1,4 +1,4 @@
-ghost use Rattle.std.specs.Prelude.{◌≡◌, ◌≤◌, ◌+◌, ◌-◌, ◌*◌, ℕ, true, length, MatchResult};
+ghost use Rattle.std.specs.Prelude.{◌≤◌, ◌-◌, MatchResult};
 ghost use Rattle.certificate.specs.Reading.{number_of};
 ghost use Rattle.job_script.specs.Scripts.{IsUpTo};
 ghost use Rattle.job_script.specs.Reading.{number_behind, IsRead, IsStopped};

@@ -1,9 +1,9 @@
-ghost use Rattle.std.specs.Prelude.{◌≡◌, ℕ, ◌<◌, ◌≤◌, Some, [], length, map, MatchResult};
+ghost use Rattle.std.specs.Prelude.{◌≡◌, ℕ, ◌<◌, ◌≤◌, Some, [], length, MatchResult};
 ghost use Rattle.job_script.specs.Scripts.{Script as PlainScript};
 ghost use Rattle.job_script.specs.Text.{IsScriptText, IsLineFault, IsCountFault, IsRepeatFault};
 ghost use Rattle.job_script.specs.Answers.{HasCause};
 ghost use Rattle.job_script.specs.Words.{script_of};
-ghost use Rattle.job_script.specs.Reading.{Sized, HProgram, HJob, head_of, script_by};
+ghost use Rattle.job_script.specs.Reading.{Sized, HProgram, HJob, head_of};
 ghost use Rattle.job_script.specs.Steps.{HasLine, Reading, Going};
 ghost use Rattle.job_script.specs.Heads.{job_view};
 ghost use Rattle.job_script.specs.Places.{IsGoing, IsFurther};

@@ -1,8 +1,6 @@
-ghost use Rattle.std.specs.Prelude.{◌≡◌, ◌+◌, ◌<◌, ◌≤◌, ◌++◌, ◌∷◌, [], length, map, slice_get, Some, IsSomeAnd, MatchResult, IfOk};
-ghost use Rattle.camelot_values.specs.Value.{parts};
-ghost use Rattle.camelot_values.specs.Counts.{size_all};
+ghost use Rattle.std.specs.Prelude.{◌≡◌, ◌+◌, ◌<◌, ◌≤◌, ◌++◌, ◌∷◌, [], length, slice_get, Some, IsSomeAnd, MatchResult, IfOk};
 ghost use Rattle.licence.specs.Bound.{lease};
-ghost use Rattle.licence.specs.Licensed.{Licensed, IsLicensed, FitsEntry};
+ghost use Rattle.licence.specs.Licensed.{Licensed, IsLicensed};
 ghost use Rattle.job_world.specs.Asking.{CanPlan, IsLarger, NeedsOf};
 ghost use Rattle.job_world.specs.Plans.{AreFit, Planned, leases_of};
 ghost use Rattle.job_world.specs.Words.{plan_of};

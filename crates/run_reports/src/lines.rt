@@ -1,10 +1,10 @@
 //! The lines of a report.
 ghost use Rattle.std.specs.Prelude.{◌≡◌, ◌++◌, ℕ, List, slice_get, codes, decimal, OnOk};
 ghost use Rattle.lease_desk.specs.Journal.{job_of};
-ghost use Rattle.camelot_values.specs.Kinds.{DataType, constructor_name};
+ghost use Rattle.camelot_values.specs.Kinds.{constructor_name};
 ghost use Rattle.value_text.specs.Text.{value_text};
 ghost use Rattle.run_reports.specs.Report.{ended_text, end_text, event_text, job_cause_text, job_text, program_text, told_text};
-ghost use Rattle.script_outcomes.specs.Told.{licence_types, line_of, outcome_of};
+ghost use Rattle.script_outcomes.specs.Told.{Ended, licence_types, line_of, outcome_of};
 
 use super::pieces::{push_number, push_text};
 use camelot_values::{Flat, Types};
@@ -237,6 +237,29 @@ pub fn push_job(
 {
     push_text(out, b"job ", name)?;
     push_told(alloc, out, room, licences, line)?;
+    out.extend_from_slice(b"\n")
+}
+
+/// Writes the line of a job of this name that ran, by what its run came to. It had so much fuel and this bound, by the
+/// licence of this number. It is the line that [`push_job`] writes of the same; the ending stays where it is.
+#[tactic(auto, using(crate::proofs::Joining::three))]
+pub fn push_run(
+    alloc: Global,
+    out: &mut Vec<u8>,
+    room: &mut Vec<u8>,
+    name: &[u8],
+    licences: &[Licence],
+    licence: u32,
+    ending: &Ending,
+    fuel: u64,
+    bound: u64,
+) -> Result<(), AllocError>
+    // The line stands behind what was there.
+    ensures { OnOk result (out.new.items ≡ out.old.items
+        ++ job_text name.now (Ended (licence_types (slice_get licences.now licence)) (outcome_of ending.now) fuel bound)) }
+{
+    push_text(out, b"job ", name)?;
+    push_ended(alloc, out, room, licences, licence, ending, fuel, bound)?;
     out.extend_from_slice(b"\n")
 }
 

@@ -1,5 +1,5 @@
 //! The report of a script.
-ghost use Rattle.std.specs.Prelude.{◌≡◌, ◌++◌, ◌∷◌, ℕ, List, Some, map, slice_get, IfOk, OnOk};
+ghost use Rattle.std.specs.Prelude.{◌≡◌, ◌++◌, ◌∷◌, List, Some, map, slice_get, IfOk, OnOk};
 ghost use Rattle.job_script.specs.Scripts.{Entry as PlainEntry};
 ghost use Rattle.job_script.specs.Words.{entry_of, script_of};
 ghost use Rattle.run_reports.specs.Report.{asked_name, event_lines, job_lines, name_of, program_lines, report_text};

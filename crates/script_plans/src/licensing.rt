@@ -80,7 +80,8 @@ fn refuse<'a>(
 fn add_program<'a>(programs: &mut Programs<'a>, answered: Answered<'a>) -> Result<(), AllocError>
     requires answer { IsAnswer (text_in answered.camelot answered.text.now) answered.licence }
     requires few { length programs.old.licences.items < 4294967295 }
-    ensures { OnOk result (IsProgramAdded answered.entry.name.now (text_in answered.entry.camelot answered.entry.text.now) (licensing_of programs.old) (licensing_of programs.new)) }
+    ensures { OnOk result (IsProgramAdded answered.entry.name.now (text_in answered.entry.camelot answered.entry.text.now)
+        (licensing_of programs.old) (licensing_of programs.new)) }
 {
     let Answered {
         name,

@@ -1,6 +1,5 @@
 -- The lines of jobs by their endings are those by their plans.
-use Rattle.std.proofs.Common.{◌≡◌, ℕ, zero, suc, ◌+◌, ◌<◌, ◌≤◌, List, [], ◌∷◌, ◌++◌, length, drop, slice_get, slice_set, Option, Some, None, get_or, refl, sym, ◌∙◌, subst, arith}
-use Rattle.std.proofs.Math.Seq.{drop-cons}
+use Rattle.std.proofs.Common.{◌≡◌, ℕ, zero, suc, ◌<◌, List, [], ◌∷◌, ◌++◌, length, slice_get, Option, Some, None, get_or, refl, sym, ap, ◌∙◌, subst, arith}
 use Rattle.std.proofs.lemmas.Option.{get_or_from_slice_get, slice_get_within}
 use Rattle.std.specs.Prelude.{codes, decimal}
 use Rattle.camelot_values.specs.Value.{Value}
@@ -11,17 +10,19 @@ use Rattle.value_text.specs.Text.{value_text}
 use Rattle.cell_machine.specs.Endings.{EndsWith}
 use Rattle.cell_machine.specs.declared.machine.Ending.{Ending}
 use Rattle.cell_machine.specs.declared.machine.Ending.TheVariants as ending
-use Rattle.script_outcomes.specs.Told.{outcome_of, licence_types}
-use Rattle.run_reports.specs.Report.{ended_text, told_text}
+use Rattle.licence.specs.Licensed.{Licensed}
+use Rattle.script_outcomes.specs.Told.{Ended, outcome_of, licence_types}
+use Rattle.run_reports.specs.Report.{ended_text, job_text, told_text}
 use Rattle.job_world.specs.Plans.{Plan, Planned, run_at, job_run}
 use Rattle.job_workers.specs.Ended.{AllEnded, HasEnding}
 use Rattle.job_workers.specs.KeptLaws.{ends_never_stuck}
 use Rattle.script_plans.specs.declared.types.JobPlan.{JobPlan}
 use Rattle.script_plans.specs.declared.types.JobPlan.TheVariants as plan
 use Rattle.script_plans.specs.Lines.{planned_line, planned_lines, run_numbers, types_at, fuel_at}
+use Rattle.script_plans.specs.ScriptLaws.{numbers_below}
 use Rattle.std.specs.List.{AllByRecursion, range_with_len}
 use Rattle.script_service.specs.Service.{IsMeant, TellsMeaning}
-use Rattle.script_service.specs.Filed.{HasOwn, HaveOwn, without}
+use Rattle.script_service.specs.Filed.{HasOwn}
 
 same_ended : (types : List DataType) (o : Outcome Value) (e : Ending) (fuel bound : ℕ) → EndsWith o e
     → ended_text types (outcome_of e) fuel bound ≡ ended_text types o fuel bound
@@ -50,15 +51,11 @@ same_ended types plain.Stuck (ending.Trap p) fuel bound h = absurd h
 
 -- ---- endings
 
-pub ending_is : {K : Type 0} (xs : List (Option K)) (i : ℕ) (a : K) (r d : Option K) → slice_get xs i ≡ Some (Some a) → r ≡ get_or xs i d → r ≡ Some a
-ending_is xs i a r d e f = f ∙ get_or_from_slice_get xs i (Some a) d e
+pub none_there : {K : Type 0} (xs : List (Option K)) (i : ℕ) (a : K) (d : Option K) → slice_get xs i ≡ Some (Some a) → get_or xs i d ≡ None → ⊥
+none_there xs i a d e n = let g : get_or xs i d ≡ Some a = get_or_from_slice_get xs i (Some a) d e in let h : None ≡ Some a = sym n ∙ g in absurd cc
 
-pub none_there : {K : Type 0} (xs : List (Option K)) (i : ℕ) (a : K) (r d : Option K) → slice_get xs i ≡ Some (Some a) → r ≡ get_or xs i d → r ≡ None → ⊥
-none_there xs i a r d e f n = let g : r ≡ Some a = ending_is xs i a r d e f in let h : None ≡ Some a = sym n ∙ g in absurd cc
-
-pub same_ending : {K : Type 0} (xs : List (Option K)) (i : ℕ) (a b : K) (r d : Option K) → slice_get xs i ≡ Some (Some a) → r ≡ get_or xs i d
-    → r ≡ Some b → b ≡ a
-same_ending xs i a b r d e f n = let g : Some b ≡ Some a = sym n ∙ ending_is xs i a r d e f in cc
+pub same_ending : {K : Type 0} (xs : List (Option K)) (i : ℕ) (a b : K) (d : Option K) → slice_get xs i ≡ Some (Some a) → get_or xs i d ≡ Some b → b ≡ a
+same_ending xs i a b d e n = let g : Some b ≡ Some a = sym n ∙ get_or_from_slice_get xs i (Some a) d e in cc
 
 -- the line of an ending is that of the plan
 pub same_text : (ps : Planned) (p : Plan) (arena job bound : ℕ) (e : Ending) → slice_get ps.plans job ≡ Some p → EndsWith (job_run ps job) e
@@ -67,21 +64,25 @@ same_text ps p arena job bound e is meant =
     subst (λ o. ended_text (licence_types (slice_get ps.licences p.licence)) (outcome_of e) p.fuel bound ≡ ended_text (types_at ps.licences o) (job_run ps job) (fuel_at o) bound) (sym is)
     (same_ended (licence_types (slice_get ps.licences p.licence)) (job_run ps job) e p.fuel bound meant)
 
--- ---- what is left
+-- so the line of a run, told with the same licences, is that of its plan
+pub run_text : (ps : Planned) (p : Plan) (arena job bound : ℕ) (e : Ending) (licences : List Licensed) (name out old : List ℕ) → licences ≡ ps.licences
+    → slice_get ps.plans job ≡ Some p → EndsWith (job_run ps job) e
+    → out ≡ old ++ job_text name (Ended (licence_types (slice_get licences p.licence)) (outcome_of e) p.fuel bound)
+    → out ≡ old ++ job_text name (planned_line ps arena (plan.Runs job bound))
+run_text ps p arena job bound e licences name out old same is meant told =
+    let own : ended_text (licence_types (slice_get licences p.licence)) (outcome_of e) p.fuel bound ≡ told_text (planned_line ps arena (plan.Runs job bound)) =
+    ap (λ (ls : List Licensed). ended_text (licence_types (slice_get ls p.licence)) (outcome_of e) p.fuel bound) same ∙ same_text ps p arena job bound e is meant in
+    told ∙ ap (λ (t : List ℕ). old ++ ((codes "job " ++ name) ++ t ++ codes "\n")) own
 
-slice_get-other : {K : Type 0} (xs : List (Option K)) (i j : ℕ) (x : Option K) → i < j → slice_get (slice_set xs i x) j ≡ slice_get xs j
-slice_get-other [] i j x lt = refl
-slice_get-other (y ∷ ys) i zero x lt = absurd (omega (arith, lt))
-slice_get-other (y ∷ ys) zero (suc j) x lt = refl
-slice_get-other (y ∷ ys) (suc i) (suc j) x lt = slice_get-other ys i j x (omega (arith, lt))
+-- ---- the endings of plans
 
 -- what is kept of an ending
 abbrev Keeping : Type 0 → Type 1
 Keeping K = Outcome Value → K → Type 0
 
 pub own_here : {K : Type 0} (keeps : Keeping K) (ps : Planned) (job bound : ℕ) (p : JobPlan) (endings : List (Option K)) → p ≡ plan.Runs job bound
-    → HasOwn keeps ps p endings → HasEnding keeps ps job (slice_get endings job)
-own_here keeps ps job bound p endings e h = subst (λ q. HasOwn keeps ps q endings) e h
+    → HasOwn keeps ps endings p → HasEnding keeps ps job (slice_get endings job)
+own_here keeps ps job bound p endings e h = subst (HasOwn keeps ps endings) e h
 
 pub own_within : {K : Type 0} (keeps : Keeping K) (ps : Planned) (job : ℕ) (endings : List (Option K)) → HasEnding keeps ps job (slice_get endings job)
     → job < length endings
@@ -98,46 +99,25 @@ unfolding job_run
 job_there ps job e meant = planned_there ps job e (slice_get ps.plans job) refl meant
 
 -- the plan at a place has its own
-pub own_next : {K : Type 0} (keeps : Keeping K) (ps : Planned) (plans : List JobPlan) (i : ℕ) (d : JobPlan) (endings : List (Option K)) → i < length plans
-    → HaveOwn keeps ps (drop i plans) endings → HasOwn keeps ps (get_or plans i d) endings
-own_next keeps ps plans i d endings lt h =
-    let here : HaveOwn keeps ps (get_or plans i d ∷ drop (suc i) plans) endings = subst (λ l. HaveOwn keeps ps l endings) (drop-cons plans i d lt) h in here.0
+pub own_at : {K : Type 0} (keeps : Keeping K) (ps : Planned) (endings : List (Option K)) (plans : List JobPlan) (i : ℕ) (d : JobPlan) → i < length plans
+    → AllByRecursion (HasOwn keeps ps endings) plans → HasOwn keeps ps endings (get_or plans i d)
+own_at keeps ps endings [] i d lt h = absurd (omega (arith, lt))
+own_at keeps ps endings (p ∷ plans) zero d lt h = h.0
+own_at keeps ps endings (p ∷ plans) (suc i) d lt h = own_at keeps ps endings plans i d (omega (arith, lt)) h.1
 
--- and those behind it have theirs
-pub own_later : {K : Type 0} (keeps : Keeping K) (ps : Planned) (plans : List JobPlan) (i : ℕ) (d : JobPlan) (endings left : List (Option K)) → i < length plans
-    → HaveOwn keeps ps (drop i plans) endings → left ≡ without (get_or plans i d) endings
-    → HaveOwn keeps ps (drop (suc i) plans) left
-own_later keeps ps plans i d endings left lt h e =
-    let here : HaveOwn keeps ps (get_or plans i d ∷ drop (suc i) plans) endings = subst (λ l. HaveOwn keeps ps l endings) (drop-cons plans i d lt) h in
-    subst (HaveOwn keeps ps (drop (suc i) plans)) (sym e) here.1
+own_below : {K : Type 0} (keeps : Keeping K) (ps : Planned) (endings : List (Option K)) → AllEnded keeps ps endings → (plans : List JobPlan)
+    → AllByRecursion (λ n. n < length ps.plans) (run_numbers plans) → AllByRecursion (HasOwn keeps ps endings) plans
+own_below keeps ps endings all [] below = tt
+own_below keeps ps endings all (plan.Runs job bound ∷ plans) below = (all job below.0, own_below keeps ps endings all plans below.1)
+own_below keeps ps endings all (plan.TooLarge needs ∷ plans) below = (tt, own_below keeps ps endings all plans below)
+own_below keeps ps endings all (plan.Refused cause ∷ plans) below = (tt, own_below keeps ps endings all plans below)
 
-head_is : (x y : ℕ) (xs ys : List ℕ) → x ∷ xs ≡ y ∷ ys → x ≡ y
-head_is x y xs ys e = cc
-
-tail_is : (x y : ℕ) (xs ys : List ℕ) → x ∷ xs ≡ y ∷ ys → xs ≡ ys
-tail_is x y xs ys e = cc
-
--- the jobs with these numbers have their endings
-abbrev EndedFrom : {K : Type 0} → Keeping K → Planned → (first count : ℕ) → List (Option K) → Type 0
-EndedFrom keeps ps first count endings = (j : ℕ) → first ≤ j → j < first + count → HasEnding keeps ps j (slice_get endings j)
-
-own_from : {K : Type 0} (keeps : Keeping K) (ps : Planned) (plans : List JobPlan) (first count : ℕ) (endings : List (Option K))
-    → run_numbers plans ≡ range_with_len first count → EndedFrom keeps ps first count endings → HaveOwn keeps ps plans endings
-own_from keeps ps [] first count endings e h = tt
-own_from keeps ps (plan.TooLarge needs ∷ plans) first count endings e h = (tt, own_from keeps ps plans first count endings e h)
-own_from keeps ps (plan.Refused cause ∷ plans) first count endings e h = (tt, own_from keeps ps plans first count endings e h)
-own_from keeps ps (plan.Runs job bound ∷ plans) first zero endings e h = absurd cc
-own_from keeps ps (plan.Runs job bound ∷ plans) first (suc count) endings e h =
-    let same : job ≡ first = head_is job first (run_numbers plans) (range_with_len (first + 1) count) e in
-    let rest : run_numbers plans ≡ range_with_len (first + 1) count = tail_is job first (run_numbers plans) (range_with_len (first + 1) count) e in
-    let own : HasEnding keeps ps first (slice_get endings first) = h first (omega arith) (omega arith) in
-    let later : EndedFrom keeps ps (first + 1) count (slice_set endings job None) =
-    λ j le lt. subst (HasEnding keeps ps j) (sym (slice_get-other endings job j None (omega (arith, same, le)))) (h j (omega (arith, le)) (omega (arith, lt))) in
-    (subst (λ k. HasEnding keeps ps k (slice_get endings k)) (sym same) own, own_from keeps ps plans (first + 1) count (slice_set endings job None) rest later)
-
-pub all_own : {K : Type 0} (keeps : Keeping K) (ps : Planned) (plans : List JobPlan) (endings : List (Option K))
-    → run_numbers plans ≡ range_with_len 0 (length ps.plans) → AllEnded keeps ps endings → HaveOwn keeps ps plans endings
-all_own keeps ps plans endings e all = own_from keeps ps plans 0 (length ps.plans) endings e (λ j le lt. all j (omega (arith, lt)))
+-- each plan finds the ending of its job, in slices of both lists
+pub all_own : {K : Type 0} (keeps : Keeping K) (ps : Planned) (plans plans' : List JobPlan) (endings endings' : List (Option K)) → plans' ≡ plans → endings' ≡ endings
+    → run_numbers plans ≡ range_with_len 0 (length ps.plans) → AllEnded keeps ps endings → AllByRecursion (HasOwn keeps ps endings') plans'
+all_own {K = K} keeps ps plans plans' endings endings' same alike e all =
+    let own : AllByRecursion (HasOwn keeps ps endings) plans = own_below keeps ps endings all plans (numbers_below plans (length ps.plans) e) in
+    subst (λ (es : List (Option K)). AllByRecursion (HasOwn keeps ps es) plans') (sym alike) (subst (AllByRecursion (HasOwn keeps ps endings)) (sym same) own)
 
 -- ---- each run has a meaning
 

@@ -1,8 +1,6 @@
 -- The report that is written is that of the fates, and so is the summary.
-use Rattle.std.specs.Prelude.{codes}
 use Rattle.std.proofs.Common.{◌≡◌, ℕ, List, [], ◌++◌, length, map, sym, ap, ◌∙◌, append-nil}
 use Rattle.std.proofs.lemmas.List.{length-map}
-use Rattle.licence.specs.Licensed.{Licensed}
 use Rattle.job_script.specs.Scripts.{Entry, Script}
 use Rattle.job_world.specs.Plans.{Planned}
 use Rattle.script_plans.specs.declared.types.JobPlan.{JobPlan}
@@ -10,18 +8,10 @@ use Rattle.script_plans.specs.Lines.{ArePlanned, planned_lines}
 use Rattle.script_service.specs.Service.{told_of}
 use Rattle.lease_desk.specs.declared.event.Event.{Event}
 use Rattle.script_outcomes.specs.declared.outcome.ProgramLine.{ProgramLine}
-use Rattle.script_outcomes.specs.Told.{JobLine, line_of}
-use Rattle.script_outcomes.specs.declared.outcome.JobLine.{JobLine as DeclaredLine}
 use Rattle.run_reports.specs.declared.summing.Counted.{Counted}
-use Rattle.run_reports.specs.Report.{program_lines, job_lines, job_text, told_text, event_lines, asked_name, end_text, report_text}
+use Rattle.run_reports.specs.Report.{program_lines, job_lines, event_lines, asked_name, end_text, report_text}
 use Rattle.run_reports.specs.Counts.{tally_of_count}
 use Rattle.run_reports.specs.Summary.{sum, summary_text, tally_of, tally_text, total}
-
--- the line of a job is that of another line with the same text, told with the same licences
-pub same_job : (name out old : List ℕ) (licences : List Licensed) (mine : List Licensed) (line : DeclaredLine) (other : JobLine) → out ≡ old ++ job_text name (line_of mine line) → mine ≡ licences
-    → told_text (line_of licences line) ≡ told_text other → out ≡ old ++ job_text name other
-same_job name out old licences mine line other e f same =
-    e ∙ ap (λ l. old ++ job_text name (line_of l line)) f ∙ ap (λ t. old ++ ((codes "job " ++ name) ++ t ++ codes "\n")) same
 
 -- none are to come
 pub no_more : (out whole : List ℕ) → out ++ [] ≡ whole → out ≡ whole

@@ -12,5 +12,5 @@ mod service;
 pub use counting::Tallied;
 pub use faults::fault_line;
 pub use job_workers::{Gate, Kept, OpenGate};
-pub use reporting::{ReportedScript, report_served, summarize_served};
+pub use reporting::{Leftovers, ReportedScript, report_served, summarize_served};
 pub use service::{ServeFault, ServedScript, drill, run_script, serve_script};

@@ -1,81 +1,76 @@
 //! The lines of jobs, and what they count for, from their plans and their endings.
-ghost use Rattle.std.specs.Prelude.{◌≡◌, ◌<◌, ◌++◌, ◌∷◌, List, length, map, slice_get, slice_set, None, IfOk, OnOk};
+ghost use Rattle.std.specs.Prelude.{◌≡◌, ◌<◌, ◌++◌, ◌∷◌, List, length, map, slice_get, IfOk, OnOk};
+ghost use Rattle.std.specs.List.{AllByRecursion};
 ghost use Rattle.cell_machine.specs.Endings.{EndsWith};
 ghost use Rattle.job_world.specs.Plans.{job_run};
 ghost use Rattle.job_workers.specs.Ended.{HasEnding};
 ghost use Rattle.job_script.specs.Scripts.{Entry as PlainEntry};
 ghost use Rattle.job_script.specs.Words.{entry_of};
-ghost use Rattle.run_reports.specs.Report.{job_lines, job_text, told_text};
+ghost use Rattle.run_reports.specs.Report.{job_lines, job_text};
 ghost use Rattle.run_reports.specs.Counts.{tally_of_count};
 ghost use Rattle.run_reports.specs.Summary.{tally_of};
-ghost use Rattle.script_outcomes.specs.Told.{line_of};
 ghost use Rattle.script_plans.specs.Lines.{planned_line, planned_lines};
 ghost use Rattle.script_plans.specs.declared.types.JobPlan.TheVariants.{Runs};
 ghost use Rattle.script_service.specs.Counting.{Counts};
-ghost use Rattle.script_service.specs.Filed.{HasOwn, HaveOwn, without};
+ghost use Rattle.script_service.specs.Filed.{HasOwn};
 
 use crate::counting::Tallied;
 use cell_machine::Ending;
 use job_script::Entry;
 use job_workers::Kept;
 use job_world::Jobs;
-use run_reports::{Counted, JobLine, push_job};
+use run_reports::{Counted, JobLine, push_job, push_run};
 use script_plans::JobPlan;
 use std::alloc::{AllocError, Global};
 
 // The ending of a job.
-fn take_ending<K: Kept>(endings: &mut [Option<K>], jobs: &Jobs, job: u32) -> K
-    requires ending { HasEnding K.keeps jobs.now job (slice_get endings.old job) }
-    requires there { job < length endings.old }
-    ensures meant { K.keeps (job_run jobs.now job) result }
-    ensures rest { endings.new ≡ slice_set endings.old job None }
+fn ending_at<'a, K: Kept>(endings: &'a [Option<K>], jobs: &Jobs, job: u32) -> &'a K
+    requires ending { HasEnding K.keeps jobs.now job (slice_get endings.now job) }
+    requires there { job < length endings.now }
+    ensures meant { K.keeps (job_run jobs.now job) result.now }
 {
     let _ = jobs;
-    match endings[job as usize].take() {
+    match &endings[job as usize] {
         Some(ending) => ending,
         None => unreachable!(),
     }
 }
 
-// The line of a job that ran.
-#[tactic(auto, using(crate::proofs::Filing::same_text))]
-fn ended(jobs: &Jobs, arena: u32, job: u32, bound: u64, ending: Ending) -> JobLine
+// Writes the line of the job of this name, which ran.
+fn push_ended(
+    alloc: Global,
+    out: &mut Vec<u8>,
+    room: &mut Vec<u8>,
+    name: &[u8],
+    jobs: &Jobs,
+    arena: u32,
+    job: u32,
+    bound: u64,
+    ending: &Ending,
+) -> Result<(), AllocError>
     requires there { job < length jobs.now.plans }
-    requires meant { EndsWith (job_run jobs.now job) ending }
-    ensures { told_text (line_of jobs.now.licences result) ≡ told_text (planned_line jobs.now arena (Runs job bound)) }
+    requires meant { EndsWith (job_run jobs.now job) ending.now }
+    ensures { OnOk result (out.new.items ≡ out.old.items ++ job_text name.now (planned_line jobs.now arena (Runs job bound))) }
 {
-    let plan = jobs.plan(job);
     let _ = arena;
-    JobLine::Ended {
+    let plan = jobs.plan(job);
+    let licences = jobs.licences();
+    push_run(
+        alloc,
+        out,
+        room,
+        name,
+        licences,
+        plan.licence,
         ending,
-        fuel: plan.fuel,
+        plan.fuel,
         bound,
-        licence: plan.licence,
-    }
+    )?;
+    Ok(())
 }
 
-// The line of a plan.
+// Writes the line of a plan of the job of this name.
 #[tactic(auto, using(crate::proofs::Filing::own_here, crate::proofs::Filing::own_within, crate::proofs::Filing::job_there))]
-fn planned(jobs: &Jobs, arena: u32, plan: &JobPlan, endings: &mut [Option<Ending>]) -> JobLine
-    requires { HasOwn EndsWith jobs.now plan.now endings.old }
-    ensures line { told_text (line_of jobs.now.licences result) ≡ told_text (planned_line jobs.now arena plan.now) }
-    ensures rest { endings.new ≡ without plan.now endings.old }
-{
-    match plan {
-        JobPlan::Runs { job, bound } => {
-            let ending = take_ending(endings, jobs, *job);
-            ended(jobs, arena, *job, *bound, ending)
-        }
-        JobPlan::TooLarge { needs } => JobLine::TooLarge {
-            needs: *needs,
-            arena,
-        },
-        JobPlan::Refused { cause } => JobLine::Refused { cause: *cause },
-    }
-}
-
-// Writes the line of a plan of the job of this name, whose ending is taken.
-#[tactic(auto, using(crate::proofs::SameReports::same_job))]
 fn push_planned(
     alloc: Global,
     out: &mut Vec<u8>,
@@ -84,13 +79,22 @@ fn push_planned(
     jobs: &Jobs,
     arena: u32,
     plan: &JobPlan,
-    endings: &mut [Option<Ending>],
+    endings: &[Option<Ending>],
 ) -> Result<(), AllocError>
-    requires { HasOwn EndsWith jobs.now plan.now endings.old }
-    ensures text { OnOk result (out.new.items ≡ out.old.items ++ job_text name.now (planned_line jobs.now arena plan.now)) }
-    ensures rest { OnOk result (endings.new ≡ without plan.now endings.old) }
+    requires { HasOwn EndsWith jobs.now endings.now plan.now }
+    ensures { OnOk result (out.new.items ≡ out.old.items ++ job_text name.now (planned_line jobs.now arena plan.now)) }
 {
-    let line = planned(jobs, arena, plan, endings);
+    let line = match plan {
+        JobPlan::Runs { job, bound } => {
+            let ending = ending_at(endings, jobs, *job);
+            return push_ended(alloc, out, room, name, jobs, arena, *job, *bound, ending);
+        }
+        JobPlan::TooLarge { needs } => JobLine::TooLarge {
+            needs: *needs,
+            arena,
+        },
+        JobPlan::Refused { cause } => JobLine::Refused { cause: *cause },
+    };
     push_job(alloc, out, room, name, jobs.licences(), &line)
 }
 
@@ -103,10 +107,10 @@ fn push_line_of<'a>(
     jobs: &Jobs,
     arena: u32,
     plans: &'a [JobPlan],
-    endings: &mut [Option<Ending>],
+    endings: &[Option<Ending>],
 ) -> Result<&'a [JobPlan], AllocError>
-    requires own { HaveOwn EndsWith jobs.now plans.now endings.old }
-    ensures own { IfOk result (λ left. HaveOwn EndsWith jobs.now left.now endings.new) }
+    requires own { AllByRecursion (HasOwn EndsWith jobs.now endings.now) plans.now }
+    ensures own { IfOk result (λ left. AllByRecursion (HasOwn EndsWith jobs.now endings.now) left.now) }
     ensures text { (entries : List PlainEntry) → IfOk result (λ left. out.new.items ++ job_lines entries (planned_lines jobs.now arena left.now)
         ≡ out.old.items ++ job_lines (entry_of entry.now ∷ entries) (planned_lines jobs.now arena plans.now)) }
 {
@@ -122,7 +126,7 @@ fn push_line_of<'a>(
     }
 }
 
-/// Writes the line of each job of these entries: what its run came to, or why there was none. Endings are taken.
+/// Writes the line of each job of these entries: what its run came to, or why there was none.
 #[tactic(auto, using(crate::proofs::SameReports::no_more))]
 pub(crate) fn push_lines(
     alloc: Global,
@@ -131,9 +135,9 @@ pub(crate) fn push_lines(
     jobs: &Jobs,
     arena: u32,
     plans: &[JobPlan],
-    endings: &mut [Option<Ending>],
+    endings: &[Option<Ending>],
 ) -> Result<(), AllocError>
-    requires { HaveOwn EndsWith jobs.now plans.now endings.old }
+    requires { AllByRecursion (HasOwn EndsWith jobs.now endings.now) plans.now }
     ensures { OnOk result (out.new.items ≡ out.old.items ++ job_lines (map entry_of items.now) (planned_lines jobs.now arena plans.now)) }
 {
     let mut room = Vec::new(alloc);
@@ -146,29 +150,28 @@ pub(crate) fn push_lines(
 
 // What the job of a plan counts for.
 #[tactic(auto, using(crate::proofs::Filing::own_here, crate::proofs::Filing::own_within, crate::proofs::RunCounts::run_counts))]
-fn counted(jobs: &Jobs, arena: u32, plan: &JobPlan, endings: &mut [Option<Tallied>]) -> Counted
-    requires { HasOwn Counts jobs.now plan.now endings.old }
-    ensures count { tally_of_count result ≡ tally_of (planned_line jobs.now arena plan.now) }
-    ensures rest { endings.new ≡ without plan.now endings.old }
+fn counted(jobs: &Jobs, arena: u32, plan: &JobPlan, endings: &[Option<Tallied>]) -> Counted
+    requires { HasOwn Counts jobs.now endings.now plan.now }
+    ensures { tally_of_count result ≡ tally_of (planned_line jobs.now arena plan.now) }
 {
     let _ = arena;
     match plan {
-        JobPlan::Runs { job, bound: _ } => take_ending(endings, jobs, *job).count,
+        JobPlan::Runs { job, bound: _ } => ending_at(endings, jobs, *job).count,
         JobPlan::TooLarge { needs: _ } => Counted::TooLarge,
         JobPlan::Refused { cause: _ } => Counted::Refused,
     }
 }
 
 /// What each job counts for.
-#[tactic(auto, using(crate::proofs::Filing::own_next, crate::proofs::Filing::own_later))]
+#[tactic(auto, using(crate::proofs::Filing::own_at))]
 pub(crate) fn job_counts(
     alloc: Global,
     jobs: &Jobs,
     arena: u32,
     plans: &[JobPlan],
-    endings: &mut [Option<Tallied>],
+    endings: &[Option<Tallied>],
 ) -> Result<Vec<Counted>, AllocError>
-    requires { HaveOwn Counts jobs.now plans.now endings.old }
+    requires { AllByRecursion (HasOwn Counts jobs.now endings.now) plans.now }
     ensures { IfOk result (λ counts. map tally_of_count counts.items ≡ map tally_of (planned_lines jobs.now arena plans.now)) }
 {
     let mut counts = Vec::with_capacity(alloc, plans.len())?;

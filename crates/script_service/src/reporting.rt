@@ -24,34 +24,52 @@ use lease_desk::Event;
 use run_reports::{push_end, push_events, push_programs, summarize};
 use script_plans::Plans;
 use std::alloc::{AllocError, Global};
+use std::mem::forget;
 
-/// The report of a script that was served, and the whole arena. It can't be dropped, as its arena can't.
+/// What serving a script leaves in memory behind its report: what was planned, the journal, and the values. Dropping it
+/// gives all of it back, block by block.
+#[derive(Drop)]
+pub struct Leftovers {
+    plans: Plans,
+    journal: Vec<Event>,
+    endings: Vec<Option<Ending>>,
+}
+
+impl Leftovers {
+    /// Leaves the memory to the system, for a process that ends next: it isn't given back before.
+    pub fn leave(self) {
+        forget(self);
+    }
+}
+
+/// The report of a script that was served, the whole arena, and what is left beside them. It can't be dropped, as its
+/// arena can't.
 pub struct ReportedScript {
     /// The report.
     pub text: Vec<u8>,
     /// The arena, as the runs left it.
     pub arena: Span,
+    /// What else is left in memory. No contract speaks of it.
+    pub left: Leftovers,
 }
 
 // Room for a job's line and those of its lease, so that the text of many jobs is seldom moved.
 const LINE_ROOM: usize = 128;
 
 // The report of a script, from its plans, the endings of its runs and the journal.
-#[tactic(auto, using(crate::proofs::Filing::all_own))]
 fn report_plans(
     alloc: Global,
     script: &Script<'_>,
-    plans: Plans,
-    journal: Vec<Event>,
-    endings: Vec<Option<Ending>>,
+    plans: &Plans,
+    journal: &[Event],
+    endings: &[Option<Ending>],
 ) -> Result<Vec<u8>, AllocError>
-    requires numbers { run_numbers plans.plans.items ≡ range_with_len 0 (length plans.jobs.plans) }
-    requires ended { AllEnded EndsWith plans.jobs endings.items }
-    ensures { (planned : ArePlanned (script_of script.now).arena (script_of script.now).items plans.jobs plans.plans.items plans.asked.items)
+    requires numbers { run_numbers plans.now.plans.items ≡ range_with_len 0 (length plans.now.jobs.plans) }
+    requires ended { AllEnded EndsWith plans.now.jobs endings.now }
+    ensures { (planned : ArePlanned (script_of script.now).arena (script_of script.now).items plans.now.jobs plans.now.plans.items plans.now.asked.items)
         → IfOk result (λ text. text.items ≡ report_text (script_of script.now).items
-        (told_of (script_of script.now) plans.programs.items planned.fates journal.items)) }
+        (told_of (script_of script.now) plans.now.programs.items planned.fates journal.now)) }
 {
-    let mut endings = endings;
     let mut out = Vec::with_capacity(alloc, LINE_ROOM.saturating_mul(plans.plans.len()))?;
     push_programs(alloc, &mut out, &script.items, &plans.programs)?;
     push_lines(
@@ -61,9 +79,9 @@ fn report_plans(
         &plans.jobs,
         script.arena,
         &plans.plans,
-        &mut endings,
+        endings,
     )?;
-    push_events(&mut out, &script.items, &plans.asked, &journal)?;
+    push_events(&mut out, &script.items, &plans.asked, journal)?;
     push_end(&mut out, script.arena as u64)?;
     Ok(out)
 }
@@ -87,8 +105,16 @@ pub fn report_served(
         endings,
         arena,
     } = served;
-    match report_plans(alloc, &script, plans, journal, endings) {
-        Ok(text) => Ok(ReportedScript { text, arena }),
+    match report_plans(alloc, &script, &plans, &journal, &endings) {
+        Ok(text) => Ok(ReportedScript {
+            text,
+            arena,
+            left: Leftovers {
+                plans,
+                journal,
+                endings,
+            },
+        }),
         Err(fault) => {
             arena.end();
             Err(fault)
@@ -97,7 +123,6 @@ pub fn report_served(
 }
 
 // The summary of a script, from its plans and what its runs count for.
-#[tactic(auto, using(crate::proofs::Filing::all_own))]
 fn summarize_plans(
     alloc: Global,
     arena: u32,
@@ -110,8 +135,7 @@ fn summarize_plans(
         plans.asked.items) (programs : List PlainLine) (journal : List PlainEvent)
         → arena ≡ script.arena → IfOk result (λ text. text.items ≡ summary_text (told_of script programs planned.fates journal)) }
 {
-    let mut endings = endings;
-    let counts = job_counts(alloc, &plans.jobs, arena, &plans.plans, &mut endings)?;
+    let counts = job_counts(alloc, &plans.jobs, arena, &plans.plans, &endings)?;
     let text = summarize(alloc, &counts, arena as u64)?;
     Ok(text)
 }

@@ -1,5 +1,5 @@
 //! A payload that has a copy of its lease's cells.
-ghost use Rattle.std.specs.Prelude.{◌≡◌, ℕ, List, IfOk};
+ghost use Rattle.std.specs.Prelude.{◌≡◌, IfOk};
 ghost use Rattle.cell_span.specs.declared.cell.Cell.{Cell};
 
 use cell_span::{Cell, Span};

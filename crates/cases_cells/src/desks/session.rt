@@ -2,7 +2,7 @@
 ghost use Rattle.std.specs.Prelude.{◌≡◌, ◌<◌, ◌≤◌, [], length, replicate, slice_get, slice_set, Some, None, IfErr, IfSome, IfNone, vec_capacity};
 ghost use Rattle.cell_span.specs.Range.{IsWhole, blank};
 ghost use Rattle.hole_list.specs.Holes.{run_of};
-ghost use Rattle.lease_desk.specs.Journal.{leased, AreSizes};
+ghost use Rattle.lease_desk.specs.Journal.{AreSizes};
 ghost use Rattle.cases_cells.specs.Held.{AllHeld};
 
 use crate::desks::copied::Copied;

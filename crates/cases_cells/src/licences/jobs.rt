@@ -1,8 +1,5 @@
 //! Runs that a licence covers.
-ghost use Rattle.std.specs.Prelude.{◌≡◌, ◌<◌, ◌≤◌, length, slice_get, IfOk, IfSome, IsSomeAnd};
-ghost use Rattle.camelot_values.specs.Value.{parts};
-ghost use Rattle.camelot_values.specs.Counts.{size_all};
-ghost use Rattle.camelot_values.specs.Typing.{ArgumentsFit};
+ghost use Rattle.std.specs.Prelude.{◌<◌, length, IfOk, IfSome};
 ghost use Rattle.grail_code.specs.Code.{code_of};
 ghost use Rattle.cases_cells.specs.Covered.{IsReadable, IsReady, AreArguments};
 

@@ -1,8 +1,7 @@
 //! Answers about licensed runs.
-ghost use Rattle.std.specs.Prelude.{◌≡◌, ◌≤◌, length, IfOk};
+ghost use Rattle.std.specs.Prelude.{◌≡◌, ◌≤◌, length};
 ghost use Rattle.cell_span.specs.Range.{IsWhole};
 ghost use Rattle.cell_machine.specs.Views.{HasRoom, IsStackFor};
-ghost use Rattle.grail_code.specs.Code.{code_of};
 ghost use Rattle.licence.specs.Bound.{bound, lease};
 ghost use Rattle.cases_cells.specs.Covered.{IsReady};
 
@@ -11,7 +10,6 @@ use crate::licences::jobs::Job;
 use camelot_values::Types;
 use cell_machine::{Ending, Ran, Room, Stack, run};
 use cell_span::Span;
-use std::alloc::{AllocError, Global};
 use std::io;
 use value_text::print;
 

@@ -1,5 +1,5 @@
 //! Answers about jobs that workers serve, all of them the same call.
-ghost use Rattle.std.specs.Prelude.{◌≡◌, ◌≤◌, ◌<◌, ◌∷◌, [], length, IfOk, IfSome};
+ghost use Rattle.std.specs.Prelude.{◌≤◌, ◌<◌, length, IfOk, IfSome};
 ghost use Rattle.lease_desk.specs.Journal.{AreSizes};
 ghost use Rattle.job_world.specs.Plans.{leases_of};
 ghost use Rattle.cases_cells.specs.Covered.{IsReadable};

@@ -1,10 +1,6 @@
 //! How many cells a run takes at most, beside those of its arguments.
 ghost use Rattle.std.specs.Prelude.{◌≡◌, ◌+◌, map, IfSome, IfOk};
-ghost use Rattle.camelot_values.specs.Value.{Value};
-ghost use Rattle.camelot_values.specs.Outcome.{peak_of};
 ghost use Rattle.grail_code.specs.Code.{code_of, func_of, block_of, let_of, op_of};
-ghost use Rattle.grail_code.specs.Meaning.{run_of};
-ghost use Rattle.cell_machine.specs.Endings.{most_calls};
 ghost use Rattle.cases_cells.specs.Taken.{new_cells, new_lets, new_blocks, new_funcs, TakesAtMost, RunTakes};
 
 use crate::machines::trees::trees_of;

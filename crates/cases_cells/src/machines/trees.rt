@@ -1,7 +1,6 @@
 //! Values as the evaluator has them.
-ghost use Rattle.std.specs.Prelude.{◌≡◌, ◌≤◌, ℕ, List, length, Some, IfSome, IfOk};
+ghost use Rattle.std.specs.Prelude.{◌≡◌, Some, IfSome, IfOk};
 ghost use Rattle.camelot_values.specs.Value.{parts};
-ghost use Rattle.camelot_values.specs.Items.{nodes, nodes_all};
 ghost use Rattle.grail_evaluator.specs.Trees.{plain, plain_all};
 ghost use Rattle.grail_evaluator.specs.declared.tree.Tree.{Tree};
 ghost use Rattle.cases_cells.specs.Trees.{IsFirst, AreFirst};
