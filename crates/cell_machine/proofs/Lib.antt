@@ -1,4 +1,5 @@
 pub mod CallLaws
+pub mod CaseLaws
 pub mod DueLaws
 pub mod FrameLaws
 pub mod FromArguments

@@ -1,6 +1,6 @@
 -- The lines of jobs by their endings are those by their plans.
 use Rattle.std.proofs.Common.{◌≡◌, ℕ, zero, suc, ◌<◌, List, [], ◌∷◌, ◌++◌, length, slice_get, Option, Some, None, get_or, refl, sym, ap, ◌∙◌, subst, arith}
-use Rattle.std.proofs.lemmas.Option.{get_or_from_slice_get, slice_get_within}
+use Rattle.std.proofs.lemmas.Option.{slice_get_within}
 use Rattle.std.specs.Prelude.{codes, decimal}
 use Rattle.camelot_values.specs.Value.{Value}
 use Rattle.camelot_values.specs.Kinds.{DataType, constructor_name}
@@ -49,13 +49,7 @@ same_ended types plain.Stuck (ending.Fuel p) fuel bound h = absurd h
 same_ended types plain.Stuck (ending.Deep p) fuel bound h = absurd h
 same_ended types plain.Stuck (ending.Trap p) fuel bound h = absurd h
 
--- ---- endings
-
-pub none_there : {K : Type 0} (xs : List (Option K)) (i : ℕ) (a : K) (d : Option K) → slice_get xs i ≡ Some (Some a) → get_or xs i d ≡ None → ⊥
-none_there xs i a d e n = let g : get_or xs i d ≡ Some a = get_or_from_slice_get xs i (Some a) d e in let h : None ≡ Some a = sym n ∙ g in absurd cc
-
-pub same_ending : {K : Type 0} (xs : List (Option K)) (i : ℕ) (a b : K) (d : Option K) → slice_get xs i ≡ Some (Some a) → get_or xs i d ≡ Some b → b ≡ a
-same_ending xs i a b d e n = let g : Some b ≡ Some a = sym n ∙ get_or_from_slice_get xs i (Some a) d e in cc
+-- ---- the lines of runs
 
 -- the line of an ending is that of the plan
 pub same_text : (ps : Planned) (p : Plan) (arena job bound : ℕ) (e : Ending) → slice_get ps.plans job ≡ Some p → EndsWith (job_run ps job) e
