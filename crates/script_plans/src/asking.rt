@@ -63,7 +63,9 @@ fn parse(
     read_known(alloc, text, &code.types, inhabited, params)
 }
 
-// The call of a function on fitting arguments.
+// The call of a function on fitting arguments. It is a call itself, so that the walks over their nodes carry nothing of
+// what reads them.
+#[inline(never)]
 #[tactic(auto, using(crate::proofs::Coming::bounded_is))]
 fn bounded(licence: &Licence, number: u32, args: Vec<Flat>) -> Asked
     requires fits { FitsEntry licence.now number args.items }
