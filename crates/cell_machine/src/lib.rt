@@ -18,6 +18,7 @@ mod state;
 mod steps;
 mod walking;
 
-pub use licensed::run;
-pub use machine::{Ending, Machine, Ran, Stack, run_code};
+pub use licensed::{halt, run, run_counted};
+pub use loading::cells_of;
+pub use machine::{Ending, Halt, Halted, Machine, Ran, Stack, run_code};
 pub use room::Room;

@@ -1,5 +1,7 @@
 ghost use Rattle.std.specs.Prelude.{◌≡◌, ℕ, ◌+◌, ◌-◌, ◌==◌, ◌≤◌, ◌<◌, ◌++◌, ◌∷◌, [], if◌then◌else◌, true, ℤ, List, length, take, drop, reverse, IsSome, IfSome, vec_len, vec_capacity};
+ghost use Rattle.camelot_values.specs.Counts.{cells_among, size_all};
 ghost use Rattle.camelot_values.specs.Kinds.{constructor};
+ghost use Rattle.camelot_values.specs.Value.{parts};
 ghost use Rattle.camelot_values.specs.declared.value.Item.{Item};
 ghost use Rattle.camelot_values.specs.declared.value.Item.TheVariants.{Int, Con};
 ghost use Rattle.cell_span.specs.declared.cell.Cell.{Cell};
@@ -338,7 +340,7 @@ pub(crate) fn lay_args(
     }
 }
 
-/// How many cells the arguments take.
+// How many cells the arguments take, node by node.
 pub(crate) fn count_args(types: &Types, args: &[Flat]) -> u32
     requires few { node_total args.now ≤ 65536 }
     ensures { result ≡ cell_count types.now (all_nodes args.now) }
@@ -348,4 +350,14 @@ pub(crate) fn count_args(types: &Types, args: &[Flat]) -> u32
         total += arg.cells(types);
     }
     total as u32
+}
+
+/// How many cells these arguments take, which have at most 65,536 nodes: one for each node of a constructor that isn't
+/// inline, and one for each diamond.
+#[tactic(auto, using(crate::proofs::LaidLaws::total_few, crate::proofs::LaidLaws::cells_counted))]
+pub fn cells_of(types: &Types, args: &[Flat]) -> u32
+    requires few { size_all (parts args.now) ≤ 65536 }
+    ensures { result ≡ cells_among types.now args.now }
+{
+    count_args(types, args)
 }

@@ -1,4 +1,4 @@
-ghost use Rattle.std.specs.Prelude.{◌≡◌, ℕ, ◌+◌, ◌*◌, ◌≤◌, ◌<◌, ◌++◌, ◌∷◌, [], List, length, take, Some, IsSome, IsSomeAnd, vec_len, vec_capacity};
+ghost use Rattle.std.specs.Prelude.{◌≡◌, true, ℕ, ◌+◌, ◌*◌, ◌≤◌, ◌<◌, ◌++◌, ◌∷◌, [], List, length, take, Some, IsSome, IsSomeAnd, vec_len, vec_capacity};
 ghost use Rattle.camelot_values.specs.Kinds.{constructor};
 ghost use Rattle.camelot_values.specs.Value.{Value};
 ghost use Rattle.camelot_values.specs.Typing.{Fits};
@@ -65,6 +65,21 @@ fn fields_at<'a>(types: &'a Types, homes: &Homes, known: &mut Known<'a>, con: u3
     known.fields
 }
 
+// The node of a word whose kind is no data type. It is called for the rarer kinds, so that the loop over nodes tells
+// kinds apart by comparisons and has no table of them.
+#[inline(never)]
+fn leaf_item(leaf: Due) -> Item
+    requires { is_leaf leaf.kind ≡ true }
+    ensures { leaf_items leaf.kind leaf.word ≡ result ∷ [] }
+{
+    match leaf.kind {
+        Kind::Int => Item::Int(leaf.word.cast_signed()),
+        Kind::Flag => Item::Flag(leaf.word == 1),
+        Kind::Dia => Item::Dia,
+        Kind::Of(_) => unreachable!(),
+    }
+}
+
 impl Reading {
     // This word is due next.
     #[inline(always)]
@@ -106,15 +121,11 @@ impl Reading {
                 self.items.push_reserved(Item::Int(leaf.word.cast_signed()));
                 true
             }
-            Kind::Flag => {
-                self.items.push_reserved(Item::Flag(leaf.word == 1));
-                true
-            }
-            Kind::Dia => {
-                self.items.push_reserved(Item::Dia);
-                true
-            }
             Kind::Of(_) => false,
+            Kind::Flag | Kind::Dia => {
+                self.items.push_reserved(leaf_item(leaf));
+                true
+            }
         }
     }
 
@@ -291,15 +302,11 @@ impl Reading {
                 self.items.push_reserved(Item::Int(due.word.cast_signed()));
                 self.take_due()
             }
-            Kind::Flag => {
-                self.items.push_reserved(Item::Flag(due.word == 1));
-                self.take_due()
-            }
-            Kind::Dia => {
-                self.items.push_reserved(Item::Dia);
-                self.take_due()
-            }
             Kind::Of(_) => self.read_con(span, types, homes, known, due.word),
+            Kind::Flag | Kind::Dia => {
+                self.items.push_reserved(leaf_item(due));
+                self.take_due()
+            }
         }
     }
 

@@ -1,5 +1,5 @@
 -- What the plan of a job says of its run.
-use Rattle.std.proofs.Common.{◌≡◌, ℕ, zero, suc, ◌<◌, ◌≤◌, List, [], ◌∷◌, length, Option, Some, None, refl, sym, ap, ◌∙◌, subst, arith}
+use Rattle.std.proofs.Common.{◌≡◌, ℕ, zero, suc, Bool, ◌<◌, ◌≤◌, List, [], ◌∷◌, length, Option, Some, None, refl, sym, ap, ◌∙◌, subst, arith}
 use Rattle.std.specs.Prelude.{slice_get, IsSomeAnd}
 use Rattle.std.specs.List.{AllByRecursion}
 use Rattle.std.proofs.lemmas.Option.{slice_get_within}
@@ -11,16 +11,15 @@ use Rattle.licence.specs.Licensed.{Licensed}
 use Rattle.cell_machine.specs.State.{most_calls}
 use Rattle.cell_machine.specs.Plans.{IsPlan}
 use Rattle.cell_machine.specs.Loading.{last_cells}
-use Rattle.cell_machine.specs.Endings.{EndsWith}
-use Rattle.job_workers.specs.Serving.{IsStackAt, IsServed}
+use Rattle.camelot_values.specs.Outcome.{Outcome}
+use Rattle.job_workers.specs.Serving.{IsStackAt, IsRoomFor, IsServed}
 use Rattle.lease_desk.specs.Lease.{LeaseView, ClaimView, lease, claim_of}
 use Rattle.cell_span.specs.Range.{Range}
 use Rattle.camelot_values.specs.Value.{Value}
 use Rattle.cell_machine.specs.Laid.{SameRange}
-use Rattle.cell_machine.specs.Views.{HasRoom, IsStackFor}
+use Rattle.cell_machine.specs.Views.{IsStackFor}
 use Rattle.cell_machine.specs.declared.machine.Stack.{Stack}
 use Rattle.cell_machine.specs.declared.room.Room.{Room}
-use Rattle.cell_machine.specs.declared.machine.Ending.{Ending}
 use Rattle.job_world.specs.Plans.{Plan, Planned, IsFit, AreFit, leases_of, run_with, run_at, cells_of, cells_with, cells_at, job_run, job_cells}
 
 pub record RunIs (ps : Planned) (job : ℕ) (p : Plan) (l : Licensed) (cells : ℕ) : Type 0 where
@@ -91,14 +90,17 @@ pub plan_now : (ps : Planned) (job : ℕ) (l : LeaseView) (p : Plan) (li : Licen
 plan_now ps job l p li now range_in args is same = subst (λ args. IsPlan li p.entry args p.fuel (length range_in.cells)) (sym same) (subst (IsPlan li p.entry p.args p.fuel) (sym (ap (λ (r : Range). length r.cells) is)) now.plan)
 
 pub room_now : (ps : Planned) (job : ℕ) (l : LeaseView) (p : Plan) (li : Licensed) → RunIs ps job p li (length l.range.cells)
-    → (range_in : Range) (room : Room) → range_in ≡ l.range → HasRoom p.lease room
-    → HasRoom (length range_in.cells) room
-room_now ps job l p li now range_in room is has = subst (λ n. HasRoom n room) (now.lease ∙ sym (ap (λ (r : Range). length r.cells) is)) has
+    → (asks : Bool) (range_in : Range) (room : Option Room) → range_in ≡ l.range → IsRoomFor asks p.lease room
+    → IsRoomFor asks (length range_in.cells) room
+room_now ps job l p li now asks range_in room is has =
+    subst (λ n. IsRoomFor asks n room) (now.lease ∙ sym (ap (λ (r : Range). length r.cells) is)) has
 
+-- what is kept of the run is kept of the job's
 pub meant_now : (ps : Planned) (job : ℕ) (l : LeaseView) (p : Plan) (li : Licensed) → RunIs ps job p li (length l.range.cells)
-    → (args : List Value) (ending : Ending) → args ≡ p.args
-    → EndsWith (run_of li.code most_calls p.entry p.fuel args) ending → EndsWith (job_run ps job) ending
-meant_now ps job l p li now args ending same ends = subst (λ o. EndsWith o ending) (ap (run_of li.code most_calls p.entry p.fuel) same ∙ sym now.run) ends
+    → {K : Type 0} (keeps : Outcome Value → K → Type 0) (args : List Value) (kept : K) → args ≡ p.args
+    → keeps (run_of li.code most_calls p.entry p.fuel args) kept → keeps (job_run ps job) kept
+meant_now ps job l p li now keeps args kept same is =
+    subst (λ o. keeps o kept) (ap (run_of li.code most_calls p.entry p.fuel) same ∙ sym now.run) is
 
 pub served_now : (ps : Planned) (job : ℕ) (l : LeaseView) (p : Plan) (li : Licensed) → RunIs ps job p li (length l.range.cells)
     → (range_in : Range) (claim : ClaimView) (ran : Range) (args : List Value)

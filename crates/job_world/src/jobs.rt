@@ -1,14 +1,17 @@
 ghost use Rattle.std.specs.Prelude.{◌≡◌, ◌+◌, ◌<◌, ◌≤◌, ◌++◌, ◌∷◌, [], length, slice_get, Some, IsSomeAnd, MatchResult, IfOk};
-ghost use Rattle.licence.specs.Bound.{lease};
+ghost use Rattle.camelot_values.specs.Counts.{cells_among, size_all};
+ghost use Rattle.camelot_values.specs.Value.{parts};
+ghost use Rattle.licence.specs.Bound.{bound, lease};
 ghost use Rattle.licence.specs.Licensed.{Licensed, IsLicensed};
 ghost use Rattle.job_world.specs.Asking.{CanPlan, IsLarger, NeedsOf};
 ghost use Rattle.job_world.specs.Plans.{AreFit, Planned, leases_of};
-ghost use Rattle.job_world.specs.Words.{plan_of};
+ghost use Rattle.job_world.specs.Words.{plan_of, IsCounted};
 
 use crate::fault::AddFault;
 use crate::plan::Plan;
 use camelot_values::Flat;
-use licence::Licence;
+use cell_machine::cells_of;
+use licence::{Licence, Needs};
 use std::alloc::{AllocError, Global};
 use std::marker::Model;
 
@@ -21,7 +24,7 @@ pub struct Jobs {
 
 impl Model for Jobs {
     ghost use Rattle.job_world.specs.Plans.{AreFit, Planned};
-    ghost use Rattle.job_world.specs.Words.{planned};
+    ghost use Rattle.job_world.specs.Words.{planned, AreCounted};
     ghost use Rattle.job_world.specs.Codes.{planned_code};
 
     ghost Value = { Planned };
@@ -30,7 +33,25 @@ impl Model for Jobs {
 
     ghost view = { λ j. planned j.licences.items j.plans.items };
 
-    ghost invariant = { λ j. AreFit (planned j.licences.items j.plans.items) };
+    // each plan fits its licence, and has the number of cells of its arguments
+    ghost invariant = { λ j. AreFit (planned j.licences.items j.plans.items) × AreCounted j.licences.items j.plans.items };
+}
+
+// How many cells the arguments take: what the lease has beyond the bound, unless it is the one cell that each lease has.
+#[tactic(auto, using(crate::proofs::Counting::bound_within, crate::proofs::Counting::cells_left))]
+fn cells_beyond(licence: &Licence, entry: u32, args: &[Flat], needs: Needs) -> u32
+    requires few_nodes { size_all (parts args.now) ≤ 65536 }
+    requires bounded { needs.bound ≡ bound licence.now.code licence.now.cert entry args.now }
+    requires leased { needs.lease ≡ lease licence.now.code licence.now.cert entry args.now }
+    requires few { needs.lease ≤ 2147483648 }
+    ensures { result ≡ cells_among licence.now.code.types args.now }
+{
+    let _ = entry;
+    if needs.lease > 1 {
+        (needs.lease - needs.bound) as u32
+    } else {
+        cells_of(&licence.code().types, args)
+    }
 }
 
 impl Jobs {
@@ -110,12 +131,12 @@ impl Jobs {
         ensures refused { MatchResult result (λ job. self.new.licences ≡ self.old.licences)
             (λ fault. (self.new ≡ self.old) × IsLarger self.old.licences licence entry args.items arena fault) }
     {
-        let needs = self.lease_of(licence, entry, &args);
+        let needs = self.needs_of(licence, entry, &args);
         self.add_leased(licence, entry, args, fuel, needs, arena)
     }
 
-    /// Plans a run as [`Jobs::add`] does, of which the caller has the lease already, so that the arguments aren't
-    /// walked once more.
+    /// Plans a run as [`Jobs::add`] does, of which the caller has the bound and the lease already, so that the arguments
+    /// aren't walked once more.
     ///
     /// # Errors
     ///
@@ -126,11 +147,12 @@ impl Jobs {
         entry: u32,
         args: Vec<Flat>,
         fuel: u64,
-        needs: u64,
+        needs: Needs,
         arena: u32,
     ) -> Result<u32, AddFault>
         requires can { CanPlan self.old.licences licence entry args.items fuel }
-        requires leased { (l : Licensed) → slice_get self.old.licences licence ≡ Some l → needs ≡ lease l.code l.cert entry args.items }
+        requires bounded { (l : Licensed) → slice_get self.old.licences licence ≡ Some l → needs.bound ≡ bound l.code l.cert entry args.items }
+        requires leased { (l : Licensed) → slice_get self.old.licences licence ≡ Some l → needs.lease ≡ lease l.code l.cert entry args.items }
         requires arena { arena ≤ 2147483648 }
         requires few { length self.old.plans < 4294967295 }
         // Where it is planned, its number is the next one, and its lease is the licence's, within the arena.
@@ -151,16 +173,18 @@ impl Jobs {
             (λ fault. (self.new ≡ self.old) × IsLarger self.old.licences licence entry args.items arena fault) }
     {
         self.licensed(licence, entry, &args);
-        if needs > arena as u64 {
-            return Err(AddFault::Larger { needs });
+        if needs.lease > arena as u64 {
+            return Err(AddFault::Larger { needs: needs.lease });
         }
         let job = self.plans.len() as u32;
+        let cells = self.cells_in(licence, entry, &args, needs);
         let plan = Plan {
             licence,
             entry,
             args,
+            cells,
             fuel,
-            lease: needs as u32,
+            lease: needs.lease as u32,
         };
         match self.plans.push(plan) {
             Ok(()) => Ok(job),
@@ -168,15 +192,27 @@ impl Jobs {
         }
     }
 
-    // The lease that the licence of this number says. It is a licence by its type.
-    fn lease_of(&self, licence: u32, entry: u32, args: &[Flat]) -> u64
+    // The bound and the lease that the licence of this number says.
+    fn needs_of(&self, licence: u32, entry: u32, args: &[Flat]) -> Needs
         requires can { NeedsOf self.now.licences licence entry args.now }
-        ensures lease { (l : Licensed) → slice_get self.now.licences licence ≡ Some l → result ≡ lease l.code l.cert entry args.now }
-        ensures licensed { IsSomeAnd (slice_get self.now.licences licence) IsLicensed }
+        ensures bound { (l : Licensed) → slice_get self.now.licences licence ≡ Some l → result.bound ≡ bound l.code l.cert entry args.now }
+        ensures lease { (l : Licensed) → slice_get self.now.licences licence ≡ Some l → result.lease ≡ lease l.code l.cert entry args.now }
     {
         let licence = &self.licences[licence as usize];
         licence.kept();
-        licence.lease(entry, args)
+        licence.needs(entry, args)
+    }
+
+    // How many cells the arguments take, by the needs of a run on them.
+    fn cells_in(&self, licence: u32, entry: u32, args: &[Flat], needs: Needs) -> u32
+        requires can { NeedsOf self.now.licences licence entry args.now }
+        requires bounded { (l : Licensed) → slice_get self.now.licences licence ≡ Some l → needs.bound ≡ bound l.code l.cert entry args.now }
+        requires leased { (l : Licensed) → slice_get self.now.licences licence ≡ Some l → needs.lease ≡ lease l.code l.cert entry args.now }
+        requires few { needs.lease ≤ 2147483648 }
+        ensures { (l : Licensed) → slice_get self.now.licences licence ≡ Some l → result ≡ cells_among l.code.types args.now }
+    {
+        let licence = &self.licences[licence as usize];
+        cells_beyond(licence, entry, args, needs)
     }
 
     // The licence of this number is one by its type. It does nothing.
@@ -202,9 +238,13 @@ impl Jobs {
     }
 
     /// The plan of this number. It takes no memory.
+    #[tactic(auto, using(crate::proofs::Counting::counted_at))]
     pub fn plan(&self, job: u32) -> &Plan
         requires { job < length self.now.plans }
+        // It is the plan of this number.
         ensures is { slice_get self.now.plans job ≡ Some (plan_of result.now) }
+        // Its number of cells is that of its arguments.
+        ensures counted { IsCounted self.now.licences result.now }
     {
         &self.plans[job as usize]
     }

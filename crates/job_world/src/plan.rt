@@ -6,6 +6,8 @@ pub struct Plan {
     pub licence: u32,
     pub entry: u32,
     pub args: Vec<Flat>,
+    /// How many cells the arguments take.
+    pub cells: u32,
     pub fuel: u64,
     pub lease: u32,
 }

@@ -1,13 +1,16 @@
 //! The summary of a script in one line.
 ghost use Rattle.std.specs.Prelude.{◌≡◌, ◌++◌, ◌^◌, [], List, Some, length, map, IfOk, OnOk};
+ghost use Rattle.camelot_values.specs.Outcome as plain;
+ghost use Rattle.camelot_values.specs.Value.{Value};
 ghost use Rattle.licence.specs.Licensed.{Licensed};
+ghost use Rattle.cell_machine.specs.Endings.{halt_of};
 ghost use Rattle.run_reports.specs.Counts.{count_of, tally_of_count};
 ghost use Rattle.run_reports.specs.Summary.{added, counts_text, sum, sums_text, summary_text, tally_of, tally_text};
 ghost use Rattle.run_reports.specs.Summing.{IsUnder};
 ghost use Rattle.script_outcomes.specs.Told.{line_of, outcome_of, told_of};
 
 use super::pieces::push_wide;
-use cell_machine::Ending;
+use cell_machine::{Ending, Halt};
 use script_outcomes::{JobLine, Outcome};
 use std::alloc::{AllocError, Global};
 
@@ -70,6 +73,19 @@ pub fn count_run(ending: &Ending) -> Counted
         Ending::Fuel { peak } => Counted::Fuel { peak: *peak },
         Ending::Deep { peak } => Counted::Deep { peak: *peak },
         Ending::Trap { peak } => Counted::Trap { peak: *peak },
+    }
+}
+
+/// What a run counts for that ended so, whose value wasn't asked for.
+pub fn count_halt(halt: Halt) -> Counted
+    // It is what each run counts for that ends so.
+    ensures { (o : plain.Outcome Value) → halt_of o ≡ Some halt → count_of o ≡ Some result }
+{
+    match halt {
+        Halt::Done { calls, peak } => Counted::Done { calls, peak },
+        Halt::Fuel { peak } => Counted::Fuel { peak },
+        Halt::Deep { peak } => Counted::Deep { peak },
+        Halt::Trap { peak } => Counted::Trap { peak },
     }
 }
 

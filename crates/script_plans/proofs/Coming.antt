@@ -91,14 +91,18 @@ pub can_be_planned : (licences : List Licensed) (licence fuel : ℕ) (l : Licens
 can_be_planned licences licence fuel l name text (asked.Unfit cause) at some h = tt
 can_be_planned licences licence fuel l name text (asked.Fits entry args needs) at some h =
     let fits : FitsEntry l entry args.items = subst (λ (n : ℕ). FitsEntry l n args.items) (sym h.of_args.0) (fits_entry l h.number h.func args.items h.is h.of_args.1.text_of.fit) in
-    let leased : needs.lease ≡ lease l.code l.cert entry args.items = subst (λ (n : ℕ). needs.lease ≡ lease l.code l.cert n args.items) (sym h.of_args.0) h.of_args.2.leased in (
+    let leased : needs.lease ≡ lease l.code l.cert entry args.items = subst (λ (n : ℕ). needs.lease ≡ lease l.code l.cert n args.items) (sym h.of_args.0) h.of_args.2.leased in
+    let bounded : needs.bound ≡ bound l.code l.cert entry args.items = subst (λ (n : ℕ). needs.bound ≡ bound l.code l.cert n args.items) (sym h.of_args.0) h.of_args.2.is in (
       record {
         needs = record { fits = subst (λ (o : Option Licensed). IsSomeAnd o (λ l. FitsEntry l entry args.items)) (sym at) fits; few = h.of_args.1.few };
         some_fuel = some;
       },
-      λ k there. leased_too l k (sym at ∙ there) leased,
+      record { bounded = λ k there. bounded_too l k (sym at ∙ there) bounded; leased = λ k there. leased_too l k (sym at ∙ there) leased },
     )
   where
+    bounded_too : (l k : Licensed) → Some l ≡ Some k → needs.bound ≡ bound l.code l.cert entry args.items → needs.bound ≡ bound k.code k.cert entry args.items
+    bounded_too l k e h = let same : l ≡ k = cc in subst (λ (x : Licensed). needs.bound ≡ bound x.code x.cert entry args.items) same h
+
     leased_too : (l k : Licensed) → Some l ≡ Some k → needs.lease ≡ lease l.code l.cert entry args.items → needs.lease ≡ lease k.code k.cert entry args.items
     leased_too l k e h = let same : l ≡ k = cc in subst (λ (x : Licensed). needs.lease ≡ lease x.code x.cert entry args.items) same h
 

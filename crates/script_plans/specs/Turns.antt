@@ -63,9 +63,10 @@ IsAsked l name text a = IsOfEntry l name text a
 
 -- ---- what is planned
 
--- its lease is that of the licence of this number
-abbrev pub IsLeased : List Licensed → (licence entry : ℕ) → List Value → Needs → Type 0
-IsLeased licences licence entry args needs = (l : Licensed) → slice_get licences licence ≡ Some l → needs.lease ≡ lease l.code l.cert entry args
+-- its bound and its lease are those of the licence of this number
+pub record IsLeased (licences : List Licensed) (licence entry : ℕ) (args : List Value) (needs : Needs) : Type 0 where
+  pub bounded : (l : Licensed) → slice_get licences licence ≡ Some l → needs.bound ≡ bound l.code l.cert entry args
+  pub leased : (l : Licensed) → slice_get licences licence ≡ Some l → needs.lease ≡ lease l.code l.cert entry args
 
 -- it can be planned
 abbrev pub CanBePlanned : List Licensed → (licence fuel : ℕ) → Asked → Type 0

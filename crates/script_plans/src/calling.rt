@@ -32,7 +32,7 @@ fn plan_call(
     ensures { (l : Licensed) → slice_get jobs.old.licences licence ≡ Some l
         → IfOk result (IsAdded arena (plan_for licence fuel l entry args.items) needs.bound jobs.old jobs.new) }
 {
-    match jobs.add_leased(licence, entry, args, fuel, needs.lease, arena) {
+    match jobs.add_leased(licence, entry, args, fuel, needs, arena) {
         Ok(job) => Ok(JobPlan::Runs {
             job,
             bound: needs.bound,

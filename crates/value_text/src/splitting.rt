@@ -65,11 +65,19 @@ fn cut_values(alloc: Global, items: &[Item], count: usize) -> Result<Vec<Flat>, 
     Ok(values)
 }
 
-/// The values whose nodes these are, one after the other. One value alone keeps the nodes as they were read, unless they
-/// fill less than a quarter of their room, as behind many spaces.
+// Gives back the room that the nodes don't fill, where it is worth a call.
+fn give_room_back(items: &mut Vec<Item>)
+    ensures { items.new.items ≡ items.old.items }
+{
+    if items.capacity() - items.len() > 32 {
+        items.shrink_to_fit();
+    }
+}
+
+/// The values whose nodes these are, one after the other. One value alone keeps the nodes where they were read.
 pub(crate) fn split_values(
     alloc: Global,
-    items: Vec<Item>,
+    mut items: Vec<Item>,
     count: usize,
 ) -> Result<Vec<Flat>, AllocError>
     requires values { OfValues items.items count }
@@ -77,7 +85,8 @@ pub(crate) fn split_values(
     ensures nodes { IfOk result (λ values. items.items ≡ nodes_all (parts values.items) []) }
     ensures count { IfOk result (λ values. length values.items ≡ count) }
 {
-    if count == 1 && items.len() >= items.capacity() / 4 {
+    if count == 1 {
+        give_room_back(&mut items);
         whole_value(alloc, items)
     } else {
         cut_values(alloc, &items, count)

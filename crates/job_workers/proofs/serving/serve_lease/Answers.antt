@@ -12,14 +12,14 @@ run_plan-ran-requires-clause-plan g c = plan_now c.args.jobs.now c.job-job.resul
 pub run_plan-ran-requires-clause-room : goal.run_plan-ran-requires-clause-room
 run_plan-ran-requires-clause-room g c = room_now c.args.jobs.now c.job-job.result c.args.lease (plan_of c.plan-plan.result.now) c.licence-licence.result.now
     (lease_now c.args.jobs.now c.job-job.result c.args.lease (plan_of c.plan-plan.result.now) c.licence-licence.result.now c.kept.ensures c.job-job.ensures (due_now c.args.jobs.now g.N.JobName.planned g.N.DeskName.sizes c.args.lease.job (length c.args.lease.range.cells) c.requires.plans c.requires.sizes c.kept-2.ensures.size).1 c.plan-plan.ensures.is c.licence-licence.ensures.is)
-    c.open-span.result.0 c.in-Ok.room c.open-span.ensures.span c.in-Ok.ensures.room
+    g.K.Kept.asks c.open-span.result.0 c.in-Ok.room c.open-span.ensures.span c.in-Ok.ensures.room
 
 pub invariant_of-answer : goal.invariant_of-answer
 invariant_of-answer g c = record {
-  meant = subst (λ (ps : Planned). g.K.Kept.keeps (job_run ps c.job-job.result) c.keep.result) c.requires.plans (c.keep.ensures (job_run c.args.jobs.now c.job-job.result)
+  meant = subst (λ (ps : Planned). g.K.Kept.keeps (job_run ps c.job-job.result) c.run_plan-ran.result.kept) c.requires.plans
       (meant_now c.args.jobs.now c.job-job.result c.args.lease (plan_of c.plan-plan.result.now) c.licence-licence.result.now
       (lease_now c.args.jobs.now c.job-job.result c.args.lease (plan_of c.plan-plan.result.now) c.licence-licence.result.now c.kept.ensures c.job-job.ensures (due_now c.args.jobs.now g.N.JobName.planned g.N.DeskName.sizes c.args.lease.job (length c.args.lease.range.cells) c.requires.plans c.requires.sizes c.kept-2.ensures.size).1 c.plan-plan.ensures.is c.licence-licence.ensures.is)
-      c.plan-plan.result.now.args.items c.run_plan-ran.result.ending refl c.run_plan-ran.ensures.ending));
+      g.K.Kept.keeps c.plan-plan.result.now.args.items c.run_plan-ran.result.kept refl c.run_plan-ran.ensures.kept);
 }
 
 pub make_ready-requires : goal.make_ready-requires
