@@ -8,6 +8,7 @@
 //! - `bound CODE CERT FUNCTION |ARGUMENTS|`: the bound and the lease of a run of the function of this number.
 //! - `run CODE CERT FUNCTION FUEL |ARGUMENTS|`: the same, and how the run ends in the cells of its lease, with so much
 //!   fuel.
+//! - `halt CODE CERT FUNCTION FUEL |ARGUMENTS|`: the same, but the run's value isn't put together, nor told.
 //! - `serve CODE CERT FUNCTION FUEL COPIES ARENA WORKERS GATE |ARGUMENTS|`: the run as so many jobs, numbered from 0,
 //!   which so many workers serve in an arena of so many cells: how many ended, of how many events, and the cells that
 //!   came back; or, where memory is refused, the first index and the cells of what came home. The gate is `open`; or a
@@ -20,7 +21,7 @@ mod serving;
 
 use case_lines::Texts;
 use jobs::job_of;
-use running::answer_job;
+use running::{Question, answer_job};
 use serving::{Call, answer_serve};
 use std::io;
 use std::sync::Wait;
@@ -31,24 +32,20 @@ fn answer_run(
     rt: &HostRuntime,
     bytes: (&[u8], &[u8]),
     entry: u32,
-    fuel: Option<u64>,
+    fuel: u64,
+    question: Question,
     text: &[u8],
 ) -> io::Result<()> {
     let (code, cert) = bytes;
-    match job_of(rt, code, cert, entry, fuel.unwrap_or(1), text)? {
-        Some(job) => answer_job(rt, &job, fuel.is_some()),
+    match job_of(rt, code, cert, entry, fuel, text)? {
+        Some(job) => answer_job(rt, &job, question),
         None => Ok(()),
     }
 }
 
 // The numbers of these words.
-fn numbers_of(entry: &str, fuel: &str) -> Option<(u32, Option<u64>)> {
-    Some((entry.parse::<u32>().ok()?, Some(fuel.parse::<u64>().ok()?)))
-}
-
-// The same without fuel.
-fn number_of(entry: &str) -> Option<(u32, Option<u64>)> {
-    Some((entry.parse::<u32>().ok()?, None))
+fn numbers_of(entry: &str, fuel: &str) -> Option<(u32, u64)> {
+    Some((entry.parse::<u32>().ok()?, fuel.parse::<u64>().ok()?))
 }
 
 // The call of these words as so many jobs, where each word is a number.
@@ -92,14 +89,17 @@ fn answer<R: Threads + Wait + Sync>(
             _ => print!(rt; " no such code, certificate or number"),
         };
     }
-    let (code, cert, numbers) = match words {
-        ["bound", code, cert, entry] => (*code, *cert, number_of(entry)),
-        ["run", code, cert, entry, fuel] => (*code, *cert, numbers_of(entry, fuel)),
+    let (question, code, cert, numbers) = match words {
+        ["bound", code, cert, entry] => (Question::Bound, *code, *cert, numbers_of(entry, "1")),
+        ["run", code, cert, entry, fuel] => (Question::Run, *code, *cert, numbers_of(entry, fuel)),
+        ["halt", code, cert, entry, fuel] => {
+            (Question::Halt, *code, *cert, numbers_of(entry, fuel))
+        }
         _ => return print!(rt; " no such command"),
     };
     match (codes.find(code), certs.find(cert), numbers) {
         (Some(code), Some(cert), Some((entry, fuel))) => {
-            answer_run(rt, (code, cert), entry, fuel, text)
+            answer_run(rt, (code, cert), entry, fuel, question, text)
         }
         _ => print!(rt; " no such code, certificate or number"),
     }

@@ -1,11 +1,14 @@
 //! Sets of a function's locals, which are below 256: a bit for each.
-ghost use Rattle.std.specs.Prelude.{◌≡◌, ℕ, ◌<◌, ◌≤◌, ◌==◌, ◌||◌, ◌&&◌, not, IfOk};
+ghost use Rattle.std.specs.Prelude.{◌≡◌, ℕ, ◌<◌, ◌≤◌, ◌==◌, ◌||◌, ◌&&◌, not, IfOk, OnOk};
 ghost use Rattle.std.specs.List.{filter, range_with_len};
 ghost use Rattle.normal_form.specs.Live.{Marks, unless_bound};
 ghost use Rattle.code_gen.specs.Marked.{IsMarked, IsNext, either_live, has, is_set, no_locals, none_live, with_one};
 
 use smallvec::SmallVec;
 use std::alloc::{AllocError, Global};
+
+// So many locals take no memory of their own.
+const FEW: usize = 4;
 
 /// Locals of a function, of which those below 128 stand in the first word.
 #[derive(Clone, Copy, Debug)]
@@ -50,6 +53,17 @@ fn next_bit(word: u128, from: u32) -> u32
         return 128;
     }
     from + rest.trailing_zeros()
+}
+
+// Makes room for so many locals, where they take memory of their own.
+#[inline(always)]
+fn make_room(locals: &mut SmallVec<u32, 4>, room: usize) -> Result<(), AllocError>
+    ensures { OnOk result (locals.new.items ≡ locals.old.items) }
+{
+    if room > FEW {
+        locals.reserve_exact(room)?;
+    }
+    Ok(())
 }
 
 impl LocalSet {
@@ -125,7 +139,8 @@ impl LocalSet {
         ensures { IfOk result (λ locals. locals.items ≡ filter (has self) (range_with_len 0 end)) }
     {
         let room = self.low.count_ones() as usize + self.high.count_ones() as usize;
-        let mut locals = SmallVec::with_capacity(alloc, room)?;
+        let mut locals = SmallVec::new(alloc);
+        make_room(&mut locals, room)?;
         let mut next = self.next_below(0, end);
         while next < end {
             locals.push(next)?;

@@ -1,12 +1,13 @@
 ghost use Rattle.std.specs.Prelude.{◌≡◌, [], map};
 ghost use Rattle.grail_code.specs.Code.{arm_of, term_of, func_of, code_of};
-ghost use Rattle.lp_size.specs.Counting.{bound, vars_onto, jump_rows, plain_jump_rows, arms_onto, ret_rows, tail_rows, term_rows};
+ghost use Rattle.lp_size.specs.declared.origins.Origin.TheVariants.{BlockVar};
+ghost use Rattle.lp_size.specs.Counting.{bound, var_rows, vars_onto, jump_rows, plain_jump_rows, arms_onto, ret_rows, tail_rows, term_rows};
 
 use super::books::{Books, Here};
 use super::lets::call_rows;
-use super::origins::{Origin, Slot, origin_at};
+use super::origins::{Origin, Slot, is_same, origin_at};
 use super::taken::{Taken, back_rows, taken_behind_call};
-use super::values::{local_rows, value_rows, var_rows};
+use super::values::{local_count, local_rows, value_rows};
 use grail_code::{CaseArm, Term};
 
 // What a local carries where an arm has bound these fields, of which a constructor has four at most.
@@ -19,6 +20,34 @@ fn bound(here: Here<'_>, slots: &[Slot], fields: &[u32], matched: Origin, local:
     } else {
         origin_at(here, slots, local)
     }
+}
+
+// The rows of a parameter of a target, where an arm has bound these fields, constructor by constructor: none where the
+// same units are there and asked, nor where the local is lent. Most parameters carry none.
+fn var_rows(
+    books: Books<'_>,
+    here: Here<'_>,
+    slots: &[Slot],
+    fields: &[u32],
+    matched: Origin,
+    to: u32,
+    local: u32,
+) -> u64
+    ensures { result ≡ var_rows (code_of books.entry.code.now).types (func_of here.entry.body.now)
+        (bound here.entry.func here.entry.block slots.now fields.now matched local)
+        (BlockVar here.entry.func to local) local }
+{
+    let count = local_count(books, here.body, here.looked, local);
+    if count == 0 {
+        return 0;
+    }
+    let have = bound(here, slots, fields, matched, local);
+    let need = Origin::BlockVar {
+        func: here.func,
+        block: to,
+        local: local as usize,
+    };
+    if is_same(have, need) { 0 } else { count }
 }
 
 // The rows of a target's parameters, where an arm has bound these fields.
@@ -36,13 +65,8 @@ fn vars_rows(
 {
     let mut total: u64 = 0;
     'params: for local in params {
-        let have = bound(here, slots, fields, matched, *local);
-        let need = Origin::BlockVar {
-            func: here.func,
-            block: to,
-            local: *local as usize,
-        };
-        total = total.saturating_add(var_rows(books, here, have, need, *local));
+        let rows = var_rows(books, here, slots, fields, matched, to, *local);
+        total = total.saturating_add(rows);
     }
     total
 }

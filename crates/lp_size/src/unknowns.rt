@@ -7,7 +7,6 @@ use super::books::Books;
 use super::values::{carrier_count, local_count};
 use camelot_values::Kind;
 use grail_code::{Block, Func, Let, Op};
-use lp_system::looked_in;
 
 // The unknowns of the parameters of a function, which are as many as these kinds. Those that are lent have none.
 fn params_count(books: Books<'_>, body: &Func, looked: &[bool], kinds: &[Kind]) -> u64
@@ -97,26 +96,15 @@ fn blocks_count(books: Books<'_>, body: &Func, looked: &[bool]) -> u64
     total
 }
 
-// The unknowns of a function: its need, what it gives back, its parameters, its result and its blocks.
-fn func_count(books: Books<'_>, body: &Func) -> u64
+/// The unknowns of a function: its need, what it gives back, its parameters, its result and its blocks.
+pub(crate) fn func_count(books: Books<'_>, body: &Func, looked: &[bool]) -> u64
+    requires looked { AreLooked (func_of body.now) looked.now }
     ensures { result ≡ func_count (code_of books.entry.code.now).types (func_of body.now) }
 {
-    let looked = looked_in(body);
-    let params = params_count(books, body, &looked, &body.params);
+    let params = params_count(books, body, looked, &body.params);
     let result = carrier_count(books, Some(body.result));
-    let blocks = blocks_count(books, body, &looked);
+    let blocks = blocks_count(books, body, looked);
     params
         .saturating_add(result.saturating_add(blocks))
         .saturating_add(2)
-}
-
-/// The unknowns of functions.
-pub(crate) fn funcs_count(books: Books<'_>, funcs: &[Func]) -> u64
-    ensures { result ≡ funcs_count_onto (code_of books.entry.code.now).types 0 (map func_of funcs.now) }
-{
-    let mut total: u64 = 0;
-    'walk: for func in funcs {
-        total = total.saturating_add(func_count(books, func));
-    }
-    total
 }

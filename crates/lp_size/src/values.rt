@@ -2,7 +2,7 @@ ghost use Rattle.std.specs.Prelude.{◌≡◌, ◌+◌, length};
 ghost use Rattle.grail_code.specs.Code.{func_of, code_of};
 ghost use Rattle.lp_system.specs.Unknowns.{carriers, local_carriers};
 ghost use Rattle.lp_system.specs.Looked.{AreLooked};
-ghost use Rattle.lp_size.specs.Counting.{value_rows, local_rows, var_rows, arg_rows, args_onto, fields_onto};
+ghost use Rattle.lp_size.specs.Counting.{value_rows, local_rows, arg_rows, args_onto, fields_onto};
 
 use super::books::{Books, Here};
 use super::origins::{Origin, Slot, is_same, origin_at};
@@ -51,24 +51,6 @@ pub(crate) fn local_rows(
 {
     let have = origin_at(here, slots, local);
     value_rows(books, here.body.kind_of(local), have, need)
-}
-
-/// The rows of a parameter of a jump's target, constructor by constructor: none where the same units are there and
-/// asked, nor where the local is lent.
-pub(crate) fn var_rows(
-    books: Books<'_>,
-    here: Here<'_>,
-    have: Origin,
-    need: Origin,
-    local: u32,
-) -> u64
-    ensures { result ≡ var_rows (code_of books.entry.code.now).types (func_of here.entry.body.now) have need local }
-{
-    if is_same(have, need) {
-        0
-    } else {
-        local_count(books, here.body, here.looked, local)
-    }
 }
 
 // The rows of an argument against the parameter of this number: none where it's only read.

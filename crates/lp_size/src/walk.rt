@@ -9,7 +9,6 @@ use super::lets::{bind, op_rows, taken_behind};
 use super::origins::{Origin, Slot};
 use super::taken::Taken;
 use grail_code::{Block, Func};
-use lp_system::looked_in;
 
 // The most locals of a function.
 const LOCALS: usize = 256;
@@ -82,8 +81,9 @@ fn blocks_rows(books: Books<'_>, func: u32, body: &Func, looked: &[bool], slots:
     total
 }
 
-// The rows of a function.
-fn func_rows(books: Books<'_>, func: u32, body: &Func) -> u64
+/// The rows of the function of this number.
+pub(crate) fn func_rows(books: Books<'_>, func: u32, body: &Func, looked: &[bool]) -> u64
+    requires looked { AreLooked (func_of body.now) looked.now }
     ensures { result ≡ func_rows (code_of books.entry.code.now) func (func_of body.now) }
 {
     let unbound = Slot {
@@ -91,20 +91,5 @@ fn func_rows(books: Books<'_>, func: u32, body: &Func) -> u64
         origin: Origin::Result { func },
     };
     let mut slots = [unbound; LOCALS];
-    let looked = looked_in(body);
-    blocks_rows(books, func, body, &looked, &mut slots)
-}
-
-/// The rows of functions, the first of which has number 0.
-pub(crate) fn funcs_rows(books: Books<'_>, funcs: &[Func]) -> u64
-    requires { length funcs.now ≤ 64 }
-    ensures { result ≡ funcs_onto (code_of books.entry.code.now) 0 0 (map func_of funcs.now) }
-{
-    let mut total: u64 = 0;
-    let mut number = 0;
-    'walk: for func in funcs {
-        total = total.saturating_add(func_rows(books, number, func));
-        number += 1;
-    }
-    total
+    blocks_rows(books, func, body, looked, &mut slots)
 }

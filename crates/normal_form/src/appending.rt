@@ -1,16 +1,18 @@
 //! Lists, one behind the other.
-ghost use Rattle.std.specs.Prelude.{◌≡◌, ◌++◌, IfOk};
+ghost use Rattle.std.specs.Prelude.{◌≡◌, ◌++◌, OnOk};
 
 use std::alloc::AllocError;
 
-/// Two lists in one. Behind an empty list the other one is taken as it is, so that nothing is moved.
+/// Adds a list behind another one, which stays where it is. Behind an empty list the other one is taken as it is, so
+/// that nothing is moved.
 #[inline(always)]
-pub(crate) fn appended<T: Drop>(mut first: Vec<T>, mut second: Vec<T>) -> Result<Vec<T>, AllocError>
-    ensures { IfOk result (λ all. all.items ≡ first.items ++ second.items) }
+pub(crate) fn append_to<T: Drop>(first: &mut Vec<T>, mut second: Vec<T>) -> Result<(), AllocError>
+    ensures { OnOk result (first.new.items ≡ first.old.items ++ second.items) }
 {
     if first.is_empty() {
-        return Ok(second);
+        *first = second;
+        return Ok(());
     }
     first.append(&mut second)?;
-    Ok(first)
+    Ok(())
 }

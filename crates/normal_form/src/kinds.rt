@@ -10,7 +10,7 @@ ghost use Rattle.normal_form.specs.KindParts.{arms_kinds, branch_kinds, kinds_of
 ghost use Rattle.normal_form.specs.Parts.{first_part};
 ghost use Rattle.normal_form.specs.Tables.{signatures_in, source_in};
 
-use crate::appending::appended;
+use crate::appending::append_to;
 use crate::known::Known;
 use crate::known_kinds::{bind_arm_kinds, bound_kinds, build_kind, call_kind, operator_kind};
 use crate::order::arms_in_order;
@@ -54,7 +54,8 @@ fn branching(on: PartKinds, mut branches: PartKinds) -> Result<PartKinds, AllocE
 fn following(first: PartKinds, second: PartKinds) -> Result<PartKinds, AllocError>
     ensures { IfOk result (λ all. kinds_of all ≡ record { kinds = first.kinds.items ++ second.kinds.items; kind = second.kind }) }
 {
-    let kinds = appended(first.kinds, second.kinds)?;
+    let mut kinds = first.kinds;
+    append_to(&mut kinds, second.kinds)?;
     Ok(PartKinds {
         kinds,
         kind: second.kind,
@@ -75,7 +76,8 @@ fn with_kind(mut first: PartKinds, kind: Kind) -> Result<PartKinds, AllocError>
 fn either(first: PartKinds, second: PartKinds) -> Result<PartKinds, AllocError>
     ensures { IfOk result (λ all. kinds_of all ≡ record { kinds = first.kinds.items ++ second.kinds.items; kind = first.kind }) }
 {
-    let kinds = appended(first.kinds, second.kinds)?;
+    let mut kinds = first.kinds;
+    append_to(&mut kinds, second.kinds)?;
     Ok(PartKinds {
         kinds,
         kind: first.kind,
@@ -227,7 +229,7 @@ pub(crate) fn args_kinds<'a>(
     let mut all = Vec::new(known.alloc);
     'args: for arg in args {
         let next = kinds(known, scope, arg)?;
-        all = appended(all, next.kinds)?;
+        append_to(&mut all, next.kinds)?;
     }
     Ok(all)
 }

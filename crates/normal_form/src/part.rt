@@ -1,11 +1,11 @@
 //! Parts of a function's normal form, and how they are put together.
-ghost use Rattle.std.specs.Prelude.{◌≡◌, ◌<◌, ◌+◌, IfOk, None, ◌++◌, [], map};
+ghost use Rattle.std.specs.Prelude.{◌≡◌, ◌<◌, ◌+◌, IfOk, OnOk, None, ◌++◌, [], map};
 ghost use Rattle.grail_blocks.specs.Blocks.{arm_of, op_of, operator_of, term_of};
 ghost use Rattle.normal_form.specs.Normal.{case_arm, joining};
 ghost use Rattle.normal_form.specs.Parts.{args_and, before_tail, behind, closed_piece, divided, no_tails, parted, tail_and, tail_of, tails_of, arms_of, body_and, body_of, bound_piece, conditional, joined_bodies, line_of, matched, no_args, no_arms, operated, piece_of, pieces_of, sequenced};
 ghost use Rattle.normal_form.specs.Tables.{source_in};
 
-use crate::appending::appended;
+use crate::appending::append_to;
 use crate::known::Known;
 use grail_blocks::{CaseArm, CaseCell, Let, Op, PrimCode, Term};
 use smallvec::SmallVec;
@@ -57,10 +57,10 @@ impl Args {
     pub(crate) fn and(mut self, part: Part) -> Result<Args, AllocError>
         ensures { IfOk result (λ args. pieces_of args ≡ args_and (pieces_of self) (piece_of part)) }
     {
-        let lines = appended(self.lines, part.lines)?;
+        append_to(&mut self.lines, part.lines)?;
         self.locals.push(part.local)?;
         Ok(Args {
-            lines,
+            lines: self.lines,
             end: part.end,
             locals: self.locals,
         })
@@ -103,10 +103,10 @@ pub(crate) fn operator(left: u32, right: Part, op: PrimCode) -> Result<Part, All
 
 /// A part behind these lines.
 #[inline(always)]
-pub(crate) fn followed(lines: Vec<Line>, part: Part) -> Result<Part, AllocError>
+pub(crate) fn followed(mut lines: Vec<Line>, part: Part) -> Result<Part, AllocError>
     ensures { IfOk result (λ all. piece_of all ≡ behind (map line_of lines.items) (piece_of part)) }
 {
-    let lines = appended(lines, part.lines)?;
+    append_to(&mut lines, part.lines)?;
     Ok(Part {
         lines,
         end: part.end,
@@ -118,7 +118,8 @@ pub(crate) fn followed(lines: Vec<Line>, part: Part) -> Result<Part, AllocError>
 pub(crate) fn sequence(first: Part, second: Part) -> Result<Part, AllocError>
     ensures { IfOk result (λ part. piece_of part ≡ sequenced (piece_of first) (piece_of second)) }
 {
-    let lines = appended(first.lines, second.lines)?;
+    let mut lines = first.lines;
+    append_to(&mut lines, second.lines)?;
     Ok(Part {
         lines,
         end: second.end,
@@ -126,26 +127,26 @@ pub(crate) fn sequence(first: Part, second: Part) -> Result<Part, AllocError>
     })
 }
 
-/// The lines of a branch that joins: its value is copied to `to`, and the block `target` goes on.
+/// Adds what ends a branch that joins: its value is copied to `to`, and the block `target` goes on.
 #[inline(always)]
-pub(crate) fn joined(
-    mut lines: Vec<Line>,
+pub(crate) fn join_to(
+    lines: &mut Vec<Line>,
     from: u32,
     to: u32,
     target: u32,
-) -> Result<Vec<Line>, AllocError>
-    ensures { IfOk result (λ all. map line_of all.items ≡ joining (map line_of lines.items) from to target) }
+) -> Result<(), AllocError>
+    ensures { OnOk result (map line_of lines.new.items ≡ joining (map line_of lines.old.items) from to target) }
 {
     lines.push(Line::Bind(Let {
         target: to,
         op: Op::Copy(from),
     }))?;
     lines.push(Line::Close(Term::Goto(target)))?;
-    Ok(lines)
+    Ok(())
 }
 
 /// A conditional whose branches join: the second one begins in the block behind the first one's last.
-pub(crate) fn conditional(mut cond: Part, first: Part, second: Part) -> Result<Part, AllocError>
+pub(crate) fn conditional(cond: Part, first: Part, second: Part) -> Result<Part, AllocError>
     requires cond { cond.end.number < 4294967295 }
     requires first { first.end.number < 4294967295 }
     requires second { second.end.number < 4294967295 }
@@ -158,11 +159,12 @@ pub(crate) fn conditional(mut cond: Part, first: Part, second: Part) -> Result<P
         yes: cond.end.number + 1,
         no: first.end.number + 1,
     };
-    cond.lines.push(Line::Close(test))?;
-    let yes = appended(cond.lines, first.lines)?;
-    let both = joined(yes, first.local, result, join)?;
-    let no = appended(both, second.lines)?;
-    let lines = joined(no, second.local, result, join)?;
+    let mut lines = cond.lines;
+    lines.push(Line::Close(test))?;
+    append_to(&mut lines, first.lines)?;
+    join_to(&mut lines, first.local, result, join)?;
+    append_to(&mut lines, second.lines)?;
+    join_to(&mut lines, second.local, result, join)?;
     Ok(Part {
         lines,
         end: At {
@@ -174,11 +176,7 @@ pub(crate) fn conditional(mut cond: Part, first: Part, second: Part) -> Result<P
 }
 
 /// The same where the second branch is a literal, which needs no list of its own.
-pub(crate) fn conditional_literal(
-    mut cond: Part,
-    first: Part,
-    literal: Op,
-) -> Result<Part, AllocError>
+pub(crate) fn conditional_literal(cond: Part, first: Part, literal: Op) -> Result<Part, AllocError>
     requires cond { cond.end.number < 4294967295 }
     requires number { first.end.number < 4294967294 }
     requires next { first.end.next < 4294967295 }
@@ -186,25 +184,27 @@ pub(crate) fn conditional_literal(
         (bound_piece [] first.end.next (first.end.number + 1) (op_of literal))) }
 {
     let result = cond.end.next;
-    let second_at = At {
-        next: first.end.next,
-        number: first.end.number + 1,
-    };
-    let join = second_at.number + 1;
+    let made = first.end.next;
+    let no = first.end.number + 1;
+    let join = no + 1;
     let test = Term::If {
         cond: cond.local,
         yes: cond.end.number + 1,
-        no: second_at.number,
+        no,
     };
-    cond.lines.push(Line::Close(test))?;
-    let yes = appended(cond.lines, first.lines)?;
-    let both = joined(yes, first.local, result, join)?;
-    let second = bound(both, second_at, literal)?;
-    let lines = joined(second.lines, second.local, result, join)?;
+    let mut lines = cond.lines;
+    lines.push(Line::Close(test))?;
+    append_to(&mut lines, first.lines)?;
+    join_to(&mut lines, first.local, result, join)?;
+    lines.push(Line::Bind(Let {
+        target: made,
+        op: literal,
+    }))?;
+    join_to(&mut lines, made, result, join)?;
     Ok(Part {
         lines,
         end: At {
-            next: second.end.next,
+            next: made + 1,
             number: join,
         },
         local: result,
@@ -236,7 +236,8 @@ fn join_all(
     ensures { IfOk result (λ all. map line_of all.items ≡ map line_of lines.items ++ joined_bodies to target (map body_of bodies.items)) }
 {
     'bodies: for body in bodies {
-        let mut more = joined(body.lines, body.local, to, target)?;
+        let mut more = body.lines;
+        join_to(&mut more, body.local, to, target)?;
         lines.append(&mut more)?;
     }
     Ok(lines)
@@ -329,7 +330,8 @@ pub(crate) fn closed(mut lines: Vec<Line>, at: At, term: Term) -> Result<Tail, A
 pub(crate) fn before(first: Part, last: Tail) -> Result<Tail, AllocError>
     ensures { IfOk result (λ tail. tail_of tail ≡ before_tail (piece_of first) (tail_of last)) }
 {
-    let lines = appended(first.lines, last.lines)?;
+    let mut lines = first.lines;
+    append_to(&mut lines, last.lines)?;
     Ok(Tail {
         lines,
         end: last.end,
@@ -379,7 +381,8 @@ impl TailArms {
     pub(crate) fn and_body(self, body: Tail) -> Result<TailArms, AllocError>
         ensures { IfOk result (λ arms. tails_of arms ≡ tail_and (tails_of self) (tail_of body)) }
     {
-        let lines = appended(self.lines, body.lines)?;
+        let mut lines = self.lines;
+        append_to(&mut lines, body.lines)?;
         Ok(TailArms {
             cases: self.cases,
             lines,

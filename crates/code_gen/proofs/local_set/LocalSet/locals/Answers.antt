@@ -6,7 +6,7 @@ use Rattle.code_gen.proofs.local_set.LocalSet.locals.Goals as goal
 pub loop-next-init : goal.loop-next-init
 loop-next-init c =
     let next = c.next_below-next.ensures in
-    record { listed = c.in_ok-locals.ensures.items ∙ listed_none (has c.args.self) c.args.end c.next_below-next.result next; until = next.until; passing = next.passing }
+    record { listed = (c.in_ok-make_room.ensures ∙ c.new-locals.ensures.items) ∙ listed_none (has c.args.self) c.args.end c.next_below-next.result next; until = next.until; passing = next.passing }
 
 pub loop-next-preserved : goal.loop-next-preserved
 loop-next-preserved c =
