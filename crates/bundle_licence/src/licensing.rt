@@ -76,9 +76,7 @@ pub fn license_bundle(alloc: Global, text: Vec<u8>) -> Result<Licence, Stop<Caus
                 Err(stop) => Err(for_cause(stop)),
             }
         }
-        Err(Stop::Fault(fault)) => Err(Stop::Fault(Cause::Bundle {
-            line: fault.line as u64,
-        })),
+        Err(Stop::Fault(fault)) => Err(Stop::Fault(Cause::Bundle { line: fault.line })),
         Err(Stop::Memory) => Err(Stop::Memory),
     }
 }

@@ -28,8 +28,8 @@ pub fn one_command()
         → IsCommand words first → IsCommand words second → first ≡ second }
 {}
 
-/// No output is due with one verdict for an input for which another is due with the other: an input is served, compiled,
-/// accepted or migrated, or it is refused.
+/// No output is due with one verdict for an input for which another is due with the other: no input that is served,
+/// compiled, accepted or migrated is also refused.
 pub fn one_verdict()
     ensures { (command : Command) (input output other : List ℕ) → IsDue command input Done output → IsDue command input Refused other → ⊥ }
 {

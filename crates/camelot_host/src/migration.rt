@@ -22,9 +22,7 @@ fn migrated(alloc: Global, input: &[u8]) -> Result<Bundle, Stop<Cause>>
     let bundle = match read_bundle(alloc, input) {
         Ok(bundle) => bundle,
         Err(Stop::Fault(fault)) => {
-            return Err(Stop::Fault(Cause::Bundle {
-                line: fault.line as u64,
-            }));
+            return Err(Stop::Fault(Cause::Bundle { line: fault.line }));
         }
         Err(Stop::Memory) => return Err(Stop::Memory),
     };

@@ -27,7 +27,7 @@ pub enum Cause {
     NoCert(NoCert),
     /// The bytes aren't a bundle: this line, counted from 1, is the first that isn't of its form.
     #[error("bundle line {line}")]
-    Bundle { line: u64 },
+    Bundle { line: u32 },
     /// The verifier refuses the bundle.
     #[error("{0}")]
     Verify(Refusal),

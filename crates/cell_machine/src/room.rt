@@ -36,7 +36,6 @@ impl Model for Room {
 impl Room {
     /// Room for the value of a run in `lease` cells. `AllocError` where memory runs out.
     pub fn new(alloc: Global, lease: u32) -> Result<Room, AllocError>
-        requires { lease ≤ 2147483648 }
         // There is room for each value in a lease of so many cells.
         ensures room { IfOk result (HasRoom lease) }
         // There is just so much room as a value of 4 nodes a cell and one needs.

@@ -1,5 +1,5 @@
 -- What the plan of a job says of its run.
-use Rattle.std.proofs.Common.{◌≡◌, ℕ, zero, suc, Bool, ◌<◌, ◌≤◌, List, [], ◌∷◌, length, Option, Some, None, refl, sym, ap, ◌∙◌, subst, arith}
+use Rattle.std.proofs.Common.{◌≡◌, ℕ, zero, suc, Bool, ◌<◌, List, [], ◌∷◌, length, Option, Some, None, refl, sym, ap, ◌∙◌, subst, arith}
 use Rattle.std.specs.Prelude.{slice_get, IsSomeAnd}
 use Rattle.std.specs.List.{AllByRecursion}
 use Rattle.std.proofs.lemmas.Option.{slice_get_within}
@@ -26,7 +26,6 @@ pub record RunIs (ps : Planned) (job : ℕ) (p : Plan) (l : Licensed) (cells : �
   pub licence : slice_get ps.licences p.licence ≡ Some l
   pub lease : p.lease ≡ cells
   pub plan : IsPlan l p.entry p.args p.fuel cells
-  pub few : p.lease ≤ 2147483648
   pub run : job_run ps job ≡ run_of l.code most_calls p.entry p.fuel p.args
   pub left : (found : List Cell) → ((f : Func) → slice_get l.code.funcs p.entry ≡ Some f → found ≡ last_cells l.code most_calls p.entry f p.args p.fuel cells) → found ≡ job_cells ps job
 
@@ -59,7 +58,6 @@ run_is ps job p l cells fit e known size =
       licence = licence;
       lease = lease;
       plan = subst (IsPlan l p.entry p.args p.fuel) lease plan;
-      few = fits.few;
       run = ap (run_at ps.licences) e ∙ ap (λ o. run_with o p) licence;
       left = λ found g. func_there (slice_get l.code.funcs p.entry) l p _ found plan.fits (λ f is. g f is ∙ sym (ap (last_cells l.code most_calls p.entry f p.args p.fuel) lease))
           ∙ sym (ap (cells_at ps.licences) e ∙ ap (λ o. cells_with o p) licence);

@@ -1,3 +1,5 @@
+ghost use Rattle.std.specs.Prelude.{IsOk};
+
 use std::alloc::AllocError;
 
 /// What each worker passes between the grant of a lease and the run of its job. Workers share it.
@@ -16,7 +18,9 @@ pub trait Gate {
 pub struct OpenGate;
 
 impl Gate for OpenGate {
-    fn pass(&self, _job: u32) -> Result<(), AllocError> {
+    fn pass(&self, _job: u32) -> Result<(), AllocError>
+        ensures { IsOk result }
+    {
         Ok(())
     }
 }

@@ -1,5 +1,5 @@
 //! The run of one lease, and its way back to the desk.
-ghost use Rattle.std.specs.Prelude.{◌≡◌, ◌≤◌, length, slice_get, Some, IfOk, MatchResult};
+ghost use Rattle.std.specs.Prelude.{◌≡◌, length, slice_get, Some, IfOk, MatchResult};
 ghost use Rattle.camelot_values.specs.Counts.{cells_among};
 ghost use Rattle.grail_code.specs.Code as plain;
 ghost use Rattle.grail_code.specs.Meaning.{run_of};
@@ -90,7 +90,6 @@ fn run_plan<K: Kept>(
 
 // Room for the value of a run in so many cells, where the value is asked for.
 fn room_for<K: Kept>(alloc: Global, lease: u32) -> Result<Option<Room>, AllocError>
-    requires { lease ≤ 2147483648 }
     ensures { IfOk result (IsRoomFor K.asks lease) }
 {
     if K::asks_value() {
@@ -111,7 +110,6 @@ fn make_ready<N: JobName, K: Kept, G: Gate>(
     kept: Option<SpareStack<N>>,
 ) -> Result<(Stack, Option<Room>), AllocError>
     requires is { slice_get N.planned.licences plan.now.licence ≡ Some licence.now }
-    requires few { plan.now.lease ≤ 2147483648 }
     ensures stack { IfOk result (λ r. IsStackFor licence.now.code r.0) }
     ensures room { IfOk result (λ r. IsRoomFor K.asks plan.now.lease r.1) }
 {

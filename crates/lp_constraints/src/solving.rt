@@ -71,9 +71,10 @@ fn infer_by(alloc: Global, code: &Code, table: &ReachTable) -> Result<Cert, Stop
 }
 
 /// The certificate of least cost of well-formed code (Hofmann and Jost 2003): the sum of what its functions need and
-/// their parameters carry is least, in cells, among all certificates that grant the code. It is found by the dual
-/// simplex method as a solution of the code's system (`docs/INFERENCE.md`). What is lent carries nothing, so that the
-/// system has no unknowns of it, and no row of an argument that is only read.
+/// their parameters carry is least, in cells, among all certificates that grant the code. The code's names have the
+/// forms of spelled code. It is found by the dual simplex method as a solution of the code's system
+/// (`docs/INFERENCE.md`). What is lent carries nothing, so that the system has no unknowns of it, and no row of an
+/// argument that is only read.
 ///
 /// `TooMany` comes exactly where the system has more than 512 unknowns or 1,536 rows; `NoBound` exactly where the
 /// solver finds that there is no solution, and then no certificate grants the code; `Wide` exactly where a number of

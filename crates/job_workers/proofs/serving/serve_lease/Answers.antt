@@ -27,7 +27,6 @@ make_ready-requires g c = record {
   is = licence_now c.args.jobs.now g.N.JobName.planned c.job-job.result c.args.lease (plan_of c.plan-plan.result.now) c.licence-licence.result.now
       (lease_now c.args.jobs.now c.job-job.result c.args.lease (plan_of c.plan-plan.result.now) c.licence-licence.result.now c.kept.ensures c.job-job.ensures (due_now c.args.jobs.now g.N.JobName.planned g.N.DeskName.sizes c.args.lease.job (length c.args.lease.range.cells) c.requires.plans c.requires.sizes c.kept-2.ensures.size).1 c.plan-plan.ensures.is c.licence-licence.ensures.is)
       c.requires.plans;
-  few = (lease_now c.args.jobs.now c.job-job.result c.args.lease (plan_of c.plan-plan.result.now) c.licence-licence.result.now c.kept.ensures c.job-job.ensures (due_now c.args.jobs.now g.N.JobName.planned g.N.DeskName.sizes c.args.lease.job (length c.args.lease.range.cells) c.requires.plans c.requires.sizes c.kept-2.ensures.size).1 c.plan-plan.ensures.is c.licence-licence.ensures.is).few;
 }
 
 pub new-kept-requires : goal.new-kept-requires
