@@ -18,9 +18,9 @@ use lp_system::laws::{law_of_form, law_of_least, law_of_size};
 use text_scan::laws::one_reading;
 
 /// A text has one answer at most: one bundle or one cause, whoever compiles it. It has one licence at most, with one
-/// typing of its program; and where it has a licence, there is no cause for which it is refused. So it is with each
-/// stage: a text has its tokens or a fault, tokens their program or a fault, a program its settled typing or a fault, a
-/// typing its faults of use, and a system of inequalities its run, and no other.
+/// typing of its program; and where it has a licence, there is no cause for which it is refused. Each stage has one
+/// answer at most, too: the tokens of a text, their program, its settled typing, the faults of use of a typing, and the
+/// run of a system of inequalities.
 pub fn law_of_compiling()
     // A text is compiled to one answer at most.
     ensures one { (text : List ℕ) (first second : Compiled) → IsCompiled text first → IsCompiled text second → first ≡ second }
