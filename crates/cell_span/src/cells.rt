@@ -24,8 +24,7 @@ unsafe impl<T> Sync for Base<T> {}
 /// The owner of neighbouring places of a block: those that hold `items`, from the place `first` on, and `spare` empty
 /// ones behind them. It takes no bytes; the block's pointer stands beside it.
 ///
-/// Dropping it lets the places go: nobody reads or frees them from then on.
-#[derive(Drop)]
+/// It can't be dropped: it is split and joined, and `deallocate` alone gives a whole block's places up.
 pub struct Cells<T> {
     mark: PhantomData<*const T>,
     ghost at: { Ptr },
@@ -46,8 +45,7 @@ unsafe impl<T: Sync> Sync for Cells<T> {}
 
 /// The right to give the block of `len` places that begins at `at` back to `alloc`. It takes no bytes.
 ///
-/// Dropping it gives nothing back: the block then stays until the program ends.
-#[derive(Drop)]
+/// It can't be dropped: `deallocate` alone takes it, which frees the block.
 pub struct Deed<T, A: Allocator> {
     mark: PhantomData<*const (T, A)>,
     ghost at: { Ptr },

@@ -271,7 +271,8 @@ impl Span {
         (before.join(self), ())
     }
 
-    /// Gives the memory of the whole arena back.
+    /// Gives the memory of the whole arena back. No body without `unsafe` that keeps the memory is accepted: the cells
+    /// and the right to free them can't be dropped, and `deallocate` alone takes that right.
     pub fn end(self)
         requires { IsWhole self }
     {
