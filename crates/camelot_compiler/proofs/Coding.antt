@@ -255,9 +255,6 @@ linear_exact t u o e refuses exact answer h = linear_only t o refuses (subst (λ
 pub linear_stands : (t u : Typing) (o : Option Compiled) → u ≡ t → Stands o (compiled u) → Stands o (compiled t)
 linear_stands t u o e h = subst (λ v. Stands o (compiled v)) e h
 
-pub linear_typing : (t u : Typing) → u ≡ t → IsTyping t → IsTyping u
-linear_typing t u e h = subst IsTyping (sym e) h
-
 pub unlinear_found : (t : Typing) (stop : Stop UseFault) (x : Stop Cause) → x ≡ use_fault stop → IsFirst (faults_of t) stop
     → IsSo (IsLinear t) (compiled_of (Err x))
 unlinear_found t stop x e h = subst (λ y. IsSo (IsLinear t) (compiled_of (Err y))) (sym e) (by_stop stop h)

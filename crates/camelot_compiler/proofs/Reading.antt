@@ -42,7 +42,7 @@ is_typing p t e typed within = record { typed = subst (λ q. rules.IsTyped q t.s
 -- the program is typed so
 module _ (p : Source) (t : Typing) (source : t.source ≡ p) (is_typed : rules.IsTyped p t.signatures) (within : IsWithinLimits p)
     (settled : (signatures : List Signature) → rules.IsTyped p signatures → KindsSettled (typing_kinds t) (functions_kinds (globals_of p signatures) p.funs signatures)) where
-  pub typing : IsTyping t
+  typing : IsTyping t
   typing = is_typing p t source is_typed within
 
   all_settled : IsSettled t

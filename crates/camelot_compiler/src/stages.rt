@@ -5,7 +5,6 @@ ghost use Rattle.camelot_grammar.specs.Parsing.{HasProgram};
 ghost use Rattle.camelot_typing.specs.Typed.{Typing, IsTyping};
 ghost use Rattle.camelot_typing.specs.TypedPrograms.{typing_of};
 ghost use Rattle.camelot_typing.specs.Settled.{IsSettled};
-ghost use Rattle.linear_use.specs.Answers.{KeepsRule};
 ghost use Rattle.code_gen.specs.Generated.{compiled};
 ghost use Rattle.grail_code.specs.Code.{code_of};
 ghost use Rattle.grail_code.specs.Spelling.{Second, FitsCode, spelling};
@@ -106,8 +105,6 @@ fn certify(alloc: Global, code: &Code) -> Result<Bundle, Stop<Cause>>
 
 // The code of a program that keeps the rule of use.
 fn compile_linear(alloc: Global, linear: &Linear) -> Result<Bundle, Stop<Cause>>
-    requires typed { IsTyping (typing_of linear.now.typed) }
-    requires rule { KeepsRule (typing_of linear.now.typed) }
     ensures found { IsSo (IsGenerated (typing_of linear.now.typed)) (compiled_of result) }
     ensures exact { (answer : Compiled) → IsGenerated (typing_of linear.now.typed) answer → Answers (compiled_of result) answer }
     ensures stands { Stands (compiled_of result) (compiled (typing_of linear.now.typed)) }
@@ -120,7 +117,6 @@ fn compile_linear(alloc: Global, linear: &Linear) -> Result<Bundle, Stop<Cause>>
 
 // The rule of use of a typed program.
 fn compile_typed(alloc: Global, typed: Typed) -> Result<Bundle, Stop<Cause>>
-    requires { IsTyping (typing_of typed) }
     ensures found { IsSo (IsLinear (typing_of typed)) (compiled_of result) }
     ensures exact { (answer : Compiled) → IsLinear (typing_of typed) answer → Answers (compiled_of result) answer }
     ensures stands { Stands (compiled_of result) (compiled (typing_of typed)) }

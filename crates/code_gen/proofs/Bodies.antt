@@ -13,7 +13,6 @@ use Rattle.grail_blocks.specs.declared.blocks.Place.TheVariants as place
 use Rattle.grail_blocks.specs.Blocks.{Op, Lit, Flag, Copy, Prim, Make, Call, Let, CaseArm, Term, Ret, Tail, Goto, If, Case}
 use Rattle.grail_blocks.specs.Events.{taken, operands_of, term_uses, bound_by, params_at}
 use Rattle.grail_code.specs.Code.{Func, Code}
-use Rattle.grail_blocks.specs.Events.{Reads}
 use Rattle.grail_code.specs.WellFormed.{local_kinds, kind_of, HaveKinds, PlaceFits, Gives, LetFits, ArmsFit, TermFits, JumpFits, data_type, is_owned, is_marked, is_of_heap, looked_at, reads_of, LetLends, TermLends, BlockFits, BlocksFit, FuncFits}
 use Rattle.normal_form.specs.Normal.{NormalBlock, NormalFunction, NormalProgram}
 use Rattle.normal_form.specs.Live.{Marks, LaterMarks, unless_bound, lets_live, onward_live, term_live, block_live, live_from, times, BlocksOnce}

@@ -8,5 +8,6 @@ pub mod Marking
 pub mod Seeing
 pub mod BlockCode
 pub mod Props
+pub mod WellProps
 pub mod Singly
 mod Rows

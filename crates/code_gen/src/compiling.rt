@@ -5,9 +5,8 @@ ghost use Rattle.camelot_tree.specs.Meaning as source;
 ghost use Rattle.camelot_tree.specs.Tree.{function_of};
 ghost use Rattle.camelot_typing.specs.Kinds.{types_of};
 ghost use Rattle.camelot_typing.specs.Typing.{Signature};
-ghost use Rattle.camelot_typing.specs.Typed.{IsTyping, kinds_of, signature_of};
+ghost use Rattle.camelot_typing.specs.Typed.{kinds_of, signature_of};
 ghost use Rattle.camelot_typing.specs.TypedPrograms.{typing_of};
-ghost use Rattle.linear_use.specs.Answers.{KeepsRule};
 ghost use Rattle.grail_code.specs.Code.{code_of, func_of};
 ghost use Rattle.grail_code.specs.Meaning.{run_of};
 ghost use Rattle.grail_code.specs.Spelling.{FitsCode, Second};
@@ -73,7 +72,7 @@ pub fn compile(alloc: Global, program: &Linear) -> Result<Code, Stop<NormalFault
     ensures code { IfOk result (λ code. code_of code ≡ compiled (typing_of program.now.typed)) }
 
     // It is well formed.
-    ensures well_formed { IsTyping (typing_of program.now.typed) → KeepsRule (typing_of program.now.typed) → IfOk result (λ code. IsWellFormed (code_of code)) }
+    ensures well_formed { IfOk result (λ code. IsWellFormed (code_of code)) }
 
     // It means what the program means, on fitting arguments: both come to the same value with the same calls, peak and
     // net, or both stop alike.

@@ -1,5 +1,6 @@
 pub mod Checks
 pub mod Distinct
+pub mod Lending
 pub mod LentLaws
 pub mod LetLaws
 pub mod MarkLaws

@@ -162,7 +162,7 @@ hit_back h before first here k g = record {
 }
 
 -- the state behind these events
-abbrev Behind : (ℕ → Bool) → List Event → State → Type 0
+abbrev pub Behind : (ℕ → Bool) → List Event → State → Type 0
 Behind h before s = s ≡ after h nothing_bound before
 
 more_behind : (h : ℕ → Bool) (before ds : List Event) (s : State) → Behind h before s → Behind h (before ++ ds) (after h s ds)
@@ -569,7 +569,7 @@ term_hit p f number before s (Case x arms) k e u h = by_type (data_type p.types 
 
 -- ---- places
 
-abbrev Place_of : (func number place : ℕ) → CodeFault → Type 0
+abbrev pub Place_of : (func number place : ℕ) → CodeFault → Type 0
 Place_of func number place e = e ≡ record { func = func; block = number; place = place; kind = e.kind }
 
 -- what happens at the fault's place in this block
@@ -582,15 +582,15 @@ record Struck (p : Code) (f : Func) (b : Block) (func number : ℕ) (e : CodeFau
   block_is : e.block ≡ number
 
 -- a let that fails, or what is behind all of them
-record LetHit (p : Code) (f : Func) (func number place : ℕ) (s : State) (ls : List Let) (e : CodeFault) : Type 0 where
-  earlier : List Let
-  one : Let
-  rest : List Let
-  is : ls ≡ earlier ++ one ∷ rest
-  fails : Fails (let_checks p f (after_lets (reads_of p) (is_owned p.types f) s earlier) one) e.kind
-  at : Place_of func number (place + length earlier) e
+pub record LetHit (p : Code) (f : Func) (func number place : ℕ) (s : State) (ls : List Let) (e : CodeFault) : Type 0 where
+  pub earlier : List Let
+  pub one : Let
+  pub rest : List Let
+  pub is : ls ≡ earlier ++ one ∷ rest
+  pub fails : Fails (let_checks p f (after_lets (reads_of p) (is_owned p.types f) s earlier) one) e.kind
+  pub at : Place_of func number (place + length earlier) e
 
-lets_fail : (p : Code) (f : Func) (func number place : ℕ) (s : State) (ls : List Let) (next : State → Walk) (e : CodeFault)
+pub lets_fail : (p : Code) (f : Func) (func number place : ℕ) (s : State) (ls : List Let) (next : State → Walk) (e : CodeFault)
     → FirstFault (lets_walk p f func number place s ls next) e
     → LetHit p f func number place s ls e ⊎ FirstFault (next (after_lets (reads_of p) (is_owned p.types f) s ls)) e
 lets_fail p f func number place s [] next e h = inr h
@@ -612,7 +612,7 @@ lets_fail p f func number place s (l ∷ ls) next e (inr h) = on (lets_fail p f 
     on (inr g) = inr g
 
 -- the state behind these lets is that behind the events
-lets_behind : (p : Code) (f : Func) (b : Block) (ls : List Let)
+pub lets_behind : (p : Code) (f : Func) (b : Block) (ls : List Let)
     → Behind (is_owned p.types f) (events_of (reads_of p) b ls) (after_lets (reads_of p) (is_owned p.types f) (at_start (is_owned p.types f) b) ls)
 lets_behind p f b ls = sym (after_append (is_owned p.types f) nothing_bound (map Bind b.params) (flat_map (let_events (reads_of p)) ls)
     ∙ lets_after (reads_of p) (is_owned p.types f) (at_start (is_owned p.types f) b) ls)

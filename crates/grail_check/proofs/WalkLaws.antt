@@ -4,13 +4,14 @@ use Rattle.std.specs.Prelude.{◌↔◌, IsTrue, true, false}
 use Rattle.grail_code.specs.Code.{Code}
 use Rattle.grail_code.specs.WellFormed.{IsWellFormed, is_owned}
 use Rattle.grail_check.specs.declared.fault.CodeFault.{CodeFault}
-use Rattle.grail_check.specs.declared.fault.CodeKind.TheVariants.{Unbound, Spent}
+use Rattle.grail_check.specs.declared.fault.CodeKind.TheVariants.{Unbound, Spent, Lent}
 use Rattle.grail_check.specs.Faulting.{first_fault}
 use Rattle.grail_check.specs.Walk.{AllPass, FirstFault, walk}
-use Rattle.grail_check.specs.Misuse.{Happens, UsesUnbound, UsesAgain}
+use Rattle.grail_check.specs.Misuse.{Happens, UsesUnbound, UsesAgain, MisusesLent}
 use Rattle.grail_check.proofs.Agreeing.{found_agrees, faultless, WalkAgrees}
 use Rattle.grail_check.proofs.Passing.{passed_is_well_formed, well_formed_is_passed}
 use Rattle.grail_check.proofs.Misusing.{unbound_misuse, spent_misuse}
+use Rattle.grail_check.proofs.Lending.{lent_misuse}
 
 pub passes : (p : Code) → first_fault p ≡ None → AllPass (walk p)
 passes p e = subst (λ o. WalkAgrees o (walk p)) e (found_agrees p)
@@ -38,6 +39,9 @@ unbound p fault k h = unbound_misuse p fault k h
 pub spent : (p : Code) (fault : CodeFault) → fault.kind ≡ Spent → FirstFault (walk p) fault
     → Happens p fault.func fault.block fault.place (λ f before here. UsesAgain (is_owned p.types f) before here)
 spent p fault k h = spent_misuse p fault k h
+
+pub lent : (p : Code) (fault : CodeFault) → fault.kind ≡ Lent → FirstFault (walk p) fault → MisusesLent p fault.func fault.block fault.place
+lent p fault k h = lent_misuse p fault k h
 
 -- ---- the answer
 

@@ -4,7 +4,7 @@ ghost use Rattle.grail_code.specs.Code.{Code};
 ghost use Rattle.grail_code.specs.WellFormed.{IsWellFormed, is_owned};
 ghost use Rattle.grail_check.specs.declared.fault.CodeFault.{CodeFault};
 ghost use Rattle.grail_check.specs.Walk.{AllPass, FirstFault, walk};
-ghost use Rattle.grail_check.specs.Misuse.{Happens, UsesUnbound, UsesAgain};
+ghost use Rattle.grail_check.specs.Misuse.{Happens, UsesUnbound, UsesAgain, MisusesLent};
 
 use super::fault::CodeKind;
 
@@ -22,10 +22,11 @@ pub fn law_of_walk()
     ensures one { (p : Code) (first second : CodeFault) → FirstFault (walk p) first → FirstFault (walk p) second → first ≡ second }
 {}
 
-/// The law of the two faults of use. Where the first fault is Unbound, the code there uses or looks at, on some way
+/// The law of the three faults of use. Where the first fault is Unbound, the code there uses or looks at, on some way
 /// through the block, a local that isn't bound before; where it is Spent, a local that is owned, and that was used
-/// before and not bound since.
-#[tactic(auto, using(crate::proofs::WalkLaws::unbound, crate::proofs::WalkLaws::spent))]
+/// before and not bound since. Where it is Lent, a local that is lent is taken or bound there, or its cell isn't left
+/// as it is. Or an arm looks at what isn't lent, or a function's header lends what the function can't lend.
+#[tactic(auto, using(crate::proofs::WalkLaws::unbound, crate::proofs::WalkLaws::spent, crate::proofs::WalkLaws::lent))]
 pub fn law_of_misuse()
     // Where the first fault is Unbound, the code uses or looks at a local there that isn't bound before on some way.
     ensures unbound { (p : Code) (fault : CodeFault) → fault.kind ≡ CodeKind.Unbound → FirstFault (walk p) fault →
@@ -33,4 +34,9 @@ pub fn law_of_misuse()
     // Where it is Spent, the local is owned, and was used before on some way and not bound since.
     ensures spent { (p : Code) (fault : CodeFault) → fault.kind ≡ CodeKind.Spent → FirstFault (walk p) fault →
         Happens p fault.func fault.block fault.place (λ f before here. UsesAgain (is_owned p.types f) before here) }
+    // Where it is Lent, a lent local is taken there: copied, computed with, asked for a truth value, put into a build,
+    // built in, handed to a parameter without the mark, or returned. Or it is bound anew, or an arm doesn't leave its
+    // cell as it is. Or an arm looks at what isn't lent, or the header lends what the function can't lend.
+    ensures lent { (p : Code) (fault : CodeFault) → fault.kind ≡ CodeKind.Lent → FirstFault (walk p) fault →
+        MisusesLent p fault.func fault.block fault.place }
 {}

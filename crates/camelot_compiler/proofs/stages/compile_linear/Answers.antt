@@ -7,7 +7,7 @@ use Rattle.camelot_compiler.proofs.Coding.{generated_found, generated_exact, gen
 use Rattle.camelot_compiler.proofs.stages.compile_linear.Goals as goal
 
 pub certify-requires-clause-well : goal.certify-requires-clause-well
-certify-requires-clause-well c = c.in-Ok.ensures.well_formed c.requires.typed c.requires.rule
+certify-requires-clause-well c = c.in-Ok.ensures.well_formed
 
 pub returns-in-Ok-clause-found : goal.returns-in-Ok-clause-found
 returns-in-Ok-clause-found c = generated_found (typing_of c.args.linear.now.typed) (code_of c.in-Ok.code) (compiled_of c.certify.result) c.in-Ok.ensures.code c.in-Ok.ensures.finds c.certify.ensures.found

@@ -2,11 +2,8 @@ use Rattle.camelot_tree.specs.Programs.{program_of}
 use Rattle.camelot_typing.specs.TypedPrograms.{typing_of}
 use Rattle.code_gen.specs.Generated.{compiled}
 use Rattle.camelot_compiler.specs.Compiled.{compiled_of}
-use Rattle.camelot_compiler.proofs.Reading.{typing, typed_found, typed_exact, typed_stands, untyped_found, untyped_exact, unfounded_type}
+use Rattle.camelot_compiler.proofs.Reading.{typed_found, typed_exact, typed_stands, untyped_found, untyped_exact, unfounded_type}
 use Rattle.camelot_compiler.proofs.stages.compile_program.Goals as goal
-
-pub compile_typed-requires : goal.compile_typed-requires
-compile_typed-requires c = typing (program_of c.args.program) (typing_of c.in-Ok.typed) c.in-Ok.ensures.program c.in-Ok.ensures.typed c.in-Ok.ensures.within c.in-Ok.ensures.settled
 
 pub returns-in-Ok-clause-found : goal.returns-in-Ok-clause-found
 returns-in-Ok-clause-found c =

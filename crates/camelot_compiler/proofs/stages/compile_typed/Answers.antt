@@ -2,11 +2,8 @@ use Rattle.camelot_typing.specs.TypedPrograms.{typing_of}
 use Rattle.linear_use.specs.declared.check.Linear.{Linear}
 use Rattle.code_gen.specs.Generated.{compiled}
 use Rattle.camelot_compiler.specs.Compiled.{compiled_of}
-use Rattle.camelot_compiler.proofs.Coding.{linear_found, linear_exact, linear_stands, linear_typing, unlinear_found, unlinear_exact, unfounded_use}
+use Rattle.camelot_compiler.proofs.Coding.{linear_found, linear_exact, linear_stands, unlinear_found, unlinear_exact, unfounded_use}
 use Rattle.camelot_compiler.proofs.stages.compile_typed.Goals as goal
-
-pub compile_linear-requires-clause-typed : goal.compile_linear-requires-clause-typed
-compile_linear-requires-clause-typed c = linear_typing (typing_of c.args.typed) (typing_of c.in-Ok.linear.typed) c.in-Ok.ensures.program c.requires
 
 pub returns-in-Ok-clause-found : goal.returns-in-Ok-clause-found
 returns-in-Ok-clause-found c = linear_found (typing_of c.args.typed) (typing_of c.in-Ok.linear.typed) (compiled_of c.compile_linear.result) c.in-Ok.ensures.program c.in-Ok.ensures.keeps c.compile_linear.ensures.found

@@ -9,6 +9,7 @@ use Rattle.normal_form.specs.Answers.{program_fault}
 use Rattle.normal_form.specs.SetLaws.{outcome_set}
 use Rattle.code_gen.specs.Generated.{compiled}
 use Rattle.code_gen.proofs.Props.{fits_prop}
+use Rattle.code_gen.proofs.WellProps.{well_prop}
 use Rattle.code_gen.proofs.Singly.{is_code, few_functions}
 use Rattle.code_gen.proofs.compiling.compile.Goals as goal
 
@@ -26,9 +27,13 @@ pub returns-clause-code : goal.returns-clause-code
 returns-clause-code c = is_code c.args.program.now.typed c.in_ok-known.known.typed.now c.in_ok-known.ensures _ c.in_ok-types.ensures c.in_ok-funcs.ensures.functions
 
 pub returns-clause-well_formed : goal.returns-clause-well_formed
-returns-clause-well_formed c typing rule =
+returns-clause-well_formed c =
     let typed = c.args.program.now.typed in
-    subst IsWellFormed (sym (is_code typed c.in_ok-known.known.typed.now c.in_ok-known.ensures _ c.in_ok-types.ensures c.in_ok-funcs.ensures.functions)) (c.law_of_compiler.ensures.well_formed (typing_of typed) typing rule)
+    let t = typing_of typed in
+    let well = well_prop (compiled t) in
+    let is = is_code typed c.in_ok-known.known.typed.now c.in_ok-known.ensures _ c.in_ok-types.ensures c.in_ok-funcs.ensures.functions in
+    subst IsWellFormed (sym is)
+    (∥∥₁_elim typed.typed well (λ typing. ∥∥₁_elim c.args.program.now.keeps well (λ rule. c.law_of_compiler.ensures.well_formed t typing rule)))
 
 pub returns-clause-meaning : goal.returns-clause-meaning
 returns-clause-meaning c limit func fuel args s known fit =

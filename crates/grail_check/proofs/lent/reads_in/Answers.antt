@@ -1,4 +1,4 @@
-use Rattle.std.proofs.Common.{◌≡◌, ℕ, ◌∙◌, ap, List, length, map, arith, take, drop, ◌++◌}
+use Rattle.std.proofs.Common.{◌≡◌, ℕ, ◌∙◌, ap, List, length, map, arith, take, ◌++◌}
 use Rattle.std.specs.Prelude.{Bool, slice_get, flat_map}
 use Rattle.grail_code.specs.Code.{Func, block_of, func_of}
 use Rattle.grail_code.specs.WellFormed.{looked_at, looked_in}
