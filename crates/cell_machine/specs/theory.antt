@@ -21,3 +21,8 @@ pub mod Beginning
 pub mod WholeRuns
 pub mod Widening
 pub mod Living
+pub mod Budgets
+pub mod Balanced
+pub mod Pauses
+pub mod PutBack
+pub mod Begun

@@ -1,5 +1,5 @@
 //! Laws of the machine, as the contracts of functions that do nothing.
-ghost use Rattle.std.specs.Prelude.{◌≡◌, ℕ, ◌+◌, ◌-◌, ◌*◌, ◌≤◌, List, length, slice_get, Some};
+ghost use Rattle.std.specs.Prelude.{◌≡◌, ℕ, ◌+◌, ◌-◌, ◌*◌, ◌/◌, ◌≤◌, List, length, replicate, slice_get, Some};
 ghost use Rattle.cell_span.specs.declared.cell.Cell.{Cell};
 ghost use Rattle.camelot_values.specs.Value.{Value, parts};
 ghost use Rattle.camelot_values.specs.Items.{items_of};
@@ -8,21 +8,29 @@ ghost use Rattle.camelot_values.specs.Kinds.{DataType, AreTypes};
 ghost use Rattle.camelot_values.specs.Outcome.{Outcome, peak_of};
 ghost use Rattle.camelot_values.specs.Typing.{Fits, ArgumentsFit};
 ghost use Rattle.camelot_values.specs.declared.kinds.Kind.{Kind};
+ghost use Rattle.grail_blocks.specs.States as states;
 ghost use Rattle.grail_code.specs.Code.{Func, Code};
 ghost use Rattle.grail_code.specs.Limits.{IsWithinLimits};
 ghost use Rattle.grail_code.specs.Meaning.{run_of};
 ghost use Rattle.grail_code.specs.WellFormed.{IsWellFormed};
 ghost use Rattle.cell_machine.specs.Cells.{inline_base};
-ghost use Rattle.cell_machine.specs.Coming.{IsWithinRoom, IsOnCourse, IsOnWay, KeepsCourse, EndsAsMeant};
-ghost use Rattle.cell_machine.specs.Dead.{live, live_next};
+ghost use Rattle.cell_machine.specs.Annotated.{IsAnnotated};
+ghost use Rattle.cell_machine.specs.Bounds.{bounds, put_back};
+ghost use Rattle.cell_machine.specs.Coming.{ahead, coming, IsWithinRoom, IsOnCourse, IsOnWay, KeepsCourse, EndsAsMeant};
+ghost use Rattle.cell_machine.specs.Counted.{IsFit, StaysFit, MachineFits};
+ghost use Rattle.cell_machine.specs.Dead.{live, live_machine, live_next, live_words};
+ghost use Rattle.cell_machine.specs.Demands.{IsBalanced};
 ghost use Rattle.cell_machine.specs.Loading.{cells_from, begun, steps};
+ghost use Rattle.licence.specs.Books.{Book, book_of};
+ghost use Rattle.licence.specs.Bound.{units_at};
 ghost use Rattle.licence.specs.Licensed.{Licensed, IsLicensed};
 ghost use Rattle.cell_machine.specs.Plans.{IsPlan, RunsAsPlanned};
 ghost use Rattle.cell_machine.specs.Wide.{wide, Widens};
 ghost use Rattle.cell_machine.specs.Owners.{TwoTake, OneTakesTwice, FreeIsTaken, LoanIsTaken};
 ghost use Rattle.cell_machine.specs.Sound.{IsSound};
 ghost use Rattle.cell_machine.specs.Stands.{Stands, footprint, RepeatsNone};
-ghost use Rattle.cell_machine.specs.State.{Configuration, Running};
+ghost use Rattle.cell_machine.specs.Slices.{in_slices, whole};
+ghost use Rattle.cell_machine.specs.State.{Configuration, Machine, Running};
 ghost use Rattle.cell_machine.specs.Steps.{step};
 
 /// One step of well-formed code. A sound state on its way to an outcome, of which what lies ahead takes no more cells
@@ -124,4 +132,49 @@ pub fn law_of_owners()
     ensures free { (program : Code) (s : Configuration) → AreTypes program.types → FreeIsTaken program s → ¬ (IsSound program s) }
     // In none does a lent value share a cell with an owned one of its own frame or of a younger one.
     ensures loans { (program : Code) (s : Configuration) → AreTypes program.types → LoanIsTaken program s → ¬ (IsSound program s) }
+{}
+
+/// Balance. What the frames of a sound state ask for, in the units of annotated code, is what the free list pays for.
+/// So a state that is kept as a text can be judged without its past: one that is sound and balanced, with its counters
+/// in order, goes on to an end that the code means. (Potential soundness of Hofmann and Jost 2003, from any state on.)
+pub fn law_of_balance()
+    // What a licence keeps is annotated code of which each rule holds.
+    ensures licensed { (l : Licensed) → IsLicensed l → IsAnnotated l.code (book_of l.cert) }
+    // In a sound and balanced state, what lies ahead takes no more cells at a time than are free.
+    ensures within { (p : Code) (book : Book ℕ) → IsAnnotated p book → (limit : ℕ) (s : Configuration) (r : IsSound p s) → IsBalanced p book s r
+        → IsWithinRoom (length r.free) (ahead p limit s r) }
+    // Such a state is on course to what it comes to, where its counters are in order and few enough calls wait.
+    ensures course { (p : Code) (book : Book ℕ) → IsAnnotated p book → (limit : ℕ) (s : Configuration) (r : IsSound p s) → IsBalanced p book s r
+        → s.low ≤ length r.free + s.peak → length s.waiting ≤ limit
+        → IsOnCourse p limit (length r.free + s.peak - s.low) (coming p limit s r) s }
+{}
+
+/// A step from a fit state, which is sound and balanced with its counters in order, exists. It leaves a fit state, or
+/// the run is over. The number of cells stays, as do the sums of net and free cells and of calls and fuel.
+pub fn law_of_balanced_steps()
+    ensures { (p : Code) (book : Book ℕ) → IsAnnotated p book → IsWithinLimits p → (limit : ℕ) (s : Configuration) (fit : IsFit p book limit s)
+        → StaysFit p book limit (length fit.sound.free + s.peak - s.low) s (step p limit s) }
+{}
+
+/// A run on fitting arguments begins in a fit state, where its range has the cells of the arguments and of the bound.
+pub fn law_of_beginnings()
+    ensures { (p : Code) (book : Book ℕ) → IsAnnotated p book → IsWithinLimits p → (limit entry : ℕ) (f : Func) (args : List Value) (fuel lease : ℕ)
+        → slice_get p.funcs entry ≡ Some f → ArgumentsFit p.types f.params args → 1 ≤ fuel
+        → length (cells_from p.types 0 (parts args)) + units_at p book entry args / book.unit ≤ lease → lease ≤ 2147483648
+        → IsFit p book limit (begun p entry f args fuel lease) }
+{}
+
+/// Pauses. A state kept by its live words is fit where it was, and goes on as it would have: a configuration knows no
+/// place in an arena, so that it may go on in any range of as many cells.
+pub fn law_of_pauses()
+    // A fit state without its dead words is fit.
+    ensures kept { (p : Code) (book : Book ℕ) → IsAnnotated p book → (limit : ℕ) (s : Configuration) → IsFit p book limit s → IsFit p book limit (live p s) }
+    // After as many steps it is the same state but for dead words, or the same end with the same cells.
+    ensures goes_on { (p : Code) (book : Book ℕ) → IsAnnotated p book → IsWithinLimits p → (limit n : ℕ) (s : Configuration) → IsFit p book limit s
+        → live_machine p (steps p limit n (Running (live p s))) ≡ live_machine p (steps p limit n (Running s)) }
+    // The ready locals of a frame, put back into as many zeros, give its live words.
+    ensures put_back { (s : states.State) (ws : List ℕ) → put_back (replicate (length ws) 0) (bounds s 0 ws) ≡ live_words s 0 ws }
+    // However a run is cut into slices, it comes to the state to which it comes uncut, or to the same end.
+    ensures slices { (p : Code) (book : Book ℕ) → IsAnnotated p book → IsWithinLimits p → (limit : ℕ) (slices : List ℕ) (m : Machine) → MachineFits p book limit m
+        → live_machine p (in_slices p limit slices m) ≡ live_machine p (steps p limit (whole slices) m) }
 {}

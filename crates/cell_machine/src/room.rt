@@ -13,9 +13,9 @@ use cell_span::Span;
 use std::alloc::{AllocError, Global};
 use std::marker::Model;
 
-/// Room for the value that a run in a range of so many cells may come to, and for the words that are still to be read
-/// while the value is put together: four nodes for each cell, and one. Reading a value then takes no memory. Contracts
-/// see for how many of each there is room.
+/// Room for the value that a run in a range of so many cells may come to: four nodes for each cell, and one. Beside it
+/// is room for the words that are still to be read while the value is put together: so many, and four more. Reading a
+/// value then takes no memory. Contracts see for how many of each there is room.
 #[derive(Drop)]
 pub struct Room {
     reading: Reading,
@@ -38,7 +38,7 @@ impl Room {
     pub fn new(alloc: Global, lease: u32) -> Result<Room, AllocError>
         // There is room for each value in a lease of so many cells.
         ensures room { IfOk result (HasRoom lease) }
-        // There is just so much room as a value of 4 nodes a cell and one needs.
+        // There is no more than that: 4 nodes a cell and one, and 4 words more than so many.
         ensures just { IfOk result (HasJustRoom lease) }
     {
         let most = 4 * lease as usize + 1;

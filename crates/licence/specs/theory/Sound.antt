@@ -51,10 +51,10 @@ block_fits_at p f first [] i b h e = let k : None ≡ Some b = e in absurd cc
 block_fits_at p f first (c ∷ bs) zero b h e = let same : c ≡ b = cc in let n : first ≡ first + 0 = omega arith in subst (λ m. BlockFits p f m b) n (subst (BlockFits p f first) same h.0)
 block_fits_at p f first (c ∷ bs) (suc i) b h e = let n : suc first + i ≡ first + suc i = omega arith in subst (λ m. BlockFits p f m b) n (block_fits_at p f (suc first) bs i b h.1 e)
 
-fits_at : (p : Code) (f : Func) (number : ℕ) (b : Block) → FuncFits p f → slice_get f.blocks number ≡ Some b → BlockFits p f number b
+pub fits_at : (p : Code) (f : Func) (number : ℕ) (b : Block) → FuncFits p f → slice_get f.blocks number ≡ Some b → BlockFits p f number b
 fits_at p f number b fits is = let n : 0 + number ≡ number = omega arith in subst (λ m. BlockFits p f m b) n (block_fits_at p f 0 f.blocks number b fits.blocks is)
 
-effect_safe : (types : List DataType) (q : Kind) (c : CaseCell) (o : Outcome Value) → IsSafe types q o → IsSafe types q (cell_effect c o)
+pub effect_safe : (types : List DataType) (q : Kind) (c : CaseCell) (o : Outcome Value) → IsSafe types q o → IsSafe types q (cell_effect c o)
 effect_safe types q cell.Inline o h = h
 effect_safe types q cell.Look o h = h
 effect_safe types q cell.Free o h = yields_after (Fits types q) 0 0 1 o h
@@ -62,7 +62,7 @@ effect_safe types q (cell.Keep d) o h = h
 
 -- ---- accounts of a block, let by let
 
-next_account : {A : Type 0} (amounts : Amounts A) (types : List DataType) (book : Book A) (func block at : ℕ) (account : Account A) (ls : List Let) (n : ℕ) (l : Let) → slice_get ls n ≡ Some l
+pub next_account : {A : Type 0} (amounts : Amounts A) (types : List DataType) (book : Book A) (func block at : ℕ) (account : Account A) (ls : List Let) (n : ℕ) (l : Let) → slice_get ls n ≡ Some l
     → after_lets amounts types book func block at account (take (suc n) ls) ≡ after_op amounts types book func block (at + n) (after_lets amounts types book func block at account (take n ls)) l.target l.op
 next_account amounts types book func block at account [] n l e = let c : None ≡ Some l = e in absurd cc
 next_account amounts types book func block at account (m ∷ ls) zero l e =
@@ -100,7 +100,7 @@ lets_quiet p f book func block at account (l ∷ ls) zero quiet lend = quiet
 lets_quiet p f book func block at account (l ∷ ls) (suc n) quiet lend =
     lets_quiet p f book func block (suc at) (after_op naturals p.types book func block at account l.target l.op) ls n (op_quiet p f book func block at account l.target l.op quiet lend.0.target) lend.1
 
-quiet_before : (p : Code) (f : Func) (book : Book ℕ) (func number : ℕ) (b : Block) (n : ℕ) → LentCarryNothing p.types f (account_at book func number).carried
+pub quiet_before : (p : Code) (f : Func) (book : Book ℕ) (func number : ℕ) (b : Block) (n : ℕ) → LentCarryNothing p.types f (account_at book func number).carried
     → AllByRecursion (LetLends p f) b.lets → LentCarryNothing p.types f (account_before naturals p.types book func number b n).carried
 quiet_before p f book func number b n quiet lend = lets_quiet p f book func number 1 (account_at book func number) b.lets n quiet lend
 
@@ -118,7 +118,7 @@ found_quiet types f unit account on con fields cell.Look quiet lends apart = qui
     is_true false t = absurd cc
 
 -- marked parameters of heap kinds are lent
-reads_free : (p : Code) (book : Book ℕ) → LentAreFree p book → ReadsFree p book
+pub reads_free : (p : Code) (book : Book ℕ) → LentAreFree p book → ReadsFree p book
 reads_free p book lent callee g there = subst (λ marks. ReadFree p.types (book.param callee) 0 marks g.params) (sym marks_are) (each 0 g.reads g.params (λ i m e. first g.reads i e) (λ i q e. first g.params i e))
   where
     marks_are : reads_of p callee ≡ g.reads
@@ -283,18 +283,18 @@ let_paid p f book func enter well free safe paid number n b l q env k w next qui
 -- ---- the end of a block
 
 -- at the end of a block, before its own uses
-record AtEnd (p : Code) (f : Func) (book : Book ℕ) (func number : ℕ) (b : Block) (env : Locals) (s : State) (account : Account ℕ) : Type 0 where
-  well : AreTypes p.types
-  free : ReadsFree p book
-  quiet : LentCarryNothing p.types f account.carried
-  block : slice_get f.blocks number ≡ Some b
-  fits : BlockFits p f number b
-  pays : TermPays p f book func account b.term
-  fit : LocalsFit p.types f s env
-  term : AreReady (is_owned p.types f) s (term_events (reads_of p) b.term)
-  onward : AllByRecursion (AreReady (is_owned p.types f) (after (is_owned p.types f) s (term_events (reads_of p) b.term))) (ways f.blocks b.term)
+pub record AtEnd (p : Code) (f : Func) (book : Book ℕ) (func number : ℕ) (b : Block) (env : Locals) (s : State) (account : Account ℕ) : Type 0 where
+  pub well : AreTypes p.types
+  pub free : ReadsFree p book
+  pub quiet : LentCarryNothing p.types f account.carried
+  pub block : slice_get f.blocks number ≡ Some b
+  pub fits : BlockFits p f number b
+  pub pays : TermPays p f book func account b.term
+  pub fit : LocalsFit p.types f s env
+  pub term : AreReady (is_owned p.types f) s (term_events (reads_of p) b.term)
+  pub onward : AllByRecursion (AreReady (is_owned p.types f) (after (is_owned p.types f) s (term_events (reads_of p) b.term))) (ways f.blocks b.term)
 
-result_paid : (p : Code) (f : Func) (book : Book ℕ) (func number : ℕ) (b : Block) (env : Locals) (s : State) (account : Account ℕ)
+pub result_paid : (p : Code) (f : Func) (book : Book ℕ) (func number : ℕ) (b : Block) (env : Locals) (s : State) (account : Account ℕ)
     → AtEnd p f book func number b env s account → (x : ℕ) (v : Value) → b.term ≡ Ret x → env x ≡ Some v
     → IsPaidBy book.unit (worth p.types f s env account) (λ v. book.back func + potential p.types (book.result func) v) (Done v 0 0 0)
 result_paid p f book func number b env s account e x v is here =
@@ -348,7 +348,7 @@ tail_paid p f book func number b env s account enter safe paid e callee args vs 
         (paid_beside book.unit (book.need callee + arguments_carry p.types (book.param callee) 0 vs) rest (λ v. book.back callee + potential p.types (book.result callee) v) (enter k w true callee vs) (paid k w true callee vs g there fit))
 
 -- a jump without bindings
-jump_paid : (p : Code) (f : Func) (book : Book ℕ) (func number : ℕ) (b : Block) (env : Locals) (s : State) (account : Account ℕ)
+pub jump_paid : (p : Code) (f : Func) (book : Book ℕ) (func number : ℕ) (b : Block) (env : Locals) (s : State) (account : Account ℕ)
     → AtEnd p f book func number b env s account → (to : ℕ) (target : Block) → JumpsTo b.term to → number < to
     → slice_get f.blocks to ≡ Some target → worth p.types f (at_start (is_owned p.types f) target) (narrowed target.params env) (account_at book func to) ≤ worth p.types f s env account
 jump_paid p f book func number b env s account e to target jumps less there = by_term b.term refl jumps e.pays e.term e.onward
@@ -454,14 +454,14 @@ con_of_arm types con i vs (Some q) g e = by_type (type_of types con) refl g.0
     by_type (Some t) is k = let same : kind.Of t ≡ q = cc in subst (λ r. con ≡ first_con_of types (Some r) + i) same (numbered 0 types con t i (is ∙ (let same : t ≡ 0 + t = omega arith in ap (λ n. Some n) same)) e)
 
 -- with a cell's price, where the cell is given back
-abbrev with_price : ℕ → CaseCell → ℕ → ℕ
+abbrev pub with_price : ℕ → CaseCell → ℕ → ℕ
 with_price unit cell.Free n = n + unit
 with_price unit cell.Inline n = n
 with_price unit cell.Look n = n
 with_price unit (cell.Keep d) n = n
 
 -- An arm begins with what was there, what the matched node carried, and a cell's price where its cell is given back.
-arm_worth : (p : Code) (f : Func) (book : Book ℕ) (func number : ℕ) (b : Block) (env : Locals) (s : State) (account : Account ℕ)
+pub arm_worth : (p : Code) (f : Func) (book : Book ℕ) (func number : ℕ) (b : Block) (env : Locals) (s : State) (account : Account ℕ)
     → AtEnd p f book func number b env s account → (con : ℕ) (vs : Values) (a : CaseArm) (bound : Locals) (target : Block)
     → TakesArm p env b.term con vs a bound → number < a.target → slice_get f.blocks a.target ≡ Some target → FitsTarget p f target (with_cell a.cell bound)
     → worth p.types f (at_start (is_owned p.types f) target) (narrowed target.params (with_cell a.cell bound)) (account_at book func a.target) ≤ with_price book.unit a.cell (worth p.types f s env account)
@@ -627,7 +627,7 @@ both_kept p f book func enter well free safe paid fits quiet pays = record {
 
 -- ---- arguments, functions, programs
 
-arguments_are : (types : List DataType) (param : Carried ℕ) (first : ℕ) (before args : List Value) → length before ≡ first
+pub arguments_are : (types : List DataType) (param : Carried ℕ) (first : ℕ) (before args : List Value) → length before ≡ first
     → asked_units types (arguments (before ++ args)) (map (λ x. (x, param x)) (range_with_len first (length args))) ≡ arguments_carry types param first args
 arguments_are types param first before [] same = refl
 arguments_are types param first before (v ∷ vs) same =
