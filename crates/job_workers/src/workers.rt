@@ -178,7 +178,8 @@ fn bring_home<N: JobName, K: Kept>(desk: Desk<N, Answer<N, K>>) -> Home
 /// no hole has the cells that the next job needs, it waits for a lease to come back before it asks. A run takes no
 /// memory; its stack is kept for the worker's next job of the same licence. Once all workers are done, the caller asks
 /// on alone for the jobs that are left, if any, and serves those that wait, in order. It may wait for the lock and the
-/// desk.
+/// desk. No clause says that a worker passes the gate, nor with which job's number: a body that asks no gate is refused
+/// by tests alone.
 ///
 /// # Errors
 ///

@@ -8,4 +8,5 @@ pub mod Put
 pub mod World
 pub mod Isolation
 pub mod WorldLaws
+pub mod Schedules
 pub mod theory

@@ -5,3 +5,6 @@ pub mod AloneLaws
 pub mod Desks
 pub mod Starting
 pub mod Worlds
+pub mod Asked
+pub mod Finishing
+pub mod Scheduling

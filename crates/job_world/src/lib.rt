@@ -13,6 +13,5 @@ pub use fault::AddFault;
 pub use hole_list::Run;
 pub use isolation::isolation_law;
 pub use jobs::Jobs;
-pub use journal_replay::{DeskState, Held, replay};
 pub use name::JobName;
 pub use plan::Plan;

@@ -5,9 +5,11 @@ use Rattle.hole_list.specs.Placing.{run, AreParts}
 use Rattle.lease_desk.specs.declared.event.Event.{Event}
 use Rattle.lease_desk.specs.Journal.{DeskState, opened, leased, replay, AreSizes, IsLegal}
 use Rattle.lease_desk.specs.Progress.{one_if, times_at, took_times, gave_times, IsSound}
+use Rattle.lease_desk.specs.Within.{AreEventsWithin}
 use Rattle.lease_desk.specs.theory.Leases.{none_out_at}
 use Rattle.lease_desk.specs.theory.Moves.{front_replayed}
 use Rattle.lease_desk.specs.theory.Sound.{sound_behind, took_once, gave_once, asked_one}
+use Rattle.lease_desk.specs.theory.Within.{replay_within}
 
 pub behind_each : (arena : ℕ) (sizes : List ℕ) (journal : List Event) (s : DeskState) → 1 ≤ arena → AreSizes arena sizes
     → replay arena sizes journal ≡ Some s → IsSound arena sizes journal s
@@ -42,3 +44,8 @@ legal_each arena sizes journal job some k less =
     let asked : one_if (nat_lt job k.last.asked) ≡ 1 = asked_one k.last.asked job (omega (arith, k.over.all, less)) in
     let waits : times_at job k.last.waiting ≡ 0 = ap (times_at job) k.over.none_waits in
     (omega (arith, s.took job, waits, asked), omega (arith, s.once job, waits, asked, none_out_at k.last.leases job k.over.none_out))
+
+-- the numbers of a legal journal are those of its jobs and of the arena
+pub legal_within : (arena : ℕ) (sizes : List ℕ) (journal : List Event) → 1 ≤ arena → IsLegal arena sizes journal
+    → AreEventsWithin arena (length sizes) journal
+legal_within arena sizes journal some k = replay_within arena sizes journal k.last some k.fit k.replayed

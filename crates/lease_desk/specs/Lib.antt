@@ -2,6 +2,7 @@
 pub mod Journal
 pub mod Filing
 pub mod Progress
+pub mod Within
 pub mod Outs
 pub mod BookView
 pub mod Book

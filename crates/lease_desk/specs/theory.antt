@@ -5,4 +5,5 @@ pub mod Leases
 pub mod Moves
 pub mod Sound
 pub mod Filing
+pub mod Within
 pub mod Outs

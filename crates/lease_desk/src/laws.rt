@@ -4,6 +4,7 @@ ghost use Rattle.hole_list.specs.Placing.{run, AreParts};
 ghost use Rattle.lease_desk.specs.declared.event.Event.{Event};
 ghost use Rattle.lease_desk.specs.Journal.{DeskState, leased, replay, AreSizes, IsLegal};
 ghost use Rattle.lease_desk.specs.Progress.{took_times, gave_times, IsSound};
+ghost use Rattle.lease_desk.specs.Within.{AreEventsWithin};
 
 /// What holds of the state behind each front of a journal, of an arena with at least one cell: no two of all holes and
 /// leases share a cell, and they have all cells of the arena; their sizes add up to the arena; holes ascend and no two
@@ -38,4 +39,7 @@ pub fn law_of_legal()
     ensures each { (arena : ℕ) (sizes : List ℕ) (journal : List Event) (job : ℕ) → 1 ≤ arena
         → IsLegal arena sizes journal → job < length sizes
         → (took_times job journal ≡ 1) × (gave_times job journal ≡ 1) }
+    // It tells of jobs that have a size and of no others, and its other numbers are at most the arena.
+    ensures within { (arena : ℕ) (sizes : List ℕ) (journal : List Event) → 1 ≤ arena → IsLegal arena sizes journal
+        → AreEventsWithin arena (length sizes) journal }
 {}
