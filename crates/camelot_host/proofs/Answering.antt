@@ -1,8 +1,6 @@
 -- What reading, working and writing come to together.
-use Rattle.std.proofs.Common.{◌≡◌, ℕ, ◌+◌, ◌<◌, ◌≤◌, Bool, true, false, List, [], ◌∷◌, map, get_or, length, Option, Some, None, ◌++◌, refl, sym, ap, ◌∙◌, subst, arith}
+use Rattle.std.proofs.Common.{◌≡◌, ℕ, ◌+◌, ◌<◌, ◌≤◌, Bool, true, false, List, [], length, Option, Some, None, ◌++◌, refl, sym, ap, ◌∙◌, subst, arith}
 use Rattle.std.proofs.lemmas.List.{append-nil, length-append}
-use Rattle.std.specs.Str.{bytes_eq}
-use Rattle.std.proofs.lemmas.Slice.Eq.{bytes_eq-Decides}
 use Rattle.std.specs.Io.KnownBytes.{Consumes, IsAtEnd}
 use Rattle.host_io.specs.Counts.{last_count, Rose}
 use Rattle.host_io.specs.Source.{Took, TookExactly}
@@ -13,12 +11,6 @@ use Rattle.camelot_host.specs.Answers.{input_limit, Devices, ReadWhole, ReadNoth
 use Rattle.camelot_host.specs.Replies.{Writes, Responds}
 use Rattle.camelot_host.specs.declared.status.Status.{Status}
 use Rattle.camelot_host.specs.declared.status.Status.TheVariants as status
-
-same_bytes : (xs ys : List ℕ) → bytes_eq xs ys ≡ true → xs ≡ ys
-same_bytes xs ys h = (bytes_eq-Decides xs ys).0 h
-
-bytes_same : (xs : List ℕ) → bytes_eq xs xs ≡ true
-bytes_same xs = (bytes_eq-Decides xs xs).1 refl
 
 some_is : {A : Type 0} (x y : A) → Some x ≡ Some y → x ≡ y
 some_is x y h = cc
@@ -146,24 +138,6 @@ source_steady status.Memory command input t t' f f' r e = e
 source_steady status.ReadFault command input t t' f f' r e = absurd r
 source_steady status.Usage command input t t' f f' r e = e
 source_steady status.TooLong command input t t' f f' r e = e
-
-only_word : {X : Type 0} (f : X → List ℕ) (ws : List X) (x : X) → 1 ≤ length ws → length ws < 2 → x ≡ get_or ws 0 x → map f ws ≡ f x ∷ []
-only_word f [] x h k e = absurd (omega arith)
-only_word f (y ∷ []) x h k e = ap (λ z. f z ∷ []) (sym e)
-only_word f (y ∷ z ∷ ws) x h k e = absurd (omega arith)
-
-first_is : (v w : List ℕ) → v ∷ [] ≡ w ∷ [] → v ≡ w
-first_is v w h = cc
-
--- there is one word, and the test of it says whether it is this one
-pub one_word : {X : Type 0} (f : X → List ℕ) (ws : List X) (x : X) (text v : List ℕ) (b : Bool) → 1 ≤ length ws → length ws < 2 → x ≡ get_or ws 0 x
-    → text ≡ f x → b ≡ bytes_eq text v
-    → (b ≡ true → map f ws ≡ v ∷ []) × (map f ws ≡ v ∷ [] → b ≡ true)
-one_word f ws x text v b h k e t q =
-    let all = only_word f ws x h k e in (
-      λ yes. all ∙ ap (λ w. w ∷ []) (sym t ∙ same_bytes text v (sym q ∙ yes)),
-      λ is. q ∙ ap (λ w. bytes_eq w v) (t ∙ first_is (f x) v (sym all ∙ is)) ∙ bytes_same v,
-    )
 
 -- ---- a command that reads nothing
 

@@ -99,7 +99,7 @@ none_taken : (l : Option (List ℕ)) → Consumes l l []
 none_taken None = tt
 none_taken (Some xs) = refl
 
-none_told : (t : Option (List ℕ)) → Tells t t []
+pub none_told : (t : Option (List ℕ)) → Tells t t []
 none_told None = tt
 none_told (Some xs) = sym (append-nil xs)
 

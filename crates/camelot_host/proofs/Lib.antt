@@ -7,4 +7,7 @@ pub mod Serving
 pub mod Telling
 pub mod Verdicts
 pub mod Verifying
+pub mod Naming
 pub mod Numbers
+pub mod OneServing
+pub mod Running

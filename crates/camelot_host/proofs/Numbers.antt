@@ -1,5 +1,5 @@
 -- Numbers in the words of a command.
-use Rattle.std.proofs.Common.{◌≡◌, ℕ, ◌<◌, ◌≤◌, ◌^◌, true, false, List, [], ◌∷◌, length, map, get_or, Option, Result, Ok, Err, sym, ap, ◌∙◌, subst, arith}
+use Rattle.std.proofs.Common.{◌≡◌, ℕ, suc, ◌<◌, ◌≤◌, ◌^◌, true, false, List, [], ◌∷◌, length, map, get_or, Option, Result, Ok, Err, sym, ap, ◌∙◌, subst, arith}
 use Rattle.std.proofs.lemmas.List.{length-map}
 use Rattle.std.specs.Prelude.{codes, decimal, MatchOption}
 use Rattle.std.specs.Str.Parse.{ParsesUnsigned}
@@ -52,54 +52,45 @@ no_number word r error most few p e n w fits =
 abbrev pub NoNumber : (word : List ℕ) (most : ℕ) → Type 0
 NoNumber word most = (n : ℕ) → word ≡ decimal n → IsUpTo most n → ⊥
 
-second_is : (a b c d e f : List ℕ) → a ∷ b ∷ c ∷ [] ≡ d ∷ e ∷ f ∷ [] → b ≡ e
-second_is a b c d e f h = cc
+second_is : (b c d e f : List ℕ) → codes "drill" ∷ b ∷ c ∷ [] ≡ d ∷ e ∷ f ∷ [] → b ≡ e
+second_is b c d e f h = cc
 
-third_is : (a b c d e f : List ℕ) → a ∷ b ∷ c ∷ [] ≡ d ∷ e ∷ f ∷ [] → c ≡ f
-third_is a b c d e f h = cc
+third_is : (b c d e f : List ℕ) → codes "drill" ∷ b ∷ c ∷ [] ≡ d ∷ e ∷ f ∷ [] → c ≡ f
+third_is b c d e f h = cc
 
-first_is : (a b c d e f : List ℕ) → a ∷ b ∷ c ∷ [] ≡ d ∷ e ∷ f ∷ [] → a ≡ d
-first_is a b c d e f h = cc
+pub other_jobs : (first second : List ℕ) → NoNumber first 4096 → (jobs workers : ℕ) → IsDrill (codes "drill" ∷ first ∷ second ∷ []) jobs workers → ⊥
+other_jobs first second h jobs workers d = h jobs (second_is first second (codes "drill") (decimal jobs) (decimal workers) d.are) d.few_jobs
 
-pub other_word : (first second third : List ℕ) → bytes_eq first (codes "drill") ≡ false → (jobs workers : ℕ)
-    → IsDrill (first ∷ second ∷ third ∷ []) jobs workers → ⊥
-other_word first second third h jobs workers d = apart first (codes "drill") h (first_is first second third (codes "drill") (decimal jobs) (decimal workers) d.are)
+pub other_workers : (first second : List ℕ) → NoNumber second 16 → (jobs workers : ℕ) → IsDrill (codes "drill" ∷ first ∷ second ∷ []) jobs workers → ⊥
+other_workers first second h jobs workers d = h workers (third_is first second (codes "drill") (decimal jobs) (decimal workers) d.are) d.few_workers
 
-pub other_jobs : (first second third : List ℕ) → NoNumber second 4096 → (jobs workers : ℕ) → IsDrill (first ∷ second ∷ third ∷ []) jobs workers → ⊥
-other_jobs first second third h jobs workers d = h jobs (second_is first second third (codes "drill") (decimal jobs) (decimal workers) d.are) d.few_jobs
-
-pub other_workers : (first second third : List ℕ) → NoNumber third 16 → (jobs workers : ℕ) → IsDrill (first ∷ second ∷ third ∷ []) jobs workers → ⊥
-other_workers first second third h jobs workers d = h workers (third_is first second third (codes "drill") (decimal jobs) (decimal workers) d.are) d.few_workers
-
-pub drill_is : (first second third : List ℕ) (jobs workers : ℕ) → bytes_eq first (codes "drill") ≡ true → (second ≡ decimal jobs) × IsUpTo 4096 jobs
-    → (third ≡ decimal workers) × IsUpTo 16 workers → IsDrill (first ∷ second ∷ third ∷ []) jobs workers
-drill_is first second third jobs workers h j w = record {
-  are = ap (λ l. l ∷ second ∷ third ∷ []) (same first (codes "drill") h) ∙ ap (λ l. codes "drill" ∷ l ∷ third ∷ []) j.0 ∙ ap (λ l. codes "drill" ∷ decimal jobs ∷ l ∷ []) w.0;
+pub drill_is : (first second : List ℕ) (jobs workers : ℕ) → (first ≡ decimal jobs) × IsUpTo 4096 jobs → (second ≡ decimal workers) × IsUpTo 16 workers
+    → IsDrill (codes "drill" ∷ first ∷ second ∷ []) jobs workers
+drill_is first second jobs workers j w = record {
+  are = ap (λ l. codes "drill" ∷ l ∷ second ∷ []) j.0 ∙ ap (λ l. codes "drill" ∷ decimal jobs ∷ l ∷ []) w.0;
   few_jobs = j.1;
   few_workers = w.1;
 }
 
--- ---- all words
+-- ---- all words behind the name
 
-three : {X : Type 0} (f : X → List ℕ) (ws : List X) (x y z : X) → 3 ≤ length ws → length ws < 4 → x ≡ get_or ws 0 x → y ≡ get_or ws 1 y
-    → z ≡ get_or ws 2 z → map f ws ≡ f x ∷ f y ∷ f z ∷ []
-three f [] x y z h k a b c = absurd (omega (arith, h))
-three f (u ∷ []) x y z h k a b c = absurd (omega (arith, h))
-three f (u ∷ v ∷ []) x y z h k a b c = absurd (omega (arith, h))
-three f (u ∷ v ∷ w ∷ []) x y z h k a b c = λ i. f (sym a i) ∷ f (sym b i) ∷ f (sym c i) ∷ []
-three f (u ∷ v ∷ w ∷ t ∷ ws) x y z h k a b c = absurd (omega (arith, k))
+two : {X : Type 0} (f : X → List ℕ) (ws : List X) (x y : X) → 2 ≤ length ws → length ws < 3 → x ≡ get_or ws 0 x → y ≡ get_or ws 1 y
+    → map f ws ≡ f x ∷ f y ∷ []
+two f [] x y h k a b = absurd (omega (arith, h))
+two f (u ∷ []) x y h k a b = absurd (omega (arith, h))
+two f (u ∷ v ∷ []) x y h k a b = λ i. f (sym a i) ∷ f (sym b i) ∷ []
+two f (u ∷ v ∷ w ∷ ws) x y h k a b = absurd (omega (arith, k))
 
 -- other numbers of words
-pub not_three : {X : Type 0} (f : X → List ℕ) (ws : List X) → (length ws ≡ 3 → ⊥) → (jobs workers : ℕ) → IsDrill (map f ws) jobs workers → ⊥
-not_three f ws other jobs workers d = other (sym (length-map ws f) ∙ ap length d.are)
+pub not_two : {X : Type 0} (f : X → List ℕ) (ws : List X) → (length ws ≡ 2 → ⊥) → (jobs workers : ℕ) → IsDrill (codes "drill" ∷ map f ws) jobs workers → ⊥
+not_two f ws other jobs workers d = let n : suc (length (map f ws)) ≡ 3 = ap length d.are in other (omega (arith, n, length-map ws f))
 
--- the answer for three words is that for all
+-- the answer for two words is that for all
 abbrev pub Drills : List (List ℕ) → Option (ℕ × ℕ) → Type 0
-Drills words o = MatchOption o ((jobs workers : ℕ) → IsDrill words jobs workers → ⊥) (λ p. IsDrill words p.0 p.1)
+Drills rest o = MatchOption o ((jobs workers : ℕ) → IsDrill (codes "drill" ∷ rest) jobs workers → ⊥) (λ p. IsDrill (codes "drill" ∷ rest) p.0 p.1)
 
-pub of_three : {X : Type 0} (f : X → List ℕ) (ws : List X) (x y z : X) (a b c : List ℕ) (o : Option (ℕ × ℕ)) → 3 ≤ length ws → length ws < 4
-    → x ≡ get_or ws 0 x → y ≡ get_or ws 1 y → z ≡ get_or ws 2 z → a ≡ f x → b ≡ f y → c ≡ f z
-    → Drills (a ∷ b ∷ c ∷ []) o → Drills (map f ws) o
-of_three f ws x y z a b c o h k ex ey ez ea eb ec d =
-    let all : map f ws ≡ a ∷ b ∷ c ∷ [] = three f ws x y z h k ex ey ez ∙ (λ i. sym ea i ∷ sym eb i ∷ sym ec i ∷ []) in
+pub of_two : {X : Type 0} (f : X → List ℕ) (ws : List X) (x y : X) (a b : List ℕ) (o : Option (ℕ × ℕ)) → 2 ≤ length ws → length ws < 3
+    → x ≡ get_or ws 0 x → y ≡ get_or ws 1 y → a ≡ f x → b ≡ f y → Drills (a ∷ b ∷ []) o → Drills (map f ws) o
+of_two f ws x y a b o h k ex ey ea eb d =
+    let all : map f ws ≡ a ∷ b ∷ [] = two f ws x y h k ex ey ∙ (λ i. sym ea i ∷ sym eb i ∷ []) in
     subst (λ l. Drills l o) (sym all) d

@@ -1,82 +1,75 @@
 -- Laws, for the proofs of this crate and of those above it.
--- Words spell at most one command.
-use Rattle.std.proofs.Common.{◌≡◌, ℕ, ◌<◌, ◌≤◌, ◌^◌, List, [], ◌∷◌, refl, sym, ap, ◌∙◌, arith}
-use Rattle.std.specs.Prelude.{codes, decimal}
-use Rattle.certificate.specs.NumberLaws.{number-decimal, number_one}
-use Rattle.camelot_host.specs.Commands.{Command, Serve, Compile, Verify, Migrate, Drill, IsDrill, IsCommand, IsNoCommand}
+-- Words spell at most one command, which is told by the first word and the numbers behind it.
+use Rattle.std.proofs.Common.{◌≡◌, ℕ, ◌≤◌, false, List, [], ◌∷◌, Option, Some, None, refl, sym, ap, ◌∙◌, subst, arith}
+use Rattle.std.specs.Prelude.{codes, decimal, if◌then◌else◌}
+use Rattle.std.specs.Str.{bytes_eq}
+use Rattle.std.specs.Str.Parse.{digits_value}
+use Rattle.std.proofs.lemmas.Fmt.{decimal_is_IsNumeral}
+use Rattle.camelot_host.specs.Commands.{Command, Serve, Compile, Verify, Migrate, Drill, IsCommand, IsNoCommand}
 
--- the first byte of the first word
-abbrev first_byte : List (List ℕ) → ℕ
-first_byte ((b ∷ bs) ∷ ws) = b
-first_byte ws = 0
+-- the number in the first word, and in the second
+abbrev pub first_number : List (List ℕ) → ℕ
+first_number [] = 0
+first_number (w ∷ ws) = digits_value 10 w
 
--- the first byte of a command's words
-abbrev begins_with : Command → ℕ
-begins_with Serve = 115
-begins_with Compile = 99
-begins_with Verify = 118
-begins_with Migrate = 109
-begins_with (Drill jobs workers) = 100
+abbrev pub second_number : List (List ℕ) → ℕ
+second_number [] = 0
+second_number (w ∷ ws) = first_number ws
 
-begins : (words : List (List ℕ)) (command : Command) → IsCommand words command → first_byte words ≡ begins_with command
-begins words Serve h = ap first_byte h
-begins words Compile h = ap first_byte h
-begins words Verify h = ap first_byte h
-begins words Migrate h = ap first_byte h
-begins words (Drill jobs workers) h = ap first_byte h.are
+-- the names of the commands, each with the command that it is with these words behind it
+abbrev pub names : List (List ℕ) → List (List ℕ × Command)
+names rest = (codes "serve", Serve)
+    ∷ (codes "compile", Compile)
+    ∷ (codes "verify", Verify)
+    ∷ (codes "migrate", Migrate)
+    ∷ (codes "drill", Drill (first_number rest) (second_number rest))
+    ∷ []
 
-other : (words : List (List ℕ)) (first second : Command) → IsCommand words first → IsCommand words second → begins_with first ≡ begins_with second
-other words first second h k = sym (begins words first h) ∙ begins words second k
+-- the command of the first of these names that is this word, whole
+abbrev pub named : List ℕ → List (List ℕ × Command) → Option Command
+named word [] = None
+named word (n ∷ ns) = if bytes_eq word n.0 then Some n.1 else named word ns
 
--- a number below 2^64 is written in one way
-one_decimal : (m n : ℕ) → m < 2 ^ 64 → n < 2 ^ 64 → decimal m ≡ decimal n → m ≡ n
-one_decimal m n h k e = number_one m n (number-decimal m h ∙ e ∙ sym (number-decimal n k))
+-- the word is none of these names
+abbrev pub Unlike : List ℕ → List (List ℕ × Command) → Type 0
+Unlike word [] = Unit {0}
+Unlike word (n ∷ ns) = (bytes_eq word n.0 ≡ false) × Unlike word ns
 
-abbrev second_word : List (List ℕ) → List ℕ
-second_word (a ∷ b ∷ ws) = b
-second_word ws = []
+-- the only command that the words may spell
+abbrev pub spelled : List (List ℕ) → Option Command
+spelled [] = None
+spelled (name ∷ rest) = named name (names rest)
 
-abbrev third_word : List (List ℕ) → List ℕ
-third_word (a ∷ b ∷ c ∷ ws) = c
-third_word ws = []
+in_decimal : (n limit : ℕ) → limit ≤ 4096 → n ≤ limit → digits_value 10 (decimal n) ≡ n
+in_decimal n limit few most = (decimal_is_IsNumeral n (omega (arith, few, most))).1
 
-one_drill : (words : List (List ℕ)) (m n v w : ℕ) → IsDrill words m v → IsDrill words n w → Drill m v ≡ Drill n w
-one_drill words m n v w h k =
-    let jobs : m ≡ n = one_decimal m n (omega (arith, h.few_jobs.most)) (omega (arith, k.few_jobs.most)) (ap second_word (sym h.are ∙ k.are)) in
-    let workers : v ≡ w = one_decimal v w (omega (arith, h.few_workers.most)) (omega (arith, k.few_workers.most)) (ap third_word (sym h.are ∙ k.are)) in
-    λ i. Drill (jobs i) (workers i)
+-- one line for each command
+pub spelled_is : (words : List (List ℕ)) (command : Command) → IsCommand words command → spelled words ≡ Some command
+spelled_is words Serve h = ap spelled h
+spelled_is words Compile h = ap spelled h
+spelled_is words Verify h = ap spelled h
+spelled_is words Migrate h = ap spelled h
+spelled_is words (Drill jobs workers) h =
+    ap spelled h.are ∙ (λ i. Some (Drill (in_decimal jobs 4096 (omega arith) h.few_jobs.most i) (in_decimal workers 16 (omega arith) h.few_workers.most i)))
+
+one_of : (first second : Command) → ◌≡◌ {A = Option Command} (Some first) (Some second) → first ≡ second
+one_of first second e = cc
 
 pub one_command : (words : List (List ℕ)) (first second : Command) → IsCommand words first → IsCommand words second → first ≡ second
-one_command words Serve Serve h k = refl
-one_command words Serve Compile h k = absurd (omega (arith, other words Serve Compile h k))
-one_command words Serve Verify h k = absurd (omega (arith, other words Serve Verify h k))
-one_command words Serve Migrate h k = absurd (omega (arith, other words Serve Migrate h k))
-one_command words Serve (Drill n w) h k = absurd (omega (arith, other words Serve (Drill n w) h k))
-one_command words Compile Serve h k = absurd (omega (arith, other words Compile Serve h k))
-one_command words Compile Compile h k = refl
-one_command words Compile Verify h k = absurd (omega (arith, other words Compile Verify h k))
-one_command words Compile Migrate h k = absurd (omega (arith, other words Compile Migrate h k))
-one_command words Compile (Drill n w) h k = absurd (omega (arith, other words Compile (Drill n w) h k))
-one_command words Verify Serve h k = absurd (omega (arith, other words Verify Serve h k))
-one_command words Verify Compile h k = absurd (omega (arith, other words Verify Compile h k))
-one_command words Verify Verify h k = refl
-one_command words Verify Migrate h k = absurd (omega (arith, other words Verify Migrate h k))
-one_command words Verify (Drill n w) h k = absurd (omega (arith, other words Verify (Drill n w) h k))
-one_command words Migrate Serve h k = absurd (omega (arith, other words Migrate Serve h k))
-one_command words Migrate Compile h k = absurd (omega (arith, other words Migrate Compile h k))
-one_command words Migrate Verify h k = absurd (omega (arith, other words Migrate Verify h k))
-one_command words Migrate Migrate h k = refl
-one_command words Migrate (Drill n w) h k = absurd (omega (arith, other words Migrate (Drill n w) h k))
-one_command words (Drill m v) Serve h k = absurd (omega (arith, other words (Drill m v) Serve h k))
-one_command words (Drill m v) Compile h k = absurd (omega (arith, other words (Drill m v) Compile h k))
-one_command words (Drill m v) Verify h k = absurd (omega (arith, other words (Drill m v) Verify h k))
-one_command words (Drill m v) Migrate h k = absurd (omega (arith, other words (Drill m v) Migrate h k))
-one_command words (Drill m v) (Drill n w) h k = one_drill words m n v w h k
+one_command words first second h k = one_of first second (sym (spelled_is words first h) ∙ spelled_is words second k)
 
-pub no_command : (words : List (List ℕ)) → (IsCommand words Serve → ⊥) → (IsCommand words Compile → ⊥) → (IsCommand words Verify → ⊥) → (IsCommand words Migrate → ⊥)
-    → ((jobs workers : ℕ) → IsDrill words jobs workers → ⊥) → IsNoCommand words
-no_command words serve compile verify migrate drill Serve h = serve h
-no_command words serve compile verify migrate drill Compile h = compile h
-no_command words serve compile verify migrate drill Verify h = verify h
-no_command words serve compile verify migrate drill Migrate h = migrate h
-no_command words serve compile verify migrate drill (Drill jobs workers) h = drill jobs workers h
+-- where the words may spell no command, they spell none
+pub none_spelled : (words : List (List ℕ)) → spelled words ≡ None → IsNoCommand words
+none_spelled words none command h = let e : None ≡ Some command = sym none ∙ spelled_is words command h in absurd cc
+
+-- nor where they don't spell the only one that they may spell
+pub other_spelled : (words : List (List ℕ)) (only : Command) → spelled words ≡ Some only → (IsCommand words only → ⊥) → IsNoCommand words
+other_spelled words only is not command h = not (subst (IsCommand words) (one_of command only (sym (spelled_is words command h) ∙ is)) h)
+
+-- nor where the first word is no command's name
+none_named : (word : List ℕ) (ns : List (List ℕ × Command)) → Unlike word ns → named word ns ≡ None
+none_named word [] h = refl
+none_named word (n ∷ ns) h = ap (λ b. if b then Some n.1 else named word ns) h.0 ∙ none_named word ns h.1
+
+pub no_name : (name : List ℕ) (rest : List (List ℕ)) → Unlike name (names rest) → IsNoCommand (name ∷ rest)
+no_name name rest h = none_spelled (name ∷ rest) (none_named name (names rest) h)

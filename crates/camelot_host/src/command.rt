@@ -1,4 +1,4 @@
-ghost use Rattle.std.specs.Prelude.{◌≡◌, ◌<◌, ◌^◌, ◌↔◌, ℕ, [], ◌∷◌, decimal, map, string_bytes, IfSome, IsTrue, MatchOption};
+ghost use Rattle.std.specs.Prelude.{◌≡◌, ◌<◌, ◌^◌, ℕ, [], ◌∷◌, codes, decimal, map, string_bytes, IfSome, MatchOption};
 ghost use Rattle.job_script.specs.Scripts.{IsUpTo};
 ghost use Rattle.camelot_host.specs.Commands.{IsCommand, IsDrill, IsNoCommand, reads};
 ghost use Rattle.camelot_host.specs.Replies.{command_named, IsWithin};
@@ -33,16 +33,6 @@ pub(crate) fn reads(command: Command) -> bool
     }
 }
 
-// Whether the words are this one alone.
-fn is_word(words: &[String], wanted: &str) -> bool
-    ensures { IsTrue result ↔ (map string_bytes words.now ≡ wanted.now ∷ []) }
-{
-    match words {
-        [word] => word.as_str() == wanted,
-        _ => false,
-    }
-}
-
 // This number, where the word spells it and it is from 1 to the most.
 #[tactic(auto, using(crate::proofs::Numbers::too_small, crate::proofs::Numbers::too_large, crate::proofs::Numbers::other_text, crate::proofs::Numbers::this_text))]
 fn number_as(word: &str, number: u32, most: u32) -> Option<u32>
@@ -72,58 +62,94 @@ fn number_in(word: &str, most: u32) -> Option<u32>
     }
 }
 
-// The numbers of jobs and of workers, where these words are those of a drill.
-#[tactic(auto, using(crate::proofs::Numbers::drill_is, crate::proofs::Numbers::other_word, crate::proofs::Numbers::other_jobs, crate::proofs::Numbers::other_workers))]
-fn drill_with(first: &str, second: &str, third: &str) -> Option<(u32, u32)>
-    ensures { MatchOption result ((jobs workers : ℕ) → IsDrill (first.now ∷ second.now ∷ third.now ∷ []) jobs workers
-        → ⊥) (λ p. IsDrill (first.now ∷ second.now ∷ third.now ∷ []) p.0 p.1) }
+// The numbers of jobs and of workers, where a drill has these words behind its name.
+#[tactic(auto, using(crate::proofs::Numbers::drill_is, crate::proofs::Numbers::other_jobs, crate::proofs::Numbers::other_workers))]
+fn drill_with(first: &str, second: &str) -> Option<(u32, u32)>
+    ensures { MatchOption result ((jobs workers : ℕ) → IsDrill (codes "drill" ∷ first.now ∷ second.now ∷ []) jobs workers
+        → ⊥) (λ p. IsDrill (codes "drill" ∷ first.now ∷ second.now ∷ []) p.0 p.1) }
 {
-    if first != "drill" {
-        return None;
-    }
-    let Some(jobs) = number_in(second, 4096) else {
+    let Some(jobs) = number_in(first, 4096) else {
         return None;
     };
-    let Some(workers) = number_in(third, 16) else {
+    let Some(workers) = number_in(second, 16) else {
         return None;
     };
     Some((jobs, workers))
 }
 
-// The same of all words.
-#[tactic(auto, using(crate::proofs::Numbers::of_three, crate::proofs::Numbers::not_three))]
-fn drill_of(words: &[String]) -> Option<(u32, u32)>
-    ensures { MatchOption result ((jobs workers : ℕ) → IsDrill (map string_bytes words.now) jobs workers → ⊥)
-        (λ p. IsDrill (map string_bytes words.now) p.0 p.1) }
+// The same of all words behind the name.
+#[tactic(auto, using(crate::proofs::Numbers::of_two, crate::proofs::Numbers::not_two))]
+fn drill_of(rest: &[String]) -> Option<(u32, u32)>
+    ensures { MatchOption result ((jobs workers : ℕ) → IsDrill (codes "drill" ∷ map string_bytes rest.now) jobs workers → ⊥)
+        (λ p. IsDrill (codes "drill" ∷ map string_bytes rest.now) p.0 p.1) }
 {
-    match words {
-        [first, second, third] => drill_with(first.as_str(), second.as_str(), third.as_str()),
+    match rest {
+        [first, second] => drill_with(first.as_str(), second.as_str()),
         _ => None,
     }
 }
 
-/// The command that the words spell.
-#[tactic(auto, using(crate::specs::CommandLaws::no_command))]
+// The drill that has these words behind its name.
+fn drill(rest: &[String]) -> Option<Command>
+    ensures command { MatchOption result
+        ((jobs workers : ℕ) → IsDrill (codes "drill" ∷ map string_bytes rest.now) jobs workers → ⊥)
+        (λ command. IsCommand (codes "drill" ∷ map string_bytes rest.now) (command_named command)) }
+    ensures within { IfSome result IsWithin }
+{
+    match drill_of(rest) {
+        Some((jobs, workers)) => Some(Command::Drill { jobs, workers }),
+        None => None,
+    }
+}
+
+// This command, where no words are behind its name.
+fn alone(rest: &[String], command: Command) -> Option<Command>
+    requires within { IsWithin command }
+    ensures command { MatchOption result (map string_bytes rest.now ≡ [] → ⊥) (λ c. (map string_bytes rest.now ≡ []) × (c ≡ command)) }
+    ensures within { IfSome result IsWithin }
+{
+    match rest {
+        [] => Some(command),
+        _ => None,
+    }
+}
+
+// The command of this name, which is compared as a whole, with these words behind it.
+#[tactic(auto, using(crate::proofs::Naming::alone_is, crate::proofs::Naming::drill_is, crate::specs::CommandLaws::no_name))]
+fn command_with(name: &str, rest: &[String]) -> Option<Command>
+    ensures command { MatchOption result
+        (IsNoCommand (name.now ∷ map string_bytes rest.now))
+        (λ command. IsCommand (name.now ∷ map string_bytes rest.now) (command_named command)) }
+    ensures within { IfSome result IsWithin }
+{
+    if name == "serve" {
+        return alone(rest, Command::Serve);
+    }
+    if name == "compile" {
+        return alone(rest, Command::Compile);
+    }
+    if name == "verify" {
+        return alone(rest, Command::Verify);
+    }
+    if name == "migrate" {
+        return alone(rest, Command::Migrate);
+    }
+    if name == "drill" {
+        return drill(rest);
+    }
+    None
+}
+
+/// The command that the words spell. The first word is its name.
+#[tactic(auto, using(crate::proofs::Naming::no_words, crate::proofs::Naming::first_and_rest))]
 pub(crate) fn command_of(words: &[String]) -> Option<Command>
     ensures command { MatchOption result
         (IsNoCommand (map string_bytes words.now))
         (λ command. IsCommand (map string_bytes words.now) (command_named command)) }
     ensures within { IfSome result IsWithin }
 {
-    if is_word(words, "serve") {
-        return Some(Command::Serve);
-    }
-    if is_word(words, "compile") {
-        return Some(Command::Compile);
-    }
-    if is_word(words, "verify") {
-        return Some(Command::Verify);
-    }
-    if is_word(words, "migrate") {
-        return Some(Command::Migrate);
-    }
-    match drill_of(words) {
-        Some((jobs, workers)) => Some(Command::Drill { jobs, workers }),
-        None => None,
+    match words {
+        [] => None,
+        [name, rest @ ..] => command_with(name.as_str(), rest),
     }
 }

@@ -1,9 +1,7 @@
-ghost use Rattle.std.specs.Prelude.{◌≡◌, ℕ, ◌+◌, ◌<◌, ◌≤◌, ◌↔◌, false, List, map, length, None, string_bytes, IfOk, IfSome};
+ghost use Rattle.std.specs.Prelude.{◌≡◌, ◌≤◌, map, length, None, string_bytes, IfOk, IfSome};
 ghost use Rattle.cell_span.specs.Range.{IsWhole};
-ghost use Rattle.host_io.specs.Counts.{last_count};
-ghost use Rattle.camelot_host.specs.Commands as plain;
-ghost use Rattle.camelot_host.specs.Commands.{IsCommand, IsNoCommand, IsInput, reads};
-ghost use Rattle.camelot_host.specs.Answers.{input_limit, devices, Answers, Completes, Quiet, SourceFaults, SinkFaults};
+ghost use Rattle.camelot_host.specs.Answers.{input_limit, devices, Quiet, SinkFaults};
+ghost use Rattle.camelot_host.specs.Hosted.{shows, Hosted};
 ghost use Rattle.camelot_host.specs.Due.{Done, Refused};
 ghost use Rattle.camelot_host.specs.Replies.{command_named, verdict_of, bytes_of, IsReply, IsWithin, KeptBy, Keeps, WholeIn, Writes, Responds, RespondsIn};
 ghost use Rattle.camelot_host.specs.Served.{ArenaBy};
@@ -156,9 +154,10 @@ fn respond<R: Threads + Wait + Sync, K: Sink, G: Gate + Sync>(
 }
 
 /// Runs one command, from the bytes that come in to the bytes that go out, as [`host`] does, whose promises are all
-/// made here too. The workers of `serve` pass this gate, each between the grant of a lease and the run of its job. The
-/// arena of a script that was served is handed out with the status.
-#[tactic(auto, using(crate::proofs::Answering::answers_of, crate::proofs::Answering::no_usage, crate::proofs::Answering::not_long, crate::proofs::Answering::source_steady, crate::proofs::Answering::no_rise, crate::proofs::Answering::no_more, crate::proofs::Answering::unread, crate::proofs::Leaving::arena_by, crate::proofs::Answering::answers_unread, crate::proofs::Answering::not_long_unread, crate::proofs::Answering::completes_unread, crate::proofs::Leaving::arena_unread))]
+/// made here too. The workers of `serve` are handed this gate, to pass it between the grant of a lease and the run of
+/// its job: that they do is tested, and in no clause. The arena of a script that was served is handed out with the
+/// status.
+#[tactic(auto, using(crate::proofs::Running::not_hosted, crate::proofs::Running::hosted_unread, crate::proofs::Running::hosted_read, crate::proofs::Running::hosted_fault, crate::proofs::Running::hosted_memory, crate::proofs::Running::hosted_long, crate::proofs::Leaving::arena_by, crate::proofs::Leaving::arena_unread))]
 pub fn host_gated<R: Threads + Wait + Sync, S: Source, K: Sink, G: Gate + Sync>(
     rt: &R,
     alloc: Global,
@@ -167,38 +166,9 @@ pub fn host_gated<R: Threads + Wait + Sync, S: Source, K: Sink, G: Gate + Sync>(
     sink: &mut K,
     gate: &G,
 ) -> Served
-    // What was taken from the source and told to the sink, by the status.
-    ensures answers { let before = devices (S.left source.old) (S.taken source.old) (K.told sink.old) in
-        let after = devices (S.left source.new) (S.taken source.new) (K.told sink.new) in
-        Answers result.status (map string_bytes words.now) before after }
-
-    // Words that spell no command are refused before anything is read.
-    ensures usage { (result.status ≡ Status.Usage) ↔ IsNoCommand (map string_bytes words.now) }
-    // At status 2 neither source nor sink is touched.
-    ensures untouched { result.status ≡ Status.Usage → (source.new ≡ source.old) × (sink.new ≡ sink.old) }
-
-    // A command that doesn't read leaves the source as it was.
-    ensures unread { (command : plain.Command) → IsCommand (map string_bytes words.now) command → reads command ≡ false → source.new ≡ source.old }
-
-    // The sink isn't used at a status at which nothing is written.
-    ensures quiet { Quiet result.status sink.old sink.new }
-
-    // A fault is answered where a device failed, and nowhere else while its count has room.
-    ensures source_faults { SourceFaults result.status (S.faults source.old) (S.faults source.new) }
-    // The sink's count of faults rises at status 4 and at no other.
-    ensures sink_faults { SinkFaults result.status (K.faults sink.old) (K.faults sink.new) }
-
-    // The count of bytes taken tells whether the input was too long, as long as the count has room.
-    ensures too_long { S.taken source.old + input_limit < last_count →
-        ((result.status ≡ Status.TooLong) ↔ (S.taken source.new ≡ S.taken source.old + (input_limit + 1))) }
-
-    // The same from the other side: where the words spell a command, the source tells the input of one that reads, this
-    // is within the limit, and no device fails, an output that is due is told whole, unless memory runs out.
-    ensures complete { (command : plain.Command) (input : List ℕ) → IsCommand (map string_bytes words.now) command
-        → IsInput command (S.left source.old) input → length input ≤ input_limit
-        → S.faults source.old < last_count → S.faults source.new ≡ S.faults source.old
-        → K.faults sink.old < last_count → K.faults sink.new ≡ K.faults sink.old
-        → Completes result.status command input (K.told sink.old) (K.told sink.new) }
+    // All that is promised but the arena: the fields of the record `Hosted`, each with a sentence of its own.
+    ensures hosted { let shown = shows S.left S.taken K.told S.faults K.faults in
+        Hosted result.status (map string_bytes words.now) (shown source.old sink.old) (shown source.new sink.new) }
 
     // The arena is there exactly where the words are `serve` and the status is `Ok`. It is the script's whole arena,
     // and each of its cells is the machine's final cell of the last job whose lease went over it, by the printed
@@ -217,24 +187,31 @@ pub fn host_gated<R: Threads + Wait + Sync, S: Source, K: Sink, G: Gate + Sync>(
     if !reads(command) {
         return respond(rt, alloc, command, Vec::new(alloc), sink, gate);
     }
-    match read_all(alloc, source, INPUT_LIMIT) {
-        Ok(input) => respond(rt, alloc, command, input, sink, gate),
-        Err(ReadStop::Fault) => Served {
-            status: Status::ReadFault,
-            arena: None,
-            left: None,
-        },
-        Err(ReadStop::TooLong) => Served {
-            status: Status::TooLong,
-            arena: None,
-            left: None,
-        },
-        Err(ReadStop::Memory) => Served {
-            status: Status::Memory,
-            arena: None,
-            left: None,
-        },
-    }
+    let input = match read_all(alloc, source, INPUT_LIMIT) {
+        Ok(input) => input,
+        Err(ReadStop::Fault) => {
+            return Served {
+                status: Status::ReadFault,
+                arena: None,
+                left: None,
+            };
+        }
+        Err(ReadStop::TooLong) => {
+            return Served {
+                status: Status::TooLong,
+                arena: None,
+                left: None,
+            };
+        }
+        Err(ReadStop::Memory) => {
+            return Served {
+                status: Status::Memory,
+                arena: None,
+                left: None,
+            };
+        }
+    };
+    respond(rt, alloc, command, input, sink, gate)
 }
 
 /// Runs one command, from the bytes that come in to the bytes that go out.
@@ -270,38 +247,9 @@ pub fn host<R: Threads + Wait + Sync, S: Source, K: Sink>(
     source: &mut S,
     sink: &mut K,
 ) -> Status
-    // What was taken from the source and told to the sink, by the status.
-    ensures answers { let before = devices (S.left source.old) (S.taken source.old) (K.told sink.old) in
-        let after = devices (S.left source.new) (S.taken source.new) (K.told sink.new) in
-        Answers result (map string_bytes words.now) before after }
-
-    // Words that spell no command are refused before anything is read.
-    ensures usage { (result ≡ Status.Usage) ↔ IsNoCommand (map string_bytes words.now) }
-    // At status 2 neither source nor sink is touched.
-    ensures untouched { result ≡ Status.Usage → (source.new ≡ source.old) × (sink.new ≡ sink.old) }
-
-    // A command that doesn't read leaves the source as it was.
-    ensures unread { (command : plain.Command) → IsCommand (map string_bytes words.now) command → reads command ≡ false → source.new ≡ source.old }
-
-    // The sink isn't used at a status at which nothing is written.
-    ensures quiet { Quiet result sink.old sink.new }
-
-    // A fault is answered where a device failed, and nowhere else while its count has room.
-    ensures source_faults { SourceFaults result (S.faults source.old) (S.faults source.new) }
-    // The sink's count of faults rises at status 4 and at no other.
-    ensures sink_faults { SinkFaults result (K.faults sink.old) (K.faults sink.new) }
-
-    // The count of bytes taken tells whether the input was too long, as long as the count has room.
-    ensures too_long { S.taken source.old + input_limit < last_count →
-        ((result ≡ Status.TooLong) ↔ (S.taken source.new ≡ S.taken source.old + (input_limit + 1))) }
-
-    // The same from the other side: where the words spell a command, the source tells the input of one that reads, this
-    // is within the limit, and no device fails, an output that is due is told whole, unless memory runs out.
-    ensures complete { (command : plain.Command) (input : List ℕ) → IsCommand (map string_bytes words.now) command
-        → IsInput command (S.left source.old) input → length input ≤ input_limit
-        → S.faults source.old < last_count → S.faults source.new ≡ S.faults source.old
-        → K.faults sink.old < last_count → K.faults sink.new ≡ K.faults sink.old
-        → Completes result command input (K.told sink.old) (K.told sink.new) }
+    // All that is promised: the fields of the record `Hosted`, each with a sentence of its own.
+    ensures hosted { let shown = shows S.left S.taken K.told S.faults K.faults in
+        Hosted result (map string_bytes words.now) (shown source.old sink.old) (shown source.new sink.new) }
 {
     host_gated(rt, alloc, words, source, sink, &OpenGate).end()
 }

@@ -1,6 +1,6 @@
 //! Laws of the definitions that the contract of `host` cites. Each function does nothing: its clause is the law.
 
-ghost use Rattle.std.specs.Prelude.{◌≡◌, ◌≤◌, ℕ, List, codes};
+ghost use Rattle.std.specs.Prelude.{◌≡◌, ◌≤◌, ℕ, List, Some, codes};
 ghost use Rattle.camelot_values.specs.Value.{Value};
 ghost use Rattle.camelot_values.specs.Outcome.{peak_of};
 ghost use Rattle.grail_code.specs.Meaning.{run_of};
@@ -12,14 +12,20 @@ ghost use Rattle.lp_constraints.specs.declared.fault.NoCert.TheVariants.{NoBound
 ghost use Rattle.cause_texts.specs.declared.cause.Cause.TheVariants.{NoCert};
 ghost use Rattle.camelot_compiler.specs.Compiled.{OfCode, NoneGrants};
 ghost use Rattle.camelot_compiler.specs.Licences.{IsCertifiedFor};
+ghost use Rattle.cell_span.specs.Range.{Range};
+ghost use Rattle.script_service.specs.Service.{IsReportIn};
+ghost use Rattle.camelot_host.specs.Answers.{Answered, Devices};
 ghost use Rattle.camelot_host.specs.Commands.{Command, Compile, Verify, IsCommand};
 ghost use Rattle.camelot_host.specs.Due.{Done, Refused, IsDue};
+ghost use Rattle.camelot_host.specs.OneServing.{TellBytes};
+ghost use Rattle.camelot_host.specs.Served.{LeftBehind};
 
 use bundle_licence::laws::law_of_licences;
 use camelot_compiler::laws::{law_of_bundles, law_of_compiling};
 use grail_bundle::laws as texts_of_bundles;
 use grail_code::laws::one_meaning;
 use job_script::laws::law_of_scripts;
+use script_service::laws::law_of_left_arenas;
 
 /// Words spell at most one command.
 #[tactic(auto, using(crate::specs::CommandLaws::one_command))]
@@ -74,4 +80,17 @@ pub fn law_of_migrate()
     ensures back { (bytes migrated cert : List ℕ) (l : Licensed) → IsMigration bytes migrated → IsAccepted migrated cert l → IsAccepted bytes cert l }
 {
     one_meaning();
+}
+
+/// Over devices that tell their bytes, what `serve` answers and the arena that it leaves are of one input with one
+/// output, and so of one journal, and the cells of the arena are told by the bytes that were read and written.
+pub fn law_of_one_serving()
+    // The report that was due and told is the one whose arena is left.
+    ensures answered { (words : List (List ℕ)) (before after : Devices) (arena : Range) → TellBytes before after → (a : Answered words Done before after)
+        → LeftBehind words before after (Some arena) → IsReportIn a.input a.told.output arena }
+    // No other cells could have been left.
+    ensures left { (words : List (List ℕ)) (before after : Devices) (first second : Range) → TellBytes before after
+        → LeftBehind words before after (Some first) → LeftBehind words before after (Some second) → first.cells ≡ second.cells }
+{
+    law_of_left_arenas();
 }

@@ -9,8 +9,10 @@ use Rattle.certificate.specs.Certificates.{Cert, FuncCert, IsCert}
 use Rattle.certificate.specs.Answers.{IsFault, IsMemory, IsLineAt, IsNumberAt}
 use Rattle.certificate.specs.declared.reading.CertFault.{CertFault}
 use Rattle.certificate.specs.declared.reading.CertFault.TheVariants as fault
-use Rattle.certificate.specs.Reading.{words, add_line, IsStopped}
-use Rattle.certificate.specs.Steps.{HasLine, AreWithin, Reading}
+use Rattle.certificate.specs.Reading.{add_line, IsStopped}
+use Rattle.text_lines.specs.Cuts.{words}
+use Rattle.certificate.specs.Steps.{AreWithin, Reading}
+use Rattle.text_lines.specs.Lines.{HasLine}
 use Rattle.certificate.specs.Faults.{fault_of}
 use Rattle.certificate.specs.declared.stop.LineStop.{LineStop}
 use Rattle.certificate.specs.declared.stop.LineStop.TheVariants as stop

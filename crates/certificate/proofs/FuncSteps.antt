@@ -9,12 +9,14 @@ use Rattle.camelot_values.specs.Names.{is_lower_name}
 use Rattle.annotations.specs.Vectors.{Vector}
 use Rattle.certificate.specs.Certificates.{VarCert, BlockCert, MakeCert, FuncCert, VectorIsWithin, VarIsWithin, BlockIsWithin, MakeIsWithin, FuncIsWithin}
 use Rattle.certificate.specs.Steps.{AreWithin}
-use Rattle.certificate.specs.Reading.{and_then, only_if, words, further, capped, is_three, is_five, number_of, is_none, only_params, last_of, last_var, last_block, at_last, vector_of, var_of_words, block_of_words, make_of_words, function_of_words, bare_func, put_behind, add_param, add_result, add_block, var_into, add_var, add_make, add_own, add_line, IsRead, IsStopped, IsWide, IsNoMemory}
+use Rattle.certificate.specs.Reading.{is_three, is_five, is_none, only_params, last_of, last_var, last_block, at_last, vector_of, var_of_words, block_of_words, make_of_words, function_of_words, bare_func, put_behind, add_param, add_result, add_block, var_into, add_var, add_make, add_own, add_line, IsRead, IsStopped, IsWide, IsNoMemory}
+use Rattle.text_lines.specs.Cuts.{and_then, only_if, words, further, capped, number_of}
 use Rattle.certificate.specs.declared.stop.LineStop.{LineStop}
 use Rattle.certificate.specs.declared.stop.LineStop.TheVariants as stop
-use Rattle.certificate.specs.OptionLaws.{then_is, only_is, map_is, and_both}
+use Rattle.text_lines.specs.OptionLaws.{then_is, only_is, map_is, and_both}
 use Rattle.certificate.proofs.Pairs.{there, not_there, then_none, only_none, and_left, and_right}
-use Rattle.certificate.specs.GrowingLaws.{all_end, all_front, all_last}
+use Rattle.certificate.specs.GrowingLaws.{all_end, all_front}
+use Rattle.text_lines.specs.FrontLaws.{all_last}
 use Rattle.certificate.specs.AddingLaws.{last_end}
 use Rattle.certificate.proofs.ItemSteps.{stop_map, exact, beyond}
 

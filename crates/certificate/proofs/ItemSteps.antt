@@ -8,11 +8,12 @@ use Rattle.std.proofs.lemmas.Bool.{cases_lt}
 use Rattle.std.proofs.lemmas.Bool.Decides.{nat_tests}
 use Rattle.annotations.specs.Vectors.{Vector}
 use Rattle.certificate.specs.Certificates.{VarCert, BlockCert, MakeCert, VectorIsWithin, VarIsWithin, BlockIsWithin, MakeIsWithin}
-use Rattle.certificate.specs.Reading.{and_then, only_if, upto, from, words, further, capped, is_three, number_of, vector_of, is_after, comes_behind, makes_on, var_of_words, block_of_words, make_of_words, IsRead, IsStopped, IsWide}
+use Rattle.certificate.specs.Reading.{is_three, vector_of, is_after, comes_behind, makes_on, var_of_words, block_of_words, make_of_words, IsRead, IsStopped, IsWide}
+use Rattle.text_lines.specs.Cuts.{and_then, only_if, upto, from, words, further, capped, number_of}
 use Rattle.certificate.specs.declared.stop.LineStop.{LineStop}
 use Rattle.certificate.specs.declared.stop.LineStop.TheVariants as stop
-use Rattle.certificate.specs.OptionLaws.{then_is, only_is, map_is, and_both}
-use Rattle.certificate.specs.CutLaws.{words_cut, no_words}
+use Rattle.text_lines.specs.OptionLaws.{then_is, only_is, map_is, and_both}
+use Rattle.text_lines.specs.CutLaws.{words_cut, no_words}
 use Rattle.certificate.proofs.Caps.{after_capped}
 use Rattle.certificate.proofs.Pairs.{there, not_there, then_none, only_none, and_left, and_right}
 

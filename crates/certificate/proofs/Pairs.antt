@@ -5,10 +5,11 @@ use Rattle.std.specs.Option.{option_map}
 use Rattle.std.proofs.lemmas.Bool.Decides.{nat_tests}
 use Rattle.annotations.specs.Vectors.{Vector, IsVector}
 use Rattle.certificate.specs.Certificates.{VectorIsWithin}
-use Rattle.certificate.specs.Reading.{and_then, only_if, upto, from, behind, further, words, capped, capped_pair, is_there, put_front, number_of, is_before, pair_of, vector_from, vector_of, IsRead, IsStopped, IsWide}
+use Rattle.certificate.specs.Reading.{capped_pair, is_there, put_front, is_before, pair_of, vector_from, vector_of, IsRead, IsStopped, IsWide}
+use Rattle.text_lines.specs.Cuts.{and_then, only_if, upto, from, behind, further, words, capped, number_of}
 use Rattle.certificate.specs.declared.stop.LineStop.{LineStop}
-use Rattle.certificate.specs.OptionLaws.{then_is, only_is, and_both, true_false, some_same}
-use Rattle.certificate.specs.CutLaws.{words_cut}
+use Rattle.text_lines.specs.OptionLaws.{then_is, only_is, and_both, true_false, some_same}
+use Rattle.text_lines.specs.CutLaws.{words_cut}
 use Rattle.certificate.specs.VectorLaws.{vector_found, behind_vector}
 use Rattle.certificate.specs.GrowingLaws.{all_end}
 

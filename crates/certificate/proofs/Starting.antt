@@ -5,10 +5,12 @@ use Rattle.std.specs.Option.{option_map}
 use Rattle.std.specs.Str.{bytes_eq}
 use Rattle.std.proofs.lemmas.Bool.Decides.{nat_tests}
 use Rattle.certificate.specs.Text.{IsLineFault, IsNumberFault}
-use Rattle.certificate.specs.Reading.{and_then, only_if, upto, from, words, further, capped, number_of, unit_of}
-use Rattle.certificate.specs.Steps.{HasLine, HasFirst, Reading}
-use Rattle.certificate.specs.OptionLaws.{then_is, only_is, and_both}
-use Rattle.certificate.specs.CutLaws.{words_cut, no_words}
+use Rattle.certificate.specs.Reading.{unit_of}
+use Rattle.text_lines.specs.Cuts.{and_then, only_if, upto, from, words, further, capped, number_of}
+use Rattle.certificate.specs.Steps.{HasFirst, Reading}
+use Rattle.text_lines.specs.Lines.{HasLine}
+use Rattle.text_lines.specs.OptionLaws.{then_is, only_is, and_both}
+use Rattle.text_lines.specs.CutLaws.{words_cut, no_words}
 use Rattle.certificate.proofs.Pairs.{there, not_there, then_none, only_none, and_left, and_right}
 use Rattle.certificate.proofs.ItemSteps.{exact}
 use Rattle.certificate.proofs.Stopping.{unit_wrong, unit_wide, unit_begins}

@@ -4,26 +4,19 @@ use Rattle.std.specs.Prelude.{◌⊎◌, flat_map, codes}
 use Rattle.std.specs.List.{AllByRecursion}
 use Rattle.std.specs.Option.{option_map}
 use Rattle.std.proofs.lemmas.List.{map-append, length-map}
-use Rattle.certificate.specs.Text.{spaced, first_words, unit_words, last_words, func_lines, open_lines, lines_of, text_of_lines, text_of, Begins, BeginsLoosely, IsWrongLine, GoesOn, EndsEarly, IsLineFault, IsNumberFault}
+use Rattle.certificate.specs.Text.{first_words, unit_words, last_words, func_lines, open_lines, lines_of, text_of, Begins, BeginsLoosely, IsWrongLine, GoesOn, EndsEarly, IsLineFault, IsNumberFault}
+use Rattle.text_lines.specs.Cuts.{spaced, words, and_then}
+use Rattle.text_lines.specs.Lines.{text_of_lines, HasLine, Free}
 use Rattle.certificate.specs.Certificates.{FuncCert, Cert, FuncIsFormed, IsFormed, IsCert}
-use Rattle.certificate.specs.Reading.{words, upto, from, and_then, at_last, add_own, add_line, unit_of, IsRead, IsWide}
-use Rattle.certificate.specs.Steps.{HasLine, AreWithin, cert_by, HasFirst, Reading, IsWhole}
-use Rattle.certificate.specs.OptionLaws.{none_some, some_same, same_cons}
-use Rattle.certificate.specs.CutLaws.{Free, spaced_words, cut_parts, upto_free, from_first}
+use Rattle.certificate.specs.Reading.{at_last, add_own, add_line, unit_of, IsRead, IsWide}
+use Rattle.certificate.specs.Steps.{AreWithin, cert_by, HasFirst, Reading, IsWhole}
+use Rattle.text_lines.specs.OptionLaws.{none_some, some_same, same_cons}
+use Rattle.text_lines.specs.CutLaws.{spaced_words}
 use Rattle.certificate.specs.PartLaws.{unit_read, unit_found}
 use Rattle.certificate.specs.GrowingLaws.{AllGrown, line_grown}
 use Rattle.certificate.specs.AddingLaws.{adds, adds_all, adds_whole, adds_back}
 use Rattle.certificate.specs.LineLaws.{Continues, continues, cert_feed, open_feed, words_of_line, unit_clean, cert_words, open_words}
-use Rattle.certificate.specs.TextLaws.{Further, fronts, first_line, has_feed}
-
--- ---- a line, or none
-
-pub line_or_none : (text : List ℕ) → Free 10 text ⊎ ((line rest : List ℕ) × HasLine text line rest)
-line_or_none text = by_rest (from 10 text) refl
-  where
-    by_rest : (r : List ℕ) → from 10 text ≡ r → Free 10 text ⊎ ((line rest : List ℕ) × HasLine text line rest)
-    by_rest [] e = inl (subst (Free 10) (sym (append-nil (upto 10 text)) ∙ ap (λ l. upto 10 text ++ l) (sym e) ∙ sym (cut_parts 10 text)) (upto_free 10 text))
-    by_rest (b ∷ r) e = inr (upto 10 text, r, record { parts = cut_parts 10 text ∙ ap (λ l. upto 10 text ++ l) e ∙ ap (λ x. upto 10 text ++ x ∷ r) (from_first 10 b text r e); one = upto_free 10 text })
+use Rattle.text_lines.specs.FrontLaws.{Further, fronts, first_line, has_feed, line_or_none}
 
 -- ---- early ends
 

@@ -1,16 +1,15 @@
 -- Pieces of text that are written one after the other.
-use Rattle.std.proofs.Common.{◌≡◌, ℕ, suc, ◌+◌, ◌^◌, ◌<◌, ◌≤◌, true, false, List, [], ◌∷◌, ◌++◌, length, map, drop, get_or, refl, sym, ap, ◌∙◌, arith, append_assoc, append-nil, drop-cons, drop_of_length-le, add-one}
-use Rattle.std.specs.Prelude.{◌==◌, flat_map, codes, decimal}
+use Rattle.std.proofs.Common.{◌≡◌, ℕ, suc, ◌+◌, ◌<◌, ◌≤◌, true, false, List, [], ◌∷◌, ◌++◌, length, map, drop, get_or, refl, sym, ap, ◌∙◌, arith, append_assoc, append-nil, drop-cons, drop_of_length-le, add-one}
+use Rattle.std.specs.Prelude.{◌==◌, flat_map, codes}
 use Rattle.std.proofs.lemmas.Bool.Decides.{nat_tests}
 use Rattle.annotations.specs.Vectors.{Vector}
-use Rattle.certificate.specs.Numbers.{number}
-use Rattle.certificate.specs.Text.{spaced, pair_word, vector_words, param_words, result_lines, var_words, block_words, block_lines, make_words, function_words, func_lines, last_words, open_lines, text_of_lines, text_of}
+use Rattle.text_lines.specs.Numbers.{number}
+use Rattle.certificate.specs.Text.{pair_word, vector_words, param_words, result_lines, var_words, block_words, block_lines, make_words, function_words, func_lines, last_words, open_lines, text_of}
+use Rattle.text_lines.specs.Cuts.{spaced}
+use Rattle.text_lines.specs.Lines.{text_of_lines}
 use Rattle.certificate.specs.Certificates.{BlockCert, MakeCert, FuncCert, Cert}
 use Rattle.certificate.specs.Writing.{line_text, lines_text, pair_text, vector_text, var_text, block_text, make_text, func_text}
-use Rattle.certificate.specs.NumberLaws.{number-decimal}
-
-pub number_is : (n : ℕ) (old new written : List ℕ) → n < 2 ^ 64 → written ≡ decimal n → new ≡ old ++ written → new ≡ old ++ number n
-number_is n old new written h e f = f ∙ ap (λ l. old ++ l) (e ∙ sym (number-decimal n h))
+use Rattle.text_lines.specs.FrontLaws.{flat_append}
 
 pub two : (a b c o p : List ℕ) → o ≡ a ++ b → p ≡ o ++ c → p ≡ a ++ (b ++ c)
 two a b c o p e f = f ∙ ap (λ l. l ++ c) e ∙ append_assoc a b c
@@ -76,10 +75,6 @@ result_written (p ∷ v) a b c d h e f g =
 flat_mapped : {A B : Type 0} (t : B → List ℕ) (m : A → B) (xs : List A) → flat_map (λ x. t (m x)) xs ≡ flat_map t (map m xs)
 flat_mapped t m [] = refl
 flat_mapped t m (x ∷ xs) = ap (λ l. t (m x) ++ l) (flat_mapped t m xs)
-
-flat_append : {A : Type 0} (t : A → List ℕ) (xs ys : List A) → flat_map t (xs ++ ys) ≡ flat_map t xs ++ flat_map t ys
-flat_append t [] ys = refl
-flat_append t (x ∷ xs) ys = ap (λ l. t x ++ l) (flat_append t xs ys) ∙ sym (append_assoc (t x) (flat_map t xs) (flat_map t ys))
 
 flat_flat : {A B : Type 0} (t : B → List ℕ) (m : A → List B) (xs : List A) → flat_map (λ x. flat_map t (m x)) xs ≡ flat_map t (flat_map m xs)
 flat_flat t m [] = refl

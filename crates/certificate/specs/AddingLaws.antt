@@ -9,11 +9,12 @@ use Rattle.std.proofs.lemmas.Bool.Decides.{nat_tests}
 use Rattle.std.proofs.lemmas.List.{map-append}
 use Rattle.camelot_values.specs.Lists.{Ascend}
 use Rattle.annotations.specs.Vectors.{Vector, IsVector}
-use Rattle.certificate.specs.Numbers.{number}
+use Rattle.text_lines.specs.Numbers.{number}
 use Rattle.certificate.specs.Text.{vector_words, param_words, result_lines, var_words, block_words, block_lines, make_words, function_words, func_lines}
 use Rattle.certificate.specs.Certificates.{VarCert, BlockCert, MakeCert, FuncCert, IsNotZero, AreVars, MakesAscend, FuncIsFormed, FuncIsWithin}
-use Rattle.certificate.specs.Reading.{and_then, last_of, is_after, makes_on, at_last, vector_of, var_of_words, block_of_words, make_of_words, function_of_words, bare_func, add_param, add_result, add_block, var_into, add_var, add_make, add_own, add_line}
-use Rattle.certificate.specs.OptionLaws.{map_is, then_some, some_same}
+use Rattle.certificate.specs.Reading.{last_of, is_after, makes_on, at_last, vector_of, var_of_words, block_of_words, make_of_words, function_of_words, bare_func, add_param, add_result, add_block, var_into, add_var, add_make, add_own, add_line}
+use Rattle.text_lines.specs.Cuts.{and_then}
+use Rattle.text_lines.specs.OptionLaws.{map_is, then_some, some_same}
 use Rattle.certificate.specs.VectorLaws.{some_read}
 use Rattle.certificate.specs.PartLaws.{var_read, block_read, make_read, function_read}
 use Rattle.certificate.specs.GrowingLaws.{line_grown}

@@ -8,13 +8,14 @@ use Rattle.std.specs.List.{AllByRecursion}
 use Rattle.std.proofs.lemmas.Bool.Decides.{nat_tests}
 use Rattle.camelot_values.specs.Lists.{Ascend}
 use Rattle.annotations.specs.Vectors.{Vector}
-use Rattle.certificate.specs.Numbers.{number}
+use Rattle.text_lines.specs.Numbers.{number}
 use Rattle.certificate.specs.Text.{vector_words, param_words, result_lines, var_words, block_words, block_lines, make_words, function_words, func_lines}
 use Rattle.certificate.specs.Certificates.{VarCert, BlockCert, MakeCert, FuncCert, IsNotZero, AreVars, MakesAscend, FuncIsFormed, FuncIsWithin, VarIsWithin, BlockIsWithin, MakeIsWithin, VectorIsWithin}
 use Rattle.certificate.specs.Reading.{last_of, is_after, makes_on, is_none, at_last, vector_of, var_of_words, block_of_words, make_of_words, function_of_words, bare_func, add_param, add_result, add_block, var_into, add_var, add_make, add_own, add_line}
-use Rattle.certificate.specs.OptionLaws.{and_parts, only_some, map_some}
+use Rattle.text_lines.specs.OptionLaws.{and_parts, only_some, map_some, same_bytes}
 use Rattle.certificate.specs.VectorLaws.{some_found}
-use Rattle.certificate.specs.PartLaws.{same_bytes, var_found, block_found, make_found, function_found}
+use Rattle.certificate.specs.PartLaws.{var_found, block_found, make_found, function_found}
+use Rattle.text_lines.specs.FrontLaws.{all_last}
 
 -- ---- lists
 
@@ -33,10 +34,6 @@ all_end P (y ∷ xs) x h k = (h.0, all_end P xs x h.1 k)
 pub all_front : {A : Type 0} (P : A → Type 0) (xs : List A) (x : A) → AllByRecursion P (xs ++ x ∷ []) → AllByRecursion P xs
 all_front P [] x h = tt
 all_front P (y ∷ xs) x h = (h.0, all_front P xs x h.1)
-
-pub all_last : {A : Type 0} (P : A → Type 0) (xs : List A) (x : A) → AllByRecursion P (xs ++ x ∷ []) → P x
-all_last P [] x h = h.0
-all_last P (y ∷ xs) x h = all_last P xs x h.1
 
 pub ascend_end : (xs : List ℕ) (x : ℕ) → Ascend xs → is_after (last_of xs) x ≡ true → Ascend (xs ++ x ∷ [])
 ascend_end [] x h k = tt

@@ -1,6 +1,5 @@
 -- Certificates of heap bounds, and their text.
 pub mod Certificates
-pub mod Numbers
 pub mod Text
 pub mod Answers
 pub mod Words
@@ -8,9 +7,7 @@ pub mod Reading
 pub mod Steps
 pub mod Faults
 pub mod Writing
-pub mod OptionLaws
-pub mod CutLaws
-pub mod NumberLaws
+pub mod OrderLaws
 pub mod VectorLaws
 pub mod PartLaws
 pub mod GrowingLaws

@@ -7,14 +7,16 @@ use Rattle.std.proofs.lemmas.Bool.Decides.{nat_tests}
 use Rattle.std.proofs.lemmas.List.{map-append, append_cancel_right}
 use Rattle.camelot_values.specs.Names.{IsLowerName, is_lower, is_upper, is_digit, is_tail, has_form}
 use Rattle.annotations.specs.Vectors.{Vector}
-use Rattle.certificate.specs.Numbers.{number}
-use Rattle.certificate.specs.Text.{pair_word, vector_words, param_words, result_lines, var_words, block_lines, make_words, func_lines, first_words, unit_words, open_lines, last_words, spaced, lines_of}
+use Rattle.text_lines.specs.Numbers.{number}
+use Rattle.certificate.specs.Text.{pair_word, vector_words, param_words, result_lines, var_words, block_lines, make_words, func_lines, first_words, unit_words, open_lines, last_words, lines_of}
+use Rattle.text_lines.specs.Cuts.{spaced, words}
 use Rattle.certificate.specs.Certificates.{VarCert, BlockCert, MakeCert, FuncCert, Cert, FuncIsFormed, IsFormed}
-use Rattle.certificate.specs.Reading.{words}
-use Rattle.certificate.specs.OptionLaws.{and_parts, true_false, same_cons}
-use Rattle.certificate.specs.CutLaws.{Free, free_cons, free_append, words_spaced}
-use Rattle.certificate.specs.NumberLaws.{number_free, number_one}
+use Rattle.text_lines.specs.OptionLaws.{and_parts, true_false, same_cons}
+use Rattle.text_lines.specs.Lines.{Free}
+use Rattle.text_lines.specs.CutLaws.{free_cons, free_append, words_spaced}
+use Rattle.text_lines.specs.NumberLaws.{number_free, number_one}
 use Rattle.certificate.specs.AddingLaws.{Next, next_line, funcs_one}
+use Rattle.text_lines.specs.FrontLaws.{all_append}
 
 -- ---- bytes of words
 
@@ -72,14 +74,6 @@ line_of w ws h = record { first = w; others = ws; is = refl; all = h }
 vector_clean : (v : Vector) → AllByRecursion Clean (vector_words v)
 vector_clean [] = tt
 vector_clean (p ∷ v) = (pair_clean p, vector_clean v)
-
-all_append : {A : Type 0} (P : A → Type 0) (xs ys : List A) → AllByRecursion P xs → AllByRecursion P ys → AllByRecursion P (xs ++ ys)
-all_append P [] ys h k = k
-all_append P (x ∷ xs) ys h k = (h.0, all_append P xs ys h.1 k)
-
-pub all_left : {A : Type 0} (P : A → Type 0) (xs ys : List A) → AllByRecursion P (xs ++ ys) → AllByRecursion P xs
-all_left P [] ys h = tt
-all_left P (x ∷ xs) ys h = (h.0, all_left P xs ys h.1)
 
 vars_clean : (tag : List ℕ) → Clean tag → (vs : List VarCert) → AllByRecursion CleanLine (map (λ v. tag ∷ number v.var ∷ vector_words v.vector) vs)
 vars_clean tag h [] = tt

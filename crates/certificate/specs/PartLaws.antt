@@ -4,22 +4,16 @@ use Rattle.std.proofs.Common.{◌≡◌, ℕ, ◌≤◌, Bool, true, List, [], �
 use Rattle.std.specs.Prelude.{◌==◌, ◌&&◌, not, codes}
 use Rattle.std.specs.Option.{option_map}
 use Rattle.std.specs.Str.{bytes_eq}
-use Rattle.std.proofs.lemmas.Slice.Eq.{bytes_eq-Decides}
 use Rattle.camelot_values.specs.Names.{IsLowerName, is_lower, is_lower_name}
 use Rattle.camelot_values.specs.NameLaws.{name_passes, passing_name}
-use Rattle.certificate.specs.Numbers.{number}
+use Rattle.text_lines.specs.Numbers.{number}
 use Rattle.certificate.specs.Text.{vector_words, unit_words}
 use Rattle.certificate.specs.Certificates.{VarCert, BlockCert, MakeCert, FuncCert, IsNotZero}
-use Rattle.certificate.specs.Reading.{and_then, only_if, number_of, vector_of, is_after, makes_on, var_of_words, block_of_words, make_of_words, function_of_words, bare_func, unit_of}
-use Rattle.certificate.specs.OptionLaws.{and_parts, and_both, then_some, then_is, only_some, only_is, map_some, map_is, some_same}
-use Rattle.certificate.specs.NumberLaws.{number_read, number_found}
+use Rattle.certificate.specs.Reading.{vector_of, is_after, makes_on, var_of_words, block_of_words, make_of_words, function_of_words, bare_func, unit_of}
+use Rattle.text_lines.specs.Cuts.{and_then, only_if, number_of}
+use Rattle.text_lines.specs.OptionLaws.{same_bytes, and_parts, and_both, then_some, then_is, only_some, only_is, map_some, map_is, some_same}
+use Rattle.text_lines.specs.NumberLaws.{number_read, number_found}
 use Rattle.certificate.specs.VectorLaws.{not_zero, some_units, some_read, some_found}
-
-pub same_bytes : (xs ys : List ℕ) → bytes_eq xs ys ≡ true → xs ≡ ys
-same_bytes xs ys h = (bytes_eq-Decides xs ys).0 h
-
-pub bytes_same : (xs : List ℕ) → bytes_eq xs xs ≡ true
-bytes_same xs = (bytes_eq-Decides xs xs).1 refl
 
 -- ---- locals
 

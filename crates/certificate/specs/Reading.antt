@@ -1,22 +1,15 @@
 -- Laws, for the proofs of this crate and of those above it.
 -- The reader as functions on the words of a line: what comes of a function when one more line is added to it, the
 -- limits left out.
-use Rattle.std.specs.Prelude.{◌≡◌, ℕ, ◌+◌, ◌-◌, ◌*◌, ◌==◌, ◌&&◌, ◌||◌, not, nat_lt, Bool, true, false, if◌then◌else◌, Option, Some, None, List, [], ◌∷◌, ◌++◌, length, map, codes, min}
+use Rattle.std.specs.Prelude.{◌≡◌, ℕ, ◌==◌, ◌&&◌, ◌||◌, not, nat_lt, Bool, true, false, if◌then◌else◌, Option, Some, None, List, [], ◌∷◌, ◌++◌, length, map, codes}
 use Rattle.std.specs.Option.{option_map}
 use Rattle.std.specs.Str.{bytes_eq}
-use Rattle.camelot_values.specs.Names.{is_digit, is_lower_name}
+use Rattle.camelot_values.specs.Names.{is_lower_name}
 use Rattle.annotations.specs.Vectors.{Vector}
+use Rattle.text_lines.specs.Cuts.{and_then, only_if, upto, from, behind, capped, number_of}
 use Rattle.certificate.specs.Certificates.{VarCert, BlockCert, MakeCert, FuncCert}
 use Rattle.certificate.specs.declared.stop.LineStop.{LineStop}
 use Rattle.certificate.specs.declared.stop.LineStop.TheVariants as stop
-
-abbrev pub and_then : {A B : Type 0} → Option A → (A → Option B) → Option B
-and_then None go = None
-and_then (Some x) go = go x
-
-abbrev pub only_if : {A : Type 0} → Bool → Option A → Option A
-only_if true o = o
-only_if false o = None
 
 -- ---- what was read
 
@@ -42,34 +35,7 @@ IsNoMemory stop.Line = ⊥
 IsNoMemory stop.Number = ⊥
 IsNoMemory stop.Memory = Unit {0}
 
--- ---- cuts
-
--- what stands before the first such byte, and the text from it on
-abbrev pub upto : ℕ → List ℕ → List ℕ
-upto byte [] = []
-upto byte (b ∷ bs) = if b == byte then [] else b ∷ upto byte bs
-
-abbrev pub from : ℕ → List ℕ → List ℕ
-from byte [] = []
-from byte (b ∷ bs) = if b == byte then b ∷ bs else from byte bs
-
-abbrev pub behind : List ℕ → List ℕ
-behind [] = []
-behind (b ∷ bs) = bs
-
-abbrev pub onto_first : ℕ → List (List ℕ) → List (List ℕ)
-onto_first b [] = (b ∷ []) ∷ []
-onto_first b (w ∷ ws) = (b ∷ w) ∷ ws
-
--- the words of a line
-abbrev pub words : List ℕ → List (List ℕ)
-words [] = [] ∷ []
-words (b ∷ bs) = if b == 32 then [] ∷ words bs else onto_first b (words bs)
-
--- those that are left where a space stands before each
-abbrev pub further : List ℕ → List (List ℕ)
-further [] = []
-further (b ∷ bs) = words bs
+-- ---- words
 
 -- just three words, and just five
 abbrev pub is_three : List (List ℕ) → Bool
@@ -81,20 +47,6 @@ is_five (a ∷ b ∷ ws) = is_three ws
 is_five ws = false
 
 -- ---- numbers
-
--- more than each limit, and less than 2^42
-abbrev pub capped : ℕ → ℕ
-capped n = min n 2199023255552
-
-abbrev pub digits_on : ℕ → List ℕ → Option ℕ
-digits_on n [] = Some n
-digits_on n (b ∷ bs) = if is_digit b then digits_on (n * 10 + (b - 48)) bs else None
-
--- digits without a leading zero
-unfoldable pub number_of : List ℕ → Option ℕ
-number_of [] = None
-number_of (b ∷ []) = digits_on 0 (b ∷ [])
-number_of (b ∷ c ∷ bs) = if b == 48 then None else digits_on 0 (b ∷ c ∷ bs)
 
 -- at the first place where they differ the left has the smaller digit
 abbrev pub digits_below : List ℕ → List ℕ → Bool

@@ -3,12 +3,9 @@
 use Rattle.std.specs.Prelude.{◌≡◌, ℕ, suc, ◌+◌, ◌≤◌, List, ◌∷◌, ◌++◌, length, map}
 use Rattle.std.specs.List.{AllByRecursion}
 use Rattle.certificate.specs.Certificates.{Cert, FuncCert, FuncIsWithin, IsCert}
-use Rattle.certificate.specs.Text.{spaced, first_words, open_lines, text_of_lines, text_of, IsOneLine}
-
--- a line and its line feed stand in front
-pub record HasLine (text line rest : List ℕ) : Type 0 where
-  pub parts : text ≡ line ++ 10 ∷ rest
-  pub one : IsOneLine line
+use Rattle.certificate.specs.Text.{first_words, open_lines, text_of}
+use Rattle.text_lines.specs.Cuts.{spaced}
+use Rattle.text_lines.specs.Lines.{text_of_lines}
 
 abbrev pub AreWithin : List FuncCert → Type 0
 AreWithin funcs = AllByRecursion FuncIsWithin funcs

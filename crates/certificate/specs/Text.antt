@@ -1,10 +1,11 @@
 -- Cited by contracts.
 -- The text of certificates (`CERTIFICATES.md`): lines that end with a line feed, of words with one space between two. A
 -- certificate has one text, and a text is that of one certificate at most.
-use Rattle.std.specs.Prelude.{◌≡◌, ℕ, suc, List, [], ◌∷◌, ◌++◌, length, map, flat_map, codes, IsFalse, ◌⊎◌, ◌==◌}
-use Rattle.std.specs.List.{list_any}
+use Rattle.std.specs.Prelude.{◌≡◌, ℕ, suc, List, [], ◌∷◌, ◌++◌, length, map, flat_map, codes, ◌⊎◌}
 use Rattle.annotations.specs.Vectors.{Vector}
-use Rattle.certificate.specs.Numbers.{number}
+use Rattle.text_lines.specs.Numbers.{number}
+use Rattle.text_lines.specs.Cuts.{spaced}
+use Rattle.text_lines.specs.Lines.{text_of_lines, IsOneLine}
 use Rattle.certificate.specs.Certificates.{VarCert, BlockCert, MakeCert, FuncCert, Cert, IsFormed, IsCert}
 
 -- ---- lines as words
@@ -57,18 +58,8 @@ last_words = codes "end" ∷ []
 
 -- ---- their text
 
--- words with a space between two
-abbrev pub spaced : List (List ℕ) → List ℕ
-spaced [] = []
-spaced (w ∷ []) = w
-spaced (w ∷ v ∷ ws) = w ++ 32 ∷ spaced (v ∷ ws)
-
 abbrev pub lines_of : Cert → List (List ℕ)
 lines_of c = map spaced (open_lines c.unit c.funcs ++ last_words ∷ [])
-
--- each line with its line feed
-abbrev pub text_of_lines : List (List ℕ) → List ℕ
-text_of_lines lines = flat_map (λ line. line ++ 10 ∷ []) lines
 
 unfoldable pub text_of : Cert → List ℕ
 text_of c = text_of_lines (lines_of c)
@@ -88,10 +79,6 @@ pub record BeginsLoosely (lines : List (List ℕ)) : Type 0 where
   pub rest : List (List ℕ)
   pub is : lines_of cert ≡ lines ++ rest
   pub right : IsFormed cert
-
--- no line feed
-abbrev pub IsOneLine : List ℕ → Type 0
-IsOneLine bytes = IsFalse (list_any (λ b. b == 10) bytes)
 
 -- The lines before begin a certificate, and this line goes on with none: where the limits alone are in the way, that is
 -- a fault of a number, and else one of the line.

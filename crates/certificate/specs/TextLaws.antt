@@ -1,47 +1,14 @@
 -- Laws, for the proofs of this crate and of those above it.
 -- A text has one way to be cut into lines, so that it is of one certificate at most, and has one fault at most.
 use Rattle.std.proofs.Common.{◌≡◌, ℕ, suc, List, [], ◌∷◌, ◌++◌, length, refl, sym, ap, ◌∙◌, subst, append_assoc, append-nil, inl, inr}
-use Rattle.std.specs.Prelude.{◌⊎◌, ◌==◌}
+use Rattle.std.specs.Prelude.{◌⊎◌}
 use Rattle.std.specs.List.{AllByRecursion}
 use Rattle.std.proofs.lemmas.List.{append_cancel_left}
-use Rattle.certificate.specs.Text.{lines_of, text_of_lines, text_of, Begins, BeginsLoosely, IsWrongLine, GoesOn, EndsEarly, IsLineFault, IsNumberFault}
+use Rattle.certificate.specs.Text.{lines_of, text_of, Begins, BeginsLoosely, IsWrongLine, GoesOn, EndsEarly, IsLineFault, IsNumberFault}
+use Rattle.text_lines.specs.Lines.{text_of_lines, Free}
 use Rattle.certificate.specs.Certificates.{Cert, IsCert}
-use Rattle.certificate.specs.Reading.{upto, from}
-use Rattle.certificate.specs.OptionLaws.{true_false, same_cons}
-use Rattle.certificate.specs.CutLaws.{Free, free_parts, upto_cut, from_cut}
-use Rattle.certificate.specs.LineLaws.{cert_feed, certs_one, all_left}
-
--- ---- lines in front
-
-pub one_line : (l m r s : List ℕ) → Free 10 l → Free 10 m → l ++ 10 ∷ r ≡ m ++ 10 ∷ s → (l ≡ m) × (r ≡ s)
-one_line l m r s h k e =
-    let rest : 10 ∷ r ≡ 10 ∷ s = sym (from_cut 10 l r h) ∙ ap (from 10) e ∙ from_cut 10 m s k in
-    (sym (upto_cut 10 l r h) ∙ ap (upto 10) e ∙ upto_cut 10 m s k, (same_cons 10 10 r s rest).1)
-
-pub first_line : (l : List ℕ) (ls : List (List ℕ)) (r : List ℕ) → text_of_lines (l ∷ ls) ++ r ≡ l ++ 10 ∷ (text_of_lines ls ++ r)
-first_line l ls r = append_assoc (l ++ 10 ∷ []) (text_of_lines ls) r ∙ append_assoc l (10 ∷ []) (text_of_lines ls ++ r)
-
-pub has_feed : (l r : List ℕ) → Free 10 (l ++ 10 ∷ r) → ⊥
-has_feed [] r h = true_false (10 == 10) refl (free_parts 10 10 r h).0
-has_feed (b ∷ l) r h = has_feed l r (free_parts 10 b (l ++ 10 ∷ r) h).1
-
--- some of these lines, and what follows
-pub record Further (xs ys : List (List ℕ)) (r s : List ℕ) : Type 0 where
-  pub more : List (List ℕ)
-  pub is : ys ≡ xs ++ more
-  pub rest : r ≡ text_of_lines more ++ s
-
-pub fronts : (xs ys : List (List ℕ)) (r s : List ℕ) → AllByRecursion (Free 10) xs → AllByRecursion (Free 10) ys
-    → text_of_lines xs ++ r ≡ text_of_lines ys ++ s → Further xs ys r s ⊎ Further ys xs s r
-fronts [] ys r s h k e = inl (record { more = ys; is = refl; rest = e })
-fronts (x ∷ xs) [] r s h k e = inr (record { more = x ∷ xs; is = refl; rest = sym e })
-fronts (x ∷ xs) (y ∷ ys) r s h k e =
-    let p = one_line x y (text_of_lines xs ++ r) (text_of_lines ys ++ s) h.0 k.0 (sym (first_line x xs r) ∙ e ∙ first_line y ys s) in
-    lift p.0 (fronts xs ys r s h.1 k.1 p.1)
-  where
-    lift : x ≡ y → Further xs ys r s ⊎ Further ys xs s r → Further (x ∷ xs) (y ∷ ys) r s ⊎ Further (y ∷ ys) (x ∷ xs) s r
-    lift q (inl d) = inl (record { more = d.more; is = ap (λ l. y ∷ l) d.is ∙ ap (λ z. z ∷ (xs ++ d.more)) (sym q); rest = d.rest })
-    lift q (inr d) = inr (record { more = d.more; is = ap (λ l. x ∷ l) d.is ∙ ap (λ z. z ∷ (ys ++ d.more)) q; rest = d.rest })
+use Rattle.certificate.specs.LineLaws.{cert_feed, certs_one}
+use Rattle.text_lines.specs.FrontLaws.{one_line, first_line, has_feed, Further, fronts, all_left}
 
 -- ---- fronts of certificates
 

@@ -7,13 +7,15 @@ use Rattle.std.specs.List.{AllByRecursion}
 use Rattle.std.proofs.lemmas.Bool.Decides.{nat_tests}
 use Rattle.camelot_values.specs.Lists.{Ascend}
 use Rattle.annotations.specs.Vectors.{Vector, IsVector}
-use Rattle.certificate.specs.Numbers.{number}
+use Rattle.text_lines.specs.Numbers.{number}
 use Rattle.certificate.specs.Text.{pair_word, vector_words}
 use Rattle.certificate.specs.Certificates.{IsNotZero}
-use Rattle.certificate.specs.Reading.{and_then, only_if, upto, from, behind, number_of, is_before, pair_of, vector_from, vector_of}
-use Rattle.certificate.specs.OptionLaws.{and_parts, and_both, then_some, then_is, only_some, only_is, map_some, map_is, some_same}
-use Rattle.certificate.specs.CutLaws.{upto_cut, from_cut, cut_parts, from_first}
-use Rattle.certificate.specs.NumberLaws.{number_read, number_found, number_free, before_is, before_first}
+use Rattle.certificate.specs.Reading.{is_before, pair_of, vector_from, vector_of}
+use Rattle.text_lines.specs.Cuts.{and_then, only_if, upto, from, behind, number_of}
+use Rattle.text_lines.specs.OptionLaws.{and_parts, and_both, then_some, then_is, only_some, only_is, map_some, map_is, some_same}
+use Rattle.text_lines.specs.CutLaws.{upto_cut, from_cut, cut_parts, from_first}
+use Rattle.text_lines.specs.NumberLaws.{number_read, number_found, number_free}
+use Rattle.certificate.specs.OrderLaws.{before_is, before_first}
 
 -- pairs behind a constructor that is written so
 abbrev pub Behind : List ℕ → Vector → Type 0

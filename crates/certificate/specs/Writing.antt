@@ -2,8 +2,9 @@
 -- The text of a certificate piece by piece.
 use Rattle.std.specs.Prelude.{ℕ, List, [], ◌∷◌, ◌++◌, flat_map}
 use Rattle.annotations.specs.Vectors.{Vector}
-use Rattle.certificate.specs.Numbers.{number}
-use Rattle.certificate.specs.Text.{spaced, pair_word, vector_words, block_lines, make_words, func_lines}
+use Rattle.text_lines.specs.Numbers.{number}
+use Rattle.certificate.specs.Text.{pair_word, vector_words, block_lines, make_words, func_lines}
+use Rattle.text_lines.specs.Cuts.{spaced}
 use Rattle.certificate.specs.Certificates.{VarCert, BlockCert, MakeCert, FuncCert}
 
 -- a line with its line feed

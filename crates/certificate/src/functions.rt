@@ -2,18 +2,18 @@ ghost use Rattle.std.specs.Prelude.{◌≡◌, ◌∷◌, [], false, map, MatchR
 ghost use Rattle.certificate.specs.Certificates.{FuncIsWithin};
 ghost use Rattle.certificate.specs.Words.{var_of, block_of, make_of, func_of};
 ghost use Rattle.certificate.specs.Steps.{AreWithin};
-ghost use Rattle.certificate.specs.Reading.{words, further, is_five, is_none, only_params, last_var, last_block, at_last, add_param, add_result, add_block, add_var, add_make, add_own, add_line, function_of_words, bare_func, put_behind, IsRead, IsStopped, IsNoMemory};
+ghost use Rattle.certificate.specs.Reading.{is_five, is_none, only_params, last_var, last_block, at_last, add_param, add_result, add_block, add_var, add_make, add_own, add_line, function_of_words, bare_func, put_behind, IsRead, IsStopped, IsNoMemory};
+ghost use Rattle.text_lines.specs.Cuts.{words, further};
 
-use super::cutting::{first_word, next_word};
 use super::items::{MOST_NEED, read_block, read_make, read_var, three_words};
 use super::names::is_lower_name;
-use super::numbers::number;
 use super::stop::LineStop;
 use super::types::{BlockCert, FuncCert, VarCert};
 use super::vectors::read_vector;
 use annotations::Vector;
 use camelot_values::Word;
 use std::alloc::Global;
+use text_lines::{first_word, further_word, number};
 
 // Whether only parameters stand there.
 #[tactic(auto, using(crate::proofs::FuncSteps::some_result, crate::proofs::FuncSteps::some_blocks, crate::proofs::FuncSteps::makes_left))]
@@ -196,10 +196,10 @@ fn add_own(alloc: Global, f: FuncCert, tag: &[u8], rest: &[u8]) -> Result<FuncCe
 fn five_words(rest: &[u8]) -> Option<(&[u8], &[u8], &[u8], &[u8], &[u8])>
     ensures { MatchOption result (is_five (further rest.now) ≡ false) (λ p. further rest.now ≡ p.0.now ∷ p.1.now ∷ p.2.now ∷ p.3.now ∷ p.4.now ∷ []) }
 {
-    let Some((first, behind)) = next_word(rest) else {
+    let Some((first, behind)) = further_word(rest) else {
         return None;
     };
-    let Some((second, after)) = next_word(behind) else {
+    let Some((second, after)) = further_word(behind) else {
         return None;
     };
     let Some((third, fourth, fifth)) = three_words(after) else {

@@ -1,14 +1,15 @@
 ghost use Rattle.std.specs.Prelude.{◌≡◌, ◌∷◌, [], ◌<◌, false, length, map, ℕ, MatchResult, MatchOption};
 ghost use Rattle.certificate.specs.Certificates.{VarIsWithin, BlockIsWithin, MakeIsWithin, FuncIsWithin};
 ghost use Rattle.certificate.specs.Words.{var_of, block_of, make_of, func_of};
-ghost use Rattle.certificate.specs.Reading.{further, capped, is_three, is_five, is_after, comes_behind, makes_on, var_of_words, block_of_words, make_of_words, function_of_words, IsRead, IsStopped};
+ghost use Rattle.certificate.specs.Reading.{is_three, is_five, is_after, comes_behind, makes_on, var_of_words, block_of_words, make_of_words, function_of_words, IsRead, IsStopped};
+ghost use Rattle.text_lines.specs.Cuts.{further, capped};
 
-use super::cutting::next_word;
-use super::numbers::{is_after, number};
+use super::numbers::is_after;
 use super::stop::LineStop;
 use super::types::{BlockCert, MakeCert, VarCert};
 use super::vectors::{MOST_NUMBER, read_vector};
 use std::alloc::Global;
+use text_lines::{further_word, number};
 
 /// The most that a function or a block needs or gives back.
 pub(crate) const MOST_NEED: u64 = 1_099_511_627_776;
@@ -18,13 +19,13 @@ pub(crate) const MOST_NEED: u64 = 1_099_511_627_776;
 pub(crate) fn three_words(rest: &[u8]) -> Option<(&[u8], &[u8], &[u8])>
     ensures { MatchOption result (is_three (further rest.now) ≡ false) (λ p. further rest.now ≡ p.0.now ∷ p.1.now ∷ p.2.now ∷ []) }
 {
-    let Some((first, rest)) = next_word(rest) else {
+    let Some((first, rest)) = further_word(rest) else {
         return None;
     };
-    let Some((second, rest)) = next_word(rest) else {
+    let Some((second, rest)) = further_word(rest) else {
         return None;
     };
-    let Some((third, rest)) = next_word(rest) else {
+    let Some((third, rest)) = further_word(rest) else {
         return None;
     };
     if !rest.is_empty() {
@@ -39,7 +40,7 @@ pub(crate) fn read_var(alloc: Global, last: Option<u32>, rest: &[u8]) -> Result<
     ensures { MatchResult result (λ v. IsRead (var_of_words last (further rest.now)) VarIsWithin (var_of v))
         (λ stop. IsStopped (var_of_words last (further rest.now)) VarIsWithin stop) }
 {
-    let Some((word, after)) = next_word(rest) else {
+    let Some((word, after)) = further_word(rest) else {
         return Err(LineStop::Line);
     };
     let Some(var) = number(word) else {
@@ -135,10 +136,10 @@ pub(crate) fn read_make(
         (make_of m)) (λ stop. IsStopped (make_of_words (map make_of makes.now)
         (further rest.now)) MakeIsWithin stop) }
 {
-    let Some((block_word, behind)) = next_word(rest) else {
+    let Some((block_word, behind)) = further_word(rest) else {
         return Err(LineStop::Line);
     };
-    let Some((place_word, after)) = next_word(behind) else {
+    let Some((place_word, after)) = further_word(behind) else {
         return Err(LineStop::Line);
     };
     let Some(block) = number(block_word) else {

@@ -1,7 +1,7 @@
 //! Laws of the texts of certificates, as contracts of functions that do nothing.
 ghost use Rattle.std.specs.Prelude.{◌≡◌, ◌<◌, ◌^◌, ℕ, List, decimal};
 ghost use Rattle.certificate.specs.Certificates.{Cert as PlainCert, IsCert};
-ghost use Rattle.certificate.specs.Numbers.{number};
+ghost use Rattle.text_lines.specs.Numbers.{number};
 ghost use Rattle.certificate.specs.Text.{text_of, IsLineFault, IsNumberFault};
 
 /// A text is that of one certificate at most. It has one wrong line, or one line with a number above its limit, and not

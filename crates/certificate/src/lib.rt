@@ -1,7 +1,6 @@
 //! Certificates of heap bounds, and their text.
 #![tactic(auto)]
 
-mod cutting;
 mod functions;
 mod items;
 pub mod laws;
@@ -13,7 +12,6 @@ mod types;
 mod vectors;
 mod writing;
 
-pub use numbers::{NUMBER_CAP, number};
 pub use reading::{CertFault, read_cert};
 pub use types::{BlockCert, Cert, FuncCert, MakeCert, VarCert};
 pub use writing::write_cert;

@@ -2,7 +2,7 @@ ghost use Rattle.std.specs.Prelude.{◌≡◌};
 ghost use Rattle.std.specs.List.{list_all};
 ghost use Rattle.camelot_values.specs.Names.{is_lower, is_upper, is_digit, is_tail, has_form, is_lower_name};
 
-use super::cutting::behind;
+use text_lines::behind;
 
 // Whether the byte may stand behind a name's first letter.
 fn is_tail(byte: u8) -> bool

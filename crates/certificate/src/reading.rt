@@ -5,18 +5,18 @@ ghost use Rattle.certificate.specs.Text.{text_of, IsLineFault, IsNumberFault};
 ghost use Rattle.certificate.specs.Answers.{IsFault, IsMemory, IsLineAt, IsNumberAt};
 ghost use Rattle.certificate.specs.Words.{func_of};
 ghost use Rattle.std.specs.Option.{option_map};
-ghost use Rattle.certificate.specs.Reading.{words, capped, unit_of};
+ghost use Rattle.certificate.specs.Reading.{unit_of};
+ghost use Rattle.text_lines.specs.Cuts.{words, capped};
 ghost use Rattle.certificate.specs.Steps.{HasFirst, Reading, IsWhole};
 ghost use Rattle.certificate.specs.Faults.{fault_of};
 
-use super::cutting::{first_word, next_line, next_word};
 use super::functions::add_line;
-use super::numbers::number;
 use super::stop::LineStop;
 use super::types::{Cert, FuncCert};
 use super::vectors::MOST_UNITS;
 use std::alloc::Global;
 use stops::Stop;
+use text_lines::{first_word, further_word, next_line, number};
 use thiserror::Error;
 
 /// Why a text isn't read as a certificate.
@@ -63,7 +63,7 @@ fn read_unit(line: &[u8]) -> Option<u64>
     ensures { result ≡ option_map capped (unit_of (words line.now)) }
 {
     let (tag, rest) = first_word(line);
-    let Some((word, after)) = next_word(rest) else {
+    let Some((word, after)) = further_word(rest) else {
         return None;
     };
     if !after.is_empty() {

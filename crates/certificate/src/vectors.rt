@@ -1,14 +1,15 @@
 ghost use Rattle.std.specs.Prelude.{◌≡◌, ◌∷◌, [], ◌≤◌, MatchResult, MatchOption, length};
 ghost use Rattle.std.specs.Option.{option_map};
 ghost use Rattle.certificate.specs.Certificates.{VectorIsWithin};
-ghost use Rattle.certificate.specs.Reading.{upto, from, behind, further, capped, capped_pair, is_there, is_before, pair_of, vector_from, vector_of, IsRead, IsStopped, IsWide};
+ghost use Rattle.certificate.specs.Reading.{capped_pair, is_there, is_before, pair_of, vector_from, vector_of, IsRead, IsStopped, IsWide};
+ghost use Rattle.text_lines.specs.Cuts.{upto, from, behind, further, capped};
 
-use super::cutting::{behind, cut, next_word};
-use super::numbers::{is_before, number};
+use super::numbers::is_before;
 use super::stop::LineStop;
 use annotations::Vector;
 use smallvec::SmallVec;
 use std::alloc::Global;
+use text_lines::{behind, cut, further_word, number};
 
 /// The largest number of a local, a block, a place or a constructor.
 pub(crate) const MOST_NUMBER: u64 = 4_294_967_295;
@@ -52,7 +53,7 @@ fn are_pairs(prev: &[u8], rest: &[u8]) -> bool
 {
     let mut last = prev;
     let mut left = rest;
-    'pairs: while let Some((word, after)) = next_word(left) {
+    'pairs: while let Some((word, after)) = further_word(left) {
         let (con, units) = cut_pair(word);
         match read_pair(last, con, units) {
             None => return false,
@@ -72,7 +73,7 @@ fn read_pairs(alloc: Global, rest: &[u8]) -> Result<SmallVec<(u32, u64), 1>, Lin
     let mut pairs = SmallVec::new(alloc);
     let mut last: &[u8] = &[];
     let mut left = rest;
-    'pairs: while let Some((word, after)) = next_word(left) {
+    'pairs: while let Some((word, after)) = further_word(left) {
         let (con, units) = cut_pair(word);
         let (con_number, unit_count) = match read_pair(last, con, units) {
             None => return Err(LineStop::Line),

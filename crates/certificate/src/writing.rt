@@ -1,38 +1,20 @@
 ghost use Rattle.std.specs.Prelude.{◌≡◌, ◌++◌, map, flat_map, IfOk, OnOk};
-ghost use Rattle.certificate.specs.Numbers.{number};
 ghost use Rattle.certificate.specs.Text.{function_words, result_lines, text_of};
 ghost use Rattle.certificate.specs.Words.{var_of, block_of, make_of, func_of};
 ghost use Rattle.certificate.specs.Writing.{pair_text, vector_text, var_text, block_text, make_text, func_text, line_text, lines_text};
 
 use super::types::{BlockCert, Cert, FuncCert, MakeCert, VarCert};
 use annotations::Vector;
-use itoa::Buffer;
 use std::alloc::{AllocError, Global};
-
-// Writes the number.
-#[tactic(auto, using(crate::proofs::Written::number_is))]
-fn push_number(out: &mut Vec<u8>, value: u64) -> Result<(), AllocError>
-    ensures { OnOk result (out.new.items ≡ out.old.items ++ number value) }
-{
-    out.extend_from_slice(Buffer::new().format(value).as_bytes())
-}
-
-// Writes the text, and then the number.
-#[tactic(auto, using(crate::proofs::Written::two))]
-fn push_field(out: &mut Vec<u8>, text: &[u8], value: u64) -> Result<(), AllocError>
-    ensures { OnOk result (out.new.items ≡ out.old.items ++ (text.now ++ number value)) }
-{
-    out.extend_from_slice(text)?;
-    push_number(out, value)
-}
+use text_lines::push_number;
 
 // Writes a pair behind a space.
 #[tactic(auto, using(crate::proofs::Written::pair_written))]
 fn push_pair(out: &mut Vec<u8>, pair: &(u32, u64)) -> Result<(), AllocError>
     ensures { OnOk result (out.new.items ≡ out.old.items ++ pair_text pair.now) }
 {
-    push_field(out, b" ", pair.0 as u64)?;
-    push_field(out, b"=", pair.1)
+    push_number(out, b" ", pair.0 as u64)?;
+    push_number(out, b"=", pair.1)
 }
 
 // Writes the pairs, each behind a space.
@@ -52,7 +34,7 @@ fn push_var(out: &mut Vec<u8>, tag: &[u8], var: &VarCert) -> Result<(), AllocErr
     ensures { OnOk result (out.new.items ≡ out.old.items ++ var_text tag.now (var_of var.now)) }
 {
     out.extend_from_slice(tag)?;
-    push_field(out, b" ", var.var as u64)?;
+    push_number(out, b" ", var.var as u64)?;
     push_vector(out, &var.vector)?;
     out.push(b'\n')?;
     Ok(())
@@ -88,8 +70,8 @@ fn push_result(out: &mut Vec<u8>, vector: &Vector) -> Result<(), AllocError>
 fn push_block(out: &mut Vec<u8>, block: &BlockCert) -> Result<(), AllocError>
     ensures { OnOk result (out.new.items ≡ out.old.items ++ block_text (block_of block.now)) }
 {
-    push_field(out, b"block ", block.block as u64)?;
-    push_field(out, b" need ", block.need)?;
+    push_number(out, b"block ", block.block as u64)?;
+    push_number(out, b" need ", block.need)?;
     out.push(b'\n')?;
     push_vars(out, b"var", &block.vars)?;
     Ok(())
@@ -111,8 +93,8 @@ fn push_blocks(out: &mut Vec<u8>, blocks: &[BlockCert]) -> Result<(), AllocError
 fn push_make(out: &mut Vec<u8>, make: &MakeCert) -> Result<(), AllocError>
     ensures { OnOk result (out.new.items ≡ out.old.items ++ make_text (make_of make.now)) }
 {
-    push_field(out, b"make ", make.block as u64)?;
-    push_field(out, b" ", make.place as u64)?;
+    push_number(out, b"make ", make.block as u64)?;
+    push_number(out, b" ", make.place as u64)?;
     push_vector(out, &make.vector)?;
     out.push(b'\n')?;
     Ok(())
@@ -136,8 +118,8 @@ fn push_function(out: &mut Vec<u8>, func: &FuncCert) -> Result<(), AllocError>
 {
     out.extend_from_slice(b"function ")?;
     out.extend_from_slice(func.name.bytes())?;
-    push_field(out, b" need ", func.need)?;
-    push_field(out, b" back ", func.back)?;
+    push_number(out, b" need ", func.need)?;
+    push_number(out, b" back ", func.back)?;
     out.push(b'\n')?;
     Ok(())
 }
@@ -172,7 +154,7 @@ pub fn write_cert(alloc: Global, cert: &Cert) -> Result<Vec<u8>, AllocError>
     ensures { IfOk result (λ text. text.items ≡ text_of cert.now) }
 {
     let mut out = Vec::new(alloc);
-    push_field(&mut out, b"grail certificate 1\nunit ", cert.unit())?;
+    push_number(&mut out, b"grail certificate 1\nunit ", cert.unit())?;
     out.push(b'\n')?;
     push_funcs(&mut out, cert.funcs())?;
     out.extend_from_slice(b"end\n")?;

@@ -1,5 +1,5 @@
 -- What decoding a line of digits says of it.
-use Rattle.std.proofs.Common.{◌≡◌, ℕ, ◌+◌, ◌*◌, ◌/◌, ◌<◌, ◌≤◌, Bool, true, false, List, length, take, Result, Ok, Err, is_err, not, OnOk, MatchBool, MatchResult, bytes_eq, refl, sym, ap, ◌∙◌, subst, arith}
+use Rattle.std.proofs.Common.{◌≡◌, ℕ, ◌*◌, ◌/◌, ◌<◌, ◌≤◌, Bool, true, false, List, length, take, Result, Ok, Err, is_err, not, OnOk, MatchBool, MatchResult, bytes_eq, refl, sym, ap, ◌∙◌, subst, arith}
 use Rattle.std.specs.Prelude.{◌==◌}
 use Rattle.std.proofs.lemmas.Bool.Decides.{nat_tests}
 use Rattle.std.proofs.lemmas.Slice.Eq.{bytes_eq-Decides}
@@ -7,7 +7,7 @@ use Rattle.hex.specs.Hex.{encode_lower, decode_sized, IsBytes}
 use Rattle.hex.specs.declared.error.FromHexError.{FromHexError}
 use Rattle.hex.proofs.HexLemmas.{decode_sized-encode_lower}
 use Rattle.grail_bundle.specs.Bundles.{HasParts, first_line}
-use Rattle.grail_bundle.specs.Lines.{IsLineOf, IsNoLine, IsOther}
+use Rattle.grail_bundle.specs.Lines.{IsNoLine, IsOther}
 use Rattle.grail_bundle.proofs.Digits.{digits_twice}
 
 -- ---- the size of a line

@@ -1,16 +1,16 @@
 -- Lines of digits.
-use Rattle.std.proofs.Common.{◌≡◌, ℕ, zero, suc, ◌+◌, ◌*◌, ◌/◌, ◌%◌, ◌<◌, ◌≤◌, Bool, true, false, List, [], ◌∷◌, ◌++◌, length, take, drop, slice_index, Result, Ok, Err, inl, inr, refl, sym, ap, ◌∙◌, subst, arith, append_assoc, append-nil, length-append, length-drop, take-append-drop, length-take-le, take_at, drop_at, le_of_lt}
-use Rattle.std.specs.Prelude.{◌==◌, IsTrue, ◌⊎◌, codes}
+use Rattle.std.proofs.Common.{◌≡◌, ℕ, zero, suc, ◌*◌, ◌/◌, ◌%◌, ◌<◌, ◌≤◌, true, false, List, [], ◌∷◌, ◌++◌, length, take, drop, slice_index, inl, inr, refl, sym, ap, ◌∙◌, subst, arith, append-nil, length-append, take-append-drop, length-take-le, take_at, drop_at, le_of_lt}
+use Rattle.std.specs.Prelude.{◌==◌, IsTrue, ◌⊎◌}
 use Rattle.std.specs.List.{AllPass}
 use Rattle.std.proofs.lemmas.List.Elements.{All-head, All-tail}
 use Rattle.std.proofs.lemmas.Bool.{cases_eq, cases_lt}
 use Rattle.std.proofs.lemmas.Bool.Decides.{nat_tests}
 use Rattle.hex.specs.Hex.{encode_lower, encode_with, lower_digits, is_hex_digit, decode_of, IsBytes}
 use Rattle.hex.proofs.HexLemmas.{length-encode_with, decode_of-encode_lower, decode_of-ok, decode_of-same}
-use Rattle.certificate.specs.Text.{IsOneLine}
-use Rattle.certificate.specs.CutLaws.{free_cons}
+use Rattle.text_lines.specs.Lines.{IsOneLine}
+use Rattle.text_lines.specs.CutLaws.{free_cons}
 use Rattle.grail_bundle.specs.Bundles.{wrapped, digit_lines}
-use Rattle.grail_bundle.specs.Lines.{IsLineOf, hex_lines}
+use Rattle.grail_bundle.specs.Lines.{hex_lines}
 use Rattle.grail_bundle.proofs.Wrapping.{full, fitting}
 
 -- ---- bytes

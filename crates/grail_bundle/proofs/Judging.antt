@@ -1,5 +1,5 @@
 -- Each text is one bundle's, or has one first wrong line.
-use Rattle.std.proofs.Common.{◌≡◌, ℕ, zero, suc, ◌+◌, ◌*◌, ◌<◌, ◌≤◌, Bool, true, false, List, [], ◌∷◌, ◌++◌, length, take, drop, Result, Ok, Err, inl, inr, refl, sym, ap, ◌∙◌, subst, arith, append_assoc, append-nil, length-append, Decides, bytes_eq}
+use Rattle.std.proofs.Common.{◌≡◌, ℕ, zero, suc, ◌+◌, ◌<◌, ◌≤◌, Bool, true, false, List, [], ◌∷◌, ◌++◌, length, take, drop, Result, Ok, Err, inl, inr, refl, sym, ap, ◌∙◌, subst, arith, append_assoc, append-nil, length-append, Decides, bytes_eq}
 use Rattle.std.specs.Prelude.{codes, ◌⊎◌, ◌==◌}
 use Rattle.std.specs.List.{AllByRecursion}
 use Rattle.std.proofs.lemmas.Bool.{cases_lt}
@@ -8,13 +8,13 @@ use Rattle.std.proofs.lemmas.Slice.Eq.{bytes_eq-Decides}
 use Rattle.hex.specs.Hex.{encode_lower, decode_of, IsBytes}
 use Rattle.hex.specs.declared.error.FromHexError.{FromHexError}
 use Rattle.hex.proofs.HexLemmas.{decode_of-encode_lower, decode_of-ok, decode_of-same}
-use Rattle.certificate.specs.Text.{text_of_lines, IsOneLine}
-use Rattle.certificate.specs.TextLaws as laws
+use Rattle.text_lines.specs.Lines.{text_of_lines, IsOneLine, HasLine}
+use Rattle.text_lines.specs.FrontLaws as laws
 use Rattle.grail_bundle.specs.Bundles.{Bundle, HasParts, IsBundle, first_line, bundle_text}
 use Rattle.grail_bundle.specs.Faults.{Begins, IsFault}
-use Rattle.grail_bundle.specs.Lines.{HasLine, IsLineOf, IsNoLine, IsPushed, hex_lines, Reading}
+use Rattle.grail_bundle.specs.Lines.{IsLineOf, IsNoLine, hex_lines, Reading}
 use Rattle.grail_bundle.proofs.Digits.{bytes_left, bytes_right, digits_line, digits_one, digits_twice, Cut, cut_of}
-use Rattle.grail_bundle.proofs.Cutting.{split}
+use Rattle.text_lines.specs.FrontLaws.{line_or_none}
 use Rattle.grail_bundle.proofs.Leading.{cert_line, cert_parts, first_is, done, code_line}
 use Rattle.grail_bundle.proofs.Stopping.{first_early, first_wrong, first_read, closed_stop, early_stop, line_stop, line_read}
 
@@ -155,7 +155,7 @@ judged_line text n going code rest r again = by_end (ends code rest)
     by_split end o (inr (line, behind, h)) = by_line end o line behind h (line_is line)
 
     by_open : (HasParts (record { code = code; cert = rest }) → ⊥) → (t : Bool) → going ≡ t → Judged text
-    by_open end true o = by_split end o (split rest)
+    by_open end true o = by_split end o (line_or_none rest)
     by_open end false o = fault text n (closed_stop text n going code rest r o end)
 
     by_end : HasParts (record { code = code; cert = rest }) ⊎ (HasParts (record { code = code; cert = rest }) → ⊥) → Judged text
@@ -167,7 +167,7 @@ judged_from zero text n going code rest few r = judged_line text n going code re
 judged_from (suc fuel) text n going code rest few r = judged_line text n going code rest r (λ m full new behind less q. judged_from fuel text m full new behind (omega (arith, few, less)) q)
 
 pub judged : (text : List ℕ) → Judged text
-judged text = by_split (split text)
+judged text = by_split (line_or_none text)
   where
     by_first : (line rest : List ℕ) → HasLine text line rest → (line ≡ codes "grail code") ⊎ (line ≡ codes "grail code" → ⊥) → Judged text
     by_first line rest h (inl e) = judged_from (length rest) text 2 true [] rest (omega arith) (first_read text line rest h e)

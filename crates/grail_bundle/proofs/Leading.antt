@@ -1,14 +1,14 @@
 -- Lines that lead to a bundle.
-use Rattle.std.proofs.Common.{◌≡◌, ℕ, zero, suc, ◌+◌, ◌*◌, ◌<◌, ◌≤◌, Bool, true, false, List, [], ◌∷◌, ◌++◌, length, take, drop, inl, inr, refl, sym, ap, ◌∙◌, subst, arith, append_assoc, append-nil, length-append, take-append-drop}
-use Rattle.std.specs.Prelude.{codes, ◌⊎◌}
+use Rattle.std.proofs.Common.{◌≡◌, ℕ, ◌<◌, ◌≤◌, Bool, true, false, List, [], ◌∷◌, ◌++◌, length, take, drop, refl, sym, ap, ◌∙◌, subst, arith, append_assoc, append-nil, length-append, take-append-drop}
+use Rattle.std.specs.Prelude.{codes}
 use Rattle.std.specs.List.{AllByRecursion}
 use Rattle.std.proofs.lemmas.List.{append_cancel_left}
 use Rattle.hex.specs.Hex.{encode_lower, IsBytes}
-use Rattle.certificate.specs.Text.{text_of_lines, IsOneLine}
-use Rattle.certificate.specs.TextLaws as laws
-use Rattle.grail_bundle.specs.Bundles.{Bundle, HasParts, IsBundle, first_line, digit_lines, bundle_text}
+use Rattle.text_lines.specs.Lines.{text_of_lines, IsOneLine, HasLine}
+use Rattle.text_lines.specs.FrontLaws as laws
+use Rattle.grail_bundle.specs.Bundles.{Bundle, IsBundle, first_line, digit_lines, bundle_text}
 use Rattle.grail_bundle.specs.Faults.{Begins}
-use Rattle.grail_bundle.specs.Lines.{HasLine, IsLineOf, hex_lines, Left, Leads}
+use Rattle.grail_bundle.specs.Lines.{IsLineOf, hex_lines, Left, Leads}
 use Rattle.grail_bundle.proofs.Digits.{no_bytes, zero_byte, bytes_left, bytes_right, bytes_both, digits_twice, digits_one, digits_line, short_line, full_line, Cut, cut_of}
 
 -- the certificate's first line, and what is behind it

@@ -1,5 +1,4 @@
 pub mod Wrapping
-pub mod Cutting
 pub mod Digits
 pub mod Leading
 pub mod Stopping

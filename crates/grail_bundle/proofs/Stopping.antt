@@ -1,18 +1,18 @@
 -- Where a text is no bundle's: its first wrong line.
-use Rattle.std.proofs.Common.{◌≡◌, ℕ, zero, suc, ◌+◌, ◌*◌, ◌^◌, ◌<◌, ◌≤◌, Bool, true, false, List, [], ◌∷◌, ◌++◌, length, take, drop, inl, inr, refl, sym, ap, ◌∙◌, subst, arith, append_assoc, append-nil, length-append}
+use Rattle.std.proofs.Common.{◌≡◌, ℕ, suc, ◌+◌, ◌*◌, ◌^◌, ◌<◌, ◌≤◌, Bool, true, false, List, [], ◌∷◌, ◌++◌, length, drop, inl, inr, refl, sym, ap, ◌∙◌, subst, arith, append_assoc, append-nil, length-append}
 use Rattle.std.specs.Prelude.{codes, ◌⊎◌, ◌==◌, MatchBool}
 use Rattle.std.specs.List.{AllByRecursion}
 use Rattle.std.proofs.lemmas.Bool.{cases_lt}
 use Rattle.std.proofs.lemmas.Bool.Decides.{nat_tests}
 use Rattle.hex.specs.Hex.{encode_lower, IsBytes}
-use Rattle.certificate.specs.Text.{text_of_lines, IsOneLine}
-use Rattle.certificate.specs.TextLaws as laws
+use Rattle.text_lines.specs.Lines.{text_of_lines, IsOneLine, HasLine}
+use Rattle.text_lines.specs.FrontLaws as laws
 use Rattle.grail_bundle.specs.Bundles.{Bundle, HasParts, IsBundle, first_line, bundle_text}
 use Rattle.grail_bundle.specs.Faults.{Begins, IsFault}
-use Rattle.grail_bundle.specs.Lines.{HasLine, IsLineOf, IsNoLine, IsPushed, hex_lines, Left, Leads, Reading, IsRead}
+use Rattle.grail_bundle.specs.Lines.{IsLineOf, IsNoLine, IsPushed, hex_lines, Left, Leads, Reading, IsRead}
 use Rattle.grail_bundle.proofs.Digits.{zero_byte, bytes_left, bytes_right, digits_line, Cut, cut_of, digits_twice}
-use Rattle.grail_bundle.proofs.Cutting.{same_line}
-use Rattle.grail_bundle.proofs.Leading.{cert_line, cert_parts, cert_starts, code_line, one_before, first_is, line_behind, one_more, start, step, begins, done}
+use Rattle.text_lines.specs.FrontLaws.{line_shorter, same_line}
+use Rattle.grail_bundle.proofs.Leading.{cert_line, cert_parts, cert_starts, code_line, one_before, first_is, line_behind, start, step, begins, done}
 
 -- a line in front, of which this holds
 record Next (rest : List ℕ) (Is : List ℕ → Type 0) : Type 0 where
@@ -169,9 +169,9 @@ pub all_read : (text : List ℕ) (n : ℕ) (going : Bool) (code rest : List ℕ)
 all_read text n going code rest r p = record { parts = p; bytes = r.leads.bytes; is = done r.before going code rest text r.leads p.code r.parts }
 
 -- there are fewer lines than bytes
-pub few_lines : (text : List ℕ) (n : ℕ) (going : Bool) (code rest behind : List ℕ) → Reading text n going code rest → length text < 2 ^ 32
-    → length behind < length rest → n + 1 < 2 ^ 32
-few_lines text n going code rest behind r short less = omega (arith, r.few, short, less)
+pub few_lines : (text : List ℕ) (n : ℕ) (going : Bool) (code rest line behind : List ℕ) → Reading text n going code rest → length text < 2 ^ 32
+    → HasLine rest line behind → n + 1 < 2 ^ 32
+few_lines text n going code rest line behind r short h = omega (arith, r.few, short, line_shorter rest line behind h)
 
 -- ---- what the loop's tests say
 
@@ -181,3 +181,7 @@ no_end slice code rest e end p = end (subst (λ l. HasParts (record { code = l; 
 pub not_fits : (fits : Bool) (old new line : List ℕ) → MatchBool fits (IsPushed old new line) (IsNoLine line) → fits ≡ false → IsNoLine line
 not_fits true old new line h e = absurd cc
 not_fits false old new line h e = h
+
+pub does_fit : (fits : Bool) (old new line : List ℕ) → MatchBool fits (IsPushed old new line) (IsNoLine line) → fits ≡ true → IsPushed old new line
+does_fit true old new line h e = h
+does_fit false old new line h e = absurd cc

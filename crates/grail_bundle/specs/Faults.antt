@@ -3,7 +3,7 @@
 -- line they begin none. A line ends with its line feed, so what stands behind the last line feed is no line yet.
 use Rattle.std.specs.Prelude.{◌≡◌, ℕ, suc, List, [], ◌∷◌, ◌++◌, length}
 use Rattle.std.specs.List.{AllByRecursion}
-use Rattle.certificate.specs.Text.{text_of_lines, IsOneLine}
+use Rattle.text_lines.specs.Lines.{text_of_lines, IsOneLine}
 use Rattle.grail_bundle.specs.Bundles.{Bundle, IsBundle, bundle_text}
 
 -- some bundle's text begins with these lines

@@ -1,15 +1,10 @@
 -- Private: words for functions of this crate.
 -- Where the reader is in a text, between two lines.
-use Rattle.std.specs.Prelude.{◌≡◌, ℕ, zero, suc, ◌+◌, ◌≤◌, ◌⊎◌, Bool, true, false, List, [], ◌∷◌, ◌++◌, length, codes}
+use Rattle.std.specs.Prelude.{◌≡◌, ℕ, suc, ◌+◌, ◌≤◌, Bool, false, List, [], ◌∷◌, ◌++◌, length}
 use Rattle.std.specs.List.{AllByRecursion}
 use Rattle.hex.specs.Hex.{encode_lower, IsBytes}
-use Rattle.certificate.specs.Text.{text_of_lines, IsOneLine}
+use Rattle.text_lines.specs.Lines.{text_of_lines, IsOneLine}
 use Rattle.grail_bundle.specs.Bundles.{Bundle, HasParts, IsBundle, digit_lines, bundle_text}
-
--- a line and its line feed stand in front
-pub record HasLine (text line rest : List ℕ) : Type 0 where
-  pub parts : text ≡ line ++ 10 ∷ rest
-  pub one : IsOneLine line
 
 -- the line of digits that is written for these bytes: as many as one line holds, and at least one
 pub record IsLineOf (line bytes : List ℕ) : Type 0 where

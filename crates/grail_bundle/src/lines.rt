@@ -1,22 +1,8 @@
-ghost use Rattle.std.specs.Prelude.{◌≡◌, ◌<◌, ◌≤◌, length, MatchBool, MatchOption, IfOk, IfSome};
+ghost use Rattle.std.specs.Prelude.{◌≡◌, ◌≤◌, length, MatchBool, IfOk};
 ghost use Rattle.hex.specs.Hex.{encode_lower};
-ghost use Rattle.certificate.specs.Text.{IsOneLine};
-ghost use Rattle.grail_bundle.specs.Lines.{HasLine, IsNoLine, IsOther, IsPushed};
+ghost use Rattle.grail_bundle.specs.Lines.{IsNoLine, IsOther, IsPushed};
 
-use memchr::memchr;
 use std::alloc::AllocError;
-
-/// The line in front and what is behind its line feed; None where no line feed is left.
-#[tactic(auto, using(crate::proofs::Cutting::line_there, crate::proofs::Cutting::no_line, crate::proofs::Cutting::shorter))]
-pub(crate) fn next_line(text: &[u8]) -> Option<(&[u8], &[u8])>
-    ensures line { MatchOption result (IsOneLine text.now) (λ p. HasLine text.now p.0.now p.1.now) }
-    ensures shorter { IfSome result (λ p. length p.1.now < length text.now) }
-{
-    match memchr(b'\n', text) {
-        Some(place) => Some((&text[..place], &text[place + 1..])),
-        None => None,
-    }
-}
 
 // Decodes a line into bytes, two digits for each, and tells whether it is the line that is written for them: capital
 // digits decode too, so the digits that are written are compared.

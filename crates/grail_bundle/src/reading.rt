@@ -7,10 +7,11 @@ ghost use Rattle.stops.specs.declared.stop.Stop.TheVariants.{Fault};
 
 use crate::bundle::Bundle;
 use crate::fault::BundleFault;
-use crate::lines::{next_line, push_line};
+use crate::lines::push_line;
 use memchr::memchr;
 use std::alloc::Global;
 use stops::Stop;
+use text_lines::next_line;
 
 // The fault of this line.
 fn fault_at(line: u32) -> Stop<BundleFault>
@@ -44,7 +45,7 @@ fn read_first(text: &[u8]) -> Result<&[u8], Stop<BundleFault>>
 }
 
 // The code of the lines of digits, and the certificate behind them.
-#[tactic(auto, using(crate::proofs::Stopping::closed_stop, crate::proofs::Stopping::early_stop, crate::proofs::Stopping::line_stop, crate::proofs::Stopping::line_next, crate::proofs::Stopping::start_read, crate::proofs::Stopping::all_read, crate::proofs::Stopping::few_lines))]
+#[tactic(auto, using(crate::proofs::Stopping::closed_stop, crate::proofs::Stopping::early_stop, crate::proofs::Stopping::line_stop, crate::proofs::Stopping::start_read, crate::proofs::Stopping::all_read, crate::proofs::Stopping::few_lines))]
 fn read_lines<'a>(
     alloc: Global,
     text: &[u8],

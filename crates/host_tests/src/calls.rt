@@ -30,26 +30,24 @@ fn a_script_is_written_as_it_was_read(rt: HostRuntime) -> Result<(), Fail> {
     Ok(())
 }
 
-// What comes of the script.
-fn outcome(alloc: Global) -> Result<Outcome, AllocError> {
+// What is kept of what comes of the script.
+#[derive(Drop)]
+struct Came {
+    programs: Vec<ProgramLine>,
+    ending: Ending,
+    asked: Vec<u32>,
+    journal: Vec<Event>,
+}
+
+fn make_came(alloc: Global) -> Result<Came, AllocError> {
     let value = Flat::of(vec![in alloc; Item::Int(5)]?);
-    Ok(Outcome {
+    Ok(Came {
         programs: vec![in alloc; ProgramLine::Accepted { unit: 1 }]?,
-        jobs: vec![in alloc;
-            JobLine::Ended {
-                ending: Ending::Done {
-                    value,
-                    calls: 1,
-                    peak: 0,
-                },
-                fuel: 10,
-                bound: 0,
-                licence: 0,
-            },
-            JobLine::Refused {
-                cause: JobCause::Argument { at: 1 },
-            },
-        ]?,
+        ending: Ending::Done {
+            value,
+            calls: 1,
+            peak: 0,
+        },
         asked: vec![in alloc; 1]?,
         journal: vec![in alloc;
             Event::Took {
@@ -63,6 +61,26 @@ fn outcome(alloc: Global) -> Result<Outcome, AllocError> {
                 size: 1,
             },
         ]?,
+    })
+}
+
+// What comes of the script, by what is kept of it.
+fn outcome<'a>(alloc: Global, came: &'a Came) -> Result<Outcome<'a, Ending>, AllocError> {
+    Ok(Outcome {
+        programs: &came.programs,
+        jobs: vec![in alloc;
+            JobLine::Ended {
+                ending: &came.ending,
+                fuel: 10,
+                bound: 0,
+                licence: 0,
+            },
+            JobLine::Refused {
+                cause: JobCause::Argument { at: 1 },
+            },
+        ]?,
+        asked: &came.asked,
+        journal: &came.journal,
         free: 4,
     })
 }
@@ -71,7 +89,8 @@ fn outcome(alloc: Global) -> Result<Outcome, AllocError> {
 fn what_came_of_a_script_is_reported(rt: HostRuntime) -> Result<(), Fail> {
     let alloc = rt.alloc();
     let script = read_script(alloc, SCRIPT)?;
-    let text = report(alloc, &script, &[], &outcome(alloc)?)?;
+    let came = make_came(alloc)?;
+    let text = report(alloc, &script, &[], &outcome(alloc, &came)?)?;
     assert_eq!(rt; text.as_slice(), REPORT);
     Ok(())
 }
@@ -79,7 +98,8 @@ fn what_came_of_a_script_is_reported(rt: HostRuntime) -> Result<(), Fail> {
 #[test]
 fn what_came_of_a_script_is_summed_up(rt: HostRuntime) -> Result<(), Fail> {
     let alloc = rt.alloc();
-    let text = summary(alloc, &outcome(alloc)?)?;
+    let came = make_came(alloc)?;
+    let text = summary(alloc, &outcome(alloc, &came)?)?;
     assert_eq!(rt;
         text.as_slice(),
         b"drill 2 done 1 fuel 0 deep 0 too-large 0 refused 1 calls 1 peaks 0 free 4\n".as_slice()

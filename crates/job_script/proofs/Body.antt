@@ -2,11 +2,10 @@
 use Rattle.std.proofs.Common.{◌≡◌, ℕ, suc, ◌+◌, ◌-◌, ◌<◌, ◌≤◌, List, [], ◌∷◌, ◌++◌, length, take, refl, sym, ap, ◌∙◌, arith, append_assoc, length-append}
 use Rattle.std.specs.Prelude.{codes}
 use Rattle.std.proofs.Math.Seq.{take-append_seam}
-use Rattle.certificate.specs.TextLaws.{first_line}
-use Rattle.job_script.specs.Scripts.{IsOneLine, IsTextLine, text_of_lines}
-use Rattle.job_script.specs.Steps.{HasLine, HasLines, HasBody, IsOpen}
-use Rattle.job_script.specs.StateLaws.{all_append}
-use Rattle.job_script.specs.TextLaws.{lines_append}
+use Rattle.text_lines.specs.Lines.{IsOneLine, text_of_lines, HasLine}
+use Rattle.text_lines.specs.FrontLaws.{all_append, lines_append, first_line}
+use Rattle.job_script.specs.Scripts.{IsTextLine}
+use Rattle.job_script.specs.Steps.{HasLines, HasBody, IsOpen}
 
 pub lines_start : (rest : List ℕ) → HasLines rest rest 0
 lines_start rest = record { lines = []; each = tt; parts = refl; count = refl; few = omega arith }

@@ -6,10 +6,10 @@ use Rattle.std.specs.List.{list_all}
 use Rattle.std.specs.Str.{bytes_eq}
 use Rattle.std.proofs.lemmas.Bool.Decides.{nat_tests}
 use Rattle.camelot_values.specs.Names.{is_tail, has_form, is_name}
-use Rattle.certificate.specs.Reading.{only_if, upto, from, capped, number_of}
-use Rattle.certificate.specs.OptionLaws.{some_same}
+use Rattle.text_lines.specs.Cuts.{only_if, upto, from, behind, capped, number_of}
+use Rattle.text_lines.specs.OptionLaws.{some_same}
 use Rattle.job_script.specs.Scripts.{IsUpTo}
-use Rattle.job_script.specs.Reading.{number_in, number_behind, IsRead, IsWide}
+use Rattle.job_script.specs.Reading.{number_behind, IsRead, IsWide}
 
 -- ---- numbers within limits
 
@@ -43,21 +43,13 @@ in_limits o c most small e h k =
 
 pub other_tag : (tag line first : List ℕ) → first ≡ upto 32 line → bytes_eq first tag ≡ false → number_behind tag line ≡ None
 unfolding number_behind
-other_tag tag line first e h = ap (λ l. only_if (bytes_eq l tag) (number_in (from 32 line))) (sym e) ∙ ap (λ t. only_if t (number_in (from 32 line))) h
+other_tag tag line first e h = ap (λ l. only_if (bytes_eq l tag) (number_of (behind (from 32 line)))) (sym e) ∙ ap (λ t. only_if t (number_of (behind (from 32 line)))) h
 
-only_none : {A : Type 0} (b : Bool) → only_if {A = A} b None ≡ None
-only_none true = refl
-only_none false = refl
-
-pub no_more : (tag line rest : List ℕ) → rest ≡ from 32 line → rest ≡ [] → number_behind tag line ≡ None
+pub sized_is : (tag line first rest word : List ℕ) → first ≡ upto 32 line → rest ≡ from 32 line → bytes_eq first tag ≡ true → word ≡ behind rest
+    → number_behind tag line ≡ number_of word
 unfolding number_behind
-no_more tag line rest e f = ap (λ l. only_if (bytes_eq (upto 32 line) tag) (number_in l)) (sym e ∙ f) ∙ only_none (bytes_eq (upto 32 line) tag)
-
-pub sized_is : (tag line first rest word : List ℕ) (space : ℕ) → first ≡ upto 32 line → rest ≡ from 32 line → bytes_eq first tag ≡ true
-    → rest ≡ space ∷ word → number_behind tag line ≡ number_of word
-unfolding number_behind
-sized_is tag line first rest word space e f h g =
-    ap (λ l. only_if (bytes_eq l tag) (number_in (from 32 line))) (sym e) ∙ ap (λ t. only_if t (number_in (from 32 line))) h ∙ ap number_in (sym f ∙ g)
+sized_is tag line first rest word e f h g =
+    ap (λ l. only_if (bytes_eq l tag) (number_of (behind (from 32 line)))) (sym e) ∙ ap (λ t. only_if t (number_of (behind (from 32 line)))) h ∙ ap (λ l. number_of (behind l)) (sym f) ∙ ap number_of (sym g)
 
 -- ---- names
 

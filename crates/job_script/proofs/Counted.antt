@@ -4,16 +4,15 @@ use Rattle.std.specs.Global.{Vec}
 use Rattle.std.proofs.Math.Nat.{le-min}
 use Rattle.std.proofs.lemmas.List.{map-append, length-map, get_or-map}
 use Rattle.std.specs.Prelude.{codes, ◌%◌, min}
-use Rattle.certificate.specs.Numbers.{number}
+use Rattle.text_lines.specs.Numbers.{number}
 use Rattle.job_script.specs.Scripts.{Entry, AProgram, AJob}
 use Rattle.job_script.specs.Words.{entry_of, text_of}
 use Rattle.job_script.specs.declared.types.Entry.{Entry as DeclaredEntry}
 use Rattle.job_script.specs.Made.{counted, heads, list_text, made_items, made_list, made_name, made_job, made_jobs, made_program, made_script}
-use Rattle.job_script.proofs.Joining.{three}
+use Rattle.job_script.proofs.Joining.{two}
 
-pub head_written : (n : ℕ) (a o p q : List ℕ) → o ≡ a ++ codes "Cons(" → p ≡ o ++ number n → q ≡ p ++ codes ","
-    → q ≡ a ++ (codes "Cons(" ++ (number n ++ codes ","))
-head_written n a o p q e f g = three a (codes "Cons(") (number n) (codes ",") o p q e f g
+pub head_written : (n : ℕ) (a o p : List ℕ) → o ≡ a ++ (codes "Cons(" ++ number n) → p ≡ o ++ codes "," → p ≡ a ++ (codes "Cons(" ++ (number n ++ codes ","))
+head_written n a o p e f = two a (codes "Cons(" ++ number n) (codes ",") o p e f
 
 -- ---- so many pieces, from a number on
 
@@ -40,8 +39,8 @@ unfolding list_text
 list_written count closing o p q few c e f g =
     g ∙ ap (λ l. p ++ l) (ap (take count) c ∙ fewer_ends count 999 few) ∙ ap (λ l. l ++ replicate count 41) (f ∙ ap (λ l. l ++ codes "Nil") e) ∙ append_assoc (heads count 1) (codes "Nil") (replicate count 41)
 
-pub name_written : (n : ℕ) (o p : List ℕ) → o ≡ codes "j" → p ≡ o ++ number n → p ≡ made_name n
-name_written n o p e f = f ∙ ap (λ l. l ++ number n) e
+pub name_written : (n : ℕ) (o p : List ℕ) → o ≡ [] → p ≡ o ++ (codes "j" ++ number n) → p ≡ made_name n
+name_written n o p e f = f ∙ ap (λ l. l ++ (codes "j" ++ number n)) e
 
 -- ---- lists of what so many numbers have
 

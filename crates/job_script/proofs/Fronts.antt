@@ -3,7 +3,7 @@ use Rattle.std.proofs.Common.{◌≡◌, ℕ, zero, suc, ◌+◌, ◌-◌, ◌<�
 use Rattle.std.proofs.Math.Seq.{take-append_seam}
 use Rattle.std.proofs.lemmas.List.{get_or_append_left, get_or_push}
 use Rattle.std.specs.Prelude.{codes}
-use Rattle.certificate.specs.Numbers.{number}
+use Rattle.text_lines.specs.Numbers.{number}
 use Rattle.job_script.specs.Made.{heads}
 use Rattle.job_script.specs.Fronts.{AreFronts}
 

@@ -4,10 +4,9 @@ use Rattle.std.specs.Prelude.{codes, if◌then◌else◌}
 use Rattle.std.specs.Option.{option_map}
 use Rattle.std.specs.Str.{bytes_eq}
 use Rattle.camelot_values.specs.Names.{is_lower_name}
-use Rattle.certificate.specs.Reading.{and_then, only_if, upto, from, number_of}
+use Rattle.text_lines.specs.Cuts.{and_then, only_if, upto, from, word_of, number_of, IsCut}
 use Rattle.job_script.specs.Scripts.{IsUpTo}
-use Rattle.job_script.specs.Heads.{IsCut}
-use Rattle.job_script.specs.Reading.{word_of, is_word, language_of, args_of, Head, HProgram, HJob, HeadFits, job_by, program_of, fuel_of, entry_of_job, job_of, head_of, IsRead, IsStopped}
+use Rattle.job_script.specs.Reading.{is_word, language_of, args_of, Head, HProgram, HJob, HeadFits, job_by, program_of, fuel_of, entry_of_job, job_of, head_of, IsRead, IsStopped}
 use Rattle.job_script.specs.declared.stop.LineStop.{LineStop}
 use Rattle.job_script.specs.declared.stop.LineStop.TheVariants as stop
 

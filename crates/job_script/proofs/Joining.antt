@@ -1,21 +1,18 @@
 -- Pieces of a script's text that are written one after the other.
-use Rattle.std.proofs.Common.{◌≡◌, ℕ, suc, ◌+◌, ◌^◌, ◌<◌, ◌≤◌, List, [], ◌∷◌, ◌++◌, length, map, drop, get_or, sym, ap, ◌∙◌, append_assoc, append-nil, drop-cons, drop_of_length-le, add-one}
-use Rattle.std.specs.Prelude.{flat_map, codes, decimal}
-use Rattle.certificate.specs.Numbers.{number}
-use Rattle.certificate.specs.NumberLaws.{number-decimal}
-use Rattle.job_script.specs.Scripts.{Program, Job, AProgram, AJob, Script, text_of_lines}
+use Rattle.std.proofs.Common.{◌≡◌, ℕ, suc, ◌+◌, ◌<◌, ◌≤◌, List, [], ◌∷◌, ◌++◌, length, map, drop, get_or, sym, ap, ◌∙◌, append_assoc, append-nil, drop-cons, drop_of_length-le, add-one}
+use Rattle.std.specs.Prelude.{flat_map, codes}
+use Rattle.text_lines.specs.Lines.{text_of_lines}
+use Rattle.text_lines.specs.Numbers.{number}
+use Rattle.job_script.specs.Scripts.{Program, Job, AProgram, AJob, Script}
 use Rattle.job_script.specs.Text.{language, args_part, entry_text, script_text, IsScriptText, arena_line, workers_line}
 
-pub number_is : (n : ℕ) (old new written : List ℕ) → n < 2 ^ 64 → written ≡ decimal n → new ≡ old ++ written → new ≡ old ++ number n
-number_is n old new written h e f = f ∙ ap (λ l. old ++ l) (e ∙ sym (number-decimal n h))
-
-two : (a b c o p : List ℕ) → o ≡ a ++ b → p ≡ o ++ c → p ≡ a ++ (b ++ c)
+pub two : (a b c o p : List ℕ) → o ≡ a ++ b → p ≡ o ++ c → p ≡ a ++ (b ++ c)
 two a b c o p e f = f ∙ ap (λ l. l ++ c) e ∙ append_assoc a b c
 
 pub spaced : (a w o p : List ℕ) → o ≡ a ++ 32 ∷ [] → p ≡ o ++ w → p ≡ a ++ 32 ∷ w
 spaced a w o p e f = two a (32 ∷ []) w o p e f
 
-pub three : (a b c d o p q : List ℕ) → o ≡ a ++ b → p ≡ o ++ c → q ≡ p ++ d → q ≡ a ++ (b ++ (c ++ d))
+three : (a b c d o p q : List ℕ) → o ≡ a ++ b → p ≡ o ++ c → q ≡ p ++ d → q ≡ a ++ (b ++ (c ++ d))
 three a b c d o p q e f g = two (a ++ b) c d p q (f ∙ ap (λ l. l ++ c) e) g ∙ append_assoc a b (c ++ d)
 
 -- a piece behind another one, the rest of the line already behind it

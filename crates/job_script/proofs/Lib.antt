@@ -1,5 +1,4 @@
 -- Steps of the reader.
-pub mod Cuts
 pub mod Caps
 pub mod Stopping
 pub mod Naming
@@ -8,7 +7,8 @@ pub mod Heading
 pub mod Body
 pub mod Answering
 pub mod Placing
-pub mod Judging
+pub mod Deciding
+pub mod Lengths
 pub mod Joining
 pub mod Counted
 pub mod Fronts

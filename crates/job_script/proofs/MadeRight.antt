@@ -6,9 +6,10 @@ use Rattle.std.specs.List.{list_all, AllByRecursion}
 use Rattle.std.proofs.lemmas.List.Folds.{list_all-append}
 use Rattle.std.proofs.lemmas.Bool.Decides.{nat_tests}
 use Rattle.camelot_values.specs.Names.{is_tail, AreDistinct}
-use Rattle.certificate.specs.Numbers.{number}
-use Rattle.certificate.specs.NumberLaws.{number_one, number_free, by_steps}
-use Rattle.certificate.specs.CutLaws.{Free, free_cons, free_append}
+use Rattle.text_lines.specs.Numbers.{number}
+use Rattle.text_lines.specs.NumberLaws.{number_one, number_free, by_steps}
+use Rattle.text_lines.specs.Lines.{Free}
+use Rattle.text_lines.specs.CutLaws.{free_cons, free_append}
 use Rattle.job_script.specs.Scripts.{AProgram, Script, IsWord, IsBody, ProgramIsFormed, JobIsFormed, EntryIsFormed, EntryIsWithin, IsUpTo, IsScript, program_names, job_names}
 use Rattle.job_script.specs.Text.{EntryIsShort}
 use Rattle.job_script.specs.Words.{entry_of}

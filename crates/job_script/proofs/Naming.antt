@@ -4,10 +4,11 @@ use Rattle.std.specs.Prelude.{not, if◌then◌else◌}
 use Rattle.std.specs.Str.{bytes_eq}
 use Rattle.camelot_values.specs.Names.{AreDistinct, stands}
 use Rattle.camelot_values.specs.NameLaws.{AreNew, new_distinct, distinct_new, some_place, same_name}
+use Rattle.text_lines.specs.FrontLaws.{all_append}
 use Rattle.job_script.specs.Scripts.{AJob, Job, Script, EntryIsWithin, IsUpTo, IsWithin, HasOnce, program_names, job_names}
 use Rattle.job_script.specs.Reading.{add, program_by}
 use Rattle.job_script.specs.Steps.{IsAdded, Stood}
-use Rattle.job_script.specs.StateLaws.{all_append, programs_append, jobs_append}
+use Rattle.job_script.specs.StateLaws.{programs_append, jobs_append}
 
 not_false : (b c : Bool) → b ≡ not c → b ≡ true → c ≡ false
 not_false b true e h = absurd (let k : true ≡ false = sym h ∙ e in cc)

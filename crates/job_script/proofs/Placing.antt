@@ -3,9 +3,9 @@ use Rattle.std.proofs.Common.{◌≡◌, ℕ, ◌+◌, ◌<◌, ◌≤◌, true,
 use Rattle.std.specs.Prelude.{◌==◌}
 use Rattle.std.proofs.lemmas.Bool.Decides.{nat_tests}
 use Rattle.std.proofs.lemmas.List.{map-append}
+use Rattle.text_lines.specs.Lines.{HasLine}
 use Rattle.job_script.specs.Scripts.{Entry}
 use Rattle.job_script.specs.Words.{entry_of}
-use Rattle.job_script.specs.Steps.{HasLine}
 use Rattle.job_script.specs.declared.types.Entry.{Entry as DeclaredEntry}
 
 pub items_more : (old new : List DeclaredEntry) (entry : DeclaredEntry) (e : Entry) → new ≡ old ++ entry ∷ [] → entry_of entry ≡ e

@@ -7,14 +7,15 @@ use Rattle.std.specs.List.{list_all}
 use Rattle.std.specs.Str.{bytes_eq}
 use Rattle.camelot_values.specs.Names.{is_lower, is_tail, IsName, is_lower_name}
 use Rattle.camelot_values.specs.NameLaws.{same_name, name_itself, name_passes, passing_name}
-use Rattle.certificate.specs.Numbers.{number}
-use Rattle.certificate.specs.NumberLaws.{number_read, number_found, number_free}
-use Rattle.certificate.specs.Reading.{and_then, only_if, upto, from, number_of}
-use Rattle.certificate.specs.OptionLaws.{and_parts, true_false, some_same, then_some, then_is, only_some, only_is, map_some, map_is}
-use Rattle.certificate.specs.CutLaws.{Free, free_cons, free_parts, free_append, upto_cut, from_cut, upto_all, from_all, cut_parts, byte_is}
+use Rattle.text_lines.specs.Lines.{Free}
+use Rattle.text_lines.specs.Numbers.{number}
+use Rattle.text_lines.specs.NumberLaws.{number_read, number_found, number_free}
+use Rattle.text_lines.specs.Cuts.{and_then, only_if, upto, from, behind, word_of, number_of}
+use Rattle.text_lines.specs.OptionLaws.{and_parts, true_false, some_same, then_some, then_is, only_some, only_is, map_some, map_is}
+use Rattle.text_lines.specs.CutLaws.{free_cons, free_parts, free_append, upto_cut, from_cut, upto_all, from_all, cut_parts, byte_is}
 use Rattle.job_script.specs.Scripts.{Job, is_letter, IsWord, JobIsFormed}
 use Rattle.job_script.specs.Text.{language, program_line, args_part, job_line}
-use Rattle.job_script.specs.Reading.{word_of, is_word, number_in, number_behind, language_of, args_of, Head, HProgram, HJob, job_by, program_of, fuel_of, entry_of_job, job_of, head_of}
+use Rattle.job_script.specs.Reading.{is_word, number_behind, language_of, args_of, Head, HProgram, HJob, job_by, program_of, fuel_of, entry_of_job, job_of, head_of}
 
 -- ---- bytes that aren't there
 
@@ -82,9 +83,9 @@ word_found (b ∷ bs) p e =
 pub number_line_read : (tag : List ℕ) (n : ℕ) → Free 32 tag → number_behind tag (tag ++ 32 ∷ number n) ≡ Some n
 unfolding number_behind
 number_line_read tag n h =
-    only_is (bytes_eq (upto 32 (tag ++ 32 ∷ number n)) tag) (number_in (from 32 (tag ++ 32 ∷ number n))) (Some n)
+    only_is (bytes_eq (upto 32 (tag ++ 32 ∷ number n)) tag) (number_of (behind (from 32 (tag ++ 32 ∷ number n)))) (Some n)
     (ap (λ w. bytes_eq w tag) (upto_cut 32 tag (number n) h) ∙ name_itself tag)
-    (ap number_in (from_cut 32 tag (number n) h) ∙ number_read n)
+    (ap (λ l. number_of (behind l)) (from_cut 32 tag (number n) h) ∙ number_read n)
 
 from_space : (line : List ℕ) (b : ℕ) (bs : List ℕ) → from 32 line ≡ b ∷ bs → b ≡ 32
 from_space line b bs e = by_spaced (from 32 line) (spaced line) e
@@ -101,14 +102,18 @@ from_space line b bs e = by_spaced (from 32 line) (spaced line) e
     by_spaced [] s e = absurd cc
     by_spaced (x ∷ r) s e = let f : x ≡ b = cc in sym f ∙ s
 
+no_number : (n : ℕ) → number_of [] ≡ Some n → ⊥
+unfolding number_of
+no_number n e = absurd cc
+
 pub number_line_found : (tag line : List ℕ) (n : ℕ) → number_behind tag line ≡ Some n → line ≡ tag ++ 32 ∷ number n
 unfolding number_behind
 number_line_found tag line n e =
-    let p = only_some (bytes_eq (upto 32 line) tag) (number_in (from 32 line)) n e in
+    let p = only_some (bytes_eq (upto 32 line) tag) (number_of (behind (from 32 line))) n e in
     cut_parts 32 line ∙ ap (λ l. l ++ from 32 line) (same_name (upto 32 line) tag p.0) ∙ by_rest (from 32 line) refl p.1
   where
-    by_rest : (r : List ℕ) → from 32 line ≡ r → number_in r ≡ Some n → tag ++ from 32 line ≡ tag ++ 32 ∷ number n
-    by_rest [] q f = absurd cc
+    by_rest : (r : List ℕ) → from 32 line ≡ r → number_of (behind r) ≡ Some n → tag ++ from 32 line ≡ tag ++ 32 ∷ number n
+    by_rest [] q f = absurd (no_number n f)
     by_rest (b ∷ bs) q f = ap (λ l. tag ++ l) q ∙ ap (λ x. tag ++ x ∷ bs) (from_space line b bs q) ∙ ap (λ l. tag ++ 32 ∷ l) (number_found bs n f)
 
 -- ---- the parts of lines

@@ -19,11 +19,3 @@ head_view (head.Job j) = HJob (job_view j)
 abbrev pub SameBytes : Option (List ℕ) → Option (Bor (List ℕ)) → Type 0
 SameBytes found None = found ≡ None
 SameBytes found (Some bytes) = found ≡ Some bytes.now
-
--- the same word and the same rest, or both nothing
-pub record IsCut (found : Option (List ℕ × List ℕ)) (word rest : List ℕ) : Type 0 where
-  pub is : found ≡ Some (word, rest)
-
-abbrev pub CutWord : Option (List ℕ × List ℕ) → Option (Bor (List ℕ) × Bor (List ℕ)) → Type 0
-CutWord found None = found ≡ None
-CutWord found (Some p) = IsCut found p.0.now p.1.now

@@ -12,5 +12,4 @@ pub mod Places
 pub mod Faults
 pub mod HeadLaws
 pub mod StateLaws
-pub mod TextLaws
 pub mod Known

@@ -2,7 +2,7 @@
 -- The script of the drill: so many jobs of one program on so many workers. Job `i` doubles the list of the ints from 1
 -- to the remainder of 37 * `i` by 1000, and each hundredth job has too little fuel for it.
 use Rattle.std.specs.Prelude.{ℕ, zero, suc, ◌*◌, ◌%◌, ◌==◌, if◌then◌else◌, true, List, [], ◌∷◌, ◌++◌, replicate, codes}
-use Rattle.certificate.specs.Numbers.{number}
+use Rattle.text_lines.specs.Numbers.{number}
 use Rattle.job_script.specs.Scripts.{Program, Job, Entry, AProgram, AJob, Script}
 
 -- lists, and the function that doubles one

@@ -5,8 +5,11 @@ use Rattle.std.specs.Prelude.{◌≡◌, ℕ, ◌==◌, Bool, true, false, if◌
 use Rattle.std.specs.Option.{option_map}
 use Rattle.std.specs.Str.{bytes_eq}
 use Rattle.camelot_values.specs.Names.{is_name, is_lower_name}
-use Rattle.certificate.specs.Reading.{and_then, only_if, upto, from, number_of}
-use Rattle.job_script.specs.Scripts.{Job, Entry, AProgram, AJob, Script, is_letter, text_of_lines, IsUpTo}
+use Rattle.text_lines.specs.Lines.{text_of_lines}
+use Rattle.text_lines.specs.Cuts.{and_then, only_if, upto, from, behind, word_of, number_of}
+use Rattle.text_lines.specs.Machines.{Machine}
+use Rattle.job_script.specs.Scripts.{Job, Entry, AProgram, AJob, Script, is_letter, IsUpTo, IsFormed}
+use Rattle.job_script.specs.Text.{arena_line, program_line, script_text, script_format}
 use Rattle.job_script.specs.declared.stop.LineStop.{LineStop}
 use Rattle.job_script.specs.declared.stop.LineStop.TheVariants as stop
 
@@ -32,22 +35,13 @@ IsStopped found Fits stop.Memory = Unit {0}
 
 -- ---- the parts of a line
 
--- a space and the word behind it, and what is left
-abbrev pub word_of : List ℕ → Option (List ℕ × List ℕ)
-word_of [] = None
-word_of (b ∷ bs) = only_if (b == 32) (Some (upto 32 bs, from 32 bs))
-
 -- the name of a program or a job
 abbrev pub is_word : List ℕ → Bool
 is_word word = is_name is_letter word
 
-abbrev pub number_in : List ℕ → Option ℕ
-number_in [] = None
-number_in (b ∷ bs) = number_of bs
-
 -- the number behind this word, alone on a line
 unfoldable pub number_behind : List ℕ → List ℕ → Option ℕ
-number_behind tag line = only_if (bytes_eq (upto 32 line) tag) (number_in (from 32 line))
+number_behind tag line = only_if (bytes_eq (upto 32 line) tag) (number_of (behind (from 32 line)))
 
 -- the language of a program, behind a space
 abbrev pub language_of : List ℕ → Option Bool
@@ -121,13 +115,26 @@ step (Sized arena) line = option_map (λ workers. Between (script_by arena worke
 step (Between s) line = option_map (enter s) (head_of line)
 step (Inside s name camelot text) line = Some (if bytes_eq line (codes ".") then Between (add s (program_by name camelot text)) else Inside s name camelot (text ++ text_of_lines (line ∷ [])))
 
-abbrev pub run : State → List (List ℕ) → Option State
-run s [] = Some s
-run s (line ∷ lines) = and_then (step s line) (λ t. run t lines)
-
 -- the least script that goes on so
 abbrev pub closed : State → Script
 closed Start = script_by 1 1 []
 closed (Sized arena) = script_by arena 1 []
 closed (Between s) = s
 closed (Inside s name camelot text) = add s (program_by name camelot text)
+
+-- the lines that it has read
+abbrev pub so_far : State → List ℕ
+so_far Start = []
+so_far (Sized arena) = text_of_lines (arena_line arena ∷ [])
+so_far (Between s) = script_text s
+so_far (Inside s name camelot text) = script_text s ++ (text_of_lines (program_line name camelot ∷ []) ++ text)
+
+-- the text may end between two entries
+abbrev pub may_end : State → Bool
+may_end Start = false
+may_end (Sized arena) = false
+may_end (Between s) = true
+may_end (Inside s name camelot text) = false
+
+abbrev pub script_machine : Machine script_format
+script_machine = record { State = State; start = Start; step = step; ends = may_end; closed = closed; so_far = so_far; IsGood = λ s. IsFormed (closed s) }

@@ -1,9 +1,10 @@
 -- Cited by contracts.
 -- Scripts as plain data (`SCRIPTS.md`): the cells of the arena, the workers, and programs and jobs in the order of the
 -- text.
-use Rattle.std.specs.Prelude.{◌≡◌, ℕ, ◌≤◌, ◌==◌, ◌||◌, Bool, List, [], ◌∷◌, ◌++◌, length, flat_map, IsFalse}
-use Rattle.std.specs.List.{list_any, AllByRecursion}
+use Rattle.std.specs.Prelude.{◌≡◌, ℕ, ◌≤◌, ◌||◌, Bool, List, [], ◌∷◌, length}
+use Rattle.std.specs.List.{AllByRecursion}
 use Rattle.camelot_values.specs.Names.{is_lower, is_upper, IsName, IsLowerName, AreDistinct}
+use Rattle.text_lines.specs.Lines.{IsOneLine, text_of_lines}
 
 -- a program in Camelot, or its Grail bundle; the text is its lines with their line feeds
 pub record Program : Type 0 where
@@ -37,14 +38,6 @@ is_letter b = is_lower b || is_upper b
 -- the name of a program or a job: a letter, then letters, digits or `_`, and at most 64 bytes
 abbrev pub IsWord : List ℕ → Type 0
 IsWord word = IsName is_letter word
-
--- no line feed
-abbrev pub IsOneLine : List ℕ → Type 0
-IsOneLine bytes = IsFalse (list_any (λ b. b == 10) bytes)
-
--- each line with its line feed
-abbrev pub text_of_lines : List (List ℕ) → List ℕ
-text_of_lines lines = flat_map (λ line. line ++ 10 ∷ []) lines
 
 -- a line of a program: its end is the line `.`
 pub record IsTextLine (line : List ℕ) : Type 0 where
@@ -105,10 +98,6 @@ pub record IsWithin (s : Script) : Type 0 where
   pub fuels : AllByRecursion EntryIsWithin s.items
   pub programs : length (program_names s.items) ≤ 64
   pub jobs : length (job_names s.items) ≤ 4096
-
-pub record IsCounted (s : Script) : Type 0 where
-  pub formed : IsFormed s
-  pub within : IsWithin s
 
 -- ---- names
 

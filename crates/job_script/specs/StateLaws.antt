@@ -1,36 +1,23 @@
 -- Laws, for the proofs of this crate and of those above it.
 -- The states of the reader: their text, and what a further line keeps.
-use Rattle.std.proofs.Common.{◌≡◌, ℕ, ◌≤◌, Bool, true, false, List, [], ◌∷◌, ◌++◌, length, Option, Some, refl, sym, ap, ◌∙◌, subst, arith, append_assoc, append-nil, inl, inr, length-append}
-use Rattle.std.specs.Prelude.{◌⊎◌, if◌then◌else◌, codes, flat_map}
+use Rattle.std.proofs.Common.{◌≡◌, ℕ, zero, suc, ◌≤◌, Bool, true, false, List, [], ◌∷◌, ◌++◌, length, Some, refl, sym, ap, ◌∙◌, subst, arith, append_assoc, append-nil, length-append}
+use Rattle.std.specs.Prelude.{if◌then◌else◌, codes, flat_map}
 use Rattle.std.specs.List.{AllByRecursion}
 use Rattle.std.specs.Str.{bytes_eq}
 use Rattle.camelot_values.specs.Names.{AreDistinct}
 use Rattle.camelot_values.specs.NameLaws.{same_name, name_itself}
-use Rattle.certificate.specs.OptionLaws.{some_same, then_some, then_is, map_some, map_is}
-use Rattle.certificate.specs.CutLaws.{Free}
-use Rattle.certificate.specs.TextLaws.{Further, fronts, first_line}
-use Rattle.job_script.specs.Scripts.{Entry, AProgram, AJob, Script, IsTextLine, IsBody, EntryIsFormed, IsFormed, EntryIsWithin, IsWithin, HasOnce, text_of_lines, program_names, job_names}
-use Rattle.job_script.specs.Text.{arena_line, workers_line, program_line, job_line, entry_text, script_text, Begins}
-use Rattle.job_script.specs.Reading.{number_behind, Head, HProgram, HJob, head_of, State, Start, Sized, Between, Inside, script_by, add, program_by, enter, step, run, closed}
+use Rattle.text_lines.specs.Lines.{Free, text_of_lines}
+use Rattle.text_lines.specs.Formats.{IsRight}
+use Rattle.text_lines.specs.Machines.{run, Leads, IsClosing, Shows}
+use Rattle.text_lines.specs.OptionLaws.{some_same, then_is, map_some, map_is}
+use Rattle.text_lines.specs.FrontLaws.{all_append, all_left, all_last, flat_append}
+use Rattle.text_lines.specs.ReadingLaws.{run_append}
+use Rattle.job_script.specs.Scripts.{Entry, AProgram, AJob, Script, IsTextLine, IsBody, EntryIsFormed, IsFormed, EntryIsWithin, IsWithin, HasOnce, IsScript, program_names, job_names}
+use Rattle.job_script.specs.Text.{arena_line, workers_line, program_line, job_line, entry_text, script_text, script_asks, script_format}
+use Rattle.job_script.specs.Reading.{number_behind, Head, HProgram, HJob, head_of, State, Start, Sized, Between, Inside, script_by, add, program_by, enter, step, closed, so_far, may_end, script_machine}
 use Rattle.job_script.specs.HeadLaws.{number_line_read, number_line_found, number_line_free, head_line, HeadIsFormed, head_read, head_found, head_free}
 
 -- ---- lists
-
-pub flat_append : {A B : Type 0} (f : A → List B) (xs ys : List A) → flat_map f (xs ++ ys) ≡ flat_map f xs ++ flat_map f ys
-flat_append f [] ys = refl
-flat_append f (x ∷ xs) ys = ap (λ l. f x ++ l) (flat_append f xs ys) ∙ sym (append_assoc (f x) (flat_map f xs) (flat_map f ys))
-
-pub all_append : {A : Type 0} (P : A → Type 0) (xs ys : List A) → AllByRecursion P xs → AllByRecursion P ys → AllByRecursion P (xs ++ ys)
-all_append P [] ys h k = k
-all_append P (x ∷ xs) ys h k = (h.0, all_append P xs ys h.1 k)
-
-pub all_left : {A : Type 0} (P : A → Type 0) (xs ys : List A) → AllByRecursion P (xs ++ ys) → AllByRecursion P xs
-all_left P [] ys h = tt
-all_left P (x ∷ xs) ys h = (h.0, all_left P xs ys h.1)
-
-pub all_last : {A : Type 0} (P : A → Type 0) (xs : List A) (y : A) → AllByRecursion P (xs ++ y ∷ []) → P y
-all_last P [] y h = h.0
-all_last P (x ∷ xs) y h = all_last P xs y h.1
 
 pub programs_append : (xs ys : List Entry) → program_names (xs ++ ys) ≡ program_names xs ++ program_names ys
 programs_append [] ys = refl
@@ -48,13 +35,6 @@ distinct_left xs ys h word before between rest e =
     h word before between (rest ++ ys) (ap (λ l. l ++ ys) e ∙ append_assoc before (word ∷ (between ++ word ∷ rest)) ys ∙ ap (λ l. before ++ word ∷ l) (append_assoc between (word ∷ rest) ys))
 
 -- ---- the text of a state
-
--- the lines that it has read
-abbrev pub so_far : State → List ℕ
-so_far Start = []
-so_far (Sized arena) = text_of_lines (arena_line arena ∷ [])
-so_far (Between s) = script_text s
-so_far (Inside s name camelot text) = script_text s ++ (text_of_lines (program_line name camelot ∷ []) ++ text)
 
 pub add_text : (s : Script) (e : Entry) → script_text (add s e) ≡ script_text s ++ entry_text e
 unfolding script_text
@@ -92,12 +72,7 @@ step_text (Inside s name camelot text) t line f e = ap so_far (sym (some_same (i
     by_test false h =
         ap (λ l. script_text s ++ l) (sym (append_assoc (text_of_lines (program_line name camelot ∷ [])) text (text_of_lines (line ∷ [])))) ∙ sym (append_assoc (script_text s) (text_of_lines (program_line name camelot ∷ []) ++ text) (text_of_lines (line ∷ [])))
 
--- what is still needed
-pub record Closing (s : State) : Type 0 where
-  pub rest : List ℕ
-  pub is : script_text (closed s) ≡ so_far s ++ rest
-
-pub closing : (s : State) → Closing s
+pub closing : (s : State) → IsClosing script_machine s
 closing Start = record { rest = script_text (script_by 1 1 []); is = refl }
 closing (Sized arena) = record { rest = text_of_lines (workers_line 1 ∷ []); is = workers_text arena 1 }
 closing (Between s) = record { rest = []; is = sym (append-nil (script_text s)) }
@@ -181,6 +156,9 @@ once_text s name camelot text other h = record {
   jobs = subst AreDistinct (jobs_append s.items (program_by name camelot other ∷ []) ∙ sym (jobs_append s.items (program_by name camelot text ∷ []))) h.jobs;
 }
 
+pub formed_least : IsFormed (script_by 1 1 [])
+formed_least = record { items = tt }
+
 pub once_least : (a w : ℕ) → HasOnce (script_by a w [])
 once_least a w = record { programs = none; jobs = none }
   where
@@ -223,66 +201,20 @@ step_back P b (Inside s name camelot text) t line e h =
     by_test true k = k
     by_test false k = b.text s name camelot text (text ++ text_of_lines (line ∷ [])) k
 
-pub run_back : (P : Script → Type 0) → IsBackward P → (s t : State) (lines : List (List ℕ)) → run s lines ≡ Some t → P (closed t) → P (closed s)
-run_back P b s t [] e h = subst (λ t. P (closed t)) (sym (some_same s t e)) h
-run_back P b s t (line ∷ lines) e h = let (m, m_is, m_run) = then_some (step s line) (λ m. run m lines) t e in step_back P b s m line m_is (run_back P b m t lines m_run h)
-
--- ---- runs
-
-pub run_append : (s t : State) (xs ys : List (List ℕ)) → run s xs ≡ Some t → run s (xs ++ ys) ≡ run t ys
-run_append s t [] ys e = ap (λ s. run s ys) (some_same s t e)
-run_append s t (x ∷ xs) ys e =
-    let (m, m_is, m_run) = then_some (step s x) (λ m. run m xs) t e in
-    then_is (step s x) (λ m. run m (xs ++ ys)) m (run t ys) m_is (run_append m t xs ys m_run)
-
--- the front of a run
-pub record Front (s t : State) (xs ys : List (List ℕ)) : Type 0 where
-  pub state : State
-  pub is : run s xs ≡ Some state
-  pub on : run state ys ≡ Some t
-
-pub run_front : (s t : State) (xs ys : List (List ℕ)) → run s (xs ++ ys) ≡ Some t → Front s t xs ys
-run_front s t [] ys e = record { state = s; is = refl; on = e }
-run_front s t (x ∷ xs) ys e =
-    let (m, m_is, m_run) = then_some (step s x) (λ m. run m (xs ++ ys)) t e in
-    let f = run_front m t xs ys m_run in
-    record { state = f.state; is = then_is (step s x) (λ m. run m xs) m (Some f.state) m_is f.is; on = f.on }
-
-pub run_text : (s t : State) (lines : List (List ℕ)) → AllByRecursion (Free 10) lines → run s lines ≡ Some t → so_far t ≡ so_far s ++ text_of_lines lines
-run_text s t [] h e = ap so_far (sym (some_same s t e)) ∙ sym (append-nil (so_far s))
-run_text s t (line ∷ lines) h e =
-    let (m, m_is, m_run) = then_some (step s line) (λ m. run m lines) t e in
-    run_text m t lines h.1 m_run ∙ ap (λ l. l ++ text_of_lines lines) (step_text s m line h.0 m_is) ∙ append_assoc (so_far s) (text_of_lines (line ∷ [])) (text_of_lines lines)
-    ∙ ap (λ l. so_far s ++ l) (sym (flat_append (λ line. line ++ 10 ∷ []) (line ∷ []) lines))
-
-pub run_formed : (s t : State) (lines : List (List ℕ)) → AllByRecursion (Free 10) lines → IsFormed (closed s) → run s lines ≡ Some t → IsFormed (closed t)
-run_formed s t [] h k e = subst (λ t. IsFormed (closed t)) (some_same s t e) k
-run_formed s t (line ∷ lines) h k e = let (m, m_is, m_run) = then_some (step s line) (λ m. run m lines) t e in run_formed m t lines h.1 (step_formed s m line h.0 k m_is) m_run
-
-pub formed_least : IsFormed (script_by 1 1 [])
-formed_least = record { items = tt }
-
 -- ---- the lines of a script
 
--- lines of this text lead from one state to another
-pub record Lines (s : State) (text : List ℕ) (t : State) : Type 0 where
-  pub lines : List (List ℕ)
-  pub each : AllByRecursion (Free 10) lines
-  pub is : text_of_lines lines ≡ text
-  pub run : run s lines ≡ Some t
-
-no_lines : (s : State) → Lines s [] s
+no_lines : (s : State) → Leads script_machine s [] s
 no_lines s = record { lines = []; each = tt; is = refl; run = refl }
 
-one_more : (s t : State) (line : List ℕ) → Free 10 line → step s line ≡ Some t → Lines s (text_of_lines (line ∷ [])) t
-one_more s t line h e = record { lines = line ∷ []; each = (h, tt); is = refl; run = then_is (step s line) (λ m. run m []) t (Some t) e refl }
+one_more : (s t : State) (line : List ℕ) → Free 10 line → step s line ≡ Some t → Leads script_machine s (text_of_lines (line ∷ [])) t
+one_more s t line h e = record { lines = line ∷ []; each = (h, tt); is = refl; run = then_is (step s line) (λ m. run script_machine m []) t (Some t) e refl }
 
-join : (s t u : State) (x y : List ℕ) → Lines s x t → Lines t y u → Lines s (x ++ y) u
+join : (s t u : State) (x y : List ℕ) → Leads script_machine s x t → Leads script_machine t y u → Leads script_machine s (x ++ y) u
 join s t u x y a b = record {
   lines = a.lines ++ b.lines;
   each = all_append (Free 10) a.lines b.lines a.each b.each;
   is = flat_append (λ line. line ++ 10 ∷ []) a.lines b.lines ∙ ap (λ l. l ++ text_of_lines b.lines) a.is ∙ ap (λ l. x ++ l) b.is;
-  run = run_append s t a.lines b.lines a.run ∙ b.run;
+  run = run_append script_machine s t a.lines b.lines a.run ∙ b.run;
 }
 
 inside_step : (s : Script) (name : List ℕ) (camelot : Bool) (text line : List ℕ) → IsTextLine line
@@ -295,10 +227,10 @@ inside_step s name camelot text line h = by_test (bytes_eq line (codes ".")) ref
     by_test false k = refl
 
 pub body_run : (s : Script) (name : List ℕ) (camelot : Bool) (text : List ℕ) (lines : List (List ℕ)) → AllByRecursion IsTextLine lines
-    → run (Inside s name camelot text) lines ≡ Some (Inside s name camelot (text ++ text_of_lines lines))
+    → run script_machine (Inside s name camelot text) lines ≡ Some (Inside s name camelot (text ++ text_of_lines lines))
 body_run s name camelot text [] h = ap (λ l. Some (Inside s name camelot l)) (sym (append-nil text))
 body_run s name camelot text (line ∷ lines) h =
-    then_is (step (Inside s name camelot text) line) (λ m. run m lines) (Inside s name camelot (text ++ text_of_lines (line ∷ []))) (Some (Inside s name camelot (text ++ text_of_lines (line ∷ lines)))) (inside_step s name camelot text line h.0)
+    then_is (step (Inside s name camelot text) line) (λ m. run script_machine m lines) (Inside s name camelot (text ++ text_of_lines (line ∷ []))) (Some (Inside s name camelot (text ++ text_of_lines (line ∷ lines)))) (inside_step s name camelot text line h.0)
     (body_run s name camelot (text ++ text_of_lines (line ∷ [])) lines h.1
     ∙ ap (λ l. Some (Inside s name camelot l)) (append_assoc text (text_of_lines (line ∷ [])) (text_of_lines lines) ∙ ap (λ l. text ++ l) (sym (flat_append (λ line. line ++ 10 ∷ []) (line ∷ []) lines))))
 
@@ -307,72 +239,66 @@ lines_one [] h = tt
 lines_one (line ∷ lines) h = (h.0.one, lines_one lines h.1)
 
 pub body_lines : (s : Script) (name : List ℕ) (camelot : Bool) (text : List ℕ) (lines : List (List ℕ)) → AllByRecursion IsTextLine lines
-    → Lines (Inside s name camelot text) (text_of_lines lines) (Inside s name camelot (text ++ text_of_lines lines))
+    → Leads script_machine (Inside s name camelot text) (text_of_lines lines) (Inside s name camelot (text ++ text_of_lines lines))
 body_lines s name camelot text lines h = record { lines = lines; each = lines_one lines h; is = refl; run = body_run s name camelot text lines h }
 
 head_step : (s : Script) (h : Head) → HeadIsFormed h → step (Between s) (head_line h) ≡ Some (enter s h)
 head_step s h k = map_is (enter s) (head_of (head_line h)) h (head_read h k)
 
-pub entry_lines : (s : Script) (e : Entry) → EntryIsFormed e → Lines (Between s) (entry_text e) (Between (add s e))
+pub entry_lines : (s : Script) (e : Entry) → EntryIsFormed e → Leads script_machine (Between s) (entry_text e) (Between (add s e))
 entry_lines s (AProgram p) h =
     let start = one_more (Between s) (Inside s p.name p.camelot []) (program_line p.name p.camelot) (head_free (HProgram p.name p.camelot) h.name) (head_step s (HProgram p.name p.camelot) h.name) in
-    let body = subst (λ l. Lines (Inside s p.name p.camelot []) l (Inside s p.name p.camelot l)) (sym h.text.is) (body_lines s p.name p.camelot [] h.text.lines h.text.each) in
+    let body = subst (λ l. Leads script_machine (Inside s p.name p.camelot []) l (Inside s p.name p.camelot l)) (sym h.text.is) (body_lines s p.name p.camelot [] h.text.lines h.text.each) in
     let end = one_more (Inside s p.name p.camelot p.text) (Between (add s (AProgram p))) (codes ".") refl refl in
     join (Between s) (Inside s p.name p.camelot []) (Between (add s (AProgram p))) (text_of_lines (program_line p.name p.camelot ∷ [])) (p.text ++ text_of_lines (codes "." ∷ [])) start
     (join (Inside s p.name p.camelot []) (Inside s p.name p.camelot p.text) (Between (add s (AProgram p))) p.text (text_of_lines (codes "." ∷ [])) body end)
 entry_lines s (AJob j) h = one_more (Between s) (Between (add s (AJob j))) (job_line j) (head_free (HJob j) h) (head_step s (HJob j) h)
 
 items_lines : (arena workers : ℕ) (items more : List Entry) → AllByRecursion EntryIsFormed more
-    → Lines (Between (script_by arena workers items)) (flat_map entry_text more) (Between (script_by arena workers (items ++ more)))
-items_lines arena workers items [] h = subst (λ l. Lines (Between (script_by arena workers items)) [] (Between (script_by arena workers l))) (sym (append-nil items)) (no_lines (Between (script_by arena workers items)))
+    → Leads script_machine (Between (script_by arena workers items)) (flat_map entry_text more) (Between (script_by arena workers (items ++ more)))
+items_lines arena workers items [] h = subst (λ l. Leads script_machine (Between (script_by arena workers items)) [] (Between (script_by arena workers l))) (sym (append-nil items)) (no_lines (Between (script_by arena workers items)))
 items_lines arena workers items (e ∷ more) h =
-    subst (λ l. Lines (Between (script_by arena workers items)) (entry_text e ++ flat_map entry_text more) (Between (script_by arena workers l))) (append_assoc items (e ∷ []) more)
+    subst (λ l. Leads script_machine (Between (script_by arena workers items)) (entry_text e ++ flat_map entry_text more) (Between (script_by arena workers l))) (append_assoc items (e ∷ []) more)
     (join (Between (script_by arena workers items)) (Between (script_by arena workers (items ++ e ∷ []))) (Between (script_by arena workers ((items ++ e ∷ []) ++ more))) (entry_text e) (flat_map entry_text more)
     (entry_lines (script_by arena workers items) e h.0) (items_lines arena workers (items ++ e ∷ []) more h.1))
 
-pub script_lines : (s : Script) → IsFormed s → Lines Start (script_text s) (Between s)
+pub script_lines : (s : Script) → IsFormed s → Leads script_machine Start (script_text s) (Between s)
 unfolding script_text
 script_lines s h =
     let two : text_of_lines (arena_line s.arena ∷ []) ++ text_of_lines (workers_line s.workers ∷ []) ≡ text_of_lines (arena_line s.arena ∷ workers_line s.workers ∷ []) = sym (flat_append (λ line. line ++ 10 ∷ []) (arena_line s.arena ∷ []) (workers_line s.workers ∷ [])) in
     let arena = one_more Start (Sized s.arena) (arena_line s.arena) (number_line_free (codes "arena") s.arena refl) (map_is Sized (number_behind (codes "arena") (arena_line s.arena)) s.arena (number_line_read (codes "arena") s.arena refl)) in
     let workers = one_more (Sized s.arena) (Between (script_by s.arena s.workers [])) (workers_line s.workers) (number_line_free (codes "workers") s.workers refl)
     (map_is (λ workers. Between (script_by s.arena workers [])) (number_behind (codes "workers") (workers_line s.workers)) s.workers (number_line_read (codes "workers") s.workers refl)) in
-    let front = subst (λ l. Lines Start l (Between (script_by s.arena s.workers []))) two (join Start (Sized s.arena) (Between (script_by s.arena s.workers [])) (text_of_lines (arena_line s.arena ∷ [])) (text_of_lines (workers_line s.workers ∷ [])) arena workers) in
+    let front = subst (λ l. Leads script_machine Start l (Between (script_by s.arena s.workers []))) two (join Start (Sized s.arena) (Between (script_by s.arena s.workers [])) (text_of_lines (arena_line s.arena ∷ [])) (text_of_lines (workers_line s.workers ∷ [])) arena workers) in
     join Start (Between (script_by s.arena s.workers [])) (Between s) (text_of_lines (arena_line s.arena ∷ workers_line s.workers ∷ [])) (flat_map entry_text s.items) front (items_lines s.arena s.workers [] s.items h.items)
 
--- ---- fronts of scripts
+-- ---- what the format shows of its machine
 
--- lines in front of a script lead to a state, from which others lead to the script
-pub record Reached (s : Script) (lines : List (List ℕ)) : Type 0 where
-  pub more : List (List ℕ)
-  pub front : Front Start (Between s) lines more
+asks_back : (k : ℕ) (s t : State) (line : List ℕ) → step s line ≡ Some t → script_asks k (closed t) → script_asks k (closed s)
+asks_back zero s t line e h = step_back IsWithin within_backward s t line e h
+asks_back (suc zero) s t line e h = step_back HasOnce once_backward s t line e h
+asks_back (suc (suc k)) s t line e h = tt
 
-pub reached : (s : Script) (lines : List (List ℕ)) (rest : List ℕ) → IsFormed s → AllByRecursion (Free 10) lines
-    → script_text s ≡ text_of_lines lines ++ rest → Reached s lines
-reached s lines rest h each e =
-    let l = script_lines s h in
-    by_case l (fronts lines l.lines rest [] each l.each (sym e ∙ sym l.is ∙ sym (append-nil (text_of_lines l.lines))))
-  where
-    no_text : (l r : List ℕ) → [] ≡ l ++ 10 ∷ r → ⊥
-    no_text [] r e = absurd cc
-    no_text (b ∷ l) r e = absurd cc
+end_is : (s : State) → may_end s ≡ true → script_text (closed s) ≡ so_far s
+end_is Start e = absurd cc
+end_is (Sized arena) e = absurd cc
+end_is (Between s) e = refl
+end_is (Inside s name camelot text) e = absurd cc
 
-    none_more : (more : List (List ℕ)) → [] ≡ text_of_lines more ++ rest → more ≡ []
-    none_more [] e = refl
-    none_more (l ∷ more) e = absurd (no_text l (text_of_lines more ++ rest) (e ∙ first_line l more rest))
+pub script_shows : Shows script_machine
+script_shows = record {
+  start_far = refl;
+  start_good = formed_least;
+  start_right = ((formed_least, within_least), once_least 1 1);
+  good_formed = λ s h. h;
+  step_far = λ s t line g f e. step_text s t line f e;
+  step_good = λ s t line g f e. step_formed s t line f g e;
+  step_asks = λ k s t line g e h. asks_back k s t line e h;
+  end_far = λ s g e. end_is s e;
+  closing = λ s g. closing s;
+  written = λ s h. record { state = Between s; leads = script_lines s h; ends = refl; is = refl };
+}
 
-    by_case : (l : Lines Start (script_text s) (Between s)) → Further lines l.lines rest [] ⊎ Further l.lines lines [] rest → Reached s lines
-    by_case l (inl f) = record { more = f.more; front = run_front Start (Between s) lines f.more (ap (run Start) (sym f.is) ∙ l.run) }
-    by_case l (inr f) =
-        let same : lines ≡ l.lines = f.is ∙ ap (λ k. l.lines ++ k) (none_more f.more f.rest) ∙ append-nil l.lines in
-        record { more = []; front = record { state = Between s; is = ap (run Start) same ∙ l.run; on = refl } }
-
-pub begins : (P : Script → Type 0) (s : State) (lines : List (List ℕ)) → AllByRecursion (Free 10) lines → run Start lines ≡ Some s → P (closed s)
-    → Begins P lines
-begins P s lines each e h =
-    let c = closing s in
-    record { script = closed s; rest = c.rest; is = c.is ∙ ap (λ l. l ++ c.rest) (run_text Start s lines each e); right = h }
-
--- the state that a front leads to
-pub same_state : (s t : State) (o : Option State) → o ≡ Some s → o ≡ Some t → s ≡ t
-same_state s t o e f = some_same s t (sym e ∙ f)
+-- all that is asked of a script, as fields
+pub right_script : (s : Script) → IsRight script_format s → IsScript s
+right_script s h = record { formed = h.0.0; within = h.0.1; once = h.1 }

@@ -1,31 +1,18 @@
 -- Private: words for functions of this crate.
 -- Where the reader is in a text, between two lines.
-use Rattle.std.specs.Prelude.{◌≡◌, ℕ, suc, ◌+◌, ◌<◌, ◌≤◌, true, false, Some, List, [], ◌∷◌, ◌++◌, length}
+use Rattle.std.specs.Prelude.{◌≡◌, ℕ, ◌+◌, ◌<◌, ◌≤◌, true, false, List, [], ◌∷◌, ◌++◌, length}
 use Rattle.std.specs.List.{AllByRecursion}
 use Rattle.camelot_values.specs.Names.{stands}
-use Rattle.job_script.specs.Scripts.{Entry, IsOneLine, IsTextLine, IsScript, text_of_lines, program_names, job_names}
-use Rattle.job_script.specs.Reading.{State, Start, Between, run, closed, script_by}
+use Rattle.text_lines.specs.Lines.{IsOneLine, text_of_lines}
+use Rattle.text_lines.specs.Machines.{Reading}
+use Rattle.job_script.specs.Scripts.{Entry, IsTextLine, program_names, job_names}
+use Rattle.job_script.specs.Reading.{Between, script_by, script_machine}
 use Rattle.job_script.specs.declared.stop.LineStop.{LineStop}
 use Rattle.job_script.specs.declared.stop.LineStop.TheVariants as stop
 
--- a line and its line feed stand in front
-pub record HasLine (text line rest : List ℕ) : Type 0 where
-  pub parts : text ≡ line ++ 10 ∷ rest
-  pub one : IsOneLine line
-
--- the lines of this state were read, and the next line has this number
-pub record Reading (text : List ℕ) (state : State) (rest : List ℕ) (number : ℕ) : Type 0 where
-  pub lines : List (List ℕ)
-  pub run : run Start lines ≡ Some state
-  pub each : AllByRecursion IsOneLine lines
-  pub parts : text ≡ text_of_lines lines ++ rest
-  pub count : number ≡ suc (length lines)
-  pub few : number + length rest ≤ suc (length text)
-  pub right : IsScript (closed state)
-
--- the same between entries, with the names that stand
+-- between two entries, with the names that stand
 pub record Going (text : List ℕ) (arena workers : ℕ) (items : List Entry) (programs jobs : List (List ℕ)) (rest : List ℕ) (number : ℕ) : Type 0 where
-  pub reading : Reading text (Between (script_by arena workers items)) rest number
+  pub reading : Reading script_machine text (Between (script_by arena workers items)) rest number
   pub programs_are : programs ≡ program_names items
   pub jobs_are : jobs ≡ job_names items
 

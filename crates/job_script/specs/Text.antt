@@ -1,10 +1,11 @@
 -- Cited by contracts.
 -- The text of scripts (`SCRIPTS.md`): lines that end with a line feed, of words one space apart. A script has one text,
 -- and a text is that of one script at most.
-use Rattle.std.specs.Prelude.{◌≡◌, ℕ, suc, ◌≤◌, Bool, true, false, List, [], ◌∷◌, ◌++◌, length, flat_map, codes, ◌⊎◌}
-use Rattle.std.specs.List.{AllByRecursion}
-use Rattle.certificate.specs.Numbers.{number}
-use Rattle.job_script.specs.Scripts.{Job, Entry, AProgram, AJob, Script, IsOneLine, text_of_lines, IsFormed, IsCounted, IsScript}
+use Rattle.std.specs.Prelude.{ℕ, zero, suc, ◌≤◌, Bool, true, false, List, [], ◌∷◌, ◌++◌, length, flat_map, codes}
+use Rattle.text_lines.specs.Lines.{text_of_lines}
+use Rattle.text_lines.specs.Numbers.{number}
+use Rattle.text_lines.specs.Formats.{Format, IsText, IsFault}
+use Rattle.job_script.specs.Scripts.{Job, Entry, AProgram, AJob, Script, IsFormed, IsWithin, HasOnce}
 
 -- ---- lines
 
@@ -43,68 +44,35 @@ entry_text (AJob j) = text_of_lines (job_line j ∷ [])
 unfoldable pub script_text : Script → List ℕ
 script_text s = text_of_lines (arena_line s.arena ∷ workers_line s.workers ∷ []) ++ flat_map entry_text s.items
 
+-- ---- the format
+
+-- the limits, and then that no name stands twice
+abbrev pub script_asks : ℕ → Script → Type 0
+script_asks zero s = IsWithin s
+script_asks (suc zero) s = HasOnce s
+script_asks (suc (suc k)) s = Unit {0}
+
+-- A form: numbers of any size, and any number of programs and jobs. Behind it two demands.
+abbrev pub script_format : Format
+script_format = record { Value = Script; text = script_text; IsFormed = IsFormed; most = 2; Asks = script_asks }
+
 -- the bytes are the text of this script
-pub record IsScriptText (bytes : List ℕ) (s : Script) : Type 0 where
-  pub is : script_text s ≡ bytes
-  pub right : IsScript s
+abbrev pub IsScriptText : List ℕ → Script → Type 0
+IsScriptText bytes s = IsText script_format bytes s
 
 -- ---- the first line that is wrong
 
--- some script that is right so far has these lines in front
-pub record Begins (Right : Script → Type 0) (lines : List (List ℕ)) : Type 0 where
-  pub script : Script
-  pub rest : List ℕ
-  pub is : script_text script ≡ text_of_lines lines ++ rest
-  pub right : Right script
-
--- no script has these lines in front, numbers of any size and any number of programs and jobs allowed
-abbrev pub HasNoForm : List (List ℕ) → Type 0
-HasNoForm lines = Begins IsFormed lines → ⊥
-
--- a limit alone is in the way
-pub record IsTooMuch (lines : List (List ℕ)) : Type 0 where
-  pub form : Begins IsFormed lines
-  pub wrong : Begins IsCounted lines → ⊥
-
--- a name that stood before alone is in the way
-pub record IsRepeated (lines : List (List ℕ)) : Type 0 where
-  pub count : Begins IsCounted lines
-  pub wrong : Begins IsScript lines → ⊥
-
--- The lines before begin a script, and with the line of this number, counted from 1, they are wrong in this way.
-pub record IsWrongLine (text : List ℕ) (Wrong : List (List ℕ) → Type 0) (number : ℕ) : Type 0 where
-  pub before : List (List ℕ)
-  pub line : List ℕ
-  pub rest : List ℕ
-  pub count : number ≡ suc (length before)
-  pub parts : text ≡ text_of_lines before ++ (line ++ 10 ∷ rest)
-  pub each : AllByRecursion IsOneLine before
-  pub one : IsOneLine line
-  pub good : Begins IsScript before
-  pub wrong : Wrong (before ++ line ∷ [])
-
--- The text ends in this line, in the middle of it or where it is still needed, and the lines before begin a script.
-pub record EndsEarly (text : List ℕ) (number : ℕ) : Type 0 where
-  pub before : List (List ℕ)
-  pub rest : List ℕ
-  pub count : number ≡ suc (length before)
-  pub parts : text ≡ text_of_lines before ++ rest
-  pub each : AllByRecursion IsOneLine before
-  pub one : IsOneLine rest
-  pub good : Begins IsScript before
-  pub unfinished : (s : Script) → IsScriptText text s → ⊥
-
 -- the first line that has no form
 abbrev pub IsLineFault : List ℕ → ℕ → Type 0
-IsLineFault text number = IsWrongLine text HasNoForm number ⊎ EndsEarly text number
+IsLineFault text number = IsFault script_format 0 text number
 
 -- the first line that has a form but a number outside its limits, or a program or a job too many
 abbrev pub IsCountFault : List ℕ → ℕ → Type 0
-IsCountFault text number = IsWrongLine text IsTooMuch number
+IsCountFault text number = IsFault script_format 1 text number
 
 -- the first line that is right but for the name of a program or a job that stood before
 abbrev pub IsRepeatFault : List ℕ → ℕ → Type 0
-IsRepeatFault text number = IsWrongLine text IsRepeated number
+IsRepeatFault text number = IsFault script_format 2 text number
 
 -- ---- what is said of each text
 
@@ -112,10 +80,3 @@ IsRepeatFault text number = IsWrongLine text IsRepeated number
 abbrev pub EntryIsShort : ℕ → Entry → Type 0
 EntryIsShort most (AProgram p) = length p.text ≤ most
 EntryIsShort most (AJob j) = length j.args ≤ most
-
--- it is a script's, or has a fault
-pub data IsJudged (text : List ℕ) : Type 0 where
-  Right : (s : Script) → IsScriptText text s → IsJudged text
-  NoForm : (line : ℕ) → IsLineFault text line → IsJudged text
-  TooMuch : (line : ℕ) → IsCountFault text line → IsJudged text
-  Repeated : (line : ℕ) → IsRepeatFault text line → IsJudged text

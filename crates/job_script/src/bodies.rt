@@ -1,7 +1,7 @@
 ghost use Rattle.std.specs.Prelude.{◌≤◌, ◌<◌, ◌+◌, length, MatchResult};
 ghost use Rattle.job_script.specs.Steps.{HasBody, IsOpen};
 
-use super::cutting::next_line;
+use text_lines::next_line;
 
 /// The text of a program, which ends at the first line `.`.
 #[derive(Drop)]

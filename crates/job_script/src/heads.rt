@@ -2,10 +2,10 @@ ghost use Rattle.std.specs.Prelude.{◌≡◌, Some, MatchResult};
 ghost use Rattle.job_script.specs.Reading.{HeadFits, language_of, args_of, program_of, fuel_of, entry_of_job, job_of, head_of, IsRead, IsStopped};
 ghost use Rattle.job_script.specs.Heads.{head_view, SameBytes};
 
-use super::cutting::{cut, next_word};
 use super::names::{is_lower_name, is_word};
 use super::numbers::{MOST_FUEL, read_limited};
 use super::stop::LineStop;
+use text_lines::{cut, next_word};
 
 /// The line of a job, in the text.
 #[derive(Drop)]

@@ -2,7 +2,8 @@
 ghost use Rattle.std.specs.Prelude.{◌≡◌, ◌≤◌, ◌+◌, ℕ, List, length};
 ghost use Rattle.std.specs.List.{AllByRecursion};
 ghost use Rattle.job_script.specs.Scripts.{Script as PlainScript, IsFormed, IsScript, program_names, job_names};
-ghost use Rattle.job_script.specs.Text.{script_text, IsScriptText, IsLineFault, IsCountFault, IsRepeatFault, EntryIsShort, IsJudged};
+ghost use Rattle.job_script.specs.Text.{script_text, script_format, IsScriptText, IsLineFault, IsCountFault, IsRepeatFault, EntryIsShort};
+ghost use Rattle.text_lines.specs.Formats.{IsJudged};
 
 /// A text is that of one script at most. Each text is a script's, or has a wrong line, or one beyond a limit, or one
 /// that repeats a name; it has one such fault, and none where it is a script's.
@@ -10,7 +11,7 @@ pub fn law_of_scripts()
     // A text is that of one script at most.
     ensures one { (s t : PlainScript) → IsFormed s → IsFormed t → script_text s ≡ script_text t → s ≡ t }
     // Each text is a script's, or has a fault of one of the three sorts.
-    ensures judged { (text : List ℕ) → IsJudged text }
+    ensures judged { (text : List ℕ) → IsJudged script_format text }
     // There is one first line without a form at most.
     ensures line { (text : List ℕ) (m n : ℕ) → IsLineFault text m → IsLineFault text n → m ≡ n }
     // There is one first line beyond a limit at most.

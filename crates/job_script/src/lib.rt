@@ -2,7 +2,6 @@
 #![tactic(auto)]
 
 mod bodies;
-mod cutting;
 mod entries;
 mod heads;
 mod known;

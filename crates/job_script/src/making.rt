@@ -1,7 +1,7 @@
 //! The script of the drill.
 ghost use Rattle.std.specs.Prelude.{◌≡◌, ◌≤◌, ◌++◌, ◌∷◌, [], codes, length, map, replicate, IfOk, OnOk};
 ghost use Rattle.std.specs.List.{AllByRecursion};
-ghost use Rattle.certificate.specs.Numbers.{number};
+ghost use Rattle.text_lines.specs.Numbers.{number};
 ghost use Rattle.job_script.specs.Made.{counted, heads, list_text, made_fuel, made_job, made_jobs, made_list, made_name, made_program, made_script};
 ghost use Rattle.job_script.specs.Fronts.{AreFronts, AreParts};
 ghost use Rattle.job_script.specs.Scripts.{AJob, AProgram, IsScript, IsUpTo};
@@ -9,9 +9,9 @@ ghost use Rattle.job_script.specs.Text.{EntryIsShort};
 ghost use Rattle.job_script.specs.Words.{entry_of, script_of, text_of, AreMade};
 
 use crate::types::{Entry, MadeTexts, Script};
-use crate::writing::push_number;
 use camelot_values::Word;
 use std::alloc::{AllocError, Global};
+use text_lines::push_number;
 
 // Lists, and the function that doubles one.
 const SOURCE: &[u8] =
@@ -22,8 +22,7 @@ const SOURCE: &[u8] =
 fn push_head(out: &mut Vec<u8>, item: u32) -> Result<(), AllocError>
     ensures { OnOk result (out.new.items ≡ out.old.items ++ (codes "Cons(" ++ (number item ++ codes ","))) }
 {
-    out.extend_from_slice(b"Cons(")?;
-    push_number(out, item as u64)?;
+    push_number(out, b"Cons(", item as u64)?;
     out.extend_from_slice(b",")
 }
 
@@ -124,8 +123,8 @@ fn list_text(alloc: Global, parts: &Parts, count: u32) -> Result<Vec<u8>, AllocE
 fn job_name(alloc: Global, number: u32) -> Result<Word, AllocError>
     ensures { IfOk result (λ word. word ≡ made_name number) }
 {
-    let mut name = Vec::from_slice(alloc, b"j")?;
-    push_number(&mut name, number as u64)?;
+    let mut name = Vec::new(alloc);
+    push_number(&mut name, b"j", number as u64)?;
     Word::new(alloc, &name)
 }
 

@@ -1,11 +1,10 @@
 ghost use Rattle.std.specs.Prelude.{◌≤◌, ◌-◌, MatchResult};
-ghost use Rattle.certificate.specs.Reading.{number_of};
+ghost use Rattle.text_lines.specs.Cuts.{number_of};
 ghost use Rattle.job_script.specs.Scripts.{IsUpTo};
 ghost use Rattle.job_script.specs.Reading.{number_behind, IsRead, IsStopped};
 
-use super::cutting::cut;
 use super::stop::LineStop;
-use certificate::number;
+use text_lines::{behind, cut, number};
 
 /// The most fuel of a job.
 pub(crate) const MOST_FUEL: u64 = 1_099_511_627_776;
@@ -39,8 +38,5 @@ pub(crate) fn read_sized(line: &[u8], tag: &[u8], most: u64) -> Result<u64, Line
     if first != tag {
         return Err(LineStop::Line);
     }
-    match rest {
-        [] => Err(LineStop::Line),
-        [_space, word @ ..] => read_limited(word, most),
-    }
+    read_limited(behind(rest), most)
 }

@@ -3,17 +3,18 @@ ghost use Rattle.job_script.specs.Scripts.{Script as PlainScript};
 ghost use Rattle.job_script.specs.Text.{IsScriptText, IsLineFault, IsCountFault, IsRepeatFault};
 ghost use Rattle.job_script.specs.Answers.{HasCause};
 ghost use Rattle.job_script.specs.Words.{script_of};
-ghost use Rattle.job_script.specs.Reading.{Sized, HProgram, HJob, head_of};
-ghost use Rattle.job_script.specs.Steps.{HasLine, Reading, Going};
+ghost use Rattle.job_script.specs.Reading.{Sized, HProgram, HJob, head_of, script_machine};
+ghost use Rattle.job_script.specs.Steps.{Going};
 ghost use Rattle.job_script.specs.Heads.{job_view};
 ghost use Rattle.job_script.specs.Places.{IsGoing, IsFurther};
 ghost use Rattle.job_script.specs.Faults.{stop_of};
 ghost use Rattle.job_script.specs.declared.reading.ScriptFault.TheVariants as fault;
 ghost use Rattle.stops.specs.Stopping.{FaultIs, IsFault};
 ghost use Rattle.stops.specs.declared.stop.Stop.TheVariants.{Memory};
+ghost use Rattle.text_lines.specs.Lines.{HasLine};
+ghost use Rattle.text_lines.specs.Machines.{Reading};
 
 use super::bodies::read_body;
-use super::cutting::next_line;
 use super::entries::job_entry;
 use super::heads::{Head, JobLine, read_head};
 use super::known::KnownNames;
@@ -23,6 +24,7 @@ use super::stop::LineStop;
 use super::types::{Entry, Script};
 use std::alloc::Global;
 use stops::Stop;
+use text_lines::next_line;
 use thiserror::Error;
 
 /// The most cells of an arena.
@@ -68,7 +70,7 @@ fn stop_at(stop: LineStop, line: u64) -> Stop<ScriptFault>
 
 // The arena's cells, and what is behind the first line.
 fn read_arena(text: &[u8]) -> Result<(u32, &[u8]), Stop<ScriptFault>>
-    ensures { MatchResult result (λ p. Reading text.now (Sized p.0) p.1.now 2) (λ stop. FaultIs (HasCause text.now) stop) }
+    ensures { MatchResult result (λ p. Reading script_machine text.now (Sized p.0) p.1.now 2) (λ stop. FaultIs (HasCause text.now) stop) }
 {
     let Some((line, rest)) = next_line(text) else {
         return Err(Stop::Fault(ScriptFault::Line { line: 1 }));
@@ -85,7 +87,7 @@ fn read_workers<'a>(
     arena: u32,
     rest: &'a [u8],
 ) -> Result<(u32, &'a [u8]), Stop<ScriptFault>>
-    requires { Reading text.now (Sized arena) rest.now 2 }
+    requires { Reading script_machine text.now (Sized arena) rest.now 2 }
     ensures { MatchResult result (λ p. Going text.now arena p.0 [] [] [] p.1.now 3) (λ stop. FaultIs (HasCause text.now) stop) }
 {
     let Some((line, after)) = next_line(rest) else {

@@ -1,21 +1,14 @@
 //! The text of a script.
 ghost use Rattle.std.specs.Prelude.{◌≡◌, ◌++◌, ◌∷◌, ℕ, List, [], map, flat_map, IfOk, OnOk};
-ghost use Rattle.certificate.specs.Numbers.{number};
-ghost use Rattle.job_script.specs.Scripts.{Job, Program, AJob, AProgram, text_of_lines};
+ghost use Rattle.job_script.specs.Scripts.{Job, Program, AJob, AProgram};
 ghost use Rattle.job_script.specs.Text.{IsScriptText, args_part, entry_text, language, script_text};
 ghost use Rattle.job_script.specs.Words.{entry_of, script_of};
+ghost use Rattle.text_lines.specs.Lines.{text_of_lines};
+ghost use Rattle.text_lines.specs.Numbers.{number};
 
 use crate::types::{Entry, Script};
-use itoa::Buffer;
 use std::alloc::{AllocError, Global};
-
-// Writes the number.
-#[tactic(auto, using(crate::proofs::Joining::number_is))]
-pub(crate) fn push_number(out: &mut Vec<u8>, value: u64) -> Result<(), AllocError>
-    ensures { OnOk result (out.new.items ≡ out.old.items ++ number value) }
-{
-    out.extend_from_slice(Buffer::new().format(value).as_bytes())
-}
+use text_lines::push_number;
 
 // Writes a space and a text.
 #[tactic(auto, using(crate::proofs::Joining::spaced))]
@@ -27,12 +20,10 @@ fn push_word(out: &mut Vec<u8>, word: &[u8]) -> Result<(), AllocError>
 }
 
 // Writes a space and a number.
-#[tactic(auto, using(crate::proofs::Joining::spaced))]
 fn push_count(out: &mut Vec<u8>, value: u64) -> Result<(), AllocError>
     ensures { OnOk result (out.new.items ≡ out.old.items ++ 32 ∷ number value) }
 {
-    out.push(b' ')?;
-    push_number(out, value)
+    push_number(out, b" ", value)
 }
 
 // Writes a line of a word and a number.

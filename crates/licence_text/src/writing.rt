@@ -1,4 +1,4 @@
-ghost use Rattle.std.specs.Prelude.{◌≡◌, ◌++◌, map, flat_map, codes, decimal, IfOk, OnOk};
+ghost use Rattle.std.specs.Prelude.{◌≡◌, ◌++◌, map, flat_map, codes, IfOk, OnOk};
 ghost use Rattle.camelot_values.specs.Kinds.{constructor_name};
 ghost use Rattle.certificate.specs.Words.{var_of, func_of};
 ghost use Rattle.licence_text.specs.Texts.{bounds_text, function_text, param_text, term_text, unit_text};
@@ -6,9 +6,9 @@ ghost use Rattle.licence_text.specs.Texts.{bounds_text, function_text, param_tex
 use annotations::Vector;
 use camelot_values::Types;
 use certificate::{FuncCert, VarCert};
-use itoa::Buffer;
 use licence::Licence;
 use std::alloc::{AllocError, Global};
+use text_lines::push_number;
 
 // Writes a label and a text.
 #[tactic(auto, using(crate::proofs::Joining::two))]
@@ -18,13 +18,6 @@ fn push_text(out: &mut Vec<u8>, label: &[u8], text: &[u8]) -> Result<(), AllocEr
     out.extend_from_slice(label)?;
     out.extend_from_slice(text)?;
     Ok(())
-}
-
-// Writes a label and a number in decimal.
-fn push_number(out: &mut Vec<u8>, label: &[u8], number: u64) -> Result<(), AllocError>
-    ensures { OnOk result (out.new.items ≡ out.old.items ++ (label.now ++ decimal number)) }
-{
-    push_text(out, label, Buffer::new().format(number).as_bytes())
 }
 
 // The name of a constructor; none where it isn't among these types.
@@ -109,12 +102,12 @@ fn push_functions(
 }
 
 // Writes the line of the unit.
-#[tactic(auto, using(crate::proofs::Joining::two))]
 fn push_unit(out: &mut Vec<u8>, unit: u64) -> Result<(), AllocError>
     ensures { OnOk result (out.new.items ≡ out.old.items ++ unit_text unit) }
 {
     push_number(out, b"accepted unit ", unit)?;
-    out.extend_from_slice(b"\n")
+    out.extend_from_slice(b"\n")?;
+    Ok(())
 }
 
 /// The bounds that a licence grants, as text: `accepted unit U`, and for each function of the certificate `function

@@ -1,15 +1,7 @@
 -- What was counted of jobs one by one.
-use Rattle.std.proofs.Common.{◌≡◌, ℕ, suc, ◌+◌, ◌*◌, ◌^◌, ◌<◌, ◌≤◌, List, [], ◌∷◌, length, map, drop, get_or, refl, sym, ap, ◌∙◌, subst, arith, drop-cons, drop_of_length-le, add-one}
-use Rattle.std.proofs.lemmas.List.{length-map}
-use Rattle.licence.specs.Licensed.{Licensed}
-use Rattle.script_outcomes.specs.declared.outcome.JobLine.{JobLine as DeclaredLine}
-use Rattle.script_outcomes.specs.declared.outcome.JobLine.TheVariants as line
-use Rattle.script_outcomes.specs.declared.outcome.Outcome.{Outcome}
-use Rattle.script_outcomes.specs.Told.{TooLarge, Refused, line_of, outcome_of, told_of}
-use Rattle.run_reports.specs.declared.summing.Counted.{Counted}
+use Rattle.std.proofs.Common.{◌≡◌, ℕ, suc, ◌+◌, ◌*◌, ◌^◌, ◌<◌, ◌≤◌, List, [], ◌∷◌, length, map, drop, get_or, sym, ap, ◌∙◌, subst, arith, drop-cons, drop_of_length-le, add-one}
 use Rattle.run_reports.specs.declared.summing.Tally.{Tally}
-use Rattle.run_reports.specs.Counts.{tally_of_count}
-use Rattle.run_reports.specs.Summary.{added, none, sum, summary_text, tally_of, tally_of_run, tally_text}
+use Rattle.run_reports.specs.Summary.{added, none, sum}
 use Rattle.run_reports.specs.Summing.{IsUnder}
 
 -- ---- sums
@@ -31,87 +23,69 @@ plus_none : (t : Tally) → added t none ≡ t
 plus_none t =
     same (added t none) t (omega arith) (omega arith) (omega arith) (omega arith) (omega arith) (omega arith) (omega arith)
 
--- ---- jobs
+-- ---- jobs, by what each of them counts for
 
--- what was counted and what is left make the whole
-pub record Counts (all : List Counted) (t : Tally) (rest : List Counted) : Type 0 where
-  pub is : added t (sum (map tally_of_count rest)) ≡ sum (map tally_of_count all)
-  pub count : ℕ
-  pub jobs : count + length rest ≡ length all
-  pub small : IsUnder (count * 2 ^ 64) t
+module _ {A : Type 0} (tally : A → Tally) where
+  -- what was counted and what is left make the whole
+  pub record Counts (all : List A) (t : Tally) (rest : List A) : Type 0 where
+    pub is : added t (sum (map tally rest)) ≡ sum (map tally all)
+    pub count : ℕ
+    pub jobs : count + length rest ≡ length all
+    pub small : IsUnder (count * 2 ^ 64) t
 
-pub counted_none : (all : List Counted) → Counts all none all
-counted_none all = record {
-  is = same (added none (sum (map tally_of_count all))) (sum (map tally_of_count all)) (omega arith) (omega arith) (omega arith) (omega arith) (omega arith) (omega arith) (omega arith);
-  count = 0;
-  jobs = omega arith;
-  small = record { done = omega arith; fuel = omega arith; deep = omega arith; too_large = omega arith; refused = omega arith; calls = omega arith; peaks = omega arith };
-}
+  pub counted_none : (all : List A) → Counts all none all
+  counted_none all = record {
+    is = same (added none (sum (map tally all))) (sum (map tally all)) (omega arith) (omega arith) (omega arith) (omega arith) (omega arith) (omega arith) (omega arith);
+    count = 0;
+    jobs = omega arith;
+    small = record { done = omega arith; fuel = omega arith; deep = omega arith; too_large = omega arith; refused = omega arith; calls = omega arith; peaks = omega arith };
+  }
 
-one_more : (all : List Counted) (t u v : Tally) (job : Counted) (rest : List Counted) → Counts all t (job ∷ rest)
-    → u ≡ tally_of_count job → IsUnder (2 ^ 64) u → v ≡ added t u
-    → Counts all v rest
-one_more all t u v job rest c is small e = record {
-  is =
-      let later = sum (map tally_of_count rest) in
-      ap (λ x. added x later) (e ∙ ap (added t) is) ∙ assoc t (tally_of_count job) later ∙ c.is;
-  count = suc c.count;
-  jobs = omega (arith, c.jobs);
-  small = subst (IsUnder (suc c.count * 2 ^ 64)) (sym e) (record {
-    done = omega (arith, c.small.done, small.done);
-    fuel = omega (arith, c.small.fuel, small.fuel);
-    deep = omega (arith, c.small.deep, small.deep);
-    too_large = omega (arith, c.small.too_large, small.too_large);
-    refused = omega (arith, c.small.refused, small.refused);
-    calls = omega (arith, c.small.calls, small.calls);
-    peaks = omega (arith, c.small.peaks, small.peaks);
-  });
-}
+  one_more : (all : List A) (t u v : Tally) (job : A) (rest : List A) → Counts all t (job ∷ rest)
+      → u ≡ tally job → IsUnder (2 ^ 64) u → v ≡ added t u
+      → Counts all v rest
+  one_more all t u v job rest c is small e = record {
+    is =
+        let later = sum (map tally rest) in
+        ap (λ x. added x later) (e ∙ ap (added t) is) ∙ assoc t (tally job) later ∙ c.is;
+    count = suc c.count;
+    jobs = omega (arith, c.jobs);
+    small = subst (IsUnder (suc c.count * 2 ^ 64)) (sym e) (record {
+      done = omega (arith, c.small.done, small.done);
+      fuel = omega (arith, c.small.fuel, small.fuel);
+      deep = omega (arith, c.small.deep, small.deep);
+      too_large = omega (arith, c.small.too_large, small.too_large);
+      refused = omega (arith, c.small.refused, small.refused);
+      calls = omega (arith, c.small.calls, small.calls);
+      peaks = omega (arith, c.small.peaks, small.peaks);
+    });
+  }
 
-none_left : (all rest : List Counted) (t : Tally) → Counts all t rest → rest ≡ [] → t ≡ sum (map tally_of_count all)
-none_left all rest t c e = sym (plus_none t) ∙ ap (λ (l : List Counted). added t (sum (map tally_of_count l))) (sym e) ∙ c.is
+  none_left : (all rest : List A) (t : Tally) → Counts all t rest → rest ≡ [] → t ≡ sum (map tally all)
+  none_left all rest t c e = sym (plus_none t) ∙ ap (λ (l : List A). added t (sum (map tally l))) (sym e) ∙ c.is
 
--- there are fewer jobs than 2^63, so that no sum is too large
-pub still_small : (all rest : List Counted) (t : Tally) → length all < 2 ^ 63 → Counts all t rest → IsUnder (2 ^ 127) t
-still_small all rest t few c =
-    let n : c.count * 2 ^ 64 ≤ 2 ^ 127 = omega (arith, c.jobs, few) in
-    record {
-      done = omega (arith, c.small.done, n);
-      fuel = omega (arith, c.small.fuel, n);
-      deep = omega (arith, c.small.deep, n);
-      too_large = omega (arith, c.small.too_large, n);
-      refused = omega (arith, c.small.refused, n);
-      calls = omega (arith, c.small.calls, n);
-      peaks = omega (arith, c.small.peaks, n);
-    }
+  -- there are fewer jobs than 2^63, so that no sum is too large
+  pub still_small : (all rest : List A) (t : Tally) → length all < 2 ^ 63 → Counts all t rest → IsUnder (2 ^ 127) t
+  still_small all rest t few c =
+      let n : c.count * 2 ^ 64 ≤ 2 ^ 127 = omega (arith, c.jobs, few) in
+      record {
+        done = omega (arith, c.small.done, n);
+        fuel = omega (arith, c.small.fuel, n);
+        deep = omega (arith, c.small.deep, n);
+        too_large = omega (arith, c.small.too_large, n);
+        refused = omega (arith, c.small.refused, n);
+        calls = omega (arith, c.small.calls, n);
+        peaks = omega (arith, c.small.peaks, n);
+      }
 
--- ---- along a list
+  -- ---- along a list
 
-pub one_behind : (xs : List Counted) (i : ℕ) (d : Counted) (t u v : Tally) → i < length xs → Counts xs t (drop i xs)
-    → u ≡ tally_of_count (get_or xs i d) → IsUnder (2 ^ 64) u → v ≡ added t u
-    → Counts xs v (drop (i + 1) xs)
-one_behind xs i d t u v h c each small e =
-    let here : drop i xs ≡ get_or xs i d ∷ drop (i + 1) xs = drop-cons xs i d h ∙ ap (λ n. get_or xs i d ∷ drop n xs) (sym (add-one i)) in
-    one_more xs t u v (get_or xs i d) (drop (i + 1) xs) (subst (Counts xs t) here c) each small e
+  pub one_behind : (xs : List A) (i : ℕ) (d : A) (t u v : Tally) → i < length xs → Counts xs t (drop i xs)
+      → u ≡ tally (get_or xs i d) → IsUnder (2 ^ 64) u → v ≡ added t u
+      → Counts xs v (drop (i + 1) xs)
+  one_behind xs i d t u v h c each small e =
+      let here : drop i xs ≡ get_or xs i d ∷ drop (i + 1) xs = drop-cons xs i d h ∙ ap (λ n. get_or xs i d ∷ drop n xs) (sym (add-one i)) in
+      one_more xs t u v (get_or xs i d) (drop (i + 1) xs) (subst (Counts xs t) here c) each small e
 
-pub none_behind : (xs : List Counted) (i : ℕ) (t : Tally) → length xs ≤ i → Counts xs t (drop i xs) → t ≡ sum (map tally_of_count xs)
-none_behind xs i t h c = none_left xs (drop i xs) t c (drop_of_length-le xs {i = i} h)
-
--- ---- lines
-
--- what lines count for doesn't depend on the licences that they are told with
-any_licences : (licences : List Licensed) (lines : List DeclaredLine) → map tally_of (map (line_of licences) lines) ≡ map tally_of (map (line_of []) lines)
-any_licences licences [] = refl
-any_licences licences (line.Ended e fuel bound licence ∷ lines) = λ i. tally_of_run (outcome_of e) ∷ any_licences licences lines i
-any_licences licences (line.TooLarge needs arena ∷ lines) = λ i. tally_of (TooLarge needs arena) ∷ any_licences licences lines i
-any_licences licences (line.Refused cause ∷ lines) = λ i. tally_of (Refused cause) ∷ any_licences licences lines i
-
-pub summary_is : (licences : List Licensed) (o : Outcome) (lines : List DeclaredLine) (counts same : List Counted) (text : List ℕ) → lines ≡ o.jobs.items
-    → map tally_of_count counts ≡ map tally_of (map (line_of []) lines) → same ≡ counts
-    → text ≡ tally_text (length same) (sum (map tally_of_count same)) o.free → text ≡ summary_text (told_of licences o)
-unfolding summary_text
-summary_is licences o lines counts same text jobs is alike f =
-    let told = map (line_of licences) o.jobs.items in
-    let sums : map tally_of_count same ≡ map tally_of told = ap (map tally_of_count) alike ∙ is ∙ ap (λ l. map tally_of (map (line_of []) l)) jobs ∙ sym (any_licences licences o.jobs.items) in
-    let many : length same ≡ length told = sym (length-map same tally_of_count) ∙ ap length sums ∙ length-map told tally_of in
-    f ∙ (λ i. tally_text (many i) (sum (sums i)) o.free)
+  pub none_behind : (xs : List A) (i : ℕ) (t : Tally) → length xs ≤ i → Counts xs t (drop i xs) → t ≡ sum (map tally xs)
+  none_behind xs i t h c = none_left xs (drop i xs) t c (drop_of_length-le xs {i = i} h)

@@ -10,11 +10,11 @@ use Rattle.cause_texts.specs.Texts.{cause_text}
 use Rattle.lease_desk.specs.declared.event.Event.{Event}
 use Rattle.lease_desk.specs.declared.event.Event.TheVariants as event
 use Rattle.job_script.specs.Scripts.{Entry, AProgram, AJob}
-use Rattle.script_outcomes.specs.declared.outcome.ProgramLine.{ProgramLine}
-use Rattle.script_outcomes.specs.declared.outcome.ProgramLine.TheVariants as program
-use Rattle.script_outcomes.specs.declared.outcome.JobCause.{JobCause}
-use Rattle.script_outcomes.specs.declared.outcome.JobCause.TheVariants as job_cause
-use Rattle.script_outcomes.specs.Told.{JobLine, Ended, TooLarge, Refused, Told}
+use Rattle.run_reports.specs.declared.outcome.ProgramLine.{ProgramLine}
+use Rattle.run_reports.specs.declared.outcome.ProgramLine.TheVariants as program
+use Rattle.run_reports.specs.declared.outcome.JobCause.{JobCause}
+use Rattle.run_reports.specs.declared.outcome.JobCause.TheVariants as job_cause
+use Rattle.run_reports.specs.Told.{JobLine, Ended, TooLarge, Refused, Told}
 
 -- ---- lines
 
@@ -90,6 +90,11 @@ abbrev pub event_lines : (ℕ → List ℕ) → List Event → List ℕ
 event_lines name [] = []
 event_lines name (e ∷ es) = event_text name e ++ event_lines name es
 
+-- ---- the report
+
+-- the programs and the jobs
+abbrev pub head_text : List Entry → List ProgramLine → List JobLine → List ℕ
+head_text entries programs jobs = program_lines entries programs ++ job_lines entries jobs
+
 unfoldable pub report_text : List Entry → Told → List ℕ
-report_text entries told =
-    program_lines entries told.programs ++ job_lines entries told.jobs ++ event_lines (asked_name entries told.asked) told.journal ++ end_text told.free
+report_text entries told = head_text entries told.programs told.jobs ++ event_lines (asked_name entries told.asked) told.journal ++ end_text told.free

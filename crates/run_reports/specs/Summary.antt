@@ -1,29 +1,46 @@
 -- Cited by contracts.
 -- The summary of a script in one line: how many of its jobs ended how, and the sums of their calls and peaks.
 use Rattle.std.specs.Prelude.{ℕ, ◌+◌, List, [], ◌∷◌, ◌++◌, length, map, codes, decimal}
+use Rattle.cell_machine.specs.declared.machine.Halt.{Halt}
+use Rattle.cell_machine.specs.declared.machine.Halt.TheVariants as halt
 use Rattle.camelot_values.specs.Value.{Value}
 use Rattle.camelot_values.specs.Outcome.{Outcome, Done, Fuel, Deep, Trap, Stuck}
 use Rattle.run_reports.specs.declared.summing.Tally.{Tally}
-use Rattle.script_outcomes.specs.Told.{JobLine, Ended, TooLarge, Refused, Told}
+use Rattle.run_reports.specs.Told.{JobLine, Ended, TooLarge, Refused, Told}
 
 -- nothing was counted
 abbrev pub none : Tally
 none = record { done = 0; fuel = 0; deep = 0; too_large = 0; refused = 0; calls = 0; peaks = 0 }
 
--- What a run counts for: the calls of one that came to a value, and each run's peak, which is all that one counts for
--- that was trapped. Well-formed code is never stuck.
+-- What a run counts for that ended so: the calls of one that came to a value, and each run's peak, which is all that
+-- one counts for that was trapped.
+abbrev pub tally_of_halt : Halt → Tally
+tally_of_halt (halt.Done calls peak) = record { done = 1; fuel = 0; deep = 0; too_large = 0; refused = 0; calls = calls; peaks = peak }
+tally_of_halt (halt.Fuel peak) = record { done = 0; fuel = 1; deep = 0; too_large = 0; refused = 0; calls = 0; peaks = peak }
+tally_of_halt (halt.Deep peak) = record { done = 0; fuel = 0; deep = 1; too_large = 0; refused = 0; calls = 0; peaks = peak }
+tally_of_halt (halt.Trap peak) = record { done = 0; fuel = 0; deep = 0; too_large = 0; refused = 0; calls = 0; peaks = peak }
+
+-- what a run counts for that comes to this; well-formed code is never stuck
 abbrev pub tally_of_run : Outcome Value → Tally
-tally_of_run (Done v calls peak low) = record { done = 1; fuel = 0; deep = 0; too_large = 0; refused = 0; calls = calls; peaks = peak }
-tally_of_run (Fuel calls peak) = record { done = 0; fuel = 1; deep = 0; too_large = 0; refused = 0; calls = 0; peaks = peak }
-tally_of_run (Deep peak) = record { done = 0; fuel = 0; deep = 1; too_large = 0; refused = 0; calls = 0; peaks = peak }
-tally_of_run (Trap peak) = record { done = 0; fuel = 0; deep = 0; too_large = 0; refused = 0; calls = 0; peaks = peak }
+tally_of_run (Done v calls peak low) = tally_of_halt (halt.Done calls peak)
+tally_of_run (Fuel calls peak) = tally_of_halt (halt.Fuel peak)
+tally_of_run (Deep peak) = tally_of_halt (halt.Deep peak)
+tally_of_run (Trap peak) = tally_of_halt (halt.Trap peak)
 tally_of_run Stuck = none
+
+-- a job that needs more cells than the arena has
+abbrev pub one_too_large : Tally
+one_too_large = record { done = 0; fuel = 0; deep = 0; too_large = 1; refused = 0; calls = 0; peaks = 0 }
+
+-- a job that didn't run for another cause
+abbrev pub one_refused : Tally
+one_refused = record { done = 0; fuel = 0; deep = 0; too_large = 0; refused = 1; calls = 0; peaks = 0 }
 
 -- what the line of a job counts for
 abbrev pub tally_of : JobLine → Tally
 tally_of (Ended types outcome fuel bound) = tally_of_run outcome
-tally_of (TooLarge needs arena) = record { done = 0; fuel = 0; deep = 0; too_large = 1; refused = 0; calls = 0; peaks = 0 }
-tally_of (Refused cause) = record { done = 0; fuel = 0; deep = 0; too_large = 0; refused = 1; calls = 0; peaks = 0 }
+tally_of (TooLarge needs arena) = one_too_large
+tally_of (Refused cause) = one_refused
 
 abbrev pub added : Tally → Tally → Tally
 added t u = record {

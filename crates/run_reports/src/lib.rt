@@ -1,13 +1,16 @@
 //! The report of a script, as text.
 #![tactic(auto)]
 
+mod halting;
+pub mod laws;
 mod lines;
+mod outcome;
 mod pieces;
 mod reporting;
 mod summing;
 
 pub use cause_texts::{Cause, cause_text};
-pub use lines::{push_end, push_job, push_run};
-pub use reporting::{push_events, push_programs, report};
-pub use script_outcomes::{JobCause, JobLine, Outcome, ProgramLine};
-pub use summing::{Counted, Tally, count_halt, count_run, summarize, summary};
+pub use halting::HasHalt;
+pub use outcome::{JobCause, JobLine, Outcome, ProgramLine};
+pub use reporting::report;
+pub use summing::{Tally, summary};

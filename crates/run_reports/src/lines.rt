@@ -4,15 +4,16 @@ ghost use Rattle.lease_desk.specs.Journal.{job_of};
 ghost use Rattle.camelot_values.specs.Kinds.{constructor_name};
 ghost use Rattle.value_text.specs.Text.{value_text};
 ghost use Rattle.run_reports.specs.Report.{ended_text, end_text, event_text, job_cause_text, job_text, program_text, told_text};
-ghost use Rattle.script_outcomes.specs.Told.{Ended, licence_types, line_of, outcome_of};
+ghost use Rattle.run_reports.specs.Lines.{line_of, outcome_of};
+ghost use Rattle.run_reports.specs.Told.{licence_types};
 
 use super::pieces::{push_number, push_text};
+use crate::outcome::{JobCause, JobLine, ProgramLine};
 use camelot_values::{Flat, Types};
 use cause_texts::cause_text;
 use cell_machine::Ending;
 use lease_desk::Event;
 use licence::Licence;
-use script_outcomes::{JobCause, JobLine, ProgramLine};
 use std::alloc::{AllocError, Global};
 use value_text::push_value;
 
@@ -173,22 +174,22 @@ fn push_ended(
 
 // Why a job doesn't run.
 #[tactic(auto, unfolding(crate::specs::Report::job_cause_text))]
-fn push_cause(out: &mut Vec<u8>, cause: &JobCause) -> Result<(), AllocError>
-    ensures { OnOk result (out.new.items ≡ out.old.items ++ job_cause_text cause.now) }
+fn push_cause(out: &mut Vec<u8>, cause: JobCause) -> Result<(), AllocError>
+    ensures { OnOk result (out.new.items ≡ out.old.items ++ job_cause_text cause) }
 {
     match cause {
         JobCause::NoProgram => out.extend_from_slice(b"no-program"),
         JobCause::ProgramRefused => out.extend_from_slice(b"program-refused"),
         JobCause::NoEntry => out.extend_from_slice(b"no-entry"),
-        JobCause::Argument { at } => push_number(out, b"argument at ", *at),
-        JobCause::Long { items } => push_number(out, b"long items ", *items),
+        JobCause::Argument { at } => push_number(out, b"argument at ", at),
+        JobCause::Long { items } => push_number(out, b"long items ", items),
     }
 }
 
 // That a job is refused, and why.
 #[tactic(auto, using(crate::proofs::Joining::two))]
-fn push_unfit(out: &mut Vec<u8>, cause: &JobCause) -> Result<(), AllocError>
-    ensures { OnOk result (out.new.items ≡ out.old.items ++ (codes " refused " ++ job_cause_text cause.now)) }
+fn push_unfit(out: &mut Vec<u8>, cause: JobCause) -> Result<(), AllocError>
+    ensures { OnOk result (out.new.items ≡ out.old.items ++ (codes " refused " ++ job_cause_text cause)) }
 {
     out.extend_from_slice(b" refused ")?;
     push_cause(out, cause)
@@ -200,23 +201,23 @@ fn push_told(
     out: &mut Vec<u8>,
     room: &mut Vec<u8>,
     licences: &[Licence],
-    line: &JobLine,
+    line: &JobLine<'_, Ending>,
 ) -> Result<(), AllocError>
     ensures { OnOk result (out.new.items ≡ out.old.items ++ told_text (line_of licences.now line.now)) }
 {
-    match line {
+    match *line {
         JobLine::Ended {
             ending,
             fuel,
             bound,
             licence,
-        } => push_ended(alloc, out, room, licences, *licence, ending, *fuel, *bound),
+        } => push_ended(alloc, out, room, licences, licence, ending, fuel, bound),
         JobLine::TooLarge { needs, arena } => push_two(
             out,
             b" too-large needs ",
-            *needs,
+            needs,
             b" arena ",
-            *arena as u64,
+            arena as u64,
         ),
         JobLine::Refused { cause } => push_unfit(out, cause),
     }
@@ -224,42 +225,18 @@ fn push_told(
 
 /// Writes the line of the job of this name. `room` is memory that one line leaves to the next.
 #[tactic(auto, using(crate::proofs::Joining::three))]
-pub fn push_job(
+pub(crate) fn push_job(
     alloc: Global,
     out: &mut Vec<u8>,
     room: &mut Vec<u8>,
     name: &[u8],
     licences: &[Licence],
-    line: &JobLine,
+    line: &JobLine<'_, Ending>,
 ) -> Result<(), AllocError>
-    // The line stands behind what was there.
     ensures { OnOk result (out.new.items ≡ out.old.items ++ job_text name.now (line_of licences.now line.now)) }
 {
     push_text(out, b"job ", name)?;
     push_told(alloc, out, room, licences, line)?;
-    out.extend_from_slice(b"\n")
-}
-
-/// Writes the line of a job of this name that ran, by what its run came to. It had so much fuel and this bound, by the
-/// licence of this number. It is the line that [`push_job`] writes of the same; the ending stays where it is.
-#[tactic(auto, using(crate::proofs::Joining::three))]
-pub fn push_run(
-    alloc: Global,
-    out: &mut Vec<u8>,
-    room: &mut Vec<u8>,
-    name: &[u8],
-    licences: &[Licence],
-    licence: u32,
-    ending: &Ending,
-    fuel: u64,
-    bound: u64,
-) -> Result<(), AllocError>
-    // The line stands behind what was there.
-    ensures { OnOk result (out.new.items ≡ out.old.items
-        ++ job_text name.now (Ended (licence_types (slice_get licences.now licence)) (outcome_of ending.now) fuel bound)) }
-{
-    push_text(out, b"job ", name)?;
-    push_ended(alloc, out, room, licences, licence, ending, fuel, bound)?;
     out.extend_from_slice(b"\n")
 }
 
@@ -322,8 +299,7 @@ pub(crate) fn push_event(out: &mut Vec<u8>, name: &[u8], event: &Event) -> Resul
 
 /// Writes the last line of a report, with the free cells at the end.
 #[tactic(auto, using(crate::proofs::Joining::two))]
-pub fn push_end(out: &mut Vec<u8>, free: u64) -> Result<(), AllocError>
-    // The line stands behind what was there.
+pub(crate) fn push_end(out: &mut Vec<u8>, free: u64) -> Result<(), AllocError>
     ensures { OnOk result (out.new.items ≡ out.old.items ++ end_text free) }
 {
     push_number(out, b"end free ", free)?;

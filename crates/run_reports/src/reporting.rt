@@ -1,15 +1,18 @@
 //! The report of a script.
-ghost use Rattle.std.specs.Prelude.{◌≡◌, ◌++◌, ◌∷◌, List, Some, map, slice_get, IfOk, OnOk};
+ghost use Rattle.std.specs.Prelude.{◌≡◌, ◌++◌, ◌∷◌, List, Some, drop, map, slice_get, IfOk, OnOk};
 ghost use Rattle.job_script.specs.Scripts.{Entry as PlainEntry};
 ghost use Rattle.job_script.specs.Words.{entry_of, script_of};
-ghost use Rattle.run_reports.specs.Report.{asked_name, event_lines, job_lines, name_of, program_lines, report_text};
-ghost use Rattle.script_outcomes.specs.Told.{line_of, told_of};
+ghost use Rattle.cell_machine.specs.Endings.{EndsWith};
+ghost use Rattle.run_reports.specs.Lines.{line_of};
+ghost use Rattle.run_reports.specs.Report.{asked_name, event_lines, head_text, job_lines, name_of, program_lines, report_text};
+ghost use Rattle.run_reports.specs.Told.{IsTold, Told};
 
 use super::lines::{job_of, push_end, push_event, push_job, push_program};
+use crate::outcome::{JobLine, Outcome, ProgramLine};
+use cell_machine::Ending;
 use job_script::{Entry, Script};
 use lease_desk::Event;
 use licence::Licence;
-use script_outcomes::{JobLine, Outcome, ProgramLine};
 use std::alloc::{AllocError, Global};
 
 // The line of an entry that is a program, and the lines that are left for the entries behind it.
@@ -36,15 +39,14 @@ fn push_program_of<'a>(
     }
 }
 
-/// Writes a line for each program of these entries. `AllocError` where memory runs out, as in each call that writes.
+// A line for each program.
 #[tactic(auto, using(crate::proofs::Lists::no_more))]
-pub fn push_programs(
+fn push_programs(
     alloc: Global,
     out: &mut Vec<u8>,
     items: &[Entry<'_>],
     lines: &[ProgramLine],
 ) -> Result<(), AllocError>
-    // The lines stand behind what was there.
     ensures { OnOk result (out.new.items ≡ out.old.items ++ program_lines (map entry_of items.now) lines.now) }
 {
     let mut rest = lines;
@@ -54,28 +56,28 @@ pub fn push_programs(
     Ok(())
 }
 
-// The line of an entry that is a job, and the lines that are left for the entries behind it.
-#[tactic(auto, using(crate::proofs::Lists::program_here))]
-fn push_job_of<'a>(
+// The line of an entry that is a job, which is the line at this place, and the place of the next one.
+fn push_job_of(
     alloc: Global,
     out: &mut Vec<u8>,
     room: &mut Vec<u8>,
     entry: &Entry<'_>,
     licences: &[Licence],
-    lines: &'a [JobLine],
-) -> Result<&'a [JobLine], AllocError>
+    lines: &[JobLine<'_, Ending>],
+    at: usize,
+) -> Result<usize, AllocError>
     ensures { (entries : List PlainEntry)
-        → IfOk result (λ left. out.new.items ++ job_lines entries (map (line_of licences.now) left.now)
-        ≡ out.old.items ++ job_lines (entry_of entry.now ∷ entries) (map (line_of licences.now) lines.now)) }
+        → IfOk result (λ next. out.new.items ++ job_lines entries (map (line_of licences.now) (drop next lines.now))
+        ≡ out.old.items ++ job_lines (entry_of entry.now ∷ entries) (map (line_of licences.now) (drop at lines.now))) }
 {
     match *entry {
-        Entry::Program { .. } => Ok(lines),
-        Entry::Job { name, .. } => match lines {
-            [line, others @ ..] => {
+        Entry::Program { .. } => Ok(at),
+        Entry::Job { name, .. } => match lines.get(at) {
+            Some(line) => {
                 push_job(alloc, out, room, name, licences, line)?;
-                Ok(others)
+                Ok(at + 1)
             }
-            [] => Ok(lines),
+            None => Ok(at),
         },
     }
 }
@@ -87,16 +89,32 @@ fn push_jobs(
     out: &mut Vec<u8>,
     items: &[Entry<'_>],
     licences: &[Licence],
-    lines: &[JobLine],
+    lines: &[JobLine<'_, Ending>],
 ) -> Result<(), AllocError>
     ensures { OnOk result (out.new.items ≡ out.old.items ++ job_lines (map entry_of items.now) (map (line_of licences.now) lines.now)) }
 {
     let mut room = Vec::new(alloc);
-    let mut rest = lines;
+    let mut at = 0;
     'items: for entry in items {
-        rest = push_job_of(alloc, out, &mut room, entry, licences, rest)?;
+        at = push_job_of(alloc, out, &mut room, entry, licences, lines, at)?;
     }
     Ok(())
+}
+
+// The programs and the jobs.
+#[tactic(auto, using(crate::proofs::Joining::two))]
+fn push_head(
+    alloc: Global,
+    out: &mut Vec<u8>,
+    items: &[Entry<'_>],
+    licences: &[Licence],
+    programs: &[ProgramLine],
+    jobs: &[JobLine<'_, Ending>],
+) -> Result<(), AllocError>
+    ensures { OnOk result (out.new.items ≡ out.old.items ++ head_text (map entry_of items.now) programs.now (map (line_of licences.now) jobs.now)) }
+{
+    push_programs(alloc, out, items, programs)?;
+    push_jobs(alloc, out, items, licences, jobs)
 }
 
 // The name of an entry.
@@ -130,15 +148,14 @@ fn asked_name<'a>(items: &[Entry<'a>], asked: &[u32], job: u32) -> &'a [u8]
     }
 }
 
-/// Writes a line for each event of the journal. A job of the desk has the name of the entry at its place.
+// A line for each event of the journal. A job of the desk has the name of the entry at its place.
 #[tactic(auto, using(crate::proofs::Lists::no_more, crate::proofs::Lists::event_here))]
-pub fn push_events(
+fn push_events(
     out: &mut Vec<u8>,
     items: &[Entry<'_>],
     asked: &[u32],
     journal: &[Event],
 ) -> Result<(), AllocError>
-    // The lines stand behind what was there.
     ensures { OnOk result (out.new.items ≡ out.old.items ++ event_lines (asked_name (map entry_of items.now) asked.now) journal.now) }
 {
     'events: for event in journal {
@@ -148,22 +165,33 @@ pub fn push_events(
     Ok(())
 }
 
+// Room for a job's line and those of its lease, so that the text of many jobs is seldom moved.
+const LINE_ROOM: usize = 128;
+
 /// The report of a script, from what came of it: a line for each program and each job in the script's order, a line for
 /// each event of the journal, and the free cells at the end. Types of values are those of the licences by number.
 /// `AllocError` where memory runs out.
-#[tactic(auto, unfolding(crate::specs::Report::report_text))]
 pub fn report(
     alloc: Global,
     script: &Script<'_>,
     licences: &[Licence],
-    outcome: &Outcome,
+    outcome: &Outcome<'_, Ending>,
 ) -> Result<Vec<u8>, AllocError>
-    ensures { IfOk result (λ text. text.items ≡ report_text (script_of script.now).items (told_of licences.now outcome.now)) }
+    // It is the report of whatever this tells, with these licences.
+    ensures { (told : Told) → IsTold EndsWith licences.now outcome.now told
+        → IfOk result (λ text. text.items ≡ report_text (script_of script.now).items told) }
 {
-    let mut out = Vec::new(alloc);
-    push_programs(alloc, &mut out, &script.items, &outcome.programs)?;
-    push_jobs(alloc, &mut out, &script.items, licences, &outcome.jobs)?;
-    push_events(&mut out, &script.items, &outcome.asked, &outcome.journal)?;
+    let items: &[Entry<'_>] = &script.items;
+    let mut out = Vec::with_capacity(alloc, LINE_ROOM.saturating_mul(outcome.jobs.len()))?;
+    push_head(
+        alloc,
+        &mut out,
+        items,
+        licences,
+        outcome.programs,
+        &outcome.jobs,
+    )?;
+    push_events(&mut out, items, outcome.asked, outcome.journal)?;
     push_end(&mut out, outcome.free)?;
     Ok(out)
 }

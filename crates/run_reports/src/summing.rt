@@ -1,17 +1,16 @@
 //! The summary of a script in one line.
-ghost use Rattle.std.specs.Prelude.{◌≡◌, ◌++◌, ◌^◌, [], List, Some, length, map, IfOk, OnOk};
-ghost use Rattle.camelot_values.specs.Outcome as plain;
-ghost use Rattle.camelot_values.specs.Value.{Value};
+ghost use Rattle.std.specs.Prelude.{◌≡◌, ◌++◌, ◌^◌, List, length, map, IfOk, OnOk};
 ghost use Rattle.licence.specs.Licensed.{Licensed};
-ghost use Rattle.cell_machine.specs.Endings.{halt_of};
-ghost use Rattle.run_reports.specs.Counts.{count_of, tally_of_count};
-ghost use Rattle.run_reports.specs.Summary.{added, counts_text, sum, sums_text, summary_text, tally_of, tally_text};
+ghost use Rattle.run_reports.specs.Lines.{line_tally};
+ghost use Rattle.run_reports.specs.Summary.{added, counts_text, sum, sums_text, summary_text, tally_of_halt, tally_text};
 ghost use Rattle.run_reports.specs.Summing.{IsUnder};
-ghost use Rattle.script_outcomes.specs.Told.{line_of, outcome_of, told_of};
+ghost use Rattle.run_reports.specs.EndsAs.{EndsAs};
+ghost use Rattle.run_reports.specs.Told.{IsTold, Told};
 
 use super::pieces::push_wide;
-use cell_machine::{Ending, Halt};
-use script_outcomes::{JobLine, Outcome};
+use crate::halting::HasHalt;
+use crate::outcome::{JobLine, Outcome};
+use cell_machine::Halt;
 use std::alloc::{AllocError, Global};
 
 /// What jobs count for in a summary.
@@ -44,82 +43,47 @@ const NONE: Tally = Tally {
     peaks: 0,
 };
 
-/// What a job counts for in a summary.
-#[derive(Clone, Copy, Debug, PartialEq, Eq)]
-pub enum Counted {
-    /// It came to a value, after so many functions were entered; `peak` is the greatest net number of cells taken.
-    Done { calls: u64, peak: u64 },
-    /// It stopped on fuel.
-    Fuel { peak: u64 },
-    /// It went too deep.
-    Deep { peak: u64 },
-    /// It was trapped.
-    Trap { peak: u64 },
-    /// It needs more cells than the arena has.
-    TooLarge,
-    /// It didn't run for another cause.
-    Refused,
-}
-
-/// What a run counts for that ended so.
-pub fn count_run(ending: &Ending) -> Counted
-    ensures { count_of (outcome_of ending.now) ≡ Some result }
-{
-    match ending {
-        Ending::Done { calls, peak, .. } => Counted::Done {
-            calls: *calls,
-            peak: *peak,
-        },
-        Ending::Fuel { peak } => Counted::Fuel { peak: *peak },
-        Ending::Deep { peak } => Counted::Deep { peak: *peak },
-        Ending::Trap { peak } => Counted::Trap { peak: *peak },
-    }
-}
-
-/// What a run counts for that ended so, whose value wasn't asked for.
-pub fn count_halt(halt: Halt) -> Counted
-    // It is what each run counts for that ends so.
-    ensures { (o : plain.Outcome Value) → halt_of o ≡ Some halt → count_of o ≡ Some result }
-{
-    match halt {
-        Halt::Done { calls, peak } => Counted::Done { calls, peak },
-        Halt::Fuel { peak } => Counted::Fuel { peak },
-        Halt::Deep { peak } => Counted::Deep { peak },
-        Halt::Trap { peak } => Counted::Trap { peak },
-    }
-}
-
-// What is counted of a job.
-fn tally_job(job: &Counted) -> Tally
-    ensures tally { result ≡ tally_of_count job.now }
+// What is counted of a run that ended so.
+fn tally_halt(halt: Halt) -> Tally
+    ensures tally { result ≡ tally_of_halt halt }
     ensures small { IsUnder (2 ^ 64) result }
 {
-    match *job {
-        Counted::Done { calls, peak } => Tally {
+    match halt {
+        Halt::Done { calls, peak } => Tally {
             done: 1,
             calls: u128::from(calls),
             peaks: u128::from(peak),
             ..NONE
         },
-        Counted::Fuel { peak } => Tally {
+        Halt::Fuel { peak } => Tally {
             fuel: 1,
             peaks: u128::from(peak),
             ..NONE
         },
-        Counted::Deep { peak } => Tally {
+        Halt::Deep { peak } => Tally {
             deep: 1,
             peaks: u128::from(peak),
             ..NONE
         },
-        Counted::Trap { peak } => Tally {
+        Halt::Trap { peak } => Tally {
             peaks: u128::from(peak),
             ..NONE
         },
-        Counted::TooLarge => Tally {
+    }
+}
+
+// What is counted of a job.
+fn tally_line<K: HasHalt>(line: &JobLine<'_, K>) -> Tally
+    ensures tally { result ≡ line_tally K.halt line.now }
+    ensures small { IsUnder (2 ^ 64) result }
+{
+    match line {
+        JobLine::Ended { ending, .. } => tally_halt(ending.halt()),
+        JobLine::TooLarge { .. } => Tally {
             too_large: 1,
             ..NONE
         },
-        Counted::Refused => Tally { refused: 1, ..NONE },
+        JobLine::Refused { .. } => Tally { refused: 1, ..NONE },
     }
 }
 
@@ -142,12 +106,12 @@ fn add(one: Tally, more: Tally) -> Tally
 
 // All jobs together.
 #[tactic(auto, using(crate::proofs::Tallying::counted_none, crate::proofs::Tallying::one_behind, crate::proofs::Tallying::none_behind, crate::proofs::Tallying::still_small))]
-fn total(jobs: &[Counted]) -> Tally
-    ensures { result ≡ sum (map tally_of_count jobs.now) }
+fn total<K: HasHalt>(lines: &[JobLine<'_, K>]) -> Tally
+    ensures { result ≡ sum (map (line_tally K.halt) lines.now) }
 {
     let mut all = NONE;
-    'jobs: for job in jobs {
-        all = add(all, tally_job(job));
+    'lines: for line in lines {
+        all = add(all, tally_line(line));
     }
     all
 }
@@ -185,49 +149,29 @@ fn push_tally(out: &mut Vec<u8>, jobs: usize, tally: &Tally, free: u64) -> Resul
     out.extend_from_slice(b"\n")
 }
 
-/// The summary of what came of these jobs, in one line, as [`summary`] tells it of all jobs of a script. `AllocError`
-/// where memory runs out.
-pub fn summarize(alloc: Global, jobs: &[Counted], free: u64) -> Result<Vec<u8>, AllocError>
-    // It has the number of the jobs, and what is counted of all of them.
-    ensures { IfOk result (λ text. text.items ≡ tally_text (length jobs.now) (sum (map tally_of_count jobs.now)) free) }
+// The line of so many jobs.
+fn summarize<K: HasHalt>(
+    alloc: Global,
+    lines: &[JobLine<'_, K>],
+    free: u64,
+) -> Result<Vec<u8>, AllocError>
+    ensures { IfOk result (λ text. text.items ≡ tally_text (length lines.now) (sum (map (line_tally K.halt) lines.now)) free) }
 {
-    let tally = total(jobs);
+    let tally = total(lines);
     let mut out = Vec::new(alloc);
-    push_tally(&mut out, jobs.len(), &tally, free)?;
+    push_tally(&mut out, lines.len(), &tally, free)?;
     Ok(out)
-}
-
-// What a job's line counts for, whatever its licence is.
-fn count_line(line: &JobLine) -> Counted
-    ensures { tally_of_count result ≡ tally_of (line_of [] line.now) }
-{
-    match line {
-        JobLine::Ended { ending, .. } => count_run(ending),
-        JobLine::TooLarge { .. } => Counted::TooLarge,
-        JobLine::Refused { .. } => Counted::Refused,
-    }
-}
-
-// What each line counts for.
-fn count_lines(alloc: Global, lines: &[JobLine]) -> Result<Vec<Counted>, AllocError>
-    ensures { IfOk result (λ counts. map tally_of_count counts.items ≡ map tally_of (map (line_of []) lines.now)) }
-{
-    let mut counts = Vec::with_capacity(alloc, lines.len())?;
-    'lines: for line in lines {
-        counts.push(count_line(line))?;
-    }
-    Ok(counts)
 }
 
 /// The summary of what came of a script, in one line: how many jobs it has, how many of them came to a value, stopped
 /// on fuel, went too deep, needed more cells than the arena has, and were refused; the sum of the calls of those that
-/// came to a value; the sum of the peaks of all that ran; and the free cells at the end. `AllocError` where memory runs
-/// out.
-pub fn summary(alloc: Global, outcome: &Outcome) -> Result<Vec<u8>, AllocError>
-    // Whichever licences the lines are told with.
-    ensures { (licences : List Licensed) → IfOk result (λ text. text.items ≡ summary_text (told_of licences outcome.now)) }
+/// came to a value; the sum of the peaks of all that ran; and the free cells at the end. It asks for no value of a run.
+/// `AllocError` where memory runs out.
+pub fn summary<K: HasHalt>(alloc: Global, outcome: &Outcome<'_, K>) -> Result<Vec<u8>, AllocError>
+    // It is the summary of whatever this tells, with whichever licences.
+    ensures { (licences : List Licensed) (told : Told) → IsTold (EndsAs K.halt) licences outcome.now told
+        → IfOk result (λ text. text.items ≡ summary_text told) }
 {
-    let counts = count_lines(alloc, &outcome.jobs)?;
-    let text = summarize(alloc, &counts, outcome.free)?;
+    let text = summarize(alloc, &outcome.jobs, outcome.free)?;
     Ok(text)
 }

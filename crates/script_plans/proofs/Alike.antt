@@ -2,7 +2,7 @@
 use Rattle.std.proofs.Common.{◌≡◌, ℕ, List, [], ◌∷◌, inl, inr, sym, ap, ◌∙◌, subst}
 use Rattle.std.specs.Prelude.{Option}
 use Rattle.job_script.specs.Scripts.{Job, Entry, AProgram, AJob, Script}
-use Rattle.script_outcomes.specs.Told.{JobLine}
+use Rattle.run_reports.specs.Told.{JobLine}
 use Rattle.script_plans.specs.Programs.{ProgramText, program_named}
 use Rattle.script_plans.specs.Fates.{Fate, IsFate, line_of}
 use Rattle.script_plans.specs.Lines.{AreFates, lines_of, IsLineOf, TellsOf, Agree}

@@ -6,8 +6,7 @@ use Rattle.job_script.specs.Words.{entry_of}
 use Rattle.job_script.specs.declared.types.Entry.{Entry as DeclaredEntry}
 use Rattle.script_plans.specs.declared.answering.Answered.{Answered}
 use Rattle.script_plans.specs.Programs.{ProgramText, text_in}
-use Rattle.script_plans.specs.Rows.{Licensing, IsAnswer, IsProgramAdded, IsTaken, AreLicensed}
-use Rattle.script_plans.specs.Answers.{IsAnswerTo, IsAnswerAdded, AreAnswered}
+use Rattle.script_plans.specs.Answers.{Licensing, IsAnswer, IsAnswerTo, IsAnswerAdded, AreAnswered, IsProgramAdded, IsTaken, AreLicensed}
 use Rattle.script_plans.proofs.Parts.{of_both}
 use Rattle.script_plans.proofs.Programs.{UpTo, none_licensed, licensed_more, all_licensed}
 

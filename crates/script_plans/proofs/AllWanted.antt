@@ -1,44 +1,42 @@
 -- What jobs ask for: one by one, in two parts, and as it is planned.
 use Rattle.std.proofs.Common.{◌≡◌, ℕ, zero, suc, ◌+◌, ◌<◌, ◌≤◌, List, [], ◌∷◌, ◌++◌, length, map, drop, get_or, Some, None, sym, ap, ◌∙◌, subst, append_assoc, append-nil, drop-cons, add-one, arith}
 use Rattle.std.proofs.lemmas.List.{drop_all}
-use Rattle.std.specs.Prelude.{slice_get, Option, Result, Ok, Err, IfOk}
-use Rattle.std.specs.declared.alloc.AllocError.{AllocError}
+use Rattle.std.specs.Prelude.{slice_get, Option, Result, Ok, Err}
 use Rattle.std.specs.List.{AllByRecursion}
 use Rattle.licence.specs.Licensed.{Licensed}
 use Rattle.job_script.specs.Scripts.{Entry, AProgram, AJob, EntryIsWithin}
 use Rattle.job_script.specs.Words.{entry_of}
 use Rattle.job_script.specs.declared.types.Entry.{Entry as DeclaredEntry}
 use Rattle.job_world.specs.Plans.{Planned}
-use Rattle.script_plans.specs.declared.asking.Asked.{Asked}
+use Rattle.run_reports.specs.declared.outcome.JobCause.{JobCause}
+use Rattle.script_plans.specs.declared.types.Call.{Call as DeclaredCall}
 use Rattle.script_plans.specs.declared.types.JobPlan.{JobPlan}
-use Rattle.script_plans.specs.declared.wanting.Wanted.{Wanted}
-use Rattle.script_plans.specs.declared.wanting.Wanted.TheVariants as wanted
-use Rattle.script_plans.specs.Programs.{ProgramText, program_named}
+use Rattle.script_plans.specs.declared.types.JobPlan.TheVariants as plan
+use Rattle.script_plans.specs.Programs.{program_named}
 use Rattle.script_plans.specs.Lines.{ArePlanned}
 use Rattle.script_plans.specs.Rows.{Row, AreRows, row_among, row_program}
-use Rattle.script_plans.specs.Turns.{Planning, IsPlanned, IsEntryTaken, Comes}
-use Rattle.script_plans.specs.Wanted.{IsWanted, IsWantedBy, AreWanted, CanAllBeTaken}
-use Rattle.script_plans.proofs.Naming.{MeansSame, agrees}
-use Rattle.script_plans.proofs.Coming.{can_be_planned, comes_planned}
+use Rattle.script_plans.specs.Turns.{Planning, IsAdded, IsEntryTaken, Comes, places_by, plan_for}
+use Rattle.script_plans.specs.Wanted.{IsWantedBy, AreWanted, CanBeTaken}
+use Rattle.script_plans.proofs.Coming.{can_be_planned, comes_call, comes_refused}
 use Rattle.script_plans.proofs.Parts.{of_both}
 use Rattle.script_plans.proofs.Taking.{Going, going_first, going_on, going_done}
 
 -- ---- one by one
 
 -- The front entries want these, whatever the rest want.
-pub record AreSoFar (licences : List Licensed) (rows : List Row) (entries rest : List Entry) (all : List (Option Wanted)) : Type 0 where
-  pub are : (more : List (Option Wanted)) → AreWanted licences rows rest more → AreWanted licences rows entries (all ++ more)
+pub record AreSoFar (licences : List Licensed) (rows : List Row) (entries rest : List Entry) (all : List (Option (Result DeclaredCall JobCause))) : Type 0 where
+  pub are : (more : List (Option (Result DeclaredCall JobCause))) → AreWanted licences rows rest more → AreWanted licences rows entries (all ++ more)
 
 pub none_wanted : (licences : List Licensed) (rows : List Row) (entries : List Entry) → AreSoFar licences rows entries entries []
 none_wanted licences rows entries = record { are = λ more h. h }
 
-pub wanted_more : (licences : List Licensed) (rows : List Row) (entries rest : List Entry) (e : Entry) (all : List (Option Wanted)) (o : Option Wanted) → AreSoFar licences rows entries (e ∷ rest) all
+pub wanted_more : (licences : List Licensed) (rows : List Row) (entries rest : List Entry) (e : Entry) (all : List (Option (Result DeclaredCall JobCause))) (o : Option (Result DeclaredCall JobCause)) → AreSoFar licences rows entries (e ∷ rest) all
     → IsWantedBy licences rows e o → AreSoFar licences rows entries rest (all ++ o ∷ [])
 wanted_more licences rows entries rest e all o u is = record {
   are = λ more h. subst (AreWanted licences rows entries) (sym (append_assoc all (o ∷ []) more)) (u.are (o ∷ more) (is, h));
 }
 
-pub wanted_end : (licences : List Licensed) (rows : List Row) (entries : List DeclaredEntry) (n : ℕ) (all : List (Option Wanted)) → length entries ≤ n
+pub wanted_end : (licences : List Licensed) (rows : List Row) (entries : List DeclaredEntry) (n : ℕ) (all : List (Option (Result DeclaredCall JobCause))) → length entries ≤ n
     → AreSoFar licences rows (map entry_of entries) (map entry_of (drop n entries)) all → AreWanted licences rows (map entry_of entries) all
 wanted_end licences rows entries n all h u =
     let whole = map entry_of entries in
@@ -47,41 +45,52 @@ wanted_end licences rows entries n all h u =
 
 -- ---- in two parts
 
-pub both_wanted : (licences : List Licensed) (rows : List Row) (es fs : List Entry) (xs ys : List (Option Wanted)) → AreWanted licences rows es xs → AreWanted licences rows fs ys
+pub both_wanted : (licences : List Licensed) (rows : List Row) (es fs : List Entry) (xs ys : List (Option (Result DeclaredCall JobCause))) → AreWanted licences rows es xs → AreWanted licences rows fs ys
     → AreWanted licences rows (es ++ fs) (xs ++ ys)
 both_wanted licences rows [] fs [] ys a b = b
 both_wanted licences rows [] fs (x ∷ xs) ys a b = absurd a
 both_wanted licences rows (e ∷ es) fs [] ys a b = absurd a
 both_wanted licences rows (e ∷ es) fs (x ∷ xs) ys a b = (a.0, both_wanted licences rows es fs xs ys a.1 b)
 
-pub all_wanted : (licences : List Licensed) (rows : List Row) (all xs ys : List DeclaredEntry) (ws : List (Option Wanted)) → all ≡ xs ++ ys
+pub all_wanted : (licences : List Licensed) (rows : List Row) (all xs ys : List DeclaredEntry) (ws : List (Option (Result DeclaredCall JobCause))) → all ≡ xs ++ ys
     → AreWanted licences rows (map entry_of xs ++ map entry_of ys) ws
     → AreWanted licences rows (map entry_of all) ws
 all_wanted licences rows all xs ys ws e a = of_both (λ es. AreWanted licences rows es ws) all xs ys e a
 
 -- ---- as it is planned
 
--- what is planned of what was asked is what comes of the job
-pub call_comes : (p : Option ProgramText) (name text : List ℕ) (fuel given arena number : ℕ) (old new : Planned) (a : Asked) (r : Result JobPlan AllocError) → MeansSame
-    → ((l : Licensed) → slice_get old.licences number ≡ Some l → IfOk r (IsPlanned arena given number l a old new))
-    → IsWanted old.licences p name text fuel (wanted.Call number a given) → IfOk r (Comes p name text fuel arena old new)
-call_comes p name text fuel given arena number old new a (Err x) means each h = tt
-call_comes p name text fuel given arena number old new a (Ok q) means each h =
-    let w = h.1 in
-    let there : IsPlanned arena fuel number w.licence a old new q = subst (λ (n : ℕ). IsPlanned arena n number w.licence a old new q) h.0 (each w.licence w.at) in
-    let comes : Comes (Some w.program) name text fuel arena old new q =
-    comes_planned w.program name text fuel arena number old new w.meaning w.licence a q w.has (agrees w.program w.licence w.meaning means w.has) w.at w.is there in
-    subst (λ (o : Option ProgramText). Comes o name text fuel arena old new q) (sym w.there) comes
+-- a call that is planned, and a cause that is kept, are what comes of the job
+pub call_taken : (rows : List Row) (arena place : ℕ) (e : Entry) (call : DeclaredCall) (q : JobPlan) (old new : Planning) (ps : Planned) → IsWantedBy old.jobs.licences rows e (Some (Ok call))
+    → ((l : Licensed) → slice_get old.jobs.licences call.licence ≡ Some l → IsAdded arena (plan_for call.licence call.fuel l call.entry call.args.items) call.needs.bound old.jobs ps q)
+    → new.jobs ≡ ps → new.plans ≡ old.plans ++ q ∷ [] → new.asked ≡ old.asked ++ places_by q place → IsEntryTaken rows arena place e old new
+call_taken rows arena place (AProgram p) call q old new ps w each same plans asked = absurd w
+call_taken rows arena place (AJob j) call q old new ps w each same plans asked = record {
+  p = q;
+  comes = subst (λ (ps : Planned). Comes (row_program (row_among rows j.program)) j.entry j.args j.fuel arena old.jobs ps q) (sym same)
+      (comes_call (row_program (row_among rows j.program)) j.entry j.args j.fuel arena old.jobs ps call q w (each w.c.licence w.licence));
+  plans = plans;
+  asked = asked;
+}
+
+pub cause_taken : (rows : List Row) (arena place : ℕ) (e : Entry) (cause : JobCause) (old new : Planning) → IsWantedBy old.jobs.licences rows e (Some (Err cause))
+    → new.jobs ≡ old.jobs → new.plans ≡ old.plans ++ plan.Refused cause ∷ [] → new.asked ≡ old.asked ++ [] → IsEntryTaken rows arena place e old new
+cause_taken rows arena place (AProgram p) cause old new w same plans asked = absurd w
+cause_taken rows arena place (AJob j) cause old new w same plans asked = record {
+  p = plan.Refused cause;
+  comes = comes_refused (row_program (row_among rows j.program)) j.entry j.args j.fuel arena old.jobs new.jobs cause w same;
+  plans = plans;
+  asked = asked;
+}
 
 -- What the loop over the entries keeps: those in front are planned, and the rest want these.
-pub record Taking (arena : ℕ) (script : List Entry) (rows : List Row) (place : ℕ) (t : Planning) (left : List (Option Wanted)) : Type 0 where
+pub record Taking (arena : ℕ) (script : List Entry) (rows : List Row) (place : ℕ) (t : Planning) (left : List (Option (Result DeclaredCall JobCause))) : Type 0 where
   pub rest : List Entry
   pub going : Going arena script rest rows place t
   pub are : AreWanted t.jobs.licences rows rest left
   pub within : AllByRecursion EntryIsWithin rest
   pub count : place + length rest ≡ length script
 
-pub taking_first : (arena : ℕ) (script : List Entry) (rows : List Row) (ps : Planned) (licences : List Licensed) (left : List (Option Wanted)) → AreRows licences rows
+pub taking_first : (arena : ℕ) (script : List Entry) (rows : List Row) (ps : Planned) (licences : List Licensed) (left : List (Option (Result DeclaredCall JobCause))) → AreRows licences rows
     → ps ≡ record { licences = licences; plans = [] } → AreWanted licences rows script left → AllByRecursion EntryIsWithin script
     → Taking arena script rows 0 (record { jobs = ps; plans = []; asked = [] }) left
 taking_first arena script rows ps licences left h e are within = record {
@@ -92,24 +101,22 @@ taking_first arena script rows ps licences left h e are within = record {
   count = omega arith;
 }
 
-wanted_can : (licences : List Licensed) (rows : List Row) (e : Entry) (o : Option Wanted) → EntryIsWithin e → IsWantedBy licences rows e o → CanAllBeTaken licences o
+wanted_can : (licences : List Licensed) (rows : List Row) (e : Entry) (o : Option (Result DeclaredCall JobCause)) → EntryIsWithin e → IsWantedBy licences rows e o → CanBeTaken licences o
 wanted_can licences rows e None within h = tt
-wanted_can licences rows (AProgram p) (Some w) within h = absurd h
-wanted_can licences rows (AJob j) (Some (wanted.Nothing cause)) within h = tt
-wanted_can licences rows (AJob j) (Some (wanted.Call number a given)) within h =
-    let w = h.1 in
-    can_be_planned licences number given w.licence j.entry j.args a w.at (omega (arith, h.0, within.least)) w.is
+wanted_can licences rows e (Some (Err cause)) within h = tt
+wanted_can licences rows (AProgram p) (Some (Ok call)) within h = absurd h
+wanted_can licences rows (AJob j) (Some (Ok call)) within h = can_be_planned licences (row_program (row_among rows j.program)) j.entry j.args j.fuel call within.least h
 
-pub taking_can : (arena : ℕ) (script : List Entry) (rows : List Row) (place : ℕ) (t : Planning) (o : Option Wanted) (left : List (Option Wanted))
-    → Taking arena script rows place t (o ∷ left) → CanAllBeTaken t.jobs.licences o
+pub taking_can : (arena : ℕ) (script : List Entry) (rows : List Row) (place : ℕ) (t : Planning) (o : Option (Result DeclaredCall JobCause)) (left : List (Option (Result DeclaredCall JobCause)))
+    → Taking arena script rows place t (o ∷ left) → CanBeTaken t.jobs.licences o
 taking_can arena script rows place t o left h = go h.rest h.are h.within
   where
-    go : (rest : List Entry) → AreWanted t.jobs.licences rows rest (o ∷ left) → AllByRecursion EntryIsWithin rest → CanAllBeTaken t.jobs.licences o
+    go : (rest : List Entry) → AreWanted t.jobs.licences rows rest (o ∷ left) → AllByRecursion EntryIsWithin rest → CanBeTaken t.jobs.licences o
     go [] are within = absurd are
     go (e ∷ rest) are within = wanted_can t.jobs.licences rows e o within.0 are.0
 
 -- there is one entry more
-pub taking_short : (arena : ℕ) (script : List Entry) (rows : List Row) (place : ℕ) (t : Planning) (o : Option Wanted) (left : List (Option Wanted))
+pub taking_short : (arena : ℕ) (script : List Entry) (rows : List Row) (place : ℕ) (t : Planning) (o : Option (Result DeclaredCall JobCause)) (left : List (Option (Result DeclaredCall JobCause)))
     → length script ≤ 4160 → Taking arena script rows place t (o ∷ left) → place < 4160
 taking_short arena script rows place t o left few h = go h.rest h.are h.count
   where
@@ -117,7 +124,7 @@ taking_short arena script rows place t o left few h = go h.rest h.are h.count
     go [] are e = absurd are
     go (x ∷ rest) are e = omega (arith, e, few)
 
-pub taking_few : (arena : ℕ) (script : List Entry) (rows : List Row) (place : ℕ) (t : Planning) (o : Option Wanted) (left : List (Option Wanted))
+pub taking_few : (arena : ℕ) (script : List Entry) (rows : List Row) (place : ℕ) (t : Planning) (o : Option (Result DeclaredCall JobCause)) (left : List (Option (Result DeclaredCall JobCause)))
     → length script ≤ 4160 → Taking arena script rows place t (o ∷ left) → length t.jobs.plans < 4294967295
 taking_few arena script rows place t o left few h = let short = taking_short arena script rows place t o left few h in omega (arith, short, h.going.few)
 
@@ -125,7 +132,7 @@ licences_stay : (rows : List Row) (arena place : ℕ) (e : Entry) (old new : Pla
 licences_stay rows arena place (AProgram p) old new t = ap (λ (q : Planning). q.jobs.licences) t
 licences_stay rows arena place (AJob j) old new t = t.comes.licences
 
-pub taking_more : (arena : ℕ) (script : List Entry) (rows : List Row) (place : ℕ) (old new : Planning) (o : Option Wanted) (left : List (Option Wanted))
+pub taking_more : (arena : ℕ) (script : List Entry) (rows : List Row) (place : ℕ) (old new : Planning) (o : Option (Result DeclaredCall JobCause)) (left : List (Option (Result DeclaredCall JobCause)))
     → ((name : List ℕ) → program_named script name ≡ row_program (row_among rows name)) → Taking arena script rows place old (o ∷ left)
     → ((rows : List Row) (e : Entry) → IsWantedBy old.jobs.licences rows e o → IsEntryTaken rows arena place e old new)
     → Taking arena script rows (place + 1) new left
@@ -167,8 +174,8 @@ turn_first arena entries rows ps qs licences plans asked h e f g k =
     subst (λ p. Going arena script script rows 0 (record { jobs = qs; plans = p; asked = asked })) (sym g)
     (subst (λ a. Going arena script script rows 0 (record { jobs = qs; plans = []; asked = a })) (sym k) (going_first arena script rows qs licences h (f ∙ e)))
 
-pub turn_can : (entries : List DeclaredEntry) (rows : List Row) (i : ℕ) (d : DeclaredEntry) (licences mine : List Licensed) (o : Option Wanted) → i < length entries
-    → AllByRecursion EntryIsWithin (map entry_of (drop i entries)) → licences ≡ mine → IsWantedBy licences rows (entry_of (get_or entries i d)) o → CanAllBeTaken mine o
+pub turn_can : (entries : List DeclaredEntry) (rows : List Row) (i : ℕ) (d : DeclaredEntry) (licences mine : List Licensed) (o : Option (Result DeclaredCall JobCause)) → i < length entries
+    → AllByRecursion EntryIsWithin (map entry_of (drop i entries)) → licences ≡ mine → IsWantedBy licences rows (entry_of (get_or entries i d)) o → CanBeTaken mine o
 turn_can entries rows i d licences mine o h within e is =
     wanted_can mine rows (entry_of (get_or entries i d)) o (here (AllByRecursion EntryIsWithin) entries i d h within).0 (subst (λ ls. IsWantedBy ls rows (entry_of (get_or entries i d)) o) e is)
 
@@ -182,7 +189,7 @@ turn_rest P entries i all = subst (λ n. AllByRecursion P (map entry_of (drop n 
     go (x ∷ xs) zero all = all.1
     go (x ∷ xs) (suc i) all = go xs i all
 
-pub turn_more : (arena : ℕ) (entries : List DeclaredEntry) (rows : List Row) (place i : ℕ) (d : DeclaredEntry) (old new : Planning) (licences : List Licensed) (o : Option Wanted)
+pub turn_more : (arena : ℕ) (entries : List DeclaredEntry) (rows : List Row) (place i : ℕ) (d : DeclaredEntry) (old new : Planning) (licences : List Licensed) (o : Option (Result DeclaredCall JobCause))
     → ((name : List ℕ) → program_named (map entry_of entries) name ≡ row_program (row_among rows name)) → i < length entries
     → Going arena (map entry_of entries) (map entry_of (drop i entries)) rows place old → licences ≡ old.jobs.licences → IsWantedBy licences rows (entry_of (get_or entries i d)) o
     → ((rows : List Row) (e : Entry) → IsWantedBy old.jobs.licences rows e o → IsEntryTaken rows arena place e old new)

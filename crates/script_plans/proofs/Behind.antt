@@ -6,7 +6,7 @@ use Rattle.std.proofs.lemmas.List.FromFn.{length-range_with_len}
 use Rattle.licence.specs.Licensed.{Licensed}
 use Rattle.job_world.specs.Plans.{Plan, job_run}
 use Rattle.job_world.specs.PlanLaws.{front_stays, run_stays}
-use Rattle.script_outcomes.specs.Told.{Ended, TooLarge, Refused}
+use Rattle.run_reports.specs.Told.{Ended, TooLarge, Refused}
 use Rattle.script_plans.specs.declared.types.JobPlan.{JobPlan}
 use Rattle.script_plans.specs.declared.types.JobPlan.TheVariants as plan
 use Rattle.script_plans.specs.Lines.{types_at, fuel_at, planned_line, planned_lines, run_number, run_numbers}

@@ -10,3 +10,4 @@ pub mod Behind
 pub mod Taking
 pub mod OneFate
 pub mod Alike
+pub mod CallLaws

@@ -21,9 +21,9 @@ use Rattle.camelot_compiler.specs.Compiled as compiler
 use Rattle.camelot_compiler.specs.Licences.{HasLicence}
 use Rattle.bundle_licence.specs.Bundled as bundle
 use Rattle.job_script.specs.Scripts.{Entry, AProgram, AJob}
-use Rattle.script_outcomes.specs.declared.outcome.ProgramLine.{ProgramLine}
-use Rattle.script_outcomes.specs.declared.outcome.ProgramLine.TheVariants as program
-use Rattle.script_outcomes.specs.declared.outcome.JobCause.TheVariants as job_cause
+use Rattle.run_reports.specs.declared.outcome.ProgramLine.{ProgramLine}
+use Rattle.run_reports.specs.declared.outcome.ProgramLine.TheVariants as program
+use Rattle.run_reports.specs.declared.outcome.JobCause.TheVariants as job_cause
 use Rattle.script_plans.specs.Programs.{ProgramText, CamelotText, GrailText, Meaning, OfSource, OfCode, program_of, program_named, function_names, function_params, value_types, IsLicenceOf, IsRefusedFor}
 use Rattle.script_plans.specs.Fates.{Call, Fate, Unfit, Calls, IsProgramLine, IsRefused, HasNoEntry, OfEntry, IsCall, IsFate}
 use Rattle.script_plans.specs.Lines.{AreProgramLines, AreFates}

@@ -9,12 +9,13 @@ use Rattle.job_world.specs.PlanLaws.{front_stays, found_behind}
 use Rattle.value_text.specs.Inhabited.{Knows}
 use Rattle.camelot_compiler.specs.Licences.{IsLicence}
 use Rattle.cause_texts.specs.declared.cause.Cause.{Cause}
-use Rattle.script_outcomes.specs.declared.outcome.ProgramLine.{ProgramLine}
-use Rattle.script_outcomes.specs.declared.outcome.ProgramLine.TheVariants as program
+use Rattle.run_reports.specs.declared.outcome.ProgramLine.{ProgramLine}
+use Rattle.run_reports.specs.declared.outcome.ProgramLine.TheVariants as program
 use Rattle.script_plans.specs.declared.rows.Known.{Known}
 use Rattle.script_plans.specs.Programs.{ProgramText, CamelotText, program_of, program_named, OfSource, IsRefusedFor}
 use Rattle.script_plans.specs.Lines.{AreProgramLines}
-use Rattle.script_plans.specs.Rows.{Row, Licensing, row_among, row_program, IsKnown, IsRow, AreRows, IsLicenceFor, IsProgramAdded, IsTaken, AreLicensed}
+use Rattle.script_plans.specs.Rows.{Row, row_among, row_program, IsKnown, IsRow, AreRows}
+use Rattle.script_plans.specs.Answers.{Licensing, IsLicenceFor, IsProgramAdded, IsTaken, AreLicensed}
 
 -- the row's program, or else this one
 abbrev program_or : Option Row → Option ProgramText → Option ProgramText

@@ -10,7 +10,7 @@ use Rattle.licence.specs.Licensed.{Licensed}
 use Rattle.job_script.specs.Scripts.{Program, Job, Entry, AProgram, AJob, job_names}
 use Rattle.job_world.specs.Plans.{Plan, Planned, cells_with}
 use Rattle.job_world.specs.Plans as world
-use Rattle.script_outcomes.specs.Told.{JobLine}
+use Rattle.run_reports.specs.Told.{JobLine}
 use Rattle.script_plans.specs.declared.types.JobPlan.{JobPlan}
 use Rattle.script_plans.specs.Programs.{ProgramText, program_named}
 use Rattle.script_plans.specs.Fates.{Fate, Unfit, Calls, lease_of, leases_of, line_of}

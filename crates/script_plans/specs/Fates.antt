@@ -15,11 +15,11 @@ use Rattle.licence.specs.Licensed.{Licensed}
 use Rattle.cell_machine.specs.State.{most_calls}
 use Rattle.cell_machine.specs.Loading.{last_cells}
 use Rattle.cause_texts.specs.declared.cause.Cause.{Cause}
-use Rattle.script_outcomes.specs.declared.outcome.ProgramLine.{ProgramLine}
-use Rattle.script_outcomes.specs.declared.outcome.ProgramLine.TheVariants as program
-use Rattle.script_outcomes.specs.declared.outcome.JobCause.{JobCause}
-use Rattle.script_outcomes.specs.declared.outcome.JobCause.TheVariants as job_cause
-use Rattle.script_outcomes.specs.Told.{JobLine, Ended, TooLarge, Refused}
+use Rattle.run_reports.specs.declared.outcome.ProgramLine.{ProgramLine}
+use Rattle.run_reports.specs.declared.outcome.ProgramLine.TheVariants as program
+use Rattle.run_reports.specs.declared.outcome.JobCause.{JobCause}
+use Rattle.run_reports.specs.declared.outcome.JobCause.TheVariants as job_cause
+use Rattle.run_reports.specs.Told.{JobLine, Ended, TooLarge, Refused}
 use Rattle.script_plans.specs.Programs.{ProgramText, Meaning, function_names, function_params, value_types, run_by, IsLicenceOf, IsRefusedFor}
 
 -- ---- programs
@@ -116,11 +116,15 @@ IsFate o entry args fate = ⊥
 
 -- ---- lines
 
--- The line of a job by its fate: why it is refused; or that it needs more cells than the arena has; or what the meaning
--- of its program says that its call comes to.
+-- the line of a call that ran: what the meaning of its program says that it comes to
+abbrev pub ended_line : (fuel : ℕ) → Call → JobLine
+ended_line fuel c = Ended (value_types c.meaning) (outcome_of c fuel) fuel (bound_of c)
+
+-- The line of a job by its fate: why it is refused; or that it needs more cells than the arena has; or what its call
+-- comes to.
 abbrev pub line_of : (arena fuel : ℕ) → Fate → JobLine
 line_of arena fuel (Unfit cause) = Refused cause
-line_of arena fuel (Calls c) = if nat_lt arena (lease_of c) then TooLarge (lease_of c) arena else Ended (value_types c.meaning) (outcome_of c fuel) fuel (bound_of c)
+line_of arena fuel (Calls c) = if nat_lt arena (lease_of c) then TooLarge (lease_of c) arena else ended_line fuel c
 
 -- the job goes to the desk, and the size of its lease there
 abbrev pub leases_of : (arena : ℕ) → Fate → List ℕ

@@ -6,8 +6,8 @@ use Rattle.camelot_values.specs.Kinds.{DataType}
 use Rattle.cell_span.specs.declared.cell.Cell.{Cell}
 use Rattle.licence.specs.Licensed.{Licensed}
 use Rattle.job_script.specs.Scripts.{Job, Entry, AProgram, AJob, Script}
-use Rattle.script_outcomes.specs.declared.outcome.ProgramLine.{ProgramLine}
-use Rattle.script_outcomes.specs.Told.{JobLine, Ended, TooLarge, Refused, licence_types}
+use Rattle.run_reports.specs.declared.outcome.ProgramLine.{ProgramLine}
+use Rattle.run_reports.specs.Told.{JobLine, Ended, TooLarge, Refused, licence_types}
 use Rattle.job_world.specs.Plans.{Plan, Planned, job_run, cells_with}
 use Rattle.job_world.specs.Plans as world
 use Rattle.script_plans.specs.declared.types.JobPlan.{JobPlan}

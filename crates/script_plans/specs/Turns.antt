@@ -1,12 +1,11 @@
 -- Private: words for functions of this crate.
--- One job: what is asked of a licence, what is planned, and what that adds to what was planned before.
-use Rattle.std.specs.Prelude.{◌≡◌, ℕ, ◌<◌, ◌≤◌, List, [], ◌∷◌, ◌++◌, length, slice_get, Option, Some}
+-- One job: what its licence says of its call, what is planned, and what that adds to what was planned before.
+use Rattle.std.specs.Prelude.{◌≡◌, ℕ, ◌<◌, ◌≤◌, List, [], ◌∷◌, ◌++◌, length, slice_get, Option, Some, Result, Ok, Err}
 use Rattle.std.specs.List.{range_with_len}
 use Rattle.camelot_values.specs.Value.{Value}
 use Rattle.camelot_values.specs.Outcome.{peak_of}
 use Rattle.grail_code.specs.Code.{Func}
 use Rattle.grail_code.specs.Meaning.{run_of}
-use Rattle.grail_code.specs.ByName.{HasName, IsFirstNamed}
 use Rattle.value_text.specs.Grammar.{AreNamed, IsRead, IsTooLong, IsBadShape}
 use Rattle.value_text.specs.Inhabited.{Knows}
 use Rattle.licence.specs.Bound.{bound, lease}
@@ -17,11 +16,11 @@ use Rattle.job_script.specs.Scripts.{Entry, AProgram, AJob}
 use Rattle.job_world.specs.Plans.{Plan, Planned}
 use Rattle.job_world.specs.Plans as world
 use Rattle.job_world.specs.Asking.{CanPlan}
-use Rattle.script_outcomes.specs.declared.outcome.JobCause.TheVariants as job_cause
-use Rattle.script_plans.specs.declared.asking.Asked.{Asked}
-use Rattle.script_plans.specs.declared.asking.Asked.TheVariants as asked
+use Rattle.run_reports.specs.declared.outcome.JobCause.{JobCause}
+use Rattle.run_reports.specs.declared.outcome.JobCause.TheVariants as job_cause
 use Rattle.script_plans.specs.declared.rows.Known.{Known}
 use Rattle.script_plans.specs.declared.planning.Taken.{Taken}
+use Rattle.script_plans.specs.declared.types.Call.{Call as DeclaredCall}
 use Rattle.script_plans.specs.declared.types.JobPlan.{JobPlan}
 use Rattle.script_plans.specs.declared.types.JobPlan.TheVariants as plan
 use Rattle.script_plans.specs.Programs.{ProgramText}
@@ -29,7 +28,7 @@ use Rattle.script_plans.specs.Fates.{Fate, IsFate, IsWithinBound, line_of, lease
 use Rattle.script_plans.specs.Lines.{planned_line, planned_cells, run_number, places_with}
 use Rattle.script_plans.specs.Rows.{Row, row_program, row_among}
 
--- ---- what is asked of a licence
+-- ---- what a licence says of a call
 
 -- the bound of a call of this function, which its peak is within, and its lease
 pub record IsBoundOf (l : Licensed) (number : ℕ) (args : List Value) (needs : Needs) : Type 0 where
@@ -37,41 +36,28 @@ pub record IsBoundOf (l : Licensed) (number : ℕ) (args : List Value) (needs : 
   pub leased : needs.lease ≡ lease l.code l.cert number args
   pub peak : (fuel : ℕ) → peak_of (run_of l.code most_calls number fuel args) ≤ needs.bound
 
--- the call of this function on these arguments, with its bound and lease
-abbrev pub IsBounded : Licensed → (number : ℕ) → List Value → Asked → Type 0
-IsBounded l number args (asked.Unfit cause) = ⊥
-IsBounded l number args (asked.Fits entry xs needs) = (entry ≡ number) × (xs.items ≡ args) × IsBoundOf l number args needs
+-- what a text of arguments comes to at this function of the licence of number n: a call on what it is read as, or why
+-- it isn't read
+abbrev pub IsOfArgs : Licensed → (n number : ℕ) → Func → (text : List ℕ) → (fuel : ℕ) → Result DeclaredCall JobCause → Type 0
+IsOfArgs l n number f text fuel (Ok call) = (call.licence ≡ n) × (call.entry ≡ number) × (call.fuel ≡ fuel) × IsRead l.code.types f.params text call.args.items × IsBoundOf l number call.args.items call.needs
+IsOfArgs l n number f text fuel (Err (job_cause.Argument at)) = IsBadShape l.code.types f.params text at
+IsOfArgs l n number f text fuel (Err (job_cause.Long items)) = IsTooLong l.code.types f.params text items
+IsOfArgs l n number f text fuel (Err cause) = ⊥
 
--- what a text of arguments comes to at this function: a call on what it is read as, or why it isn't read
-abbrev pub IsOfArgs : Licensed → (number : ℕ) → Func → (text : List ℕ) → Asked → Type 0
-IsOfArgs l number f text (asked.Unfit (job_cause.Argument at)) = IsBadShape l.code.types f.params text at
-IsOfArgs l number f text (asked.Unfit (job_cause.Long items)) = IsTooLong l.code.types f.params text items
-IsOfArgs l number f text (asked.Unfit cause) = ⊥
-IsOfArgs l number f text (asked.Fits entry args needs) = (entry ≡ number) × IsRead l.code.types f.params text args.items × IsBoundOf l number args.items needs
-
--- the function of this name, and what the arguments come to there
-pub record IsOfEntry (l : Licensed) (name text : List ℕ) (a : Asked) : Type 0 where
-  pub number : ℕ
-  pub first : IsFirstNamed l.code number name
-  pub func : Func
-  pub is : slice_get l.code.funcs number ≡ Some func
-  pub of_args : IsOfArgs l number func text a
-
-abbrev pub IsAsked : Licensed → (name text : List ℕ) → Asked → Type 0
-IsAsked l name text (asked.Unfit job_cause.NoEntry) = (number : ℕ) → HasName l.code number name → ⊥
-IsAsked l name text a = IsOfEntry l name text a
+-- the licence has this number, it is known which of its types have values, and its constructors have upper names
+pub record IsUsable (licences : List Licensed) (k : Known) : Type 0 where
+  pub licence : Licensed
+  pub at : slice_get licences k.licence ≡ Some licence
+  pub knows : Knows licence.code.types k.inhabited
+  pub named : AreNamed licence.code.types
 
 -- ---- what is planned
 
--- its bound and its lease are those of the licence of this number
-pub record IsLeased (licences : List Licensed) (licence entry : ℕ) (args : List Value) (needs : Needs) : Type 0 where
-  pub bounded : (l : Licensed) → slice_get licences licence ≡ Some l → needs.bound ≡ bound l.code l.cert entry args
-  pub leased : (l : Licensed) → slice_get licences licence ≡ Some l → needs.lease ≡ lease l.code l.cert entry args
-
--- it can be planned
-abbrev pub CanBePlanned : List Licensed → (licence fuel : ℕ) → Asked → Type 0
-CanBePlanned licences licence fuel (asked.Unfit cause) = Unit {0}
-CanBePlanned licences licence fuel (asked.Fits entry args needs) = CanPlan licences licence entry args.items fuel × IsLeased licences licence entry args.items needs
+-- it can be planned, and its bound and its lease are those of its licence
+pub record CanBePlanned (licences : List Licensed) (call : DeclaredCall) : Type 0 where
+  pub can : CanPlan licences call.licence call.entry call.args.items call.fuel
+  pub bounded : (l : Licensed) → slice_get licences call.licence ≡ Some l → call.needs.bound ≡ bound l.code l.cert call.entry call.args.items
+  pub leased : (l : Licensed) → slice_get licences call.licence ≡ Some l → call.needs.lease ≡ lease l.code l.cert call.entry call.args.items
 
 -- the plan is added where its lease is within the arena
 abbrev pub IsAdded : (arena : ℕ) → Plan → (most : ℕ) → (old new : Planned) → JobPlan → Type 0
@@ -82,17 +68,6 @@ IsAdded arena p most old new (plan.Refused cause) = ⊥
 -- the plan of a call
 abbrev pub plan_for : (licence fuel : ℕ) → Licensed → (entry : ℕ) → List Value → Plan
 plan_for licence fuel l entry args = record { licence = licence; entry = entry; args = args; fuel = fuel; lease = lease l.code l.cert entry args }
-
-abbrev pub IsPlanned : (arena fuel licence : ℕ) → Licensed → Asked → (old new : Planned) → JobPlan → Type 0
-IsPlanned arena fuel licence l (asked.Unfit cause) old new p = (p ≡ plan.Refused cause) × (new ≡ old)
-IsPlanned arena fuel licence l (asked.Fits entry args needs) old new p = IsAdded arena (plan_for licence fuel l entry args.items) needs.bound old new p
-
--- the licence has this number, it is known which of its types have values, and its constructors have upper names
-pub record IsUsable (licences : List Licensed) (k : Known) : Type 0 where
-  pub licence : Licensed
-  pub at : slice_get licences k.licence ≡ Some licence
-  pub knows : Knows licence.code.types k.inhabited
-  pub named : AreNamed licence.code.types
 
 -- ---- what comes of a job
 

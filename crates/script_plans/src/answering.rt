@@ -5,8 +5,7 @@ ghost use Rattle.std.specs.Thread.{IsSync};
 ghost use Rattle.job_script.specs.Text.{EntryIsShort};
 ghost use Rattle.job_script.specs.Words.{entry_of};
 ghost use Rattle.script_plans.specs.Programs.{CamelotText, GrailText, text_in};
-ghost use Rattle.script_plans.specs.Rows.{IsAnswer};
-ghost use Rattle.script_plans.specs.Answers.{IsAnswerAdded, AreAnswered};
+ghost use Rattle.script_plans.specs.Answers.{IsAnswer, IsAnswerAdded, AreAnswered};
 
 use crate::cutting::{Texts, middle};
 use bundle_licence::license_bundle;

@@ -1,87 +1,145 @@
-//! One job: what it asks for is planned.
-ghost use Rattle.std.specs.Prelude.{◌≡◌, ◌<◌, ◌≤◌, ℕ, List, Option, length, slice_get, Some, IfOk};
-ghost use Rattle.licence.specs.Licensed.{Licensed};
-ghost use Rattle.job_world.specs.Asking.{CanPlan};
+//! The call that a job asks for: its licence, its function, its arguments, its bound and its lease, or why it has none.
+ghost use Rattle.std.specs.Prelude.{◌≡◌, ◌<◌, ◌≤◌, length, map, slice_get, Some, MatchResult, IfOk};
+ghost use Rattle.camelot_values.specs.Value.{parts};
+ghost use Rattle.camelot_values.specs.Counts.{size_all};
+ghost use Rattle.grail_code.specs.Code.{code_of};
+ghost use Rattle.grail_code.specs.Code as plain;
+ghost use Rattle.value_text.specs.Grammar.{AreNamed, DistinctNames, IsRead};
+ghost use Rattle.stops.specs.Stopping.{FaultIs};
+ghost use Rattle.value_text.specs.Answers.{IsFault};
+ghost use Rattle.value_text.specs.Inhabited.{Knows};
+ghost use Rattle.licence.specs.Licensed.{FitsEntry};
 ghost use Rattle.script_plans.specs.Programs.{ProgramText};
-ghost use Rattle.script_plans.specs.Turns.{CanBePlanned, IsLeased, IsAdded, IsPlanned, Comes, plan_for};
-ghost use Rattle.script_plans.specs.Wanted.{CanBeTaken, IsWanted};
+ghost use Rattle.script_plans.specs.Rows.{Holds, AreRows, row_of, row_among, row_program};
+ghost use Rattle.script_plans.specs.Asked.{IsAsked};
+ghost use Rattle.script_plans.specs.Turns.{IsBoundOf, IsOfArgs, IsUsable};
 
-use crate::asking::Asked;
-use crate::types::JobPlan;
-use crate::wanting::Wanted;
+use crate::rows::{Known, Row, find};
+use crate::types::Call;
 use camelot_values::Flat;
 use code_gen::laws::law_of_compiler;
-use job_world::{AddFault, Jobs};
-use licence::Needs;
-use std::alloc::AllocError;
+use grail_code::Code;
+use licence::{Licence, Needs};
+use run_reports::JobCause;
+use std::alloc::{AllocError, Global};
+use stops::Stop;
+use value_text::{Inhabited, ValueFault, read_known};
 
-// Plans a call of this lease, where it is within the arena.
-fn plan_call(
-    jobs: &mut Jobs,
-    licence: u32,
-    entry: u32,
-    args: Vec<Flat>,
-    needs: Needs,
-    fuel: u64,
-    arena: u32,
-) -> Result<JobPlan, AllocError>
-    requires can { CanPlan jobs.old.licences licence entry args.items fuel }
-    requires leased { IsLeased jobs.old.licences licence entry args.items needs }
-    requires arena { arena ≤ 2147483648 }
-    requires few { length jobs.old.plans < 4294967295 }
-    ensures { (l : Licensed) → slice_get jobs.old.licences licence ≡ Some l
-        → IfOk result (IsAdded arena (plan_for licence fuel l entry args.items) needs.bound jobs.old jobs.new) }
+// The arguments of a function, of this text.
+fn parse(
+    alloc: Global,
+    code: &Code,
+    inhabited: &Inhabited,
+    number: u32,
+    text: &[u8],
+) -> Result<Vec<Flat>, Stop<ValueFault>>
+    requires there { number < length (code_of code.now).funcs }
+    requires short { length text.now < 4294967296 }
+    requires knows { Knows code.now.types inhabited.now }
+    requires named { AreNamed code.now.types }
+    requires distinct { DistinctNames code.now.types }
+    ensures { (f : plain.Func) → slice_get (code_of code.now).funcs number ≡ Some f
+        → MatchResult result (λ args. IsRead code.now.types f.params text.now args.items) (λ stop. FaultIs (IsFault code.now.types f.params text.now) stop) }
 {
-    match jobs.add_leased(licence, entry, args, fuel, needs, arena) {
-        Ok(job) => Ok(JobPlan::Runs {
-            job,
-            bound: needs.bound,
-        }),
-        Err(AddFault::Larger { needs }) => Ok(JobPlan::TooLarge { needs }),
-        Err(AddFault::Memory) => Err(AllocError),
-    }
+    let params = &code.funcs[number as usize].params;
+    read_known(alloc, text, &code.types, inhabited, params)
 }
 
-// Plans what was asked.
-fn plan_asked(
-    jobs: &mut Jobs,
-    licence: u32,
-    asked: Asked,
-    fuel: u64,
-    arena: u32,
-) -> Result<JobPlan, AllocError>
-    requires can { CanBePlanned jobs.old.licences licence fuel asked }
-    requires arena { arena ≤ 2147483648 }
-    requires few { length jobs.old.plans < 4294967295 }
-    ensures { (l : Licensed) → slice_get jobs.old.licences licence ≡ Some l → IfOk result (IsPlanned arena fuel licence l asked jobs.old jobs.new) }
+// The bound and the lease of a call. It is a call itself, so that the walks over the nodes of the arguments carry
+// nothing of what reads them.
+#[inline(never)]
+#[tactic(auto, using(crate::proofs::Coming::bounded_is))]
+fn needs_of(licence: &Licence, number: u32, args: &[Flat]) -> Needs
+    requires fits { FitsEntry licence.now number args.now }
+    requires few { size_all (parts args.now) ≤ 65536 }
+    ensures { IsBoundOf licence.now number args.now result }
 {
-    match asked {
-        Asked::Fits { entry, args, needs } => {
-            plan_call(jobs, licence, entry, args, needs, fuel, arena)
+    licence.needs(number, args)
+}
+
+// The call of a function on a text of arguments.
+#[tactic(auto, using(crate::proofs::Coming::read_fits))]
+fn call_function(
+    alloc: Global,
+    licence: &Licence,
+    known: &Known,
+    number: u32,
+    text: &[u8],
+    fuel: u64,
+) -> Result<Result<Call, JobCause>, AllocError>
+    requires there { number < length licence.now.code.funcs }
+    requires short { length text.now < 4294967296 }
+    requires knows { Knows licence.now.code.types known.now.inhabited }
+    requires named { AreNamed licence.now.code.types }
+    ensures { (f : plain.Func) → slice_get licence.now.code.funcs number ≡ Some f
+        → IfOk result (IsOfArgs licence.now known.now.licence number f text.now fuel) }
+{
+    licence.kept();
+    match parse(alloc, licence.code(), &known.inhabited, number, text) {
+        Ok(args) => {
+            let needs = needs_of(licence, number, &args);
+            Ok(Ok(Call {
+                licence: known.licence,
+                entry: number,
+                args,
+                needs,
+                fuel,
+            }))
         }
-        Asked::Unfit { cause } => Ok(JobPlan::Refused { cause }),
+        Err(Stop::Fault(ValueFault::BadShape { at })) => Ok(Err(JobCause::Argument { at })),
+        Err(Stop::Fault(ValueFault::TooLong { items })) => Ok(Err(JobCause::Long { items })),
+        Err(Stop::Memory) => Err(AllocError),
     }
 }
 
-/// Plans what a job asks for.
-pub(crate) fn plan_wanted(
-    jobs: &mut Jobs,
-    wanted: Wanted,
-    arena: u32,
-) -> Result<JobPlan, AllocError>
-    requires can { CanBeTaken jobs.old.licences wanted }
-    requires arena { arena ≤ 2147483648 }
-    requires few { length jobs.old.plans < 4294967295 }
-    ensures { (program : Option ProgramText) (name text : List ℕ) (fuel : ℕ) → IsWanted jobs.old.licences program name text fuel wanted
-        → IfOk result (Comes program name text fuel arena jobs.old jobs.new) }
+// The call of the function of this name, of a program that has a licence.
+#[tactic(auto, using(crate::proofs::Coming::number_within))]
+fn call_known(
+    alloc: Global,
+    licences: &[Licence],
+    known: &Known,
+    name: &[u8],
+    text: &[u8],
+    fuel: u64,
+) -> Result<Result<Call, JobCause>, AllocError>
+    requires known { IsUsable licences.now known.now }
+    requires short { length text.now < 4294967296 }
+    ensures { (p : ProgramText) → Holds licences.now p known.now → IfOk result (IsAsked licences.now (Some p) name.now text.now fuel) }
 {
     law_of_compiler();
-    match wanted {
-        Wanted::Call {
-            licence,
-            asked,
-            fuel,
-        } => plan_asked(jobs, licence, asked, fuel, arena),
-        Wanted::Nothing { cause } => Ok(JobPlan::Refused { cause }),
+    let licence = &licences[known.licence as usize];
+    match licence.code().func(name) {
+        Some(number) => call_function(alloc, licence, known, number, text, fuel),
+        None => Ok(Err(JobCause::NoEntry)),
+    }
+}
+
+/// The call that a job asks for, by the name of its program, the name of its entry, the text of its arguments and its
+/// fuel; or why it has none. A job has one fate at most, so there is no other answer. Nothing runs.
+///
+/// `AllocError` where memory runs out.
+#[tactic(auto, using(crate::proofs::Coming::usable, crate::proofs::Coming::row_fits))]
+pub fn call(
+    alloc: Global,
+    licences: &[Licence],
+    programs: &[Row<'_>],
+    program: &[u8],
+    entry: &[u8],
+    text: &[u8],
+    fuel: u64,
+) -> Result<Result<Call, JobCause>, AllocError>
+    // What is known of the programs is so, and these are their licences.
+    requires programs { AreRows licences.now (map row_of programs.now) }
+    // The text has fewer than 2^32 bytes.
+    requires short { length text.now < 4294967296 }
+    // A call is answered just where it is what comes of the job, and a cause just where the job is refused for it.
+    ensures { IfOk result (IsAsked licences.now (row_program (row_among (map row_of programs.now) program.now)) entry.now text.now fuel) }
+{
+    match find(programs, program) {
+        Some(row) => match &row.known {
+            Some(known) => call_known(alloc, licences, known, entry, text, fuel),
+            None => Ok(Err(JobCause::ProgramRefused)),
+        },
+        None => Ok(Err(JobCause::NoProgram)),
     }
 }

@@ -1,12 +1,13 @@
 //! Laws of plans, as contracts of functions that do nothing.
-ghost use Rattle.std.specs.Prelude.{◌≡◌, ◌≤◌, ℕ, List, Option};
+ghost use Rattle.std.specs.Prelude.{◌≡◌, ◌≤◌, ℕ, List, Option, length};
 ghost use Rattle.std.specs.List.{AllByRecursion};
-ghost use Rattle.job_script.specs.Scripts.{Entry as PlainEntry, Job, Script};
+ghost use Rattle.job_script.specs.Scripts.{Entry as PlainEntry, EntryIsWithin, Job, Script};
 ghost use Rattle.job_script.specs.Text.{EntryIsShort};
-ghost use Rattle.script_outcomes.specs.declared.outcome.ProgramLine.{ProgramLine as PlainLine};
-ghost use Rattle.script_outcomes.specs.Told.{JobLine};
+ghost use Rattle.run_reports.specs.declared.outcome.ProgramLine.{ProgramLine as PlainLine};
+ghost use Rattle.run_reports.specs.Told.{JobLine};
 ghost use Rattle.script_plans.specs.Programs.{ProgramText};
-ghost use Rattle.script_plans.specs.Fates.{Fate, IsFate, IsProgramLine};
+ghost use Rattle.script_plans.specs.CallPlans.{HavePlans, IsLicensedCall};
+ghost use Rattle.script_plans.specs.Fates.{Call, Calls, Fate, IsFate, IsProgramLine, cells_of, lease_of};
 ghost use Rattle.script_plans.specs.Lines.{AreFates, AreProgramLines, Agree, TellsOf};
 
 use bundle_licence::laws::law_of_licences;
@@ -53,4 +54,18 @@ pub fn law_of_own_lines()
         → TellsOf one job first → TellsOf other job second → first ≡ second }
 {
     law_of_fates();
+}
+
+/// The calls of a script's jobs are plans of runs. A call is one of licensed code on fitting arguments; it leaves just
+/// as many cells as its lease has; and there are plans that the arena can hold, one for each job that goes to the desk.
+pub fn law_of_calls()
+    // A job that is called is called of licensed code, on arguments that fit.
+    ensures call { (program : Option ProgramText) (entry args : List ℕ) (c : Call) → IsFate program entry args (Calls c) → IsLicensedCall c }
+    // The cells that its run leaves are as many as its lease.
+    ensures left { (c : Call) (fuel : ℕ) → IsLicensedCall c → 1 ≤ fuel → lease_of c ≤ 2147483648 → length (cells_of c fuel) ≡ lease_of c }
+    // The jobs that go to the desk have plans that the arena can hold.
+    ensures plans { (arena : ℕ) (entries : List PlainEntry) (fates : List Fate) → arena ≤ 2147483648 → AllByRecursion EntryIsWithin entries
+        → AreFates entries entries fates → HavePlans arena entries fates }
+{
+    law_of_compiler();
 }

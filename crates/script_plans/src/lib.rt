@@ -2,7 +2,6 @@
 #![tactic(auto)]
 
 mod answering;
-mod asking;
 mod calling;
 mod cutting;
 pub mod laws;
@@ -12,5 +11,7 @@ mod rows;
 mod types;
 mod wanting;
 
+pub use calling::call;
 pub use planning::plan_script;
-pub use types::{JobPlan, Plans};
+pub use rows::Row;
+pub use types::{Call, JobPlan, Plans};

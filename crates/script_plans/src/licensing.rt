@@ -4,15 +4,14 @@ ghost use Rattle.std.specs.List.{AllByRecursion};
 ghost use Rattle.job_script.specs.Text.{EntryIsShort};
 ghost use Rattle.job_script.specs.Words.{entry_of};
 ghost use Rattle.script_plans.specs.Programs.{IsRefusedFor, text_in};
-ghost use Rattle.script_plans.specs.Rows.{AreLicensed, IsLicenceFor, IsAnswer, IsProgramAdded, licensing_of};
-ghost use Rattle.script_plans.specs.Answers.{AreAnswered};
+ghost use Rattle.script_plans.specs.Answers.{AreAnswered, AreLicensed, IsLicenceFor, IsAnswer, IsProgramAdded, licensing_of};
 
 use crate::answering::{Answered, answer_programs};
 use crate::rows::{Known, Row};
 use cause_texts::Cause;
 use job_script::Entry;
 use licence::Licence;
-use script_outcomes::ProgramLine;
+use run_reports::ProgramLine;
 use std::alloc::{AllocError, Global};
 use std::thread::Threads;
 use value_text::Inhabited;

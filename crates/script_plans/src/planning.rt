@@ -1,26 +1,27 @@
 //! All programs and all jobs of a script.
-ghost use Rattle.std.specs.Prelude.{◌≡◌, ◌<◌, ◌≤◌, ◌++◌, ◌∷◌, [], ℕ, List, Option, length, map, OnOk, IfOk};
+ghost use Rattle.std.specs.Prelude.{◌≡◌, ◌<◌, ◌≤◌, ◌++◌, ◌∷◌, [], ℕ, List, length, map, slice_get, Some, OnOk, IfOk};
 ghost use Rattle.std.specs.List.{AllByRecursion};
 ghost use Rattle.lease_desk.specs.Journal.{AreSizes};
+ghost use Rattle.licence.specs.Licensed.{Licensed};
 ghost use Rattle.job_script.specs.Scripts.{Entry as PlainEntry, IsScript, EntryIsWithin};
 ghost use Rattle.job_script.specs.Text.{EntryIsShort};
 ghost use Rattle.job_script.specs.Words.{entry_of, script_of};
 ghost use Rattle.job_world.specs.Plans.{leases_of};
-ghost use Rattle.script_plans.specs.Programs.{ProgramText, program_named};
+ghost use Rattle.script_plans.specs.Programs.{program_named};
 ghost use Rattle.script_plans.specs.Lines.{AreProgramLines, ArePlanned};
 ghost use Rattle.script_plans.specs.Rows.{Row as PlainRow, AreRows, row_of, row_among, row_program};
-ghost use Rattle.script_plans.specs.Turns.{IsEntryTaken, IsJobTaken, places_by, planning_of};
-ghost use Rattle.script_plans.specs.Wanted.{IsWanted, IsWantedBy, AreWanted, CanBeTaken, CanAllBeTaken};
+ghost use Rattle.script_plans.specs.Turns.{CanBePlanned, IsAdded, IsEntryTaken, places_by, plan_for, planning_of};
+ghost use Rattle.script_plans.specs.Wanted.{IsWantedBy, AreWanted, CanBeTaken};
 
-use crate::calling::plan_wanted;
 use crate::licensing::license_all;
 use crate::rows::Row;
-use crate::types::{JobPlan, Plans};
-use crate::wanting::{Wanted, want_entry, want_jobs};
+use crate::types::{Call, JobPlan, Plans};
+use crate::wanting::{want_entry, want_jobs};
 use job_script::laws::law_of_lengths;
 use job_script::{Entry, Script};
-use job_world::Jobs;
+use job_world::{AddFault, Jobs};
 use licence::Licence;
+use run_reports::JobCause;
 use std::alloc::{AllocError, Global};
 use std::thread::Threads;
 
@@ -45,33 +46,52 @@ fn keep(taken: &mut Taken, plan: JobPlan, place: u32) -> Result<(), AllocError>
     Ok(())
 }
 
-// Plans what a job asks for.
-fn take_wanted(taken: &mut Taken, arena: u32, place: u32, wanted: Wanted) -> Result<(), AllocError>
-    requires can { CanBeTaken taken.old.jobs.licences wanted }
+// Plans a call, where its lease is within the arena.
+fn plan_call(jobs: &mut Jobs, call: Call, arena: u32) -> Result<JobPlan, AllocError>
+    requires can { CanBePlanned jobs.old.licences call }
     requires arena { arena ≤ 2147483648 }
-    requires few { length taken.old.jobs.plans < 4294967295 }
-    ensures { (program : Option ProgramText) (name text : List ℕ) (fuel : ℕ) → IsWanted taken.old.jobs.licences program name text fuel wanted
-        → OnOk result (IsJobTaken program name text fuel arena place (planning_of taken.old) (planning_of taken.new)) }
+    requires few { length jobs.old.plans < 4294967295 }
+    ensures { (l : Licensed) → slice_get jobs.old.licences call.licence ≡ Some l
+        → IfOk result (IsAdded arena (plan_for call.licence call.fuel l call.entry call.args.items) call.needs.bound jobs.old jobs.new) }
 {
-    let plan = plan_wanted(&mut taken.jobs, wanted, arena)?;
-    keep(taken, plan, place)
+    match jobs.add_leased(
+        call.licence,
+        call.entry,
+        call.args,
+        call.fuel,
+        call.needs,
+        arena,
+    ) {
+        Ok(job) => Ok(JobPlan::Runs {
+            job,
+            bound: call.needs.bound,
+        }),
+        Err(AddFault::Larger { needs }) => Ok(JobPlan::TooLarge { needs }),
+        Err(AddFault::Memory) => Err(AllocError),
+    }
 }
 
 // Plans what an entry asks for, where it is a job.
+#[tactic(auto, using(crate::proofs::AllWanted::cause_taken))]
 fn take_entry(
     taken: &mut Taken,
     arena: u32,
     place: u32,
-    wanted: Option<Wanted>,
+    wanted: Option<Result<Call, JobCause>>,
 ) -> Result<(), AllocError>
-    requires can { CanAllBeTaken taken.old.jobs.licences wanted }
+    requires can { CanBeTaken taken.old.jobs.licences wanted }
     requires arena { arena ≤ 2147483648 }
     requires few { length taken.old.jobs.plans < 4294967295 }
     ensures { (rows : List PlainRow) (entry : PlainEntry) → IsWantedBy taken.old.jobs.licences rows entry wanted
         → OnOk result (IsEntryTaken rows arena place entry (planning_of taken.old) (planning_of taken.new)) }
 {
     match wanted {
-        Some(wanted) => take_wanted(taken, arena, place, wanted),
+        Some(Ok(call)) => {
+            let plan = plan_call(&mut taken.jobs, call, arena)?;
+            keep(taken, plan, place)?;
+            Ok(())
+        }
+        Some(Err(cause)) => keep(taken, JobPlan::Refused { cause }, place),
         None => Ok(()),
     }
 }
@@ -84,7 +104,7 @@ fn take_all(
     rows: &[Row<'_>],
     arena: u32,
     entries: &[Entry<'_>],
-    wanted: Vec<Option<Wanted>>,
+    wanted: Vec<Option<Result<Call, JobCause>>>,
 ) -> Result<Taken, AllocError>
     requires rows { AreRows licences.items (map row_of rows.now) }
     requires wanted { AreWanted licences.items (map row_of rows.now) (map entry_of entries.now) wanted.items }

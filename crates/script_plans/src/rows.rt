@@ -12,9 +12,9 @@ pub(crate) struct Known {
     pub(crate) inhabited: Inhabited,
 }
 
-/// A program of the script: its name, its language, its text, and what is known of it, where it isn't refused.
+/// A program of a script: its name, its language, its text, and what is known of it, where it isn't refused.
 #[derive(Drop)]
-pub(crate) struct Row<'a> {
+pub struct Row<'a> {
     pub(crate) name: &'a [u8],
     pub(crate) camelot: bool,
     pub(crate) text: &'a [u8],

@@ -75,9 +75,11 @@ handed keeps never s programs planned few ended legal whole size cells =
         few = few;
         ended = ended;
         comes = record {
-          are_programs = programs;
-          are_fates = planned.are;
-          meant = subst (AllByRecursion TellsMeaning) planned.lines (all_meant keeps never ps script.arena s.endings.items ended s.plans.plans.items (numbers_below s.plans.plans.items (length ps.plans) planned.numbers));
+          answered = record {
+            are_programs = programs;
+            are_fates = planned.are;
+            meant = subst (AllByRecursion TellsMeaning) planned.lines (all_meant keeps never ps script.arena s.endings.items ended s.plans.plans.items (numbers_below s.plans.plans.items (length ps.plans) planned.numbers));
+          };
           legal = same_legal script.arena (sizes_of script.arena planned.fates) (leases_of ps.plans) s.journal.items planned.leases legal;
           whole = whole;
           size = size;
@@ -107,7 +109,7 @@ OneScript = (s t : Script) → IsFormed s → IsFormed t → script_text s ≡ s
 pub handed_for : (input : List ℕ) (script : Script) (s : ServedScript Ending) → OneScript → IsScriptText input script → IsOf EndsWith script s → IsHandedFor input s
 handed_for input script s one text h = record {
   text = subst (IsScriptText input) (sym h.same) text;
-  only = λ t is. one t script is.right.formed text.right.formed (is.is ∙ sym text.is) ∙ sym h.same;
+  only = λ t is. one t script is.right.0.0 text.right.0.0 (is.is ∙ sym text.is) ∙ sym h.same;
   handed = h.handed;
 }
 

@@ -1,5 +1,7 @@
-pub mod RunCounts
 pub mod Filing
-pub mod SameReports
 pub mod Handing
 pub mod OneReport
+pub mod JobNames
+pub mod OneJournal
+pub mod OneWorld
+pub mod OneSummary

@@ -3,9 +3,9 @@
 use Rattle.std.specs.Prelude.{◌≡◌, Some}
 use Rattle.camelot_values.specs.Value.{Value}
 use Rattle.camelot_values.specs.Outcome.{Outcome}
-use Rattle.run_reports.specs.Counts.{count_of}
+use Rattle.cell_machine.specs.Endings.{halt_of}
 use Rattle.script_service.specs.declared.counting.Tallied.{Tallied}
 
--- the run counts as what is kept
+-- the run ends as is kept
 abbrev pub Counts : Outcome Value → Tallied → Type 0
-Counts o kept = count_of o ≡ Some kept.count
+Counts o kept = halt_of o ≡ Some kept.halt

@@ -1,5 +1,6 @@
 -- Scripts that are served.
 pub mod Service
+pub mod Worlds
 pub mod Handed
 pub mod Steps
 pub mod Filed

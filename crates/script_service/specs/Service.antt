@@ -14,8 +14,8 @@ use Rattle.lease_desk.specs.declared.event.Event.{Event}
 use Rattle.lease_desk.specs.Journal.{IsLegal}
 use Rattle.lease_desk.specs.Filing.{FiledCells, HoldsFiled}
 use Rattle.cell_span.specs.Range.{Range, IsWhole}
-use Rattle.script_outcomes.specs.declared.outcome.ProgramLine.{ProgramLine}
-use Rattle.script_outcomes.specs.Told.{JobLine, Ended, Told}
+use Rattle.run_reports.specs.declared.outcome.ProgramLine.{ProgramLine}
+use Rattle.run_reports.specs.Told.{JobLine, Ended, Told}
 use Rattle.run_reports.specs.Report.{report_text}
 use Rattle.run_reports.specs.Summary.{summary_text}
 use Rattle.script_plans.specs.Fates.{Fate}
@@ -49,14 +49,18 @@ TellsMeaning line = Unit {0}
 abbrev pub cells_by : Service → FiledCells
 cells_by s = λ job. slice_get (all_left s.script.arena s.script.items s.fates) job
 
--- Each program has its own line: its unit, where it is compiled from its source or accepted from its bundle's bytes
--- alone, or its cause. Each job has its own fate. The journal is legal for the leases of the jobs that went to the
--- desk. The arena is whole at the end: each cell is the one that the machine left there for the last job whose lease
--- went over it, and a blank one where none did.
+-- What comes of programs and jobs. Each program has its own line: its unit, where it is compiled from its source or
+-- accepted from its bundle's bytes alone, or its cause. Each job has its own fate, and each run comes to something.
+pub record IsAnswered (script : Script) (programs : List ProgramLine) (fates : List Fate) : Type 0 where
+  pub are_programs : AreProgramLines script.items programs
+  pub are_fates : AreFates script.items script.items fates
+  pub meant : AllByRecursion TellsMeaning (lines_of script.arena script.items fates)
+
+-- The programs and the jobs are answered. The journal is legal for the leases of the jobs that went to the desk. The
+-- arena is whole at the end: each cell is the one that the machine left there for the last job whose lease went over
+-- it, and a blank one where none did.
 pub record IsService (s : Service) : Type 0 where
-  pub are_programs : AreProgramLines s.script.items s.programs
-  pub are_fates : AreFates s.script.items s.script.items s.fates
-  pub meant : AllByRecursion TellsMeaning (lines_of s.script.arena s.script.items s.fates)
+  pub answered : IsAnswered s.script s.programs s.fates
   pub legal : IsLegal s.script.arena (sizes_of s.script.arena s.fates) s.journal
   pub whole : IsWhole s.arena
   pub size : s.arena.arena.cells ≡ s.script.arena

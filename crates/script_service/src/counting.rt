@@ -1,13 +1,21 @@
 use cell_machine::{Ending, Halt};
 use job_workers::Kept;
-use run_reports::{Counted, count_halt, count_run};
+use run_reports::HasHalt;
 use std::alloc::Global;
 
-/// What is kept of an ending for a summary: what it counts for, and no value.
+/// What is kept of an ending for a summary: how the run ended, and no value.
 #[derive(Drop)]
 pub struct Tallied {
-    /// What the run counts for.
-    pub count: Counted,
+    /// How the run ended.
+    pub halt: Halt,
+}
+
+impl HasHalt for Tallied {
+    ghost halt = { λ kept. kept.halt };
+
+    fn halt(&self) -> Halt {
+        self.halt
+    }
 }
 
 /// No value is asked for.
@@ -32,13 +40,11 @@ impl Kept for Tallied {
     fn keep(alloc: Global, ending: Ending) -> Tallied {
         let _ = alloc;
         Tallied {
-            count: count_run(&ending),
+            halt: ending.halt(),
         }
     }
 
     fn keep_halt(halt: Halt) -> Option<Tallied> {
-        Some(Tallied {
-            count: count_halt(halt),
-        })
+        Some(Tallied { halt })
     }
 }

@@ -5,23 +5,23 @@ ghost use Rattle.job_script.specs.Scripts.{Script as PlainScript};
 ghost use Rattle.job_script.specs.Words.{script_of};
 ghost use Rattle.cell_machine.specs.Endings.{EndsWith};
 ghost use Rattle.job_workers.specs.Ended.{AllEnded};
-ghost use Rattle.lease_desk.specs.declared.event.Event.{Event as PlainEvent};
-ghost use Rattle.script_outcomes.specs.declared.outcome.ProgramLine.{ProgramLine as PlainLine};
 ghost use Rattle.run_reports.specs.Report.{report_text};
 ghost use Rattle.run_reports.specs.Summary.{summary_text};
+ghost use Rattle.run_reports.specs.Told.{IsTold};
 ghost use Rattle.script_plans.specs.Lines.{ArePlanned, run_numbers};
 ghost use Rattle.script_service.specs.Service.{report_of, summary_of, told_of};
 ghost use Rattle.script_service.specs.Counting.{Counts};
 ghost use Rattle.script_service.specs.Handed.{IsHanded, service_of};
 
 use crate::counting::Tallied;
-use crate::lines::{job_counts, push_lines};
+use crate::lines::plan_lines;
 use crate::service::ServedScript;
 use cell_machine::Ending;
 use cell_span::Span;
 use job_script::Script;
+use job_workers::Kept;
 use lease_desk::Event;
-use run_reports::{push_end, push_events, push_programs, summarize};
+use run_reports::{Outcome, report, summary};
 use script_plans::Plans;
 use std::alloc::{AllocError, Global};
 use std::mem::forget;
@@ -53,8 +53,30 @@ pub struct ReportedScript {
     pub left: Leftovers,
 }
 
-// Room for a job's line and those of its lease, so that the text of many jobs is seldom moved.
-const LINE_ROOM: usize = 128;
+// What came of a script with an arena of so many cells, from its plans, the journal and what is kept of the endings of
+// its runs.
+fn outcome_of<'a, K: Kept>(
+    alloc: Global,
+    arena: u32,
+    plans: &'a Plans,
+    journal: &'a [Event],
+    endings: &'a [Option<K>],
+) -> Result<Outcome<'a, K>, AllocError>
+    requires numbers { run_numbers plans.now.plans.items ≡ range_with_len 0 (length plans.now.jobs.plans) }
+    requires ended { AllEnded K.keeps plans.now.jobs endings.now }
+    ensures { (script : PlainScript) (planned : ArePlanned script.arena script.items plans.now.jobs plans.now.plans.items plans.now.asked.items)
+        → arena ≡ script.arena → IfOk result (λ outcome. IsTold K.keeps plans.now.jobs.licences outcome
+        (told_of script plans.now.programs.items planned.fates journal.now)) }
+{
+    let jobs = plan_lines(alloc, &plans.jobs, arena, &plans.plans, endings)?;
+    Ok(Outcome {
+        programs: &plans.programs,
+        jobs,
+        asked: &plans.asked,
+        journal,
+        free: arena as u64,
+    })
+}
 
 // The report of a script, from its plans, the endings of its runs and the journal.
 fn report_plans(
@@ -70,20 +92,9 @@ fn report_plans(
         → IfOk result (λ text. text.items ≡ report_text (script_of script.now).items
         (told_of (script_of script.now) plans.now.programs.items planned.fates journal.now)) }
 {
-    let mut out = Vec::with_capacity(alloc, LINE_ROOM.saturating_mul(plans.plans.len()))?;
-    push_programs(alloc, &mut out, &script.items, &plans.programs)?;
-    push_lines(
-        alloc,
-        &mut out,
-        &script.items,
-        &plans.jobs,
-        script.arena,
-        &plans.plans,
-        endings,
-    )?;
-    push_events(&mut out, &script.items, &plans.asked, journal)?;
-    push_end(&mut out, script.arena as u64)?;
-    Ok(out)
+    let outcome = outcome_of(alloc, script.arena, plans, journal, endings)?;
+    let text = report(alloc, script, plans.jobs.licences(), &outcome)?;
+    Ok(text)
 }
 
 /// The report of a script that was served. The arena is handed on. `AllocError` where memory runs out: the arena is
@@ -122,21 +133,21 @@ pub fn report_served(
     }
 }
 
-// The summary of a script, from its plans and what its runs count for.
+// The summary of a script with an arena of so many cells, from its plans and how its runs ended.
 fn summarize_plans(
     alloc: Global,
     arena: u32,
-    plans: Plans,
-    endings: Vec<Option<Tallied>>,
+    plans: &Plans,
+    journal: &[Event],
+    endings: &[Option<Tallied>],
 ) -> Result<Vec<u8>, AllocError>
-    requires numbers { run_numbers plans.plans.items ≡ range_with_len 0 (length plans.jobs.plans) }
-    requires ended { AllEnded Counts plans.jobs endings.items }
-    ensures { (script : PlainScript) (planned : ArePlanned script.arena script.items plans.jobs plans.plans.items
-        plans.asked.items) (programs : List PlainLine) (journal : List PlainEvent)
-        → arena ≡ script.arena → IfOk result (λ text. text.items ≡ summary_text (told_of script programs planned.fates journal)) }
+    requires numbers { run_numbers plans.now.plans.items ≡ range_with_len 0 (length plans.now.jobs.plans) }
+    requires ended { AllEnded Counts plans.now.jobs endings.now }
+    ensures { (script : PlainScript) (planned : ArePlanned script.arena script.items plans.now.jobs plans.now.plans.items plans.now.asked.items)
+        → arena ≡ script.arena → IfOk result (λ text. text.items ≡ summary_text (told_of script plans.now.programs.items planned.fates journal.now)) }
 {
-    let counts = job_counts(alloc, &plans.jobs, arena, &plans.plans, &endings)?;
-    let text = summarize(alloc, &counts, arena as u64)?;
+    let outcome = outcome_of(alloc, arena, plans, journal, endings)?;
+    let text = summary(alloc, &outcome)?;
     Ok(text)
 }
 
@@ -165,7 +176,7 @@ pub fn summarize_served(
         arena,
     } = served;
     let cells = cells_of(&script);
-    drop(journal);
     arena.end();
-    summarize_plans(alloc, cells, plans, endings)
+    let text = summarize_plans(alloc, cells, &plans, &journal, &endings)?;
+    Ok(text)
 }

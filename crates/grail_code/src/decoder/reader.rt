@@ -38,9 +38,9 @@ impl<T: Drop> From<AllocFailed<T>> for Halt {
 /// The format of the code that is read.
 #[derive(Clone, Copy)]
 pub enum Version {
-    /// `GRL1`, without division.
+    /// `GRL1`: no division, no mark on a parameter, and no arm that looks.
     First,
-    /// `GRL2`, with all operators.
+    /// `GRL2`, which has all of these.
     Second,
 }
 

@@ -1,7 +1,8 @@
 use Rattle.std.proofs.Common.{◌≡◌, ap, sym, ◌∙◌, subst, map}
 use Rattle.certificate.specs.Certificates.{BlockIsWithin}
 use Rattle.certificate.specs.Words.{block_of, func_of}
-use Rattle.certificate.specs.Reading.{further, last_block, block_of_words, IsRead, IsStopped}
+use Rattle.certificate.specs.Reading.{last_block, block_of_words, IsRead, IsStopped}
+use Rattle.text_lines.specs.Cuts.{further}
 use Rattle.certificate.specs.GrowingLaws.{map_end}
 use Rattle.certificate.proofs.FuncSteps.{block_not, block_stopped, block_read}
 use Rattle.certificate.proofs.functions.add_block.Goals as goal

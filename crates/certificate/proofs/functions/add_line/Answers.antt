@@ -1,6 +1,7 @@
 use Rattle.std.proofs.Common.{◌≡◌, rules, sym, subst, map}
 use Rattle.certificate.specs.Words.{func_of}
-use Rattle.certificate.specs.Reading.{further, IsRead, IsStopped}
+use Rattle.certificate.specs.Reading.{IsRead, IsStopped}
+use Rattle.text_lines.specs.Cuts.{further}
 use Rattle.std.proofs.Common.{true, false}
 use Rattle.std.specs.Prelude.{codes, MatchResult}
 use Rattle.std.specs.Str.{bytes_eq}

@@ -1,6 +1,7 @@
 use Rattle.std.proofs.Common.{ap, ◌∙◌, subst, map}
 use Rattle.certificate.specs.Words.{make_of, func_of}
-use Rattle.certificate.specs.Reading.{further, make_of_words, IsRead}
+use Rattle.certificate.specs.Reading.{make_of_words, IsRead}
+use Rattle.text_lines.specs.Cuts.{further}
 use Rattle.certificate.specs.GrowingLaws.{map_end}
 use Rattle.certificate.specs.Certificates.{MakeIsWithin}
 use Rattle.certificate.proofs.FuncSteps.{make_read}

@@ -1,7 +1,8 @@
 use Rattle.std.proofs.Common.{◌≡◌, rules, sym, subst}
 use Rattle.certificate.specs.Certificates.{FuncIsWithin}
 use Rattle.certificate.specs.Words.{func_of}
-use Rattle.certificate.specs.Reading.{further, IsRead, IsStopped}
+use Rattle.certificate.specs.Reading.{IsRead, IsStopped}
+use Rattle.text_lines.specs.Cuts.{further}
 use Rattle.std.proofs.Common.{true, false}
 use Rattle.std.specs.Prelude.{codes, MatchResult}
 use Rattle.std.specs.Str.{bytes_eq}

@@ -1,6 +1,6 @@
 use Rattle.std.proofs.Common.{sym, ◌∙◌}
 use Rattle.certificate.specs.Words.{func_of}
-use Rattle.certificate.specs.Reading.{further}
+use Rattle.text_lines.specs.Cuts.{further}
 use Rattle.certificate.proofs.FuncSteps.{result_read}
 use Rattle.certificate.proofs.functions.add_result.Goals as goal
 

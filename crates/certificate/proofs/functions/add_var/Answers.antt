@@ -1,7 +1,8 @@
 use Rattle.std.proofs.Common.{◌≡◌, ap, sym, ◌∙◌, subst, map, ◌++◌, ◌∷◌, []}
 use Rattle.certificate.specs.Certificates.{VarIsWithin}
 use Rattle.certificate.specs.Words.{var_of, block_of, func_of}
-use Rattle.certificate.specs.Reading.{further, last_var, var_of_words, IsRead, IsStopped}
+use Rattle.certificate.specs.Reading.{last_var, var_of_words, IsRead, IsStopped}
+use Rattle.text_lines.specs.Cuts.{further}
 use Rattle.certificate.specs.GrowingLaws.{map_end}
 use Rattle.certificate.proofs.FuncSteps.{var_not, var_stopped, var_read}
 use Rattle.certificate.specs.declared.types.BlockCert.{BlockCert as DeclaredBlock}

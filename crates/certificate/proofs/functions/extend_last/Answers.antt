@@ -1,6 +1,6 @@
 use Rattle.std.proofs.Common.{ap, ◌∙◌, map}
 use Rattle.certificate.specs.Words.{func_of}
-use Rattle.certificate.specs.Reading.{further}
+use Rattle.text_lines.specs.Cuts.{further}
 use Rattle.certificate.specs.GrowingLaws.{map_end}
 use Rattle.certificate.specs.Reading.{add_own}
 use Rattle.certificate.proofs.FuncSteps.{last_within, last_stopped, last_read}

@@ -1,7 +1,7 @@
 use Rattle.std.proofs.Common.{◌≡◌, arith, rules, true, map, ap}
 use Rattle.std.specs.Prelude.{codes}
 use Rattle.std.specs.Str.{bytes_eq}
-use Rattle.certificate.specs.Reading.{further}
+use Rattle.text_lines.specs.Cuts.{further}
 use Rattle.certificate.specs.Words.{var_of}
 use Rattle.certificate.proofs.ItemSteps.{block_no_number, block_no_need, block_not_after, block_wide, block_much, block_read}
 use Rattle.certificate.proofs.items.read_block.Goals as goal

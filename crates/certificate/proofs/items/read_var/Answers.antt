@@ -1,5 +1,5 @@
 use Rattle.std.proofs.Common.{arith}
-use Rattle.certificate.specs.Reading.{further}
+use Rattle.text_lines.specs.Cuts.{further}
 use Rattle.certificate.proofs.ItemSteps.{var_wide, var_read}
 use Rattle.certificate.proofs.items.read_var.Goals as goal
 

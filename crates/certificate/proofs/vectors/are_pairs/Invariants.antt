@@ -1,5 +1,6 @@
 use Rattle.std.proofs.Common.{◌≡◌, length}
-use Rattle.certificate.specs.Reading.{further, is_there, vector_from}
+use Rattle.certificate.specs.Reading.{is_there, vector_from}
+use Rattle.text_lines.specs.Cuts.{further}
 use Rattle.certificate.proofs.vectors.are_pairs.Given as goal
 
 abbrev pub invariant-pairs : goal.invariant-pairs

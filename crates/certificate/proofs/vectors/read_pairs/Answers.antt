@@ -1,5 +1,6 @@
 use Rattle.std.proofs.Common.{arith, []}
-use Rattle.certificate.specs.Reading.{further, vector_from}
+use Rattle.certificate.specs.Reading.{vector_from}
+use Rattle.text_lines.specs.Cuts.{further}
 use Rattle.certificate.proofs.Pairs.{pairs_more, pairs_within}
 use Rattle.certificate.proofs.vectors.read_pairs.Goals as goal
 

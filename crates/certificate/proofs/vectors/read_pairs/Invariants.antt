@@ -1,6 +1,7 @@
 use Rattle.std.proofs.Common.{◌≡◌, [], length}
 use Rattle.certificate.specs.Certificates.{VectorIsWithin}
-use Rattle.certificate.specs.Reading.{further, put_front, vector_from}
+use Rattle.certificate.specs.Reading.{put_front, vector_from}
+use Rattle.text_lines.specs.Cuts.{further}
 use Rattle.certificate.proofs.vectors.read_pairs.Given as goal
 
 abbrev pub invariant-pairs : goal.invariant-pairs

@@ -7,5 +7,5 @@ use Rattle.certificate.proofs.writing.push_block.Goals as goal
 
 pub returns : goal.returns
 returns c =
-    block_written (block_of c.args.block.now) c.args.out.now.items c.push_field.new.out.items c.push_field-2.new.out.items c.push.new.self.items c.push_vars.new.out.items
-    c.in_ok-push_field.ensures c.in_ok-push_field-2.ensures c.in_ok-push.ensures.items (c.in_ok-push_vars.ensures ∙ ap (λ l. c.push.new.self.items ++ flat_map (var_text (codes "var")) (map var_of l)) c.deref.ensures.value)
+    block_written (block_of c.args.block.now) c.args.out.now.items c.push_number.new.text.items c.push_number-2.new.text.items c.push.new.self.items c.push_vars.new.out.items
+    c.in_ok-push_number.ensures.number c.in_ok-push_number-2.ensures.number c.in_ok-push.ensures.items (c.in_ok-push_vars.ensures ∙ ap (λ l. c.push.new.self.items ++ flat_map (var_text (codes "var")) (map var_of l)) c.deref.ensures.value)

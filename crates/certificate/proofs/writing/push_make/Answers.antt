@@ -4,5 +4,5 @@ use Rattle.certificate.proofs.writing.push_make.Goals as goal
 
 pub returns : goal.returns
 returns c =
-    make_written (make_of c.args.make.now) c.args.out.now.items c.push_field.new.out.items c.push_field-2.new.out.items c.push_vector.new.out.items c.push.new.self.items
-    c.in_ok-push_field.ensures c.in_ok-push_field-2.ensures c.in_ok-push_vector.ensures c.in_ok-push.ensures.items
+    make_written (make_of c.args.make.now) c.args.out.now.items c.push_number.new.text.items c.push_number-2.new.text.items c.push_vector.new.out.items c.push.new.self.items
+    c.in_ok-push_number.ensures.number c.in_ok-push_number-2.ensures.number c.in_ok-push_vector.ensures c.in_ok-push.ensures.items

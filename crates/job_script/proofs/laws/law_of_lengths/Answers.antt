@@ -1,4 +1,4 @@
-use Rattle.job_script.proofs.Judging.{script_short, entries_count, entries_few}
+use Rattle.job_script.proofs.Lengths.{script_short, entries_count, entries_few}
 use Rattle.job_script.proofs.laws.law_of_lengths.Goals as goal
 
 pub returns-clause-short : goal.returns-clause-short

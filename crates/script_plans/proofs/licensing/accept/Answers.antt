@@ -3,7 +3,8 @@ use Rattle.std.proofs.lemmas.List.{map-append}
 use Rattle.grail_code.specs.Code.{Code}
 use Rattle.value_text.specs.Inhabited.{Knows}
 use Rattle.script_plans.specs.Programs.{text_in}
-use Rattle.script_plans.specs.Rows.{row_of, licensing_of}
+use Rattle.script_plans.specs.Rows.{row_of}
+use Rattle.script_plans.specs.Answers.{licensing_of}
 use Rattle.script_plans.proofs.Programs.{accepted}
 use Rattle.script_plans.proofs.licensing.accept.Goals as goal
 

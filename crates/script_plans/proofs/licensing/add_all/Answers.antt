@@ -2,7 +2,7 @@ use Rattle.std.proofs.Common.{◌≡◌, [], map, subst, sym, ◌∙◌}
 use Rattle.std.proofs.lemmas.List.{nil_from_length}
 use Rattle.std.specs.Vec.Iter.{into_iter_items}
 use Rattle.job_script.specs.Words.{entry_of}
-use Rattle.script_plans.specs.Rows.{licensing_of}
+use Rattle.script_plans.specs.Answers.{licensing_of}
 use Rattle.script_plans.proofs.AllAnswered.{Adding, next_answer, added_all}
 use Rattle.script_plans.proofs.licensing.add_all.Goals as goal
 

@@ -1,7 +1,7 @@
 use Rattle.std.proofs.Common.{map}
 use Rattle.std.specs.Vec.Iter.{into_iter_items}
 use Rattle.job_script.specs.Words.{entry_of}
-use Rattle.script_plans.specs.Rows.{licensing_of}
+use Rattle.script_plans.specs.Answers.{licensing_of}
 use Rattle.script_plans.proofs.AllAnswered.{Adding}
 use Rattle.script_plans.proofs.licensing.add_all.Given as goal
 

@@ -1,2 +1,0 @@
--- What comes of a script.
-pub mod Told
