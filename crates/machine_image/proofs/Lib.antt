@@ -1,0 +1,5 @@
+-- Lemmas on single functions.
+mod Limits
+mod Matching
+mod Stepping
+mod Pieces
