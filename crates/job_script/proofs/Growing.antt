@@ -1,5 +1,5 @@
 -- The first two lines, and each entry.
-use Rattle.std.proofs.Common.{◌≡◌, ℕ, suc, ◌+◌, ◌<◌, ◌≤◌, Bool, true, false, List, [], ◌∷◌, ◌++◌, length, Some, refl, sym, ap, ◌∙◌, subst, arith, append-nil}
+use Rattle.std.proofs.Common.{◌≡◌, ℕ, suc, ◌+◌, ◌<◌, ◌≤◌, true, false, List, [], ◌∷◌, ◌++◌, length, Some, refl, sym, ap, ◌∙◌, subst, arith, append-nil}
 use Rattle.std.specs.Prelude.{codes}
 use Rattle.std.specs.List.{AllByRecursion}
 use Rattle.std.specs.Option.{option_map}
@@ -22,6 +22,7 @@ use Rattle.job_script.specs.declared.stop.LineStop.TheVariants as stop
 use Rattle.job_script.proofs.Naming.{within_program, much_program, once_program, twice_program, within_job, much_job, once_job, twice_job, names_job, programs_job}
 use Rattle.job_script.proofs.Stopping.{line_none, line_much, line_repeated, line_step, lines_step, line_early}
 use Rattle.job_script.specs.StateLaws.{programs_append, jobs_append}
+use Rattle.job_script.specs.declared.types.Language.{Language}
 
 -- ---- the first two lines
 
@@ -81,7 +82,7 @@ pub head_early : (text : List ℕ) (arena workers : ℕ) (items : List Entry) (p
 head_early text arena workers items programs jobs rest n g some free = line_early text (Between (script_by arena workers items)) rest n g.reading free (λ e. absurd (omega (arith, some, ap length e)))
 
 fits : (s : Script) (h : Head) → IsWithin (closed (enter s h)) → HeadFits h
-fits s (HProgram name camelot) w = tt
+fits s (HProgram name language) w = tt
 fits s (HJob j) w = all_last EntryIsWithin s.items (AJob j) w.fuels
 
 pub head_stopped : (p : LineStop) (text : List ℕ) (arena workers : ℕ) (items : List Entry) (programs jobs : List (List ℕ)) (rest line after : List ℕ) (n : ℕ) → Going text arena workers items programs jobs rest n → HasLine rest line after → IsStopped (head_of line) HeadFits p → FaultIs (HasCause text) (stop_of p n)
@@ -93,64 +94,64 @@ head_stopped stop.Memory text arena workers items programs jobs rest line after 
 
 -- ---- a program
 
-pub program_refused : (p : LineStop) (text : List ℕ) (arena workers : ℕ) (items : List Entry) (programs jobs : List (List ℕ)) (rest line after name : List ℕ) (camelot : Bool) (n : ℕ) → Going text arena workers items programs jobs rest n → HasLine rest line after
-    → head_of line ≡ Some (HProgram name camelot) → IsRefused 64 programs name p → FaultIs (HasCause text) (stop_of p n)
-program_refused stop.Line text arena workers items programs jobs rest line after name camelot n g h e k = absurd k
-program_refused stop.Count text arena workers items programs jobs rest line after name camelot n g h e k =
+pub program_refused : (p : LineStop) (text : List ℕ) (arena workers : ℕ) (items : List Entry) (programs jobs : List (List ℕ)) (rest line after name : List ℕ) (language : Language) (n : ℕ) → Going text arena workers items programs jobs rest n → HasLine rest line after
+    → head_of line ≡ Some (HProgram name language) → IsRefused 64 programs name p → FaultIs (HasCause text) (stop_of p n)
+program_refused stop.Line text arena workers items programs jobs rest line after name language n g h e k = absurd k
+program_refused stop.Count text arena workers items programs jobs rest line after name language n g h e k =
     let s : Script = script_by arena workers items in
-    line_much text (Between (script_by arena workers items)) (Inside (script_by arena workers items) name camelot []) rest n line after g.reading h (head_step (script_by arena workers items) line (HProgram name camelot) e)
-    (much_program (script_by arena workers items) name camelot [] (subst (λ l. 64 ≤ length l) g.programs_are k))
-program_refused stop.Repeat text arena workers items programs jobs rest line after name camelot n g h e k =
-    line_repeated text (Between (script_by arena workers items)) (Inside (script_by arena workers items) name camelot []) rest n line after g.reading h (head_step (script_by arena workers items) line (HProgram name camelot) e)
-    (within_program (script_by arena workers items) name camelot [] g.reading.right.0.1 (subst (λ l. length l < 64) g.programs_are k.few))
-    (twice_program (script_by arena workers items) name camelot [] (subst (λ l. stands l name ≡ true) g.programs_are k.old))
-program_refused stop.Memory text arena workers items programs jobs rest line after name camelot n g h e k = tt
+    line_much text (Between (script_by arena workers items)) (Inside (script_by arena workers items) name language []) rest n line after g.reading h (head_step (script_by arena workers items) line (HProgram name language) e)
+    (much_program (script_by arena workers items) name language [] (subst (λ l. 64 ≤ length l) g.programs_are k))
+program_refused stop.Repeat text arena workers items programs jobs rest line after name language n g h e k =
+    line_repeated text (Between (script_by arena workers items)) (Inside (script_by arena workers items) name language []) rest n line after g.reading h (head_step (script_by arena workers items) line (HProgram name language) e)
+    (within_program (script_by arena workers items) name language [] g.reading.right.0.1 (subst (λ l. length l < 64) g.programs_are k.few))
+    (twice_program (script_by arena workers items) name language [] (subst (λ l. stands l name ≡ true) g.programs_are k.old))
+program_refused stop.Memory text arena workers items programs jobs rest line after name language n g h e k = tt
 
 -- in the text of the program
-inside : (text : List ℕ) (arena workers : ℕ) (items : List Entry) (programs jobs longer : List (List ℕ)) (rest line after name : List ℕ) (camelot : Bool) (n : ℕ) → Going text arena workers items programs jobs rest n → HasLine rest line after
-    → head_of line ≡ Some (HProgram name camelot) → IsAdded 64 programs name longer → (body : List ℕ)
-    → IsWithin (add (script_by arena workers items) (program_by name camelot body))
-    × HasOnce (add (script_by arena workers items) (program_by name camelot body))
-inside text arena workers items programs jobs longer rest line after name camelot n g h e k body = (
-  within_program (script_by arena workers items) name camelot body g.reading.right.0.1 (subst (λ l. length l < 64) g.programs_are k.few),
-  once_program (script_by arena workers items) name camelot body g.reading.right.1 (subst (λ l. stands l name ≡ false) g.programs_are k.new),
+inside : (text : List ℕ) (arena workers : ℕ) (items : List Entry) (programs jobs longer : List (List ℕ)) (rest line after name : List ℕ) (language : Language) (n : ℕ) → Going text arena workers items programs jobs rest n → HasLine rest line after
+    → head_of line ≡ Some (HProgram name language) → IsAdded 64 programs name longer → (body : List ℕ)
+    → IsWithin (add (script_by arena workers items) (program_by name language body))
+    × HasOnce (add (script_by arena workers items) (program_by name language body))
+inside text arena workers items programs jobs longer rest line after name language n g h e k body = (
+  within_program (script_by arena workers items) name language body g.reading.right.0.1 (subst (λ l. length l < 64) g.programs_are k.few),
+  once_program (script_by arena workers items) name language body g.reading.right.1 (subst (λ l. stands l name ≡ false) g.programs_are k.new),
 )
 
-first : (text : List ℕ) (arena workers : ℕ) (items : List Entry) (programs jobs longer : List (List ℕ)) (rest line after name : List ℕ) (camelot : Bool) (n : ℕ) → Going text arena workers items programs jobs rest n → HasLine rest line after
-    → head_of line ≡ Some (HProgram name camelot) → IsAdded 64 programs name longer → Reading script_machine text (Inside (script_by arena workers items) name camelot []) after (suc n)
-first text arena workers items programs jobs longer rest line after name camelot n g h e k =
-    let p = inside text arena workers items programs jobs longer rest line after name camelot n g h e k [] in
-    line_step text (Between (script_by arena workers items)) (Inside (script_by arena workers items) name camelot []) rest n line after g.reading h (head_step (script_by arena workers items) line (HProgram name camelot) e) p.0 p.1
+first : (text : List ℕ) (arena workers : ℕ) (items : List Entry) (programs jobs longer : List (List ℕ)) (rest line after name : List ℕ) (language : Language) (n : ℕ) → Going text arena workers items programs jobs rest n → HasLine rest line after
+    → head_of line ≡ Some (HProgram name language) → IsAdded 64 programs name longer → Reading script_machine text (Inside (script_by arena workers items) name language []) after (suc n)
+first text arena workers items programs jobs longer rest line after name language n g h e k =
+    let p = inside text arena workers items programs jobs longer rest line after name language n g h e k [] in
+    line_step text (Between (script_by arena workers items)) (Inside (script_by arena workers items) name language []) rest n line after g.reading h (head_step (script_by arena workers items) line (HProgram name language) e) p.0 p.1
 
-behind : (text : List ℕ) (arena workers : ℕ) (items : List Entry) (programs jobs longer : List (List ℕ)) (rest line after name : List ℕ) (camelot : Bool) (n : ℕ) → Going text arena workers items programs jobs rest n → HasLine rest line after
-    → head_of line ≡ Some (HProgram name camelot) → IsAdded 64 programs name longer → (lines : List (List ℕ)) (left : List ℕ)
+behind : (text : List ℕ) (arena workers : ℕ) (items : List Entry) (programs jobs longer : List (List ℕ)) (rest line after name : List ℕ) (language : Language) (n : ℕ) → Going text arena workers items programs jobs rest n → HasLine rest line after
+    → head_of line ≡ Some (HProgram name language) → IsAdded 64 programs name longer → (lines : List (List ℕ)) (left : List ℕ)
     → AllByRecursion IsTextLine lines → after ≡ text_of_lines lines ++ left
-    → Reading script_machine text (Inside (script_by arena workers items) name camelot (text_of_lines lines)) left (suc n + length lines)
-behind text arena workers items programs jobs longer rest line after name camelot n g h e k lines left each parts =
-    let p = inside text arena workers items programs jobs longer rest line after name camelot n g h e k (text_of_lines lines) in
-    lines_step text (Inside (script_by arena workers items) name camelot []) (Inside (script_by arena workers items) name camelot (text_of_lines lines)) after (text_of_lines lines) left (suc n)
-    (first text arena workers items programs jobs longer rest line after name camelot n g h e k) (record { lines = lines; each = lines_one lines each; is = refl; run = body_run (script_by arena workers items) name camelot [] lines each }) parts p.0 p.1
+    → Reading script_machine text (Inside (script_by arena workers items) name language (text_of_lines lines)) left (suc n + length lines)
+behind text arena workers items programs jobs longer rest line after name language n g h e k lines left each parts =
+    let p = inside text arena workers items programs jobs longer rest line after name language n g h e k (text_of_lines lines) in
+    lines_step text (Inside (script_by arena workers items) name language []) (Inside (script_by arena workers items) name language (text_of_lines lines)) after (text_of_lines lines) left (suc n)
+    (first text arena workers items programs jobs longer rest line after name language n g h e k) (record { lines = lines; each = lines_one lines each; is = refl; run = body_run (script_by arena workers items) name language [] lines each }) parts p.0 p.1
 
-pub program_open : (text : List ℕ) (arena workers : ℕ) (items : List Entry) (programs jobs longer : List (List ℕ)) (rest line after name : List ℕ) (camelot : Bool) (n size : ℕ) → Going text arena workers items programs jobs rest n → HasLine rest line after
-    → head_of line ≡ Some (HProgram name camelot) → IsAdded 64 programs name longer → IsOpen after size → IsLineFault text (n + 1 + size)
-program_open text arena workers items programs jobs longer rest line after name camelot n size g h e k o =
-    let r = behind text arena workers items programs jobs longer rest line after name camelot n g h e k o.lines o.left o.each o.parts in
+pub program_open : (text : List ℕ) (arena workers : ℕ) (items : List Entry) (programs jobs longer : List (List ℕ)) (rest line after name : List ℕ) (language : Language) (n size : ℕ) → Going text arena workers items programs jobs rest n → HasLine rest line after
+    → head_of line ≡ Some (HProgram name language) → IsAdded 64 programs name longer → IsOpen after size → IsLineFault text (n + 1 + size)
+program_open text arena workers items programs jobs longer rest line after name language n size g h e k o =
+    let r = behind text arena workers items programs jobs longer rest line after name language n g h e k o.lines o.left o.each o.parts in
     let same : suc n + length o.lines ≡ n + 1 + size = omega (arith, o.count) in
-    subst (IsLineFault text) same (line_early text (Inside (script_by arena workers items) name camelot (text_of_lines o.lines)) o.left (suc n + length o.lines) r o.one (λ e. refl))
+    subst (IsLineFault text) same (line_early text (Inside (script_by arena workers items) name language (text_of_lines o.lines)) o.left (suc n + length o.lines) r o.one (λ e. refl))
 
-pub program_done : (text : List ℕ) (arena workers : ℕ) (items : List Entry) (programs jobs longer : List (List ℕ)) (rest line after name : List ℕ) (camelot : Bool) (n size : ℕ) (body left : List ℕ) → Going text arena workers items programs jobs rest n → HasLine rest line after
-    → head_of line ≡ Some (HProgram name camelot) → IsAdded 64 programs name longer → HasBody after body left size → Going text arena workers (items ++ program_by name camelot body ∷ []) longer jobs left (n + 2 + size)
-program_done text arena workers items programs jobs longer rest line after name camelot n size body left g h e k b =
-    let r = behind text arena workers items programs jobs longer rest line after name camelot n g h e k b.lines (46 ∷ 10 ∷ left) b.each (b.parts ∙ ap (λ l. l ++ (46 ∷ 10 ∷ left)) b.is) in
-    let p = inside text arena workers items programs jobs longer rest line after name camelot n g h e k (text_of_lines b.lines) in
-    let last = line_step text (Inside (script_by arena workers items) name camelot (text_of_lines b.lines)) (Between (add (script_by arena workers items) (program_by name camelot (text_of_lines b.lines)))) (46 ∷ 10 ∷ left) (suc n + length b.lines) (codes ".") left r
+pub program_done : (text : List ℕ) (arena workers : ℕ) (items : List Entry) (programs jobs longer : List (List ℕ)) (rest line after name : List ℕ) (language : Language) (n size : ℕ) (body left : List ℕ) → Going text arena workers items programs jobs rest n → HasLine rest line after
+    → head_of line ≡ Some (HProgram name language) → IsAdded 64 programs name longer → HasBody after body left size → Going text arena workers (items ++ program_by name language body ∷ []) longer jobs left (n + 2 + size)
+program_done text arena workers items programs jobs longer rest line after name language n size body left g h e k b =
+    let r = behind text arena workers items programs jobs longer rest line after name language n g h e k b.lines (46 ∷ 10 ∷ left) b.each (b.parts ∙ ap (λ l. l ++ (46 ∷ 10 ∷ left)) b.is) in
+    let p = inside text arena workers items programs jobs longer rest line after name language n g h e k (text_of_lines b.lines) in
+    let last = line_step text (Inside (script_by arena workers items) name language (text_of_lines b.lines)) (Between (add (script_by arena workers items) (program_by name language (text_of_lines b.lines)))) (46 ∷ 10 ∷ left) (suc n + length b.lines) (codes ".") left r
     (record { parts = refl; one = refl }) refl p.0 p.1 in
     let number : suc (suc n + length b.lines) ≡ n + 2 + size = omega (arith, b.count) in
     record {
-      reading = subst (Reading script_machine text (Between (script_by arena workers (items ++ program_by name camelot body ∷ []))) left) number
-          (subst (λ l. Reading script_machine text (Between (script_by arena workers (items ++ program_by name camelot l ∷ []))) left (suc (suc n + length b.lines))) (sym b.is) last);
-      programs_are = k.is ∙ ap (λ l. l ++ name ∷ []) g.programs_are ∙ sym (programs_append items (program_by name camelot body ∷ []));
-      jobs_are = g.jobs_are ∙ sym (jobs_append items (program_by name camelot body ∷ []) ∙ append-nil (job_names items));
+      reading = subst (Reading script_machine text (Between (script_by arena workers (items ++ program_by name language body ∷ []))) left) number
+          (subst (λ l. Reading script_machine text (Between (script_by arena workers (items ++ program_by name language l ∷ []))) left (suc (suc n + length b.lines))) (sym b.is) last);
+      programs_are = k.is ∙ ap (λ l. l ++ name ∷ []) g.programs_are ∙ sym (programs_append items (program_by name language body ∷ []));
+      jobs_are = g.jobs_are ∙ sym (jobs_append items (program_by name language body ∷ []) ∙ append-nil (job_names items));
     }
 
 -- ---- a job

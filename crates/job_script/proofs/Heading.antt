@@ -1,5 +1,5 @@
 -- The reader of a program's first line and of a job's line.
-use Rattle.std.proofs.Common.{◌≡◌, ℕ, Bool, true, false, List, Option, Some, None, sym, ap, ◌∙◌}
+use Rattle.std.proofs.Common.{◌≡◌, ℕ, true, false, List, Option, Some, None, sym, ap, ◌∙◌}
 use Rattle.std.specs.Prelude.{codes, if◌then◌else◌}
 use Rattle.std.specs.Option.{option_map}
 use Rattle.std.specs.Str.{bytes_eq}
@@ -9,31 +9,32 @@ use Rattle.job_script.specs.Scripts.{IsUpTo}
 use Rattle.job_script.specs.Reading.{is_word, language_of, args_of, Head, HProgram, HJob, HeadFits, job_by, program_of, fuel_of, entry_of_job, job_of, head_of, IsRead, IsStopped}
 use Rattle.job_script.specs.declared.stop.LineStop.{LineStop}
 use Rattle.job_script.specs.declared.stop.LineStop.TheVariants as stop
+use Rattle.job_script.specs.declared.types.Language.{Language}
 
 -- ---- a program
 
 abbrev after_name : List ℕ × List ℕ → Option Head
-after_name p = and_then (language_of p.1) (λ camelot. only_if (is_word p.0) (Some (HProgram p.0 camelot)))
+after_name p = and_then (language_of p.1) (λ language. only_if (is_word p.0) (Some (HProgram p.0 language)))
 
 pub no_program : (rest : List ℕ) → word_of rest ≡ None → program_of rest ≡ None
 unfolding program_of
 no_program rest e = ap (λ o. and_then o after_name) e
 
-program_is : (rest name after : List ℕ) (o : Option Bool) → IsCut (word_of rest) name after → o ≡ language_of after
-    → program_of rest ≡ and_then o (λ camelot. only_if (is_word name) (Some (HProgram name camelot)))
+program_is : (rest name after : List ℕ) (o : Option Language) → IsCut (word_of rest) name after → o ≡ language_of after
+    → program_of rest ≡ and_then o (λ language. only_if (is_word name) (Some (HProgram name language)))
 unfolding program_of
-program_is rest name after o e f = ap (λ o. and_then o after_name) e.is ∙ ap (λ o. and_then o (λ camelot. only_if (is_word name) (Some (HProgram name camelot)))) (sym f)
+program_is rest name after o e f = ap (λ o. and_then o after_name) e.is ∙ ap (λ o. and_then o (λ language. only_if (is_word name) (Some (HProgram name language)))) (sym f)
 
 pub no_language : (rest name after : List ℕ) → IsCut (word_of rest) name after → None ≡ language_of after → program_of rest ≡ None
 no_language rest name after e f = program_is rest name after None e f
 
-pub no_program_name : (rest name after : List ℕ) (camelot : Bool) → IsCut (word_of rest) name after → Some camelot ≡ language_of after
+pub no_program_name : (rest name after : List ℕ) (language : Language) → IsCut (word_of rest) name after → Some language ≡ language_of after
     → is_word name ≡ false → program_of rest ≡ None
-no_program_name rest name after camelot e f h = program_is rest name after (Some camelot) e f ∙ ap (λ t. only_if t (Some (HProgram name camelot))) h
+no_program_name rest name after language e f h = program_is rest name after (Some language) e f ∙ ap (λ t. only_if t (Some (HProgram name language))) h
 
-pub some_program : (rest name after : List ℕ) (camelot : Bool) → IsCut (word_of rest) name after → Some camelot ≡ language_of after
-    → is_word name ≡ true → IsRead (program_of rest) HeadFits (HProgram name camelot)
-some_program rest name after camelot e f h = record { is = program_is rest name after (Some camelot) e f ∙ ap (λ t. only_if t (Some (HProgram name camelot))) h; fits = tt }
+pub some_program : (rest name after : List ℕ) (language : Language) → IsCut (word_of rest) name after → Some language ≡ language_of after
+    → is_word name ≡ true → IsRead (program_of rest) HeadFits (HProgram name language)
+some_program rest name after language e f h = record { is = program_is rest name after (Some language) e f ∙ ap (λ t. only_if t (Some (HProgram name language))) h; fits = tt }
 
 -- ---- the fuel and the arguments of a job
 

@@ -4,7 +4,7 @@ use Rattle.std.specs.Prelude.{flat_map, codes}
 use Rattle.text_lines.specs.Lines.{text_of_lines}
 use Rattle.text_lines.specs.Numbers.{number}
 use Rattle.job_script.specs.Scripts.{Program, Job, AProgram, AJob, Script}
-use Rattle.job_script.specs.Text.{language, args_part, entry_text, script_text, IsScriptText, arena_line, workers_line}
+use Rattle.job_script.specs.Text.{language_name, args_part, entry_text, script_text, IsScriptText, arena_line, workers_line}
 
 pub two : (a b c o p : List ℕ) → o ≡ a ++ b → p ≡ o ++ c → p ≡ a ++ (b ++ c)
 two a b c o p e f = f ∙ ap (λ l. l ++ c) e ∙ append_assoc a b c
@@ -41,14 +41,14 @@ groups : (b c d e rest : List ℕ) → b ++ (c ++ (d ++ (e ++ rest))) ≡ ((b ++
 groups b c d e rest =
     sym (append_assoc (b ++ (c ++ d)) e rest ∙ append_assoc b (c ++ d) (e ++ rest) ∙ ap (λ x. b ++ x) (append_assoc c d (e ++ rest)))
 
-pub program_written : (x : Program) (a o p q r s t : List ℕ) → o ≡ a ++ codes "program" → p ≡ o ++ 32 ∷ x.name → q ≡ p ++ 32 ∷ language x.camelot
+pub program_written : (x : Program) (a o p q r s t : List ℕ) → o ≡ a ++ codes "program" → p ≡ o ++ 32 ∷ x.name → q ≡ p ++ 32 ∷ language_name x.language
     → r ≡ q ++ 10 ∷ [] → s ≡ r ++ x.text → t ≡ s ++ codes ".\n"
     → t ≡ a ++ entry_text (AProgram x)
 program_written x a o p q r s t e f g h i j =
     let rest = x.text ++ codes ".\n" in
-    let line = codes "program" ++ (32 ∷ x.name ++ 32 ∷ language x.camelot) in
-    six a (codes "program") (32 ∷ x.name) (32 ∷ language x.camelot) (10 ∷ []) x.text (codes ".\n") o p q r s t e f g h i j
-    ∙ ap (λ l. a ++ l) (groups (codes "program") (32 ∷ x.name) (32 ∷ language x.camelot) (10 ∷ []) rest ∙ ap (λ l. l ++ rest) (line_is line))
+    let line = codes "program" ++ (32 ∷ x.name ++ 32 ∷ language_name x.language) in
+    six a (codes "program") (32 ∷ x.name) (32 ∷ language_name x.language) (10 ∷ []) x.text (codes ".\n") o p q r s t e f g h i j
+    ∙ ap (λ l. a ++ l) (groups (codes "program") (32 ∷ x.name) (32 ∷ language_name x.language) (10 ∷ []) rest ∙ ap (λ l. l ++ rest) (line_is line))
 
 -- seven pieces that are a line
 seven : (a b c d e f g x o p q r s t u : List ℕ) → o ≡ a ++ b → p ≡ o ++ c → q ≡ p ++ d → r ≡ q ++ e → s ≡ r ++ f → t ≡ s ++ g → u ≡ t ++ x

@@ -35,7 +35,7 @@ job_long j =
 entry_long : (e : Entry) → EntryIsShort (length (entry_text e)) e
 entry_long (AProgram p) =
     let a = longer_left p.text (text_of_lines (codes "." ∷ [])) in
-    let b = longer_right (text_of_lines (program_line p.name p.camelot ∷ [])) (p.text ++ text_of_lines (codes "." ∷ [])) in
+    let b = longer_right (text_of_lines (program_line p.name p.language ∷ [])) (p.text ++ text_of_lines (codes "." ∷ [])) in
     omega (arith, a, b)
 entry_long (AJob j) = omega (arith, args_long j.args, job_long j, longer_left (job_line j ++ 10 ∷ []) [], longer_left (job_line j) (10 ∷ []))
 

@@ -9,6 +9,7 @@ use Rattle.job_script.specs.Scripts.{AJob, Job, Script, EntryIsWithin, IsUpTo, I
 use Rattle.job_script.specs.Reading.{add, program_by}
 use Rattle.job_script.specs.Steps.{IsAdded, Stood}
 use Rattle.job_script.specs.StateLaws.{programs_append, jobs_append}
+use Rattle.job_script.specs.declared.types.Language.{Language}
 
 not_false : (b c : Bool) → b ≡ not c → b ≡ true → c ≡ false
 not_false b true e h = absurd (let k : true ≡ false = sym h ∙ e in cc)
@@ -43,37 +44,37 @@ distinct_not ws w k h =
 
 -- ---- one more program
 
-names_program : (s : Script) (name : List ℕ) (camelot : Bool) (text : List ℕ)
-    → program_names (s.items ++ program_by name camelot text ∷ []) ≡ program_names s.items ++ name ∷ []
-names_program s name camelot text = programs_append s.items (program_by name camelot text ∷ [])
+names_program : (s : Script) (name : List ℕ) (language : Language) (text : List ℕ)
+    → program_names (s.items ++ program_by name language text ∷ []) ≡ program_names s.items ++ name ∷ []
+names_program s name language text = programs_append s.items (program_by name language text ∷ [])
 
-jobs_program : (s : Script) (name : List ℕ) (camelot : Bool) (text : List ℕ) → job_names (s.items ++ program_by name camelot text ∷ []) ≡ job_names s.items
-jobs_program s name camelot text = jobs_append s.items (program_by name camelot text ∷ []) ∙ append-nil (job_names s.items)
+jobs_program : (s : Script) (name : List ℕ) (language : Language) (text : List ℕ) → job_names (s.items ++ program_by name language text ∷ []) ≡ job_names s.items
+jobs_program s name language text = jobs_append s.items (program_by name language text ∷ []) ∙ append-nil (job_names s.items)
 
-pub within_program : (s : Script) (name : List ℕ) (camelot : Bool) (text : List ℕ) → IsWithin s → length (program_names s.items) < 64
-    → IsWithin (add s (program_by name camelot text))
-within_program s name camelot text h few = record {
+pub within_program : (s : Script) (name : List ℕ) (language : Language) (text : List ℕ) → IsWithin s → length (program_names s.items) < 64
+    → IsWithin (add s (program_by name language text))
+within_program s name language text h few = record {
   arena = h.arena;
   workers = h.workers;
-  fuels = all_append EntryIsWithin s.items (program_by name camelot text ∷ []) h.fuels (tt, tt);
-  programs = omega (arith, few, ap length (names_program s name camelot text), length-append (program_names s.items) (name ∷ []));
-  jobs = subst (λ l. length l ≤ 4096) (sym (jobs_program s name camelot text)) h.jobs;
+  fuels = all_append EntryIsWithin s.items (program_by name language text ∷ []) h.fuels (tt, tt);
+  programs = omega (arith, few, ap length (names_program s name language text), length-append (program_names s.items) (name ∷ []));
+  jobs = subst (λ l. length l ≤ 4096) (sym (jobs_program s name language text)) h.jobs;
 }
 
-pub much_program : (s : Script) (name : List ℕ) (camelot : Bool) (text : List ℕ) → 64 ≤ length (program_names s.items)
-    → IsWithin (add s (program_by name camelot text)) → ⊥
-much_program s name camelot text much h = absurd (omega (arith, much, h.programs, ap length (names_program s name camelot text), length-append (program_names s.items) (name ∷ [])))
+pub much_program : (s : Script) (name : List ℕ) (language : Language) (text : List ℕ) → 64 ≤ length (program_names s.items)
+    → IsWithin (add s (program_by name language text)) → ⊥
+much_program s name language text much h = absurd (omega (arith, much, h.programs, ap length (names_program s name language text), length-append (program_names s.items) (name ∷ [])))
 
-pub once_program : (s : Script) (name : List ℕ) (camelot : Bool) (text : List ℕ) → HasOnce s → stands (program_names s.items) name ≡ false
-    → HasOnce (add s (program_by name camelot text))
-once_program s name camelot text h new = record {
-  programs = subst AreDistinct (sym (names_program s name camelot text)) (distinct_more (program_names s.items) name h.programs new);
-  jobs = subst AreDistinct (sym (jobs_program s name camelot text)) h.jobs;
+pub once_program : (s : Script) (name : List ℕ) (language : Language) (text : List ℕ) → HasOnce s → stands (program_names s.items) name ≡ false
+    → HasOnce (add s (program_by name language text))
+once_program s name language text h new = record {
+  programs = subst AreDistinct (sym (names_program s name language text)) (distinct_more (program_names s.items) name h.programs new);
+  jobs = subst AreDistinct (sym (jobs_program s name language text)) h.jobs;
 }
 
-pub twice_program : (s : Script) (name : List ℕ) (camelot : Bool) (text : List ℕ) → stands (program_names s.items) name ≡ true
-    → HasOnce (add s (program_by name camelot text)) → ⊥
-twice_program s name camelot text old h = distinct_not (program_names s.items) name old (subst AreDistinct (names_program s name camelot text) h.programs)
+pub twice_program : (s : Script) (name : List ℕ) (language : Language) (text : List ℕ) → stands (program_names s.items) name ≡ true
+    → HasOnce (add s (program_by name language text)) → ⊥
+twice_program s name language text old h = distinct_not (program_names s.items) name old (subst AreDistinct (names_program s name language text) h.programs)
 
 -- ---- one more job
 

@@ -14,8 +14,10 @@ use Rattle.text_lines.specs.Cuts.{and_then, only_if, upto, from, behind, word_of
 use Rattle.text_lines.specs.OptionLaws.{and_parts, true_false, some_same, then_some, then_is, only_some, only_is, map_some, map_is}
 use Rattle.text_lines.specs.CutLaws.{free_cons, free_parts, free_append, upto_cut, from_cut, upto_all, from_all, cut_parts, byte_is}
 use Rattle.job_script.specs.Scripts.{Job, is_letter, IsWord, JobIsFormed}
-use Rattle.job_script.specs.Text.{language, program_line, args_part, job_line}
+use Rattle.job_script.specs.Text.{language_name, program_line, args_part, job_line}
 use Rattle.job_script.specs.Reading.{is_word, number_behind, language_of, args_of, Head, HProgram, HJob, job_by, program_of, fuel_of, entry_of_job, job_of, head_of}
+use Rattle.job_script.specs.declared.types.Language.{Language}
+use Rattle.job_script.specs.declared.types.Language.TheVariants.{Camelot, Grail}
 
 -- ---- bytes that aren't there
 
@@ -118,19 +120,19 @@ number_line_found tag line n e =
 
 -- ---- the parts of lines
 
-language_read : (camelot : Bool) → language_of (32 ∷ language camelot) ≡ Some camelot
-language_read true = refl
-language_read false = refl
+language_read : (language : Language) → language_of (32 ∷ language_name language) ≡ Some language
+language_read Camelot = refl
+language_read Grail = refl
 
-language_found : (rest : List ℕ) (camelot : Bool) → language_of rest ≡ Some camelot → rest ≡ 32 ∷ language camelot
-language_found rest camelot e = by_test (bytes_eq rest (codes " camelot")) refl e
+language_found : (rest : List ℕ) (language : Language) → language_of rest ≡ Some language → rest ≡ 32 ∷ language_name language
+language_found rest language e = by_test (bytes_eq rest (codes " camelot")) refl e
   where
     by_test : (t : Bool) → bytes_eq rest (codes " camelot") ≡ t
-        → (if t then Some true else only_if (bytes_eq rest (codes " grail")) (Some false)) ≡ Some camelot → rest ≡ 32 ∷ language camelot
-    by_test true h f = same_name rest (codes " camelot") h ∙ ap (λ c. 32 ∷ language c) (some_same true camelot f)
+        → (if t then Some Camelot else only_if (bytes_eq rest (codes " grail")) (Some Grail)) ≡ Some language → rest ≡ 32 ∷ language_name language
+    by_test true h f = same_name rest (codes " camelot") h ∙ ap (λ c. 32 ∷ language_name c) (some_same Camelot language f)
     by_test false h f =
-        let p = only_some (bytes_eq rest (codes " grail")) (Some false) camelot f in
-        same_name rest (codes " grail") p.0 ∙ ap (λ c. 32 ∷ language c) (some_same false camelot p.1)
+        let p = only_some (bytes_eq rest (codes " grail")) (Some Grail) language f in
+        same_name rest (codes " grail") p.0 ∙ ap (λ c. 32 ∷ language_name c) (some_same Grail language p.1)
 
 args_read : (args : List ℕ) → args_of (args_part args) ≡ Some args
 args_read [] = refl
@@ -158,24 +160,24 @@ free_args (b ∷ bs) h = free_cons 10 32 (b ∷ bs) refl h
 -- ---- heads
 
 abbrev pub head_line : Head → List ℕ
-head_line (HProgram name camelot) = program_line name camelot
+head_line (HProgram name language) = program_line name language
 head_line (HJob j) = job_line j
 
 abbrev pub HeadIsFormed : Head → Type 0
-HeadIsFormed (HProgram name camelot) = IsWord name
+HeadIsFormed (HProgram name language) = IsWord name
 HeadIsFormed (HJob j) = JobIsFormed j
 
 -- what is behind the first word
 abbrev fuel_part : ℕ → List ℕ → List ℕ
 fuel_part fuel args = 32 ∷ (number fuel ++ args_part args)
 
-program_read : (name : List ℕ) (camelot : Bool) → IsWord name → program_of (32 ∷ (name ++ 32 ∷ language camelot)) ≡ Some (HProgram name camelot)
+program_read : (name : List ℕ) (language : Language) → IsWord name → program_of (32 ∷ (name ++ 32 ∷ language_name language)) ≡ Some (HProgram name language)
 unfolding program_of
-program_read name camelot h =
-    then_is (word_of (32 ∷ (name ++ 32 ∷ language camelot))) (λ p. and_then (language_of p.1) (λ camelot. only_if (is_word p.0) (Some (HProgram p.0 camelot)))) (name, 32 ∷ language camelot) (Some (HProgram name camelot))
-    (word_read name (32 ∷ language camelot) (word_free 32 name refl refl h) refl)
-    (then_is (language_of (32 ∷ language camelot)) (λ camelot. only_if (is_word name) (Some (HProgram name camelot))) camelot (Some (HProgram name camelot)) (language_read camelot)
-    (only_is (is_word name) (Some (HProgram name camelot)) (Some (HProgram name camelot)) (name_passes is_letter name h) refl))
+program_read name language h =
+    then_is (word_of (32 ∷ (name ++ 32 ∷ language_name language))) (λ p. and_then (language_of p.1) (λ language. only_if (is_word p.0) (Some (HProgram p.0 language)))) (name, 32 ∷ language_name language) (Some (HProgram name language))
+    (word_read name (32 ∷ language_name language) (word_free 32 name refl refl h) refl)
+    (then_is (language_of (32 ∷ language_name language)) (λ language. only_if (is_word name) (Some (HProgram name language))) language (Some (HProgram name language)) (language_read language)
+    (only_is (is_word name) (Some (HProgram name language)) (Some (HProgram name language)) (name_passes is_letter name h) refl))
 
 fuel_read : (j : Job) → fuel_of j.name j.program j.entry (fuel_part j.fuel j.args) ≡ Some (HJob j)
 unfolding fuel_of
@@ -208,7 +210,7 @@ pick program job a b = if program then a else only_if job b
 
 pub head_read : (h : Head) → HeadIsFormed h → head_of (head_line h) ≡ Some h
 unfolding head_of
-head_read (HProgram name camelot) k = program_read name camelot k
+head_read (HProgram name language) k = program_read name language k
 head_read (HJob j) k = job_read j k
 
 -- ---- back
@@ -216,12 +218,12 @@ head_read (HJob j) k = job_read j k
 program_found : (rest : List ℕ) (h : Head) → program_of rest ≡ Some h → HeadIsFormed h × (codes "program" ++ rest ≡ head_line h)
 unfolding program_of
 program_found rest h e =
-    let (p, p_is, e2) = then_some (word_of rest) (λ p. and_then (language_of p.1) (λ camelot. only_if (is_word p.0) (Some (HProgram p.0 camelot)))) h e in
-    let (camelot, c_is, e3) = then_some (language_of p.1) (λ camelot. only_if (is_word p.0) (Some (HProgram p.0 camelot))) h e2 in
-    let q = only_some (is_word p.0) (Some (HProgram p.0 camelot)) h e3 in
-    let h_is : HProgram p.0 camelot ≡ h = some_same (HProgram p.0 camelot) h q.1 in
+    let (p, p_is, e2) = then_some (word_of rest) (λ p. and_then (language_of p.1) (λ language. only_if (is_word p.0) (Some (HProgram p.0 language)))) h e in
+    let (language, c_is, e3) = then_some (language_of p.1) (λ language. only_if (is_word p.0) (Some (HProgram p.0 language))) h e2 in
+    let q = only_some (is_word p.0) (Some (HProgram p.0 language)) h e3 in
+    let h_is : HProgram p.0 language ≡ h = some_same (HProgram p.0 language) h q.1 in
     subst (λ h. HeadIsFormed h × (codes "program" ++ rest ≡ head_line h)) h_is
-    (passing_name is_letter p.0 q.0, ap (λ l. codes "program" ++ l) ((word_found rest p p_is).is ∙ ap (λ l. 32 ∷ (p.0 ++ l)) (language_found p.1 camelot c_is)))
+    (passing_name is_letter p.0 q.0, ap (λ l. codes "program" ++ l) ((word_found rest p p_is).is ∙ ap (λ l. 32 ∷ (p.0 ++ l)) (language_found p.1 language c_is)))
 
 -- the job that was read, and what is behind its entry
 record FuelRead (name program entry rest : List ℕ) (h : Head) : Type 0 where
@@ -330,12 +332,12 @@ number_line_free tag n h = free_append 10 tag (32 ∷ number n) h (free_cons 10 
 next_free : (w r : List ℕ) → Free 10 w → Free 10 r → Free 10 (w ++ 32 ∷ r)
 next_free w r h k = free_append 10 w (32 ∷ r) h (free_cons 10 32 r refl k)
 
-language_free : (camelot : Bool) → Free 10 (language camelot)
-language_free true = refl
-language_free false = refl
+language_free : (language : Language) → Free 10 (language_name language)
+language_free Camelot = refl
+language_free Grail = refl
 
 pub head_free : (h : Head) → HeadIsFormed h → Free 10 (head_line h)
-head_free (HProgram name camelot) k = next_free (codes "program") (name ++ 32 ∷ language camelot) refl (next_free name (language camelot) (word_free 10 name refl refl k) (language_free camelot))
+head_free (HProgram name language) k = next_free (codes "program") (name ++ 32 ∷ language_name language) refl (next_free name (language_name language) (word_free 10 name refl refl k) (language_free language))
 head_free (HJob j) k =
     next_free (codes "job") (j.name ++ 32 ∷ (j.program ++ 32 ∷ (j.entry ++ fuel_part j.fuel j.args))) refl
     (next_free j.name (j.program ++ 32 ∷ (j.entry ++ fuel_part j.fuel j.args)) (word_free 10 j.name refl refl k.name)

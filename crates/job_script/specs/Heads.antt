@@ -12,7 +12,7 @@ abbrev pub job_view : JobLine → Job
 job_view j = job_by j.name.now j.program.now j.entry.now j.fuel j.args.now
 
 abbrev pub head_view : DeclaredHead → Head
-head_view (head.Program name camelot) = HProgram name.now camelot
+head_view (head.Program name language) = HProgram name.now language
 head_view (head.Job j) = HJob (job_view j)
 
 -- the same bytes, or both nothing

@@ -1,16 +1,17 @@
 -- Cited by contracts.
 -- The script of the drill: so many jobs of one program on so many workers. Job `i` doubles the list of the ints from 1
 -- to the remainder of 37 * `i` by 1000, and each hundredth job has too little fuel for it.
-use Rattle.std.specs.Prelude.{ℕ, zero, suc, ◌*◌, ◌%◌, ◌==◌, if◌then◌else◌, true, List, [], ◌∷◌, ◌++◌, replicate, codes}
+use Rattle.std.specs.Prelude.{ℕ, zero, suc, ◌*◌, ◌%◌, ◌==◌, if◌then◌else◌, List, [], ◌∷◌, ◌++◌, replicate, codes}
 use Rattle.text_lines.specs.Numbers.{number}
 use Rattle.job_script.specs.Scripts.{Program, Job, Entry, AProgram, AJob, Script}
+use Rattle.job_script.specs.declared.types.Language.TheVariants.{Camelot}
 
 -- lists, and the function that doubles one
 unfoldable pub made_source : List ℕ
 made_source = codes "type ilist = !Nil | Cons of int * ilist\n" ++ codes "let dup l = match l with Nil -> Nil | Cons(h, t)@_ -> let r = dup t in Cons(h, Cons(h, r)) end\n"
 
 abbrev pub made_program : Program
-made_program = record { name = codes "drill"; camelot = true; text = made_source }
+made_program = record { name = codes "drill"; language = Camelot; text = made_source }
 
 -- `Cons(1,Cons(2,` and so on: so many ints, from this one on
 abbrev pub heads : (count first : ℕ) → List ℕ

@@ -12,6 +12,8 @@ use Rattle.job_script.specs.Scripts.{Job, Entry, AProgram, AJob, Script, is_lett
 use Rattle.job_script.specs.Text.{arena_line, program_line, script_text, script_format}
 use Rattle.job_script.specs.declared.stop.LineStop.{LineStop}
 use Rattle.job_script.specs.declared.stop.LineStop.TheVariants as stop
+use Rattle.job_script.specs.declared.types.Language.{Language}
+use Rattle.job_script.specs.declared.types.Language.TheVariants.{Camelot, Grail}
 
 -- ---- what was read
 
@@ -44,8 +46,8 @@ unfoldable pub number_behind : List ℕ → List ℕ → Option ℕ
 number_behind tag line = only_if (bytes_eq (upto 32 line) tag) (number_of (behind (from 32 line)))
 
 -- the language of a program, behind a space
-abbrev pub language_of : List ℕ → Option Bool
-language_of rest = if bytes_eq rest (codes " camelot") then Some true else only_if (bytes_eq rest (codes " grail")) (Some false)
+abbrev pub language_of : List ℕ → Option Language
+language_of rest = if bytes_eq rest (codes " camelot") then Some Camelot else only_if (bytes_eq rest (codes " grail")) (Some Grail)
 
 -- nothing, or a space and arguments
 abbrev pub args_of : List ℕ → Option (List ℕ)
@@ -56,18 +58,18 @@ args_of (b ∷ c ∷ cs) = only_if (b == 32) (Some (c ∷ cs))
 -- ---- the first line of a program, and the line of a job
 
 pub data Head : Type 0 where
-  HProgram : (name : List ℕ) (camelot : Bool) → Head
+  HProgram : (name : List ℕ) (language : Language) → Head
   HJob : Job → Head
 
 abbrev pub HeadFits : Head → Type 0
-HeadFits (HProgram name camelot) = Unit {0}
+HeadFits (HProgram name language) = Unit {0}
 HeadFits (HJob j) = IsUpTo 1099511627776 j.fuel
 
 abbrev pub job_by : (name program entry : List ℕ) → ℕ → List ℕ → Job
 job_by name program entry fuel args = record { name = name; program = program; entry = entry; fuel = fuel; args = args }
 
 unfoldable pub program_of : List ℕ → Option Head
-program_of rest = and_then (word_of rest) (λ p. and_then (language_of p.1) (λ camelot. only_if (is_word p.0) (Some (HProgram p.0 camelot))))
+program_of rest = and_then (word_of rest) (λ p. and_then (language_of p.1) (λ language. only_if (is_word p.0) (Some (HProgram p.0 language))))
 
 -- the fuel and the arguments of a job of these names
 unfoldable pub fuel_of : (name program entry rest : List ℕ) → Option Head
@@ -92,7 +94,7 @@ pub data State : Type 0 where
   -- behind the workers', a program or a job: what was read is this script
   Between : Script → State
   -- in the text of a program, of which this was read
-  Inside : Script → (name : List ℕ) (camelot : Bool) (text : List ℕ) → State
+  Inside : Script → (name : List ℕ) (language : Language) (text : List ℕ) → State
 
 abbrev pub script_by : ℕ → ℕ → List Entry → Script
 script_by arena workers items = record { arena = arena; workers = workers; items = items }
@@ -101,11 +103,11 @@ script_by arena workers items = record { arena = arena; workers = workers; items
 abbrev pub add : Script → Entry → Script
 add s e = record { arena = s.arena; workers = s.workers; items = s.items ++ e ∷ [] }
 
-abbrev pub program_by : List ℕ → Bool → List ℕ → Entry
-program_by name camelot text = AProgram (record { name = name; camelot = camelot; text = text })
+abbrev pub program_by : List ℕ → Language → List ℕ → Entry
+program_by name language text = AProgram (record { name = name; language = language; text = text })
 
 abbrev pub enter : Script → Head → State
-enter s (HProgram name camelot) = Inside s name camelot []
+enter s (HProgram name language) = Inside s name language []
 enter s (HJob j) = Between (add s (AJob j))
 
 -- one more line
@@ -113,28 +115,28 @@ abbrev pub step : State → List ℕ → Option State
 step Start line = option_map Sized (number_behind (codes "arena") line)
 step (Sized arena) line = option_map (λ workers. Between (script_by arena workers [])) (number_behind (codes "workers") line)
 step (Between s) line = option_map (enter s) (head_of line)
-step (Inside s name camelot text) line = Some (if bytes_eq line (codes ".") then Between (add s (program_by name camelot text)) else Inside s name camelot (text ++ text_of_lines (line ∷ [])))
+step (Inside s name language text) line = Some (if bytes_eq line (codes ".") then Between (add s (program_by name language text)) else Inside s name language (text ++ text_of_lines (line ∷ [])))
 
 -- the least script that goes on so
 abbrev pub closed : State → Script
 closed Start = script_by 1 1 []
 closed (Sized arena) = script_by arena 1 []
 closed (Between s) = s
-closed (Inside s name camelot text) = add s (program_by name camelot text)
+closed (Inside s name language text) = add s (program_by name language text)
 
 -- the lines that it has read
 abbrev pub so_far : State → List ℕ
 so_far Start = []
 so_far (Sized arena) = text_of_lines (arena_line arena ∷ [])
 so_far (Between s) = script_text s
-so_far (Inside s name camelot text) = script_text s ++ (text_of_lines (program_line name camelot ∷ []) ++ text)
+so_far (Inside s name language text) = script_text s ++ (text_of_lines (program_line name language ∷ []) ++ text)
 
 -- the text may end between two entries
 abbrev pub may_end : State → Bool
 may_end Start = false
 may_end (Sized arena) = false
 may_end (Between s) = true
-may_end (Inside s name camelot text) = false
+may_end (Inside s name language text) = false
 
 abbrev pub script_machine : Machine script_format
 script_machine = record { State = State; start = Start; step = step; ends = may_end; closed = closed; so_far = so_far; IsGood = λ s. IsFormed (closed s) }

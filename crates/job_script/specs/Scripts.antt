@@ -5,11 +5,12 @@ use Rattle.std.specs.Prelude.{◌≡◌, ℕ, ◌≤◌, ◌||◌, Bool, List, [
 use Rattle.std.specs.List.{AllByRecursion}
 use Rattle.camelot_values.specs.Names.{is_lower, is_upper, IsName, IsLowerName, AreDistinct}
 use Rattle.text_lines.specs.Lines.{IsOneLine, text_of_lines}
+use Rattle.job_script.specs.declared.types.Language.{Language}
 
 -- a program in Camelot, or its Grail bundle; the text is its lines with their line feeds
 pub record Program : Type 0 where
   pub name : List ℕ
-  pub camelot : Bool
+  pub language : Language
   pub text : List ℕ
 
 -- a call of this entry of this program with so much fuel; the arguments are bytes, none where there are no arguments

@@ -16,6 +16,7 @@ use Rattle.job_script.specs.Scripts.{Entry, AProgram, AJob, Script, IsTextLine, 
 use Rattle.job_script.specs.Text.{arena_line, workers_line, program_line, job_line, entry_text, script_text, script_asks, script_format}
 use Rattle.job_script.specs.Reading.{number_behind, Head, HProgram, HJob, head_of, State, Start, Sized, Between, Inside, script_by, add, program_by, enter, step, closed, so_far, may_end, script_machine}
 use Rattle.job_script.specs.HeadLaws.{number_line_read, number_line_found, number_line_free, head_line, HeadIsFormed, head_read, head_found, head_free}
+use Rattle.job_script.specs.declared.types.Language.{Language}
 
 -- ---- lists
 
@@ -44,7 +45,7 @@ add_text s e =
     ∙ sym (append_assoc front (flat_map entry_text s.items) (entry_text e))
 
 head_text : (s : Script) (h : Head) (line : List ℕ) → line ≡ head_line h → so_far (enter s h) ≡ script_text s ++ text_of_lines (line ∷ [])
-head_text s (HProgram name camelot) line e = ap (λ l. script_text s ++ l) (append-nil (text_of_lines (program_line name camelot ∷ [])) ∙ ap (λ l. text_of_lines (l ∷ [])) (sym e))
+head_text s (HProgram name language) line e = ap (λ l. script_text s ++ l) (append-nil (text_of_lines (program_line name language ∷ [])) ∙ ap (λ l. text_of_lines (l ∷ [])) (sym e))
 head_text s (HJob j) line e = add_text s (AJob j) ∙ ap (λ l. script_text s ++ text_of_lines (l ∷ [])) (sym e)
 
 workers_text : (arena workers : ℕ)
@@ -62,24 +63,24 @@ step_text (Sized arena) t line f e =
 step_text (Between s) t line f e =
     let (h, h_is, t_is) = map_some (enter s) (head_of line) t e in
     ap so_far t_is ∙ head_text s h line (head_found line h f h_is).1
-step_text (Inside s name camelot text) t line f e = ap so_far (sym (some_same (if bytes_eq line (codes ".") then Between (add s (program_by name camelot text)) else Inside s name camelot (text ++ text_of_lines (line ∷ []))) t e)) ∙ by_test (bytes_eq line (codes ".")) refl
+step_text (Inside s name language text) t line f e = ap so_far (sym (some_same (if bytes_eq line (codes ".") then Between (add s (program_by name language text)) else Inside s name language (text ++ text_of_lines (line ∷ []))) t e)) ∙ by_test (bytes_eq line (codes ".")) refl
   where
     by_test : (b : Bool) → bytes_eq line (codes ".") ≡ b
-        → so_far (if b then Between (add s (program_by name camelot text)) else Inside s name camelot (text ++ text_of_lines (line ∷ []))) ≡ (script_text s ++ (text_of_lines (program_line name camelot ∷ []) ++ text)) ++ text_of_lines (line ∷ [])
+        → so_far (if b then Between (add s (program_by name language text)) else Inside s name language (text ++ text_of_lines (line ∷ []))) ≡ (script_text s ++ (text_of_lines (program_line name language ∷ []) ++ text)) ++ text_of_lines (line ∷ [])
     by_test true h =
-        add_text s (program_by name camelot text) ∙ ap (λ l. script_text s ++ (text_of_lines (program_line name camelot ∷ []) ++ (text ++ text_of_lines (l ∷ [])))) (sym (same_name line (codes ".") h))
-        ∙ ap (λ l. script_text s ++ l) (sym (append_assoc (text_of_lines (program_line name camelot ∷ [])) text (text_of_lines (line ∷ [])))) ∙ sym (append_assoc (script_text s) (text_of_lines (program_line name camelot ∷ []) ++ text) (text_of_lines (line ∷ [])))
+        add_text s (program_by name language text) ∙ ap (λ l. script_text s ++ (text_of_lines (program_line name language ∷ []) ++ (text ++ text_of_lines (l ∷ [])))) (sym (same_name line (codes ".") h))
+        ∙ ap (λ l. script_text s ++ l) (sym (append_assoc (text_of_lines (program_line name language ∷ [])) text (text_of_lines (line ∷ [])))) ∙ sym (append_assoc (script_text s) (text_of_lines (program_line name language ∷ []) ++ text) (text_of_lines (line ∷ [])))
     by_test false h =
-        ap (λ l. script_text s ++ l) (sym (append_assoc (text_of_lines (program_line name camelot ∷ [])) text (text_of_lines (line ∷ [])))) ∙ sym (append_assoc (script_text s) (text_of_lines (program_line name camelot ∷ []) ++ text) (text_of_lines (line ∷ [])))
+        ap (λ l. script_text s ++ l) (sym (append_assoc (text_of_lines (program_line name language ∷ [])) text (text_of_lines (line ∷ [])))) ∙ sym (append_assoc (script_text s) (text_of_lines (program_line name language ∷ []) ++ text) (text_of_lines (line ∷ [])))
 
 pub closing : (s : State) → IsClosing script_machine s
 closing Start = record { rest = script_text (script_by 1 1 []); is = refl }
 closing (Sized arena) = record { rest = text_of_lines (workers_line 1 ∷ []); is = workers_text arena 1 }
 closing (Between s) = record { rest = []; is = sym (append-nil (script_text s)) }
-closing (Inside s name camelot text) = record {
+closing (Inside s name language text) = record {
   rest = text_of_lines (codes "." ∷ []);
-  is = add_text s (program_by name camelot text) ∙ ap (λ l. script_text s ++ l) (sym (append_assoc (text_of_lines (program_line name camelot ∷ [])) text (text_of_lines (codes "." ∷ []))))
-      ∙ sym (append_assoc (script_text s) (text_of_lines (program_line name camelot ∷ []) ++ text) (text_of_lines (codes "." ∷ [])));
+  is = add_text s (program_by name language text) ∙ ap (λ l. script_text s ++ l) (sym (append_assoc (text_of_lines (program_line name language ∷ [])) text (text_of_lines (codes "." ∷ []))))
+      ∙ sym (append_assoc (script_text s) (text_of_lines (program_line name language ∷ []) ++ text) (text_of_lines (codes "." ∷ [])));
 }
 
 -- ---- form
@@ -95,7 +96,7 @@ body_more text line b h = record {
 }
 
 head_formed : (s : Script) (h : Head) → IsFormed s → HeadIsFormed h → IsFormed (closed (enter s h))
-head_formed s (HProgram name camelot) f k = formed_more s (program_by name camelot []) f (record { name = k; text = record { lines = []; each = tt; is = refl } })
+head_formed s (HProgram name language) f k = formed_more s (program_by name language []) f (record { name = k; text = record { lines = []; each = tt; is = refl } })
 head_formed s (HJob j) f k = formed_more s (AJob j) f k
 
 pub step_formed : (s t : State) (line : List ℕ) → Free 10 line → IsFormed (closed s) → step s line ≡ Some t → IsFormed (closed t)
@@ -105,18 +106,18 @@ step_formed (Sized arena) t line f h e =
     let (n, n_is, t_is) = map_some (λ workers. Between (script_by arena workers [])) (number_behind (codes "workers") line) t e in subst (λ t. IsFormed (closed t)) (sym t_is) (record { items = tt })
 step_formed (Between s) t line f h e =
     let (d, d_is, t_is) = map_some (enter s) (head_of line) t e in subst (λ t. IsFormed (closed t)) (sym t_is) (head_formed s d h (head_found line d f d_is).0)
-step_formed (Inside s name camelot text) t line f h e =
-    subst (λ t. IsFormed (closed t)) (some_same (if bytes_eq line (codes ".") then Between (add s (program_by name camelot text)) else Inside s name camelot (text ++ text_of_lines (line ∷ []))) t e) (by_test (bytes_eq line (codes ".")) refl)
+step_formed (Inside s name language text) t line f h e =
+    subst (λ t. IsFormed (closed t)) (some_same (if bytes_eq line (codes ".") then Between (add s (program_by name language text)) else Inside s name language (text ++ text_of_lines (line ∷ []))) t e) (by_test (bytes_eq line (codes ".")) refl)
   where
     dot : bytes_eq line (codes ".") ≡ false → line ≡ codes "." → ⊥
     dot k q = let r : true ≡ false = sym (name_itself (codes ".")) ∙ ap (λ l. bytes_eq l (codes ".")) (sym q) ∙ k in absurd cc
 
     by_test : (b : Bool) → bytes_eq line (codes ".") ≡ b
-        → IsFormed (closed (if b then Between (add s (program_by name camelot text)) else Inside s name camelot (text ++ text_of_lines (line ∷ []))))
+        → IsFormed (closed (if b then Between (add s (program_by name language text)) else Inside s name language (text ++ text_of_lines (line ∷ []))))
     by_test true k = h
     by_test false k =
-        let p = all_last EntryIsFormed s.items (program_by name camelot text) h.items in
-        formed_more s (program_by name camelot (text ++ text_of_lines (line ∷ []))) (record { items = all_left EntryIsFormed s.items (program_by name camelot text ∷ []) h.items })
+        let p = all_last EntryIsFormed s.items (program_by name language text) h.items in
+        formed_more s (program_by name language (text ++ text_of_lines (line ∷ []))) (record { items = all_left EntryIsFormed s.items (program_by name language text ∷ []) h.items })
         (record { name = p.name; text = body_more text line p.text (record { one = f; goes_on = dot k }) })
 
 -- ---- limits and repeats, from what follows
@@ -133,14 +134,14 @@ within_front s e h = record {
   jobs = omega (arith, h.jobs, ap length (jobs_append s.items (e ∷ [])), length-append (job_names s.items) (job_names (e ∷ [])));
 }
 
-pub within_text : (s : Script) (name : List ℕ) (camelot : Bool) (text other : List ℕ) → IsWithin (add s (program_by name camelot other))
-    → IsWithin (add s (program_by name camelot text))
-within_text s name camelot text other h = record {
+pub within_text : (s : Script) (name : List ℕ) (language : Language) (text other : List ℕ) → IsWithin (add s (program_by name language other))
+    → IsWithin (add s (program_by name language text))
+within_text s name language text other h = record {
   arena = h.arena;
   workers = h.workers;
-  fuels = all_append EntryIsWithin s.items (program_by name camelot text ∷ []) (all_left EntryIsWithin s.items (program_by name camelot other ∷ []) h.fuels) (tt, tt);
-  programs = subst (λ l. length l ≤ 64) (programs_append s.items (program_by name camelot other ∷ []) ∙ sym (programs_append s.items (program_by name camelot text ∷ []))) h.programs;
-  jobs = subst (λ l. length l ≤ 4096) (jobs_append s.items (program_by name camelot other ∷ []) ∙ sym (jobs_append s.items (program_by name camelot text ∷ []))) h.jobs;
+  fuels = all_append EntryIsWithin s.items (program_by name language text ∷ []) (all_left EntryIsWithin s.items (program_by name language other ∷ []) h.fuels) (tt, tt);
+  programs = subst (λ l. length l ≤ 64) (programs_append s.items (program_by name language other ∷ []) ∙ sym (programs_append s.items (program_by name language text ∷ []))) h.programs;
+  jobs = subst (λ l. length l ≤ 4096) (jobs_append s.items (program_by name language other ∷ []) ∙ sym (jobs_append s.items (program_by name language text ∷ []))) h.jobs;
 }
 
 once_front : (s : Script) (e : Entry) → HasOnce (add s e) → HasOnce s
@@ -149,11 +150,11 @@ once_front s e h = record {
   jobs = distinct_left (job_names s.items) (job_names (e ∷ [])) (subst AreDistinct (jobs_append s.items (e ∷ [])) h.jobs);
 }
 
-pub once_text : (s : Script) (name : List ℕ) (camelot : Bool) (text other : List ℕ) → HasOnce (add s (program_by name camelot other))
-    → HasOnce (add s (program_by name camelot text))
-once_text s name camelot text other h = record {
-  programs = subst AreDistinct (programs_append s.items (program_by name camelot other ∷ []) ∙ sym (programs_append s.items (program_by name camelot text ∷ []))) h.programs;
-  jobs = subst AreDistinct (jobs_append s.items (program_by name camelot other ∷ []) ∙ sym (jobs_append s.items (program_by name camelot text ∷ []))) h.jobs;
+pub once_text : (s : Script) (name : List ℕ) (language : Language) (text other : List ℕ) → HasOnce (add s (program_by name language other))
+    → HasOnce (add s (program_by name language text))
+once_text s name language text other h = record {
+  programs = subst AreDistinct (programs_append s.items (program_by name language other ∷ []) ∙ sym (programs_append s.items (program_by name language text ∷ []))) h.programs;
+  jobs = subst AreDistinct (jobs_append s.items (program_by name language other ∷ []) ∙ sym (jobs_append s.items (program_by name language text ∷ []))) h.jobs;
 }
 
 pub formed_least : IsFormed (script_by 1 1 [])
@@ -171,8 +172,8 @@ pub record IsBackward (P : Script → Type 0) : Type 0 where
   pub least : P (script_by 1 1 [])
   pub one : (a w : ℕ) → P (script_by a w []) → P (script_by a 1 [])
   pub front : (s : Script) (e : Entry) → P (add s e) → P s
-  pub text : (s : Script) (name : List ℕ) (camelot : Bool) (text other : List ℕ) → P (add s (program_by name camelot other))
-      → P (add s (program_by name camelot text))
+  pub text : (s : Script) (name : List ℕ) (language : Language) (text other : List ℕ) → P (add s (program_by name language other))
+      → P (add s (program_by name language text))
 
 pub within_backward : IsBackward IsWithin
 within_backward = record {
@@ -186,7 +187,7 @@ pub once_backward : IsBackward HasOnce
 once_backward = record { least = once_least 1 1; one = λ a w h. once_least a 1; front = once_front; text = once_text }
 
 head_back : (P : Script → Type 0) → IsBackward P → (s : Script) (h : Head) → P (closed (enter s h)) → P s
-head_back P b s (HProgram name camelot) k = b.front s (program_by name camelot []) k
+head_back P b s (HProgram name language) k = b.front s (program_by name language []) k
 head_back P b s (HJob j) k = b.front s (AJob j) k
 
 step_back : (P : Script → Type 0) → IsBackward P → (s t : State) (line : List ℕ) → step s line ≡ Some t → P (closed t) → P (closed s)
@@ -194,12 +195,12 @@ step_back P b Start t line e h = b.least
 step_back P b (Sized arena) t line e h =
     let (n, n_is, t_is) = map_some (λ workers. Between (script_by arena workers [])) (number_behind (codes "workers") line) t e in b.one arena n (subst (λ t. P (closed t)) t_is h)
 step_back P b (Between s) t line e h = let (d, d_is, t_is) = map_some (enter s) (head_of line) t e in head_back P b s d (subst (λ t. P (closed t)) t_is h)
-step_back P b (Inside s name camelot text) t line e h =
-    by_test (bytes_eq line (codes ".")) (subst (λ t. P (closed t)) (sym (some_same (if bytes_eq line (codes ".") then Between (add s (program_by name camelot text)) else Inside s name camelot (text ++ text_of_lines (line ∷ []))) t e)) h)
+step_back P b (Inside s name language text) t line e h =
+    by_test (bytes_eq line (codes ".")) (subst (λ t. P (closed t)) (sym (some_same (if bytes_eq line (codes ".") then Between (add s (program_by name language text)) else Inside s name language (text ++ text_of_lines (line ∷ []))) t e)) h)
   where
-    by_test : (c : Bool) → P (closed (if c then Between (add s (program_by name camelot text)) else Inside s name camelot (text ++ text_of_lines (line ∷ [])))) → P (add s (program_by name camelot text))
+    by_test : (c : Bool) → P (closed (if c then Between (add s (program_by name language text)) else Inside s name language (text ++ text_of_lines (line ∷ [])))) → P (add s (program_by name language text))
     by_test true k = k
-    by_test false k = b.text s name camelot text (text ++ text_of_lines (line ∷ [])) k
+    by_test false k = b.text s name language text (text ++ text_of_lines (line ∷ [])) k
 
 -- ---- the lines of a script
 
@@ -217,41 +218,41 @@ join s t u x y a b = record {
   run = run_append script_machine s t a.lines b.lines a.run ∙ b.run;
 }
 
-inside_step : (s : Script) (name : List ℕ) (camelot : Bool) (text line : List ℕ) → IsTextLine line
-    → step (Inside s name camelot text) line ≡ Some (Inside s name camelot (text ++ text_of_lines (line ∷ [])))
-inside_step s name camelot text line h = by_test (bytes_eq line (codes ".")) refl
+inside_step : (s : Script) (name : List ℕ) (language : Language) (text line : List ℕ) → IsTextLine line
+    → step (Inside s name language text) line ≡ Some (Inside s name language (text ++ text_of_lines (line ∷ [])))
+inside_step s name language text line h = by_test (bytes_eq line (codes ".")) refl
   where
     by_test : (b : Bool) → bytes_eq line (codes ".") ≡ b
-        → Some (if b then Between (add s (program_by name camelot text)) else Inside s name camelot (text ++ text_of_lines (line ∷ []))) ≡ Some (Inside s name camelot (text ++ text_of_lines (line ∷ [])))
+        → Some (if b then Between (add s (program_by name language text)) else Inside s name language (text ++ text_of_lines (line ∷ []))) ≡ Some (Inside s name language (text ++ text_of_lines (line ∷ [])))
     by_test true k = absurd (h.goes_on (same_name line (codes ".") k))
     by_test false k = refl
 
-pub body_run : (s : Script) (name : List ℕ) (camelot : Bool) (text : List ℕ) (lines : List (List ℕ)) → AllByRecursion IsTextLine lines
-    → run script_machine (Inside s name camelot text) lines ≡ Some (Inside s name camelot (text ++ text_of_lines lines))
-body_run s name camelot text [] h = ap (λ l. Some (Inside s name camelot l)) (sym (append-nil text))
-body_run s name camelot text (line ∷ lines) h =
-    then_is (step (Inside s name camelot text) line) (λ m. run script_machine m lines) (Inside s name camelot (text ++ text_of_lines (line ∷ []))) (Some (Inside s name camelot (text ++ text_of_lines (line ∷ lines)))) (inside_step s name camelot text line h.0)
-    (body_run s name camelot (text ++ text_of_lines (line ∷ [])) lines h.1
-    ∙ ap (λ l. Some (Inside s name camelot l)) (append_assoc text (text_of_lines (line ∷ [])) (text_of_lines lines) ∙ ap (λ l. text ++ l) (sym (flat_append (λ line. line ++ 10 ∷ []) (line ∷ []) lines))))
+pub body_run : (s : Script) (name : List ℕ) (language : Language) (text : List ℕ) (lines : List (List ℕ)) → AllByRecursion IsTextLine lines
+    → run script_machine (Inside s name language text) lines ≡ Some (Inside s name language (text ++ text_of_lines lines))
+body_run s name language text [] h = ap (λ l. Some (Inside s name language l)) (sym (append-nil text))
+body_run s name language text (line ∷ lines) h =
+    then_is (step (Inside s name language text) line) (λ m. run script_machine m lines) (Inside s name language (text ++ text_of_lines (line ∷ []))) (Some (Inside s name language (text ++ text_of_lines (line ∷ lines)))) (inside_step s name language text line h.0)
+    (body_run s name language (text ++ text_of_lines (line ∷ [])) lines h.1
+    ∙ ap (λ l. Some (Inside s name language l)) (append_assoc text (text_of_lines (line ∷ [])) (text_of_lines lines) ∙ ap (λ l. text ++ l) (sym (flat_append (λ line. line ++ 10 ∷ []) (line ∷ []) lines))))
 
 pub lines_one : (lines : List (List ℕ)) → AllByRecursion IsTextLine lines → AllByRecursion (Free 10) lines
 lines_one [] h = tt
 lines_one (line ∷ lines) h = (h.0.one, lines_one lines h.1)
 
-pub body_lines : (s : Script) (name : List ℕ) (camelot : Bool) (text : List ℕ) (lines : List (List ℕ)) → AllByRecursion IsTextLine lines
-    → Leads script_machine (Inside s name camelot text) (text_of_lines lines) (Inside s name camelot (text ++ text_of_lines lines))
-body_lines s name camelot text lines h = record { lines = lines; each = lines_one lines h; is = refl; run = body_run s name camelot text lines h }
+pub body_lines : (s : Script) (name : List ℕ) (language : Language) (text : List ℕ) (lines : List (List ℕ)) → AllByRecursion IsTextLine lines
+    → Leads script_machine (Inside s name language text) (text_of_lines lines) (Inside s name language (text ++ text_of_lines lines))
+body_lines s name language text lines h = record { lines = lines; each = lines_one lines h; is = refl; run = body_run s name language text lines h }
 
 head_step : (s : Script) (h : Head) → HeadIsFormed h → step (Between s) (head_line h) ≡ Some (enter s h)
 head_step s h k = map_is (enter s) (head_of (head_line h)) h (head_read h k)
 
 pub entry_lines : (s : Script) (e : Entry) → EntryIsFormed e → Leads script_machine (Between s) (entry_text e) (Between (add s e))
 entry_lines s (AProgram p) h =
-    let start = one_more (Between s) (Inside s p.name p.camelot []) (program_line p.name p.camelot) (head_free (HProgram p.name p.camelot) h.name) (head_step s (HProgram p.name p.camelot) h.name) in
-    let body = subst (λ l. Leads script_machine (Inside s p.name p.camelot []) l (Inside s p.name p.camelot l)) (sym h.text.is) (body_lines s p.name p.camelot [] h.text.lines h.text.each) in
-    let end = one_more (Inside s p.name p.camelot p.text) (Between (add s (AProgram p))) (codes ".") refl refl in
-    join (Between s) (Inside s p.name p.camelot []) (Between (add s (AProgram p))) (text_of_lines (program_line p.name p.camelot ∷ [])) (p.text ++ text_of_lines (codes "." ∷ [])) start
-    (join (Inside s p.name p.camelot []) (Inside s p.name p.camelot p.text) (Between (add s (AProgram p))) p.text (text_of_lines (codes "." ∷ [])) body end)
+    let start = one_more (Between s) (Inside s p.name p.language []) (program_line p.name p.language) (head_free (HProgram p.name p.language) h.name) (head_step s (HProgram p.name p.language) h.name) in
+    let body = subst (λ l. Leads script_machine (Inside s p.name p.language []) l (Inside s p.name p.language l)) (sym h.text.is) (body_lines s p.name p.language [] h.text.lines h.text.each) in
+    let end = one_more (Inside s p.name p.language p.text) (Between (add s (AProgram p))) (codes ".") refl refl in
+    join (Between s) (Inside s p.name p.language []) (Between (add s (AProgram p))) (text_of_lines (program_line p.name p.language ∷ [])) (p.text ++ text_of_lines (codes "." ∷ [])) start
+    (join (Inside s p.name p.language []) (Inside s p.name p.language p.text) (Between (add s (AProgram p))) p.text (text_of_lines (codes "." ∷ [])) body end)
 entry_lines s (AJob j) h = one_more (Between s) (Between (add s (AJob j))) (job_line j) (head_free (HJob j) h) (head_step s (HJob j) h)
 
 items_lines : (arena workers : ℕ) (items more : List Entry) → AllByRecursion EntryIsFormed more
@@ -283,7 +284,7 @@ end_is : (s : State) → may_end s ≡ true → script_text (closed s) ≡ so_fa
 end_is Start e = absurd cc
 end_is (Sized arena) e = absurd cc
 end_is (Between s) e = refl
-end_is (Inside s name camelot text) e = absurd cc
+end_is (Inside s name language text) e = absurd cc
 
 pub script_shows : Shows script_machine
 script_shows = record {

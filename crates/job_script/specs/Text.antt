@@ -1,11 +1,13 @@
 -- Cited by contracts.
 -- The text of scripts (`SCRIPTS.md`): lines that end with a line feed, of words one space apart. A script has one text,
 -- and a text is that of one script at most.
-use Rattle.std.specs.Prelude.{ℕ, zero, suc, ◌≤◌, Bool, true, false, List, [], ◌∷◌, ◌++◌, length, flat_map, codes}
+use Rattle.std.specs.Prelude.{ℕ, zero, suc, ◌≤◌, List, [], ◌∷◌, ◌++◌, length, flat_map, codes}
 use Rattle.text_lines.specs.Lines.{text_of_lines}
 use Rattle.text_lines.specs.Numbers.{number}
 use Rattle.text_lines.specs.Formats.{Format, IsText, IsFault}
 use Rattle.job_script.specs.Scripts.{Job, Entry, AProgram, AJob, Script, IsFormed, IsWithin, HasOnce}
+use Rattle.job_script.specs.declared.types.Language.{Language}
+use Rattle.job_script.specs.declared.types.Language.TheVariants.{Camelot, Grail}
 
 -- ---- lines
 
@@ -17,13 +19,13 @@ arena_line n = codes "arena" ++ 32 ∷ number n
 abbrev pub workers_line : ℕ → List ℕ
 workers_line n = codes "workers" ++ 32 ∷ number n
 
-abbrev pub language : Bool → List ℕ
-language true = codes "camelot"
-language false = codes "grail"
+abbrev pub language_name : Language → List ℕ
+language_name Camelot = codes "camelot"
+language_name Grail = codes "grail"
 
 -- `program NAME camelot` or `program NAME grail`
-abbrev pub program_line : List ℕ → Bool → List ℕ
-program_line name camelot = codes "program" ++ 32 ∷ (name ++ 32 ∷ language camelot)
+abbrev pub program_line : List ℕ → Language → List ℕ
+program_line name language = codes "program" ++ 32 ∷ (name ++ 32 ∷ language_name language)
 
 -- a space and the arguments, where there are any
 abbrev pub args_part : List ℕ → List ℕ
@@ -38,7 +40,7 @@ job_line j = codes "job" ++ 32 ∷ (j.name ++ 32 ∷ (j.program ++ 32 ∷ (j.ent
 
 -- a program's first line, its text, and the line `.`; the line of a job
 abbrev pub entry_text : Entry → List ℕ
-entry_text (AProgram p) = text_of_lines (program_line p.name p.camelot ∷ []) ++ (p.text ++ text_of_lines (codes "." ∷ []))
+entry_text (AProgram p) = text_of_lines (program_line p.name p.language ∷ []) ++ (p.text ++ text_of_lines (codes "." ∷ []))
 entry_text (AJob j) = text_of_lines (job_line j ∷ [])
 
 unfoldable pub script_text : Script → List ℕ

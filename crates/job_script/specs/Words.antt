@@ -10,7 +10,7 @@ use Rattle.job_script.specs.declared.types.MadeTexts.{MadeTexts}
 use Rattle.job_script.specs.Made.{counted, made_name, made_list}
 
 abbrev pub entry_of : DeclaredEntry → Entry
-entry_of (entry.Program name camelot text) = AProgram (record { name = name.now; camelot = camelot; text = text.now })
+entry_of (entry.Program name language text) = AProgram (record { name = name.now; language = language; text = text.now })
 entry_of (entry.Job name program start fuel args) = AJob (record { name = name.now; program = program.now; entry = start.now; fuel = fuel; args = args.now })
 
 abbrev pub script_of : DeclaredScript → Script

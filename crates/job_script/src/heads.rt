@@ -5,6 +5,7 @@ ghost use Rattle.job_script.specs.Heads.{head_view, SameBytes};
 use super::names::{is_lower_name, is_word};
 use super::numbers::{MOST_FUEL, read_limited};
 use super::stop::LineStop;
+use super::types::Language;
 use text_lines::{cut, next_word};
 
 /// The line of a job, in the text.
@@ -20,19 +21,19 @@ pub(crate) struct JobLine<'a> {
 /// The first line of a program, or the line of a job.
 #[derive(Drop)]
 pub(crate) enum Head<'a> {
-    Program { name: &'a [u8], camelot: bool },
+    Program { name: &'a [u8], language: Language },
     Job(JobLine<'a>),
 }
 
 // The language of a program, behind a space.
-fn language_of(rest: &[u8]) -> Option<bool>
+fn language_of(rest: &[u8]) -> Option<Language>
     ensures { result ≡ language_of rest.now }
 {
     if rest == b" camelot".as_slice() {
-        return Some(true);
+        return Some(Language::Camelot);
     }
     if rest == b" grail".as_slice() {
-        return Some(false);
+        return Some(Language::Grail);
     }
     None
 }
@@ -61,13 +62,13 @@ fn read_program(rest: &[u8]) -> Result<Head<'_>, LineStop>
     let Some((name, after)) = next_word(rest) else {
         return Err(LineStop::Line);
     };
-    let Some(camelot) = language_of(after) else {
+    let Some(language) = language_of(after) else {
         return Err(LineStop::Line);
     };
     if !is_word(name) {
         return Err(LineStop::Line);
     }
-    Ok(Head::Program { name, camelot })
+    Ok(Head::Program { name, language })
 }
 
 // The fuel and the arguments of a job of these names.

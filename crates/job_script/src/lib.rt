@@ -16,5 +16,5 @@ mod writing;
 
 pub use making::{make_script, make_texts};
 pub use reading::{ScriptFault, read_script};
-pub use types::{Entry, MadeTexts, Script};
+pub use types::{Entry, Language, MadeTexts, Script};
 pub use writing::write_script;

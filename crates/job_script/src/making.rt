@@ -8,7 +8,7 @@ ghost use Rattle.job_script.specs.Scripts.{AJob, AProgram, IsScript, IsUpTo};
 ghost use Rattle.job_script.specs.Text.{EntryIsShort};
 ghost use Rattle.job_script.specs.Words.{entry_of, script_of, text_of, AreMade};
 
-use crate::types::{Entry, MadeTexts, Script};
+use crate::types::{Entry, Language, MadeTexts, Script};
 use camelot_values::Word;
 use std::alloc::{AllocError, Global};
 use text_lines::push_number;
@@ -189,7 +189,7 @@ fn program_entry() -> Entry<'static>
 {
     Entry::Program {
         name: b"drill",
-        camelot: true,
+        language: Language::Camelot,
         text: SOURCE,
     }
 }

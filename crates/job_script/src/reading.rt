@@ -21,7 +21,7 @@ use super::known::KnownNames;
 use super::names::add_name;
 use super::numbers::read_sized;
 use super::stop::LineStop;
-use super::types::{Entry, Script};
+use super::types::{Entry, Language, Script};
 use std::alloc::Global;
 use stops::Stop;
 use text_lines::next_line;
@@ -149,11 +149,11 @@ impl<'a> Reader<'a> {
         line: &'a [u8],
         after: &'a [u8],
         name: &'a [u8],
-        camelot: bool,
+        language: Language,
     ) -> Result<(), Stop<ScriptFault>>
         requires going { IsGoing self.old.text.now self.old }
         requires line { HasLine self.old.rest.now line.now after.now }
-        requires head { head_of line.now ≡ Some (HProgram name.now camelot) }
+        requires head { head_of line.now ≡ Some (HProgram name.now language) }
         ensures { MatchResult result (λ done. IsFurther self.old self.new) (λ stop. FaultIs (HasCause self.old.text.now) stop) }
     {
         match add_name(&mut self.programs, MOST_PROGRAMS, name) {
@@ -170,7 +170,7 @@ impl<'a> Reader<'a> {
         };
         let entry = Entry::Program {
             name,
-            camelot,
+            language,
             text: body.text,
         };
         let Ok(()) = self.items.push(entry) else {
@@ -218,7 +218,9 @@ impl<'a> Reader<'a> {
             return Err(Stop::Fault(ScriptFault::Line { line: self.number }));
         };
         match read_head(line) {
-            Ok(Head::Program { name, camelot }) => { self.add_program(line, after, name, camelot) }
+            Ok(Head::Program { name, language }) => {
+                self.add_program(line, after, name, language)
+            }
             Ok(Head::Job(job)) => self.add_job(line, after, &job),
             Err(stop) => Err(stop_at(stop, self.number)),
         }

@@ -1,12 +1,19 @@
 use camelot_values::Word;
 
+/// The language of a program's text: Camelot, or Grail, of which the text is a bundle of code and certificate.
+#[derive(Clone, Copy, Debug, PartialEq, Eq)]
+pub enum Language {
+    Camelot,
+    Grail,
+}
+
 /// A program, or a job that calls one, in the order of the script. Names and texts are parts of the script's text.
 #[derive(Clone, Copy)]
 pub enum Entry<'a> {
-    /// A program's text, its lines with their line feeds: Camelot, or a Grail bundle in text.
+    /// A program's text in its language, its lines with their line feeds.
     Program {
         name: &'a [u8],
-        camelot: bool,
+        language: Language,
         text: &'a [u8],
     },
     /// A call of the entry of a program with so much fuel, from 1 to 2^40. The program need not be there. The arguments

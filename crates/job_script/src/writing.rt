@@ -1,12 +1,12 @@
 //! The text of a script.
 ghost use Rattle.std.specs.Prelude.{◌≡◌, ◌++◌, ◌∷◌, ℕ, List, [], map, flat_map, IfOk, OnOk};
 ghost use Rattle.job_script.specs.Scripts.{Job, Program, AJob, AProgram};
-ghost use Rattle.job_script.specs.Text.{IsScriptText, args_part, entry_text, language, script_text};
+ghost use Rattle.job_script.specs.Text.{IsScriptText, args_part, entry_text, language_name, script_text};
 ghost use Rattle.job_script.specs.Words.{entry_of, script_of};
 ghost use Rattle.text_lines.specs.Lines.{text_of_lines};
 ghost use Rattle.text_lines.specs.Numbers.{number};
 
-use crate::types::{Entry, Script};
+use crate::types::{Entry, Language, Script};
 use std::alloc::{AllocError, Global};
 use text_lines::push_number;
 
@@ -37,10 +37,13 @@ fn push_sized(out: &mut Vec<u8>, word: &[u8], value: u64) -> Result<(), AllocErr
 }
 
 // The word of a language.
-fn language(camelot: bool) -> &'static [u8]
-    ensures { result.now ≡ language camelot }
+fn language_name(language: Language) -> &'static [u8]
+    ensures { result.now ≡ language_name language }
 {
-    if camelot { b"camelot" } else { b"grail" }
+    match language {
+        Language::Camelot => b"camelot",
+        Language::Grail => b"grail",
+    }
 }
 
 // Writes a program: its line, its text, and the line that ends it.
@@ -48,14 +51,14 @@ fn language(camelot: bool) -> &'static [u8]
 fn push_program(
     out: &mut Vec<u8>,
     name: &[u8],
-    camelot: bool,
+    language: Language,
     text: &[u8],
 ) -> Result<(), AllocError>
-    ensures { OnOk result (out.new.items ≡ out.old.items ++ entry_text (AProgram (record { name = name.now; camelot = camelot; text = text.now }))) }
+    ensures { OnOk result (out.new.items ≡ out.old.items ++ entry_text (AProgram (record { name = name.now; language = language; text = text.now }))) }
 {
     out.extend_from_slice(b"program")?;
     push_word(out, name)?;
-    push_word(out, language(camelot))?;
+    push_word(out, language_name(language))?;
     out.extend_from_slice(b"\n")?;
     out.extend_from_slice(text)?;
     out.extend_from_slice(b".\n")
@@ -100,9 +103,9 @@ fn push_entry(out: &mut Vec<u8>, entry: &Entry<'_>) -> Result<(), AllocError>
     match *entry {
         Entry::Program {
             name,
-            camelot,
+            language,
             text,
-        } => push_program(out, name, camelot, text),
+        } => push_program(out, name, language, text),
         Entry::Job {
             name,
             program,

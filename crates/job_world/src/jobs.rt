@@ -3,10 +3,11 @@ ghost use Rattle.camelot_values.specs.Counts.{cells_among, size_all};
 ghost use Rattle.camelot_values.specs.Value.{parts};
 ghost use Rattle.licence.specs.Bound.{bound, lease};
 ghost use Rattle.licence.specs.Licensed.{Licensed, IsLicensed};
-ghost use Rattle.job_world.specs.Asking.{CanPlan, IsLarger, NeedsOf};
+ghost use Rattle.job_world.specs.Asking.{CanPlan, IsCall, IsLarger, NeedsOf};
 ghost use Rattle.job_world.specs.Plans.{AreFit, Planned, leases_of};
 ghost use Rattle.job_world.specs.Words.{plan_of, IsCounted};
 
+use crate::call::Call;
 use crate::fault::AddFault;
 use crate::plan::Plan;
 use camelot_values::Flat;
@@ -132,46 +133,50 @@ impl Jobs {
             (λ fault. (self.new ≡ self.old) × IsLarger self.old.licences licence entry args.items arena fault) }
     {
         let needs = self.needs_of(licence, entry, &args);
-        self.add_leased(licence, entry, args, fuel, needs, arena)
+        let call = Call {
+            licence,
+            entry,
+            args,
+            needs,
+            fuel,
+        };
+        self.add_call(call, arena)
     }
 
-    /// Plans a run as [`Jobs::add`] does, of which the caller has the bound and the lease already, so that the arguments
-    /// aren't walked once more.
+    /// Plans a call as [`Jobs::add`] plans that of its parts. The call has its bound and its lease already, so that the
+    /// arguments aren't walked once more.
     ///
     /// # Errors
     ///
     /// Those of [`Jobs::add`].
-    pub fn add_leased(
-        &mut self,
-        licence: u32,
-        entry: u32,
-        args: Vec<Flat>,
-        fuel: u64,
-        needs: Needs,
-        arena: u32,
-    ) -> Result<u32, AddFault>
-        requires can { CanPlan self.old.licences licence entry args.items fuel }
-        requires bounded { (l : Licensed) → slice_get self.old.licences licence ≡ Some l → needs.bound ≡ bound l.code l.cert entry args.items }
-        requires leased { (l : Licensed) → slice_get self.old.licences licence ≡ Some l → needs.lease ≡ lease l.code l.cert entry args.items }
+    pub fn add_call(&mut self, call: Call, arena: u32) -> Result<u32, AddFault>
+        requires call { IsCall self.old.licences call }
         requires arena { arena ≤ 2147483648 }
         requires few { length self.old.plans < 4294967295 }
         // Where it is planned, its number is the next one, and its lease is the licence's, within the arena.
-        ensures planned { IfOk result (λ job. (l : Licensed) → slice_get self.old.licences licence ≡ Some l
-            → (job ≡ length self.old.plans) × (lease l.code l.cert entry args.items ≤ arena)
+        ensures planned { IfOk result (λ job. (l : Licensed) → slice_get self.old.licences call.licence ≡ Some l
+            → (job ≡ length self.old.plans) × (lease l.code l.cert call.entry call.args.items ≤ arena)
             × (self.new.plans ≡ self.old.plans
             ++ record {
-              licence = licence;
-              entry = entry;
-              args = args.items;
-              fuel = fuel;
+              licence = call.licence;
+              entry = call.entry;
+              args = call.args.items;
+              fuel = call.fuel;
               lease = lease l.code l.cert
-                  entry args.items;
+                  call.entry call.args.items;
             } ∷ [])) }
         // Where it is planned the licences stay. Else all stays, and `Larger` has the lease, which is more than the
         // arena.
         ensures refused { MatchResult result (λ job. self.new.licences ≡ self.old.licences)
-            (λ fault. (self.new ≡ self.old) × IsLarger self.old.licences licence entry args.items arena fault) }
+            (λ fault. (self.new ≡ self.old) × IsLarger self.old.licences call.licence call.entry call.args.items arena fault) }
     {
+        let Call {
+            licence,
+            entry,
+            args,
+            needs,
+            fuel,
+        } = call;
         self.licensed(licence, entry, &args);
         if needs.lease > arena as u64 {
             return Err(AddFault::Larger { needs: needs.lease });

@@ -2,6 +2,7 @@
 //! alone.
 #![tactic(auto)]
 
+mod call;
 mod fault;
 mod isolation;
 mod jobs;
@@ -9,6 +10,7 @@ pub mod laws;
 mod name;
 mod plan;
 
+pub use call::Call;
 pub use fault::AddFault;
 pub use hole_list::Run;
 pub use isolation::isolation_law;

@@ -73,7 +73,7 @@ next_is script [] l a left u h = absurd h
 next_is script (AProgram p ∷ rest) l a left u h = record { program = p; rest = rest; upto = u; is = h.0; are = h.1 }
 next_is script (AJob j ∷ rest) l a left u h = next_is script rest l a left (licensed_more script rest (AJob j) l l u refl) h
 
-pub next_answer : (script : List Entry) (l : Licensing) (a : Answered) (left : List Answered) → Adding script l (a ∷ left) → IsAnswer (text_in a.camelot a.text.now) a.licence
+pub next_answer : (script : List Entry) (l : Licensing) (a : Answered) (left : List Answered) → Adding script l (a ∷ left) → IsAnswer (text_in a.language a.text.now) a.licence
 next_answer script l a left h =
     let n = next_is script h.rest l a left h.upto h.are in
     subst (λ (t : ProgramText). IsAnswer t a.licence) (sym n.is.program) n.is.is
@@ -82,11 +82,11 @@ pub next_few : (script : List Entry) (l : Licensing) (a : Answered) (left : List
 next_few script l a left few h = let n = next_is script h.rest l a left h.upto h.are in omega (arith, few, n.upto.few)
 
 pub added_more : (script : List Entry) (old new : Licensing) (a : Answered) (left : List Answered) → Adding script old (a ∷ left)
-    → IsProgramAdded a.name.now (text_in a.camelot a.text.now) old new
+    → IsProgramAdded a.name.now (text_in a.language a.text.now) old new
     → Adding script new left
 added_more script old new a left h t =
     let n = next_is script h.rest old a left h.upto h.are in
-    let named : IsProgramAdded n.program.name (text_in a.camelot a.text.now) old new = subst (λ (w : List ℕ). IsProgramAdded w (text_in a.camelot a.text.now) old new) n.is.name t in
+    let named : IsProgramAdded n.program.name (text_in a.language a.text.now) old new = subst (λ (w : List ℕ). IsProgramAdded w (text_in a.language a.text.now) old new) n.is.name t in
     let is : IsTaken (AProgram n.program) old new = subst (λ (p : ProgramText). IsProgramAdded n.program.name p old new) n.is.program named in
     record { rest = n.rest; upto = licensed_more script n.rest (AProgram n.program) old new n.upto is; are = n.are }
 

@@ -9,7 +9,7 @@ use Rattle.job_script.specs.Words.{entry_of}
 use Rattle.job_script.specs.declared.types.Entry.{Entry as DeclaredEntry}
 use Rattle.job_world.specs.Plans.{Planned}
 use Rattle.run_reports.specs.declared.outcome.JobCause.{JobCause}
-use Rattle.script_plans.specs.declared.types.Call.{Call as DeclaredCall}
+use Rattle.job_world.specs.declared.call.Call.{Call as DeclaredCall}
 use Rattle.script_plans.specs.declared.types.JobPlan.{JobPlan}
 use Rattle.script_plans.specs.declared.types.JobPlan.TheVariants as plan
 use Rattle.script_plans.specs.Programs.{program_named}

@@ -26,7 +26,8 @@ use Rattle.run_reports.specs.Told.{licence_types, Ended, TooLarge}
 use Rattle.run_reports.specs.declared.outcome.JobCause.{JobCause}
 use Rattle.run_reports.specs.declared.outcome.JobCause.TheVariants as job_cause
 use Rattle.script_plans.specs.declared.rows.Known.{Known}
-use Rattle.script_plans.specs.declared.types.Call.{Call as DeclaredCall}
+use Rattle.job_world.specs.Asking.{IsCall as IsCallOf}
+use Rattle.job_world.specs.declared.call.Call.{Call as DeclaredCall}
 use Rattle.script_plans.specs.declared.types.JobPlan.{JobPlan}
 use Rattle.script_plans.specs.declared.types.JobPlan.TheVariants as plan
 use Rattle.script_plans.specs.Programs.{ProgramText, Meaning, value_types, IsLicenceOf}
@@ -34,7 +35,7 @@ use Rattle.script_plans.specs.Fates.{Call, Unfit, Calls, HasNoEntry, IsCall, IsF
 use Rattle.script_plans.specs.Lines.{types_at, fuel_at, planned_line, places_with}
 use Rattle.script_plans.specs.Rows.{Holds, Row, row_among, IsRow, AreRows}
 use Rattle.script_plans.specs.Asked.{IsCalled, IsAsked}
-use Rattle.script_plans.specs.Turns.{IsBoundOf, IsOfArgs, CanBePlanned, IsAdded, IsUsable, Comes, plan_for}
+use Rattle.script_plans.specs.Turns.{IsBoundOf, IsOfArgs, IsAdded, IsUsable, Comes, plan_for}
 use Rattle.script_plans.proofs.Naming.{MeansSame, Agrees, agrees, spelled, code_named, entry_found, no_entry}
 use Rattle.script_plans.proofs.CallLaws.{is_licensed}
 
@@ -177,7 +178,7 @@ comes_refused p entry args fuel arena old new cause h e = record {
 -- ---- a call
 
 pub can_be_planned : (licences : List Licensed) (p : Option ProgramText) (name text : List ℕ) (fuel : ℕ) (call : DeclaredCall) → 1 ≤ fuel → IsCalled licences p name text fuel call
-    → CanBePlanned licences call
+    → IsCallOf licences call
 can_be_planned licences p name text fuel call some h =
     let l = h.c.licence in
     let fits : FitsEntry l call.entry call.args.items =

@@ -26,7 +26,7 @@ IsAnswer p (Err cause) = IsRefusedFor p cause
 -- the answer to this program, with its name
 pub record IsAnswerTo (p : Program) (a : Answered) : Type 0 where
   pub name : a.name.now ≡ p.name
-  pub program : text_in a.camelot a.text.now ≡ program_of p
+  pub program : text_in a.language a.text.now ≡ program_of p
   pub is : IsAnswer (program_of p) a.licence
 
 -- one answer more, to this program

@@ -5,7 +5,7 @@ use Rattle.grail_code.specs.Meaning.{run_of}
 use Rattle.licence.specs.Licensed.{Licensed}
 use Rattle.cell_machine.specs.State.{most_calls}
 use Rattle.run_reports.specs.declared.outcome.JobCause.{JobCause}
-use Rattle.script_plans.specs.declared.types.Call.{Call as DeclaredCall}
+use Rattle.job_world.specs.declared.call.Call.{Call as DeclaredCall}
 use Rattle.script_plans.specs.Programs.{ProgramText, value_types}
 use Rattle.script_plans.specs.Fates.{Call, Unfit, Calls, IsFate, IsWithinBound, outcome_of, bound_of, lease_of}
 use Rattle.script_plans.specs.CallPlans.{IsLicensedCall}

@@ -1,6 +1,6 @@
 -- Cited by contracts.
 -- What a program is, by its language: its text, its licence, and what its calls mean.
-use Rattle.std.specs.Prelude.{◌≡◌, ℕ, if◌then◌else◌, Bool, true, false, List, [], ◌∷◌, map, Option, Some, None}
+use Rattle.std.specs.Prelude.{◌≡◌, ℕ, if◌then◌else◌, List, [], ◌∷◌, map, Option, Some, None}
 use Rattle.std.specs.Str.{bytes_eq}
 use Rattle.camelot_values.specs.Value.{Value}
 use Rattle.camelot_values.specs.Kinds.{DataType}
@@ -18,6 +18,8 @@ use Rattle.camelot_compiler.specs.Compiled.{IsCompiled, Refused}
 use Rattle.camelot_compiler.specs.Licences.{IsLicence}
 use Rattle.bundle_licence.specs.Bundled as bundle
 use Rattle.job_script.specs.Scripts.{Program, Entry, AProgram, AJob}
+use Rattle.job_script.specs.declared.types.Language.{Language}
+use Rattle.job_script.specs.declared.types.Language.TheVariants.{Camelot, Grail}
 
 -- ---- texts
 
@@ -27,13 +29,13 @@ pub data ProgramText : Type 0 where
   GrailText : List ℕ → ProgramText
 
 -- the text in its language
-abbrev pub text_in : (camelot : Bool) → List ℕ → ProgramText
-text_in true text = CamelotText text
-text_in false text = GrailText text
+abbrev pub text_in : (language : Language) → List ℕ → ProgramText
+text_in Camelot text = CamelotText text
+text_in Grail text = GrailText text
 
 -- that of a program of a script
 abbrev pub program_of : Program → ProgramText
-program_of p = text_in p.camelot p.text
+program_of p = text_in p.language p.text
 
 -- that of the first program of this name among these entries
 abbrev pub program_named : List Entry → (name : List ℕ) → Option ProgramText

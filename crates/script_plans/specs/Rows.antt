@@ -17,7 +17,7 @@ pub record Row : Type 0 where
   pub known : Option Known
 
 abbrev pub row_of : DeclaredRow → Row
-row_of r = record { name = r.name.now; program = text_in r.camelot r.text.now; known = r.known }
+row_of r = record { name = r.name.now; program = text_in r.language r.text.now; known = r.known }
 
 -- the first one of this name
 abbrev pub row_among : List Row → List ℕ → Option Row

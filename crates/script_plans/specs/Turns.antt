@@ -15,12 +15,11 @@ use Rattle.cell_machine.specs.State.{most_calls}
 use Rattle.job_script.specs.Scripts.{Entry, AProgram, AJob}
 use Rattle.job_world.specs.Plans.{Plan, Planned}
 use Rattle.job_world.specs.Plans as world
-use Rattle.job_world.specs.Asking.{CanPlan}
 use Rattle.run_reports.specs.declared.outcome.JobCause.{JobCause}
 use Rattle.run_reports.specs.declared.outcome.JobCause.TheVariants as job_cause
 use Rattle.script_plans.specs.declared.rows.Known.{Known}
 use Rattle.script_plans.specs.declared.planning.Taken.{Taken}
-use Rattle.script_plans.specs.declared.types.Call.{Call as DeclaredCall}
+use Rattle.job_world.specs.declared.call.Call.{Call as DeclaredCall}
 use Rattle.script_plans.specs.declared.types.JobPlan.{JobPlan}
 use Rattle.script_plans.specs.declared.types.JobPlan.TheVariants as plan
 use Rattle.script_plans.specs.Programs.{ProgramText}
@@ -52,12 +51,6 @@ pub record IsUsable (licences : List Licensed) (k : Known) : Type 0 where
   pub named : AreNamed licence.code.types
 
 -- ---- what is planned
-
--- it can be planned, and its bound and its lease are those of its licence
-pub record CanBePlanned (licences : List Licensed) (call : DeclaredCall) : Type 0 where
-  pub can : CanPlan licences call.licence call.entry call.args.items call.fuel
-  pub bounded : (l : Licensed) → slice_get licences call.licence ≡ Some l → call.needs.bound ≡ bound l.code l.cert call.entry call.args.items
-  pub leased : (l : Licensed) → slice_get licences call.licence ≡ Some l → call.needs.lease ≡ lease l.code l.cert call.entry call.args.items
 
 -- the plan is added where its lease is within the arena
 abbrev pub IsAdded : (arena : ℕ) → Plan → (most : ℕ) → (old new : Planned) → JobPlan → Type 0

@@ -4,10 +4,10 @@ use Rattle.std.specs.Prelude.{List, [], ◌∷◌, Option, Some, None, Result, O
 use Rattle.licence.specs.Licensed.{Licensed}
 use Rattle.job_script.specs.Scripts.{Entry, AProgram, AJob}
 use Rattle.run_reports.specs.declared.outcome.JobCause.{JobCause}
-use Rattle.script_plans.specs.declared.types.Call.{Call as DeclaredCall}
+use Rattle.job_world.specs.declared.call.Call.{Call as DeclaredCall}
 use Rattle.script_plans.specs.Rows.{Row, row_among, row_program}
 use Rattle.script_plans.specs.Asked.{IsAsked}
-use Rattle.script_plans.specs.Turns.{CanBePlanned}
+use Rattle.job_world.specs.Asking.{IsCall}
 
 -- what an entry asks for; a program asks for nothing
 abbrev pub IsWantedBy : List Licensed → List Row → Entry → Option (Result DeclaredCall JobCause) → Type 0
@@ -23,5 +23,5 @@ AreWanted licences rows entries all = ⊥
 
 -- it can be planned, where it is a call
 abbrev pub CanBeTaken : List Licensed → Option (Result DeclaredCall JobCause) → Type 0
-CanBeTaken licences (Some (Ok call)) = CanBePlanned licences call
+CanBeTaken licences (Some (Ok call)) = IsCall licences call
 CanBeTaken licences o = Unit {0}

@@ -11,7 +11,7 @@ use crate::cutting::{Texts, middle};
 use bundle_licence::license_bundle;
 use camelot_compiler::license;
 use cause_texts::Cause;
-use job_script::Entry;
+use job_script::{Entry, Language};
 use licence::Licence;
 use std::alloc::{AllocError, Global};
 use std::thread::{Threads, join};
@@ -21,7 +21,7 @@ use stops::Stop;
 #[derive(Drop)]
 pub(crate) struct Answered<'a> {
     pub(crate) name: &'a [u8],
-    pub(crate) camelot: bool,
+    pub(crate) language: Language,
     pub(crate) text: &'a [u8],
     pub(crate) licence: Result<Licence, Cause>,
 }
@@ -55,16 +55,15 @@ fn license_grail(alloc: Global, text: &[u8]) -> Result<Result<Licence, Cause>, A
 // The same of a program in its language.
 fn license_program(
     alloc: Global,
-    camelot: bool,
+    language: Language,
     text: &[u8],
 ) -> Result<Result<Licence, Cause>, AllocError>
     requires { length text.now < 4294967296 }
-    ensures { IfOk result (IsAnswer (text_in camelot text.now)) }
+    ensures { IfOk result (IsAnswer (text_in language text.now)) }
 {
-    if camelot {
-        license_source(alloc, text)
-    } else {
-        license_grail(alloc, text)
+    match language {
+        Language::Camelot => license_source(alloc, text),
+        Language::Grail => license_grail(alloc, text),
     }
 }
 
@@ -80,13 +79,13 @@ fn answer_entry<'a>(
     match *entry {
         Entry::Program {
             name,
-            camelot,
+            language,
             text,
         } => {
-            let licence = license_program(alloc, camelot, text)?;
+            let licence = license_program(alloc, language, text)?;
             answers.push(Answered {
                 name,
-                camelot,
+                language,
                 text,
                 licence,
             })?;

@@ -15,10 +15,10 @@ ghost use Rattle.script_plans.specs.Asked.{IsAsked};
 ghost use Rattle.script_plans.specs.Turns.{IsBoundOf, IsOfArgs, IsUsable};
 
 use crate::rows::{Known, Row, find};
-use crate::types::Call;
 use camelot_values::Flat;
 use code_gen::laws::law_of_compiler;
 use grail_code::Code;
+use job_world::Call;
 use licence::{Licence, Needs};
 use run_reports::JobCause;
 use std::alloc::{AllocError, Global};

@@ -13,5 +13,5 @@ mod wanting;
 
 pub use calling::call;
 pub use planning::plan_script;
-pub use rows::Row;
-pub use types::{Call, JobPlan, Plans};
+pub use rows::{Known, Row};
+pub use types::{JobPlan, Plans};

@@ -9,7 +9,7 @@ ghost use Rattle.script_plans.specs.Answers.{AreAnswered, AreLicensed, IsLicence
 use crate::answering::{Answered, answer_programs};
 use crate::rows::{Known, Row};
 use cause_texts::Cause;
-use job_script::Entry;
+use job_script::{Entry, Language};
 use licence::Licence;
 use run_reports::ProgramLine;
 use std::alloc::{AllocError, Global};
@@ -29,13 +29,13 @@ pub(crate) struct Programs<'a> {
 fn accept<'a>(
     programs: &mut Programs<'a>,
     name: &'a [u8],
-    camelot: bool,
+    language: Language,
     text: &'a [u8],
     licence: Licence,
 ) -> Result<(), AllocError>
-    requires is { IsLicenceFor (text_in camelot text.now) licence }
+    requires is { IsLicenceFor (text_in language text.now) licence }
     requires few { length programs.old.licences.items < 4294967295 }
-    ensures { OnOk result (IsProgramAdded name.now (text_in camelot text.now) (licensing_of programs.old) (licensing_of programs.new)) }
+    ensures { OnOk result (IsProgramAdded name.now (text_in language text.now) (licensing_of programs.old) (licensing_of programs.new)) }
 {
     let known = Known {
         licence: programs.licences.len() as u32,
@@ -45,7 +45,7 @@ fn accept<'a>(
     programs.licences.push(licence)?;
     programs.rows.push(Row {
         name,
-        camelot,
+        language,
         text,
         known: Some(known),
     })?;
@@ -58,16 +58,16 @@ fn accept<'a>(
 fn refuse<'a>(
     programs: &mut Programs<'a>,
     name: &'a [u8],
-    camelot: bool,
+    language: Language,
     text: &'a [u8],
     cause: Cause,
 ) -> Result<(), AllocError>
-    requires { IsRefusedFor (text_in camelot text.now) cause }
-    ensures { OnOk result (IsProgramAdded name.now (text_in camelot text.now) (licensing_of programs.old) (licensing_of programs.new)) }
+    requires { IsRefusedFor (text_in language text.now) cause }
+    ensures { OnOk result (IsProgramAdded name.now (text_in language text.now) (licensing_of programs.old) (licensing_of programs.new)) }
 {
     programs.rows.push(Row {
         name,
-        camelot,
+        language,
         text,
         known: None,
     })?;
@@ -77,20 +77,20 @@ fn refuse<'a>(
 
 // Adds a program, by what was answered of it.
 fn add_program<'a>(programs: &mut Programs<'a>, answered: Answered<'a>) -> Result<(), AllocError>
-    requires answer { IsAnswer (text_in answered.camelot answered.text.now) answered.licence }
+    requires answer { IsAnswer (text_in answered.language answered.text.now) answered.licence }
     requires few { length programs.old.licences.items < 4294967295 }
-    ensures { OnOk result (IsProgramAdded answered.entry.name.now (text_in answered.entry.camelot answered.entry.text.now)
+    ensures { OnOk result (IsProgramAdded answered.entry.name.now (text_in answered.entry.language answered.entry.text.now)
         (licensing_of programs.old) (licensing_of programs.new)) }
 {
     let Answered {
         name,
-        camelot,
+        language,
         text,
         licence,
     } = answered;
     match licence {
-        Ok(licence) => accept(programs, name, camelot, text, licence),
-        Err(cause) => refuse(programs, name, camelot, text, cause),
+        Ok(licence) => accept(programs, name, language, text, licence),
+        Err(cause) => refuse(programs, name, language, text, cause),
     }
 }
 

@@ -6,20 +6,21 @@ ghost use Rattle.licence.specs.Licensed.{Licensed};
 ghost use Rattle.job_script.specs.Scripts.{Entry as PlainEntry, IsScript, EntryIsWithin};
 ghost use Rattle.job_script.specs.Text.{EntryIsShort};
 ghost use Rattle.job_script.specs.Words.{entry_of, script_of};
+ghost use Rattle.job_world.specs.Asking.{IsCall};
 ghost use Rattle.job_world.specs.Plans.{leases_of};
 ghost use Rattle.script_plans.specs.Programs.{program_named};
 ghost use Rattle.script_plans.specs.Lines.{AreProgramLines, ArePlanned};
 ghost use Rattle.script_plans.specs.Rows.{Row as PlainRow, AreRows, row_of, row_among, row_program};
-ghost use Rattle.script_plans.specs.Turns.{CanBePlanned, IsAdded, IsEntryTaken, places_by, plan_for, planning_of};
+ghost use Rattle.script_plans.specs.Turns.{IsAdded, IsEntryTaken, places_by, plan_for, planning_of};
 ghost use Rattle.script_plans.specs.Wanted.{IsWantedBy, AreWanted, CanBeTaken};
 
 use crate::licensing::license_all;
 use crate::rows::Row;
-use crate::types::{Call, JobPlan, Plans};
+use crate::types::{JobPlan, Plans};
 use crate::wanting::{want_entry, want_jobs};
 use job_script::laws::law_of_lengths;
 use job_script::{Entry, Script};
-use job_world::{AddFault, Jobs};
+use job_world::{AddFault, Call, Jobs};
 use licence::Licence;
 use run_reports::JobCause;
 use std::alloc::{AllocError, Global};
@@ -48,24 +49,15 @@ fn keep(taken: &mut Taken, plan: JobPlan, place: u32) -> Result<(), AllocError>
 
 // Plans a call, where its lease is within the arena.
 fn plan_call(jobs: &mut Jobs, call: Call, arena: u32) -> Result<JobPlan, AllocError>
-    requires can { CanBePlanned jobs.old.licences call }
+    requires call { IsCall jobs.old.licences call }
     requires arena { arena ≤ 2147483648 }
     requires few { length jobs.old.plans < 4294967295 }
     ensures { (l : Licensed) → slice_get jobs.old.licences call.licence ≡ Some l
         → IfOk result (IsAdded arena (plan_for call.licence call.fuel l call.entry call.args.items) call.needs.bound jobs.old jobs.new) }
 {
-    match jobs.add_leased(
-        call.licence,
-        call.entry,
-        call.args,
-        call.fuel,
-        call.needs,
-        arena,
-    ) {
-        Ok(job) => Ok(JobPlan::Runs {
-            job,
-            bound: call.needs.bound,
-        }),
+    let bound = call.needs.bound;
+    match jobs.add_call(call, arena) {
+        Ok(job) => Ok(JobPlan::Runs { job, bound }),
         Err(AddFault::Larger { needs }) => Ok(JobPlan::TooLarge { needs }),
         Err(AddFault::Memory) => Err(AllocError),
     }

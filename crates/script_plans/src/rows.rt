@@ -3,22 +3,23 @@ ghost use Rattle.std.specs.Prelude.{◌≡◌, map};
 ghost use Rattle.std.specs.Option.{option_map};
 ghost use Rattle.script_plans.specs.Rows.{row_of, row_among};
 
+use job_script::Language;
 use value_text::Inhabited;
 
 /// What is known of a program that has a licence: the licence's number, and which of its types have values.
 #[derive(Drop)]
-pub(crate) struct Known {
-    pub(crate) licence: u32,
-    pub(crate) inhabited: Inhabited,
+pub struct Known {
+    pub licence: u32,
+    pub inhabited: Inhabited,
 }
 
 /// A program of a script: its name, its language, its text, and what is known of it, where it isn't refused.
 #[derive(Drop)]
 pub struct Row<'a> {
-    pub(crate) name: &'a [u8],
-    pub(crate) camelot: bool,
-    pub(crate) text: &'a [u8],
-    pub(crate) known: Option<Known>,
+    pub name: &'a [u8],
+    pub language: Language,
+    pub text: &'a [u8],
+    pub known: Option<Known>,
 }
 
 /// The first program of this name. There are at most 64.

@@ -1,18 +1,5 @@
-use camelot_values::Flat;
 use job_world::Jobs;
-use licence::Needs;
 use run_reports::{JobCause, ProgramLine};
-
-/// The call that a job asks for: of this function of the licence of this number, on these arguments, with so much fuel.
-/// Its bound and its lease are the licence's.
-#[derive(Drop)]
-pub struct Call {
-    pub licence: u32,
-    pub entry: u32,
-    pub args: Vec<Flat>,
-    pub needs: Needs,
-    pub fuel: u64,
-}
 
 /// What is planned of a job of a script.
 #[derive(Clone, Copy, Debug, PartialEq, Eq)]

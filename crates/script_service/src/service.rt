@@ -87,7 +87,7 @@ fn serve_read<'a, K: Kept + Send, R: Threads + Wait + Sync, G: Gate + Sync>(
 }
 
 /// Serves a script. Each of its programs is compiled from its source, or accepted from its bundle's bytes alone. Its
-/// jobs run in one arena, by as many workers as it says, each of which passes the gate. Hands out the script, what was
+/// jobs run in one arena, by as many workers as it says, which are handed the gate. Hands out the script, what was
 /// planned of it, the journal of the leases, the endings of the runs, and the arena as they left it. The input has
 /// fewer than 2^32 bytes; the script's names and texts are parts of it. It may wait for the lock and the desk.
 ///
@@ -146,8 +146,8 @@ pub fn serve_script<R: Threads + Wait + Sync, G: Gate + Sync>(
     }
 }
 
-/// Serves the drill's script with so many jobs, from 1 to 4,096, by so many workers, from 1 to 16, each of which passes
-/// the gate, and tells its summary in one line. No value is kept for longer than its run. It may wait for the lock and
+/// Serves the drill's script with so many jobs, from 1 to 4,096, by so many workers, from 1 to 16, which are handed the
+/// gate, and tells its summary in one line. No value is kept for longer than its run. It may wait for the lock and
 /// the desk. `AllocError` where memory runs out. The arena is ended.
 pub fn drill<R: Threads + Wait + Sync, G: Gate + Sync>(
     rt: &R,

@@ -1,7 +1,7 @@
 //! What is said of a text.
 
 use case_lines::Judge;
-use job_script::{Entry, ScriptFault, read_script};
+use job_script::{Entry, Language, ScriptFault, read_script};
 use std::alloc::Global;
 use std::io;
 use stops::Stop;
@@ -21,12 +21,13 @@ fn shown_entry(alloc: Global, entry: Option<&Entry<'_>>) -> io::Result<String> {
         Some(
             Entry::Program {
                 name,
-                camelot,
+                language,
                 text,
             },
         ) => Ok(format!(in alloc;
-            "program {} camelot {camelot} {}",
+            "program {} camelot {} {}",
             name.escape_ascii(),
+            *language == Language::Camelot,
             shown(alloc, text)?
         )?),
         Some(
