@@ -1,12 +1,15 @@
 //! The program: hands its words, its input and its output to the host, and ends with the host's status.
 #![tactic(auto)]
 
+mod saying;
+
 ghost use Rattle.std.specs.Prelude.{◌≡◌};
 ghost use Rattle.std.specs.IoError.{error_kind};
 ghost use Rattle.camelot_cli.specs.Exits.{exit_of};
 
 use camelot_host::{OpenGate, Status, host_gated};
 use host_io::{StdSink, StdSource};
+use saying::explain;
 use std::io::ErrorKind;
 use std::process::ExitCode;
 use std::rt::Env;
@@ -17,34 +20,24 @@ fn main(rt: HostRuntime) -> ExitCode {
         Ok(words) => {
             let mut source = StdSource::new(rt.reader());
             let mut sink = StdSink::new(io::writer(&rt));
-            host_gated(&rt, rt.alloc(), &words, &mut source, &mut sink, &OpenGate).leave()
+            let status = host_gated(
+                &rt,
+                rt.alloc(),
+                &words,
+                &mut source,
+                &mut sink,
+                &OpenGate,
+            ).leave();
+            explain(&rt, &words, status);
+            status
         }
-        Err(error) => status_without_words(&error),
+        Err(error) => {
+            let status = status_without_words(&error);
+            explain(&rt, &[], status);
+            status
+        }
     };
-    explain(&rt, status);
     ExitCode::from(exit_number(status))
-}
-
-// Says on standard error, in one line, why the output isn't whole, and nothing where it is. No contract speaks of it;
-// where standard error fails too, nothing is left to say it on.
-fn explain(rt: &HostRuntime, status: Status) {
-    if let Some(reason) = reason(status) {
-        let _ = eprintln!(rt; "sillwaroc: {reason}");
-    }
-}
-
-// Why the output isn't whole.
-fn reason(status: Status) -> Option<&'static str> {
-    match status {
-        Status::Ok | Status::Refused => None,
-        Status::ReadFault => Some("standard input could not be read"),
-        Status::Usage => Some(
-            "no such command; there are serve, compile, verify, migrate and drill N W",
-        ),
-        Status::WriteFault => Some("standard output could not be written"),
-        Status::Memory => Some("memory was refused"),
-        Status::TooLong => Some("standard input has more than 8388608 bytes"),
-    }
 }
 
 // The status where the words can't be had. A word that isn't UTF-8 is part of no command.
