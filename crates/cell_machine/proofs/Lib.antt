@@ -8,9 +8,11 @@ pub mod LaidLaws
 pub mod Laying
 pub mod OwnerLaws
 pub mod PackLaws
+pub mod RestoringLaws
 pub mod ReturnLaws
 pub mod RunLaws
 pub mod Safety
+pub mod SavingLaws
 pub mod StateLaws
 pub mod StepLaws
 pub mod TermRanges

@@ -26,6 +26,8 @@ pub mod PlanLaws
 pub mod Plans
 pub mod Running
 pub mod Safe
+pub mod Saved
+pub mod Saving
 pub mod Slices
 pub mod Sound
 pub mod Stands

@@ -1,5 +1,6 @@
 ghost use Rattle.std.specs.Prelude.{◌≡◌, ℕ, ◌+◌, ◌-◌, ◌<◌, ◌≤◌, ◌++◌, length, map, Some, IfOk, OnOk, IsSome, vec_len};
-ghost use Rattle.camelot_values.specs.Kinds.{data_type_of, constructor_of, constructor};
+ghost use Rattle.camelot_values.specs.Kinds.{data_type_of, constructor_of, constructor, type_of};
+ghost use Rattle.std.specs.Option.{option_map};
 ghost use Rattle.cell_machine.specs.Homes.{row, homes_from, place_in, HomesAre};
 
 use camelot_values::{Con, Types};
@@ -61,5 +62,19 @@ impl Homes {
     {
         let home = self.homes[con as usize];
         &types.defs()[home.number as usize].cons[home.place as usize]
+    }
+
+    // The constructor of this number with the number of its type, where there is one.
+    #[tactic(auto, using(crate::proofs::HomeLaws::con_there, crate::proofs::HomeLaws::con_past, crate::proofs::HomeLaws::type_past, crate::proofs::HomeLaws::number_here))]
+    pub(crate) fn find<'a>(&self, types: &'a Types, con: u32) -> Option<(u32, &'a Con)>
+        requires homes { HomesAre types.now self.now }
+        ensures con { option_map (λ p. constructor_of p.1.now) result ≡ constructor types.now con }
+        ensures number { option_map (λ p. p.0) result ≡ type_of types.now con }
+    {
+        if con as usize >= self.homes.len() {
+            return None;
+        }
+        let found = self.con(types, con);
+        Some((self.homes[con as usize].number, found))
     }
 }

@@ -5,4 +5,4 @@ pub mod laws;
 mod marking;
 mod table;
 
-pub use table::LocalTable;
+pub use table::{LocalTable, is_set};

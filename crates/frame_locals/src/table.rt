@@ -153,8 +153,8 @@ fn rows(alloc: Global, code: &Code, funcs: &[Func]) -> Result<Vec<FuncLocals>, A
     Ok(rows)
 }
 
-// Whether the mark is there, and set.
-fn is_set(marks: &[bool], place: u32) -> bool
+/// Whether there is a mark at this place, and it is set.
+pub fn is_set(marks: &[bool], place: u32) -> bool
     ensures { result ≡ is_set marks.now place }
 {
     match marks.get(place as usize) {

@@ -19,7 +19,7 @@ use Rattle.cell_machine.specs.State.{Activation, Configuration, Machine, Running
 use Rattle.cell_machine.specs.Stands.{times, RepeatsNone}
 use Rattle.cell_machine.specs.Sound.{LocalStands, held, owning, lending, Holding, holdings_of, owned_by, loans_of, FrameStands, RunningFrame, WaitingFrames, running_holdings, waiting_holdings, cells_held, waiting_state, LoansApart, running_owned, IsSound}
 use Rattle.cell_machine.specs.Steps.{step}
-use Rattle.cell_machine.specs.Loading.{go_on, advance, steps}
+use Rattle.cell_machine.specs.Loading.{go_on, steps}
 use Rattle.cell_machine.specs.Dead.{ready_running, ready_waiting, live_word, live_words, with_words, with_frames, live_frame, live, live_machine, live_next}
 use Rattle.cell_machine.specs.Counted.{IsFit, StaysFit, MachineFits}
 use Rattle.cell_machine.specs.Slices.{in_slices, whole}
