@@ -1,0 +1,4 @@
+pub mod TableLaws
+pub mod LineLaws
+pub mod VectorLaws
+pub mod PlaceLaws
