@@ -1,0 +1,6 @@
+-- What is kept of a run, and what goes on from it.
+pub mod Found
+pub mod FoundLaws
+pub mod Judged
+pub mod JudgedLaws
+pub mod KeptLaws

@@ -1,0 +1,4 @@
+//! Pauses: what is kept of a run, and that a run goes on from it as it would have.
+#![tactic(auto)]
+
+pub mod laws;
