@@ -9,7 +9,7 @@ use Rattle.job_script.specs.Scripts.{Entry, AProgram, AJob}
 use Rattle.job_script.specs.Words.{entry_of, text_of}
 use Rattle.job_script.specs.declared.types.Entry.{Entry as DeclaredEntry}
 use Rattle.job_script.specs.Made.{counted, heads, list_text, made_items, made_list, made_name, made_job, made_jobs, made_program, made_script}
-use Rattle.job_script.proofs.Joining.{two}
+use Rattle.job_script.specs.WritingLaws.{two}
 
 pub head_written : (n : ℕ) (a o p : List ℕ) → o ≡ a ++ (codes "Cons(" ++ number n) → p ≡ o ++ codes "," → p ≡ a ++ (codes "Cons(" ++ (number n ++ codes ","))
 head_written n a o p e f = two a (codes "Cons(" ++ number n) (codes ",") o p e f

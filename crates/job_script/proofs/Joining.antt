@@ -1,28 +1,16 @@
 -- Pieces of a script's text that are written one after the other.
-use Rattle.std.proofs.Common.{◌≡◌, ℕ, suc, ◌+◌, ◌<◌, ◌≤◌, List, [], ◌∷◌, ◌++◌, length, map, drop, get_or, sym, ap, ◌∙◌, append_assoc, append-nil, drop-cons, drop_of_length-le, add-one}
+use Rattle.std.proofs.Common.{◌≡◌, ℕ, List, [], ◌∷◌, ◌++◌, sym, ap, ◌∙◌, append_assoc}
 use Rattle.std.specs.Prelude.{flat_map, codes}
 use Rattle.text_lines.specs.Lines.{text_of_lines}
 use Rattle.text_lines.specs.Numbers.{number}
+use Rattle.job_script.specs.WritingLaws.{two, three, behind, line_is}
 use Rattle.job_script.specs.Scripts.{Program, Job, AProgram, AJob, Script}
 use Rattle.job_script.specs.Text.{language_name, args_part, entry_text, script_text, IsScriptText, arena_line, workers_line}
-
-pub two : (a b c o p : List ℕ) → o ≡ a ++ b → p ≡ o ++ c → p ≡ a ++ (b ++ c)
-two a b c o p e f = f ∙ ap (λ l. l ++ c) e ∙ append_assoc a b c
 
 pub spaced : (a w o p : List ℕ) → o ≡ a ++ 32 ∷ [] → p ≡ o ++ w → p ≡ a ++ 32 ∷ w
 spaced a w o p e f = two a (32 ∷ []) w o p e f
 
-three : (a b c d o p q : List ℕ) → o ≡ a ++ b → p ≡ o ++ c → q ≡ p ++ d → q ≡ a ++ (b ++ (c ++ d))
-three a b c d o p q e f g = two (a ++ b) c d p q (f ∙ ap (λ l. l ++ c) e) g ∙ append_assoc a b (c ++ d)
-
--- a piece behind another one, the rest of the line already behind it
-behind : (x y z : List ℕ) → x ++ (y ++ z) ≡ (x ++ y) ++ z
-behind x y z = sym (append_assoc x y z)
-
 -- ---- lines
-
-line_is : (x : List ℕ) → x ++ 10 ∷ [] ≡ text_of_lines (x ∷ [])
-line_is x = sym (append-nil (x ++ 10 ∷ []))
 
 pub sized_line : (word a o p q : List ℕ) (n : ℕ) → o ≡ a ++ word → p ≡ o ++ 32 ∷ number n → q ≡ p ++ 10 ∷ []
     → q ≡ a ++ text_of_lines ((word ++ 32 ∷ number n) ∷ [])
@@ -71,19 +59,6 @@ job_written x a o p q r s t u e f g h i j k =
     let line = codes "job" ++ (32 ∷ x.name ++ (32 ∷ x.program ++ (32 ∷ x.entry ++ (32 ∷ number x.fuel ++ args_part x.args)))) in
     seven a (codes "job") (32 ∷ x.name) (32 ∷ x.program) (32 ∷ x.entry) (32 ∷ number x.fuel) (args_part x.args) (10 ∷ []) o p q r s t u e f g h i j k
     ∙ ap (λ l. a ++ l) (ended (codes "job") (32 ∷ x.name) (32 ∷ x.program) (32 ∷ x.entry) (32 ∷ number x.fuel) (args_part x.args) (10 ∷ []) ∙ line_is line)
-
--- ---- entries one by one
-
-pub one_mapped : {A B : Type 0} (t : B → List ℕ) (m : A → B) (xs : List A) (i : ℕ) (x : A) (out new all : List ℕ) → i < length xs → x ≡ get_or xs i x
-    → out ++ flat_map t (map m (drop i xs)) ≡ all → new ≡ out ++ t (m x)
-    → new ++ flat_map t (map m (drop (i + 1) xs)) ≡ all
-one_mapped t m xs i x out new all h is e f =
-    ap (λ l. l ++ flat_map t (map m (drop (i + 1) xs))) f ∙ append_assoc out (t (m x)) (flat_map t (map m (drop (i + 1) xs))) ∙ ap (λ n. out ++ (t (m x) ++ flat_map t (map m (drop n xs)))) (add-one i)
-    ∙ ap (λ l. out ++ flat_map t (map m l)) (sym (drop-cons xs i x h ∙ ap (λ y. y ∷ drop (suc i) xs) (sym is))) ∙ e
-
-pub all_mapped : {A B : Type 0} (t : B → List ℕ) (m : A → B) (xs : List A) (i : ℕ) (out all : List ℕ) → length xs ≤ i
-    → out ++ flat_map t (map m (drop i xs)) ≡ all → out ≡ all
-all_mapped t m xs i out all h e = sym (append-nil out) ∙ ap (λ l. out ++ flat_map t (map m l)) (sym (drop_of_length-le xs {i = i} h)) ∙ e
 
 -- ---- the text
 

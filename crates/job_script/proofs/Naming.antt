@@ -1,14 +1,13 @@
 -- Names that are added, and names that stood.
-use Rattle.std.proofs.Common.{◌≡◌, ℕ, ◌<◌, ◌≤◌, Bool, true, false, List, [], ◌∷◌, ◌++◌, length, refl, sym, ap, ◌∙◌, subst, append_assoc, append-nil, arith, length-append}
+use Rattle.std.proofs.Common.{◌≡◌, ℕ, ◌<◌, ◌≤◌, Bool, true, false, List, [], ◌∷◌, ◌++◌, length, refl, sym, ap, ◌∙◌, subst, append-nil, arith, length-append}
 use Rattle.std.specs.Prelude.{not, if◌then◌else◌}
-use Rattle.std.specs.Str.{bytes_eq}
 use Rattle.camelot_values.specs.Names.{AreDistinct, stands}
-use Rattle.camelot_values.specs.NameLaws.{AreNew, new_distinct, distinct_new, some_place, same_name}
 use Rattle.text_lines.specs.FrontLaws.{all_append}
 use Rattle.job_script.specs.Scripts.{AJob, Job, Script, EntryIsWithin, IsUpTo, IsWithin, HasOnce, program_names, job_names}
 use Rattle.job_script.specs.Reading.{add, program_by}
 use Rattle.job_script.specs.Steps.{IsAdded, Stood}
 use Rattle.job_script.specs.StateLaws.{programs_append, jobs_append}
+use Rattle.job_script.specs.DemandLaws.{distinct_more, distinct_not}
 use Rattle.job_script.specs.declared.types.Language.{Language}
 
 not_false : (b c : Bool) → b ≡ not c → b ≡ true → c ≡ false
@@ -26,21 +25,6 @@ name_added most names longer name new few e f h = record { few = few; new = not_
 pub name_stood : (most : ℕ) (names : List (List ℕ)) (name : List ℕ) (new : Bool) → length names < most → new ≡ not (stands names name) → new ≡ false
     → Stood most names name
 name_stood most names name new few e h = record { few = few; old = not_true new (stands names name) e h }
-
--- ---- lists without repeats
-
-new_more : (earlier ws : List (List ℕ)) (w : List ℕ) → AreNew earlier ws → not (stands (earlier ++ ws) w) ≡ true → AreNew earlier (ws ++ w ∷ [])
-new_more earlier [] w h k = (subst (λ l. not (stands l w) ≡ true) (append-nil earlier) k, tt)
-new_more earlier (v ∷ ws) w h k = (h.0, new_more (earlier ++ v ∷ []) ws w h.1 (subst (λ l. not (stands l w) ≡ true) (sym (append_assoc earlier (v ∷ []) ws)) k))
-
-distinct_more : (ws : List (List ℕ)) (w : List ℕ) → AreDistinct ws → stands ws w ≡ false → AreDistinct (ws ++ w ∷ [])
-distinct_more ws w h k = new_distinct (ws ++ w ∷ []) (new_more [] ws w (distinct_new ws h) (ap not k))
-
-distinct_not : (ws : List (List ℕ)) (w : List ℕ) → stands ws w ≡ true → AreDistinct (ws ++ w ∷ []) → ⊥
-distinct_not ws w k h =
-    let p = some_place (bytes_eq w) ws k in
-    let same : w ≡ p.item = same_name w p.item p.holds in
-    h w p.before p.rest [] (ap (λ l. l ++ w ∷ []) (p.is ∙ ap (λ x. p.before ++ x ∷ p.rest) (sym same)) ∙ append_assoc p.before (w ∷ p.rest) (w ∷ []))
 
 -- ---- one more program
 

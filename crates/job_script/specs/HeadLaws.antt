@@ -70,10 +70,10 @@ pub word_read : (w r : List ℕ) → Free 32 w → Spaced r → word_of (32 ∷ 
 word_read w r h s = ap (λ x. Some (x, from 32 (w ++ r))) (upto_spaced w r h s) ∙ ap (λ x. Some (w, x)) (from_spaced w r h s)
 
 -- the word and the rest that were read
-record Word (rest : List ℕ) (p : List ℕ × List ℕ) : Type 0 where
-  is : rest ≡ 32 ∷ (p.0 ++ p.1)
+pub record Word (rest : List ℕ) (p : List ℕ × List ℕ) : Type 0 where
+  pub is : rest ≡ 32 ∷ (p.0 ++ p.1)
 
-word_found : (rest : List ℕ) (p : List ℕ × List ℕ) → word_of rest ≡ Some p → Word rest p
+pub word_found : (rest : List ℕ) (p : List ℕ × List ℕ) → word_of rest ≡ Some p → Word rest p
 word_found [] p e = absurd cc
 word_found (b ∷ bs) p e =
     let q = only_some (b == 32) (Some (upto 32 bs, from 32 bs)) p e in
@@ -171,7 +171,7 @@ HeadIsFormed (HJob j) = JobIsFormed j
 abbrev fuel_part : ℕ → List ℕ → List ℕ
 fuel_part fuel args = 32 ∷ (number fuel ++ args_part args)
 
-program_read : (name : List ℕ) (language : Language) → IsWord name → program_of (32 ∷ (name ++ 32 ∷ language_name language)) ≡ Some (HProgram name language)
+pub program_read : (name : List ℕ) (language : Language) → IsWord name → program_of (32 ∷ (name ++ 32 ∷ language_name language)) ≡ Some (HProgram name language)
 unfolding program_of
 program_read name language h =
     then_is (word_of (32 ∷ (name ++ 32 ∷ language_name language))) (λ p. and_then (language_of p.1) (λ language. only_if (is_word p.0) (Some (HProgram p.0 language)))) (name, 32 ∷ language_name language) (Some (HProgram name language))
@@ -194,7 +194,7 @@ entry_read j h =
     (word_read j.entry (fuel_part j.fuel j.args) (name_free 32 is_lower j.entry refl refl h.entry) refl)
     (only_is (is_lower_name j.entry) (fuel_of j.name j.program j.entry (fuel_part j.fuel j.args)) (Some (HJob j)) (name_passes is_lower j.entry h.entry) (fuel_read j))
 
-job_read : (j : Job) → JobIsFormed j → job_of (32 ∷ (j.name ++ 32 ∷ (j.program ++ 32 ∷ (j.entry ++ fuel_part j.fuel j.args)))) ≡ Some (HJob j)
+pub job_read : (j : Job) → JobIsFormed j → job_of (32 ∷ (j.name ++ 32 ∷ (j.program ++ 32 ∷ (j.entry ++ fuel_part j.fuel j.args)))) ≡ Some (HJob j)
 unfolding job_of
 job_read j h =
     let r : List ℕ = 32 ∷ (j.entry ++ fuel_part j.fuel j.args) in
@@ -215,7 +215,7 @@ head_read (HJob j) k = job_read j k
 
 -- ---- back
 
-program_found : (rest : List ℕ) (h : Head) → program_of rest ≡ Some h → HeadIsFormed h × (codes "program" ++ rest ≡ head_line h)
+pub program_found : (rest : List ℕ) (h : Head) → program_of rest ≡ Some h → HeadIsFormed h × (codes "program" ++ rest ≡ head_line h)
 unfolding program_of
 program_found rest h e =
     let (p, p_is, e2) = then_some (word_of rest) (λ p. and_then (language_of p.1) (λ language. only_if (is_word p.0) (Some (HProgram p.0 language)))) h e in
@@ -269,15 +269,15 @@ entry_found name program rest h e =
     }
 
 -- all of a job but that its arguments have no line feed
-record JobRead (rest : List ℕ) (h : Head) : Type 0 where
-  job : Job
-  name : IsWord job.name
-  program : IsWord job.program
-  entry : IsName is_lower job.entry
-  is : HJob job ≡ h
-  rest_is : codes "job" ++ rest ≡ job_line job
+pub record JobRead (rest : List ℕ) (h : Head) : Type 0 where
+  pub job : Job
+  pub name : IsWord job.name
+  pub program : IsWord job.program
+  pub entry : IsName is_lower job.entry
+  pub is : HJob job ≡ h
+  pub rest_is : codes "job" ++ rest ≡ job_line job
 
-job_found : (rest : List ℕ) (h : Head) → job_of rest ≡ Some h → JobRead rest h
+pub job_found : (rest : List ℕ) (h : Head) → job_of rest ≡ Some h → JobRead rest h
 unfolding job_of
 job_found rest h e =
     let (p, p_is, e2) = then_some (word_of rest) (λ p. only_if (is_word p.0) (and_then (word_of p.1) (λ q. only_if (is_word q.0) (entry_of_job p.0 q.0 q.1)))) h e in
@@ -294,7 +294,7 @@ job_found rest h e =
       rest_is = ap (λ l. codes "job" ++ l) ((word_found rest p p_is).is ∙ ap (λ l. 32 ∷ (p.0 ++ l)) ((word_found p.1 q q_is).is ∙ ap (λ l. 32 ∷ (q.0 ++ l)) f.rest_is));
     }
 
-line_args : (j : Job) → Free 10 (job_line j) → Free 10 j.args
+pub line_args : (j : Job) → Free 10 (job_line j) → Free 10 j.args
 line_args j h =
     let a = free_behind 10 (codes "job" ++ 32 ∷ []) (j.name ++ 32 ∷ (j.program ++ 32 ∷ (j.entry ++ fuel_part j.fuel j.args))) h in
     let b = free_behind 10 (j.name ++ 32 ∷ []) (j.program ++ 32 ∷ (j.entry ++ fuel_part j.fuel j.args)) (subst (Free 10) (sym (append_assoc j.name (32 ∷ []) (j.program ++ 32 ∷ (j.entry ++ fuel_part j.fuel j.args)))) a) in
@@ -329,7 +329,7 @@ pub number_line_free : (tag : List ℕ) (n : ℕ) → Free 10 tag → Free 10 (t
 number_line_free tag n h = free_append 10 tag (32 ∷ number n) h (free_cons 10 32 (number n) refl (number_free 10 n refl))
 
 -- a word, a space and what follows
-next_free : (w r : List ℕ) → Free 10 w → Free 10 r → Free 10 (w ++ 32 ∷ r)
+pub next_free : (w r : List ℕ) → Free 10 w → Free 10 r → Free 10 (w ++ 32 ∷ r)
 next_free w r h k = free_append 10 w (32 ∷ r) h (free_cons 10 32 r refl k)
 
 language_free : (language : Language) → Free 10 (language_name language)

@@ -1,4 +1,4 @@
--- Private: words for functions of this crate.
+-- Cited by contracts.
 -- What the reader of lines answers, as plain data.
 use Rattle.std.specs.Prelude.{◌≡◌, ℕ, List, Option, Some, None}
 use Rattle.std.specs.Borrow.{Bor}

@@ -10,6 +10,8 @@ pub mod Heads
 pub mod Steps
 pub mod Places
 pub mod Faults
+pub mod DemandLaws
+pub mod WritingLaws
 pub mod HeadLaws
 pub mod StateLaws
 pub mod Known

@@ -1,4 +1,4 @@
--- Private: words for functions of this crate.
+-- Cited by contracts.
 -- The reader as functions on lines: what comes of a script's front when one more line is added to it, limits and
 -- repeats left out.
 use Rattle.std.specs.Prelude.{◌≡◌, ℕ, ◌==◌, Bool, true, false, if◌then◌else◌, Option, Some, None, List, [], ◌∷◌, ◌++◌, codes}

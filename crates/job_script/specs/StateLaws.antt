@@ -16,6 +16,7 @@ use Rattle.job_script.specs.Scripts.{Entry, AProgram, AJob, Script, IsTextLine, 
 use Rattle.job_script.specs.Text.{arena_line, workers_line, program_line, job_line, entry_text, script_text, script_asks, script_format}
 use Rattle.job_script.specs.Reading.{number_behind, Head, HProgram, HJob, head_of, State, Start, Sized, Between, Inside, script_by, add, program_by, enter, step, closed, so_far, may_end, script_machine}
 use Rattle.job_script.specs.HeadLaws.{number_line_read, number_line_found, number_line_free, head_line, HeadIsFormed, head_read, head_found, head_free}
+use Rattle.job_script.specs.DemandLaws.{distinct_left}
 use Rattle.job_script.specs.declared.types.Language.{Language}
 
 -- ---- lists
@@ -29,11 +30,6 @@ pub jobs_append : (xs ys : List Entry) → job_names (xs ++ ys) ≡ job_names xs
 jobs_append [] ys = refl
 jobs_append (AProgram p ∷ xs) ys = jobs_append xs ys
 jobs_append (AJob j ∷ xs) ys = ap (λ l. j.name ∷ l) (jobs_append xs ys)
-
--- the front of a list without repeats
-distinct_left : {A : Type 0} (xs ys : List A) → AreDistinct (xs ++ ys) → AreDistinct xs
-distinct_left xs ys h word before between rest e =
-    h word before between (rest ++ ys) (ap (λ l. l ++ ys) e ∙ append_assoc before (word ∷ (between ++ word ∷ rest)) ys ∙ ap (λ l. before ++ word ∷ l) (append_assoc between (word ∷ rest) ys))
 
 -- ---- the text of a state
 
@@ -88,7 +84,7 @@ closing (Inside s name language text) = record {
 formed_more : (s : Script) (e : Entry) → IsFormed s → EntryIsFormed e → IsFormed (add s e)
 formed_more s e h k = record { items = all_append EntryIsFormed s.items (e ∷ []) h.items (k, tt) }
 
-body_more : (text line : List ℕ) → IsBody text → IsTextLine line → IsBody (text ++ text_of_lines (line ∷ []))
+pub body_more : (text line : List ℕ) → IsBody text → IsTextLine line → IsBody (text ++ text_of_lines (line ∷ []))
 body_more text line b h = record {
   lines = b.lines ++ line ∷ [];
   each = all_append IsTextLine b.lines (line ∷ []) b.each (h, tt);

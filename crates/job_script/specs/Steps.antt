@@ -1,4 +1,4 @@
--- Private: words for functions of this crate.
+-- Cited by contracts.
 -- Where the reader is in a text, between two lines.
 use Rattle.std.specs.Prelude.{◌≡◌, ℕ, ◌+◌, ◌<◌, ◌≤◌, true, false, List, [], ◌∷◌, ◌++◌, length}
 use Rattle.std.specs.List.{AllByRecursion}

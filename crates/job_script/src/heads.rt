@@ -10,17 +10,17 @@ use text_lines::{cut, next_word};
 
 /// The line of a job, in the text.
 #[derive(Drop)]
-pub(crate) struct JobLine<'a> {
-    pub(crate) name: &'a [u8],
-    pub(crate) program: &'a [u8],
-    pub(crate) entry: &'a [u8],
-    pub(crate) fuel: u64,
-    pub(crate) args: &'a [u8],
+pub struct JobLine<'a> {
+    pub name: &'a [u8],
+    pub program: &'a [u8],
+    pub entry: &'a [u8],
+    pub fuel: u64,
+    pub args: &'a [u8],
 }
 
 /// The first line of a program, or the line of a job.
 #[derive(Drop)]
-pub(crate) enum Head<'a> {
+pub enum Head<'a> {
     Program { name: &'a [u8], language: Language },
     Job(JobLine<'a>),
 }
@@ -54,9 +54,9 @@ fn args_of(rest: &[u8]) -> Option<&[u8]>
     }
 }
 
-// What is behind the word `program`.
+/// What is behind the word `program` of a line.
 #[tactic(auto, using(crate::proofs::Heading::no_program, crate::proofs::Heading::no_language, crate::proofs::Heading::no_program_name, crate::proofs::Heading::some_program))]
-fn read_program(rest: &[u8]) -> Result<Head<'_>, LineStop>
+pub fn read_program(rest: &[u8]) -> Result<Head<'_>, LineStop>
     ensures { MatchResult result (λ head. IsRead (program_of rest.now) HeadFits (head_view head)) (λ stop. IsStopped (program_of rest.now) HeadFits stop) }
 {
     let Some((name, after)) = next_word(rest) else {
@@ -116,9 +116,9 @@ fn read_entry<'a>(name: &'a [u8], program: &'a [u8], rest: &'a [u8]) -> Result<H
     read_fuel(name, program, entry, after)
 }
 
-// What is behind the word `job`.
+/// What is behind the word `job` of a line.
 #[tactic(auto, using(crate::proofs::Heading::no_job, crate::proofs::Heading::no_job_name, crate::proofs::Heading::no_job_program, crate::proofs::Heading::no_program_word))]
-fn read_job(rest: &[u8]) -> Result<Head<'_>, LineStop>
+pub fn read_job(rest: &[u8]) -> Result<Head<'_>, LineStop>
     ensures { MatchResult result (λ head. IsRead (job_of rest.now) HeadFits (head_view head)) (λ stop. IsStopped (job_of rest.now) HeadFits stop) }
 {
     let Some((name, after)) = next_word(rest) else {

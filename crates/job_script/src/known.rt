@@ -80,7 +80,7 @@ fn file_names<'a>(words: &[&'a [u8]], keys: &mut BTreeSet<(u64, &'a [u8])>, alre
 /// the longest, where the number of its last eight bytes is greater than theirs. Names that are made by counting come
 /// in that order, and need no key. Any other name is found by its key.
 #[derive(Drop)]
-pub(crate) struct KnownNames<'a> {
+pub struct KnownNames<'a> {
     words: Vec<&'a [u8]>,
     // A key has the number first, so that most comparisons are of two numbers.
     keys: BTreeSet<(u64, &'a [u8])>,
@@ -104,7 +104,7 @@ impl<'a> Model for KnownNames<'a> {
 
 impl<'a> KnownNames<'a> {
     /// No names, which takes no memory.
-    pub(crate) fn new(alloc: Global) -> KnownNames<'a>
+    pub fn new(alloc: Global) -> KnownNames<'a>
         ensures { result ≡ [] }
     {
         KnownNames {
@@ -118,7 +118,7 @@ impl<'a> KnownNames<'a> {
 
     /// Adds a name unless it stands already, and answers whether it is new. It fails for want of memory alone.
     #[tactic(auto, using(crate::proofs::Keys::past_is_new))]
-    pub(crate) fn add(&mut self, name: &'a [u8]) -> Result<bool, AllocError>
+    pub fn add(&mut self, name: &'a [u8]) -> Result<bool, AllocError>
         // A name is new exactly where it didn't stand.
         ensures new { IfOk result (λ new. new ≡ not (stands self.old name.now)) }
         // A new name is the last one now; else all names are as they were.
@@ -159,8 +159,15 @@ impl<'a> KnownNames<'a> {
         }
     }
 
+    /// Whether a name is one of these. It compares each of them, and takes no memory.
+    pub fn has(&self, name: &[u8]) -> bool
+        ensures { result ≡ stands self.now name.now }
+    {
+        is_among(&self.words, name)
+    }
+
     /// How many names there are.
-    pub(crate) fn len(&self) -> usize
+    pub fn len(&self) -> usize
         ensures { result ≡ length self.now }
     {
         self.words.len()

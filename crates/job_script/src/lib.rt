@@ -14,7 +14,12 @@ mod stop;
 mod types;
 mod writing;
 
+pub use heads::{Head, JobLine, read_job, read_program};
+pub use known::KnownNames;
 pub use making::{make_script, make_texts};
+pub use names::{add_name, is_word};
+pub use numbers::read_sized;
 pub use reading::{ScriptFault, read_script};
+pub use stop::LineStop;
 pub use types::{Entry, Language, MadeTexts, Script};
-pub use writing::write_script;
+pub use writing::{push_args, push_count, push_program, push_sized, push_word, write_script};

@@ -41,7 +41,7 @@ fn are_tails(bytes: &[u8]) -> bool
 
 /// Whether the word is the name of a program or a job.
 #[tactic(auto, using(crate::proofs::Caps::name_none, crate::proofs::Caps::name_long, crate::proofs::Caps::name_first, crate::proofs::Caps::name_rest))]
-pub(crate) fn is_word(word: &[u8]) -> bool
+pub fn is_word(word: &[u8]) -> bool
     ensures { result ≡ is_word word.now }
 {
     if word.len() > 64 {
@@ -79,11 +79,7 @@ pub(crate) fn is_lower_name(word: &[u8]) -> bool
 
 /// Adds a name to fewer than the most, unless it stands.
 #[tactic(auto, using(crate::proofs::Naming::name_added, crate::proofs::Naming::name_stood))]
-pub(crate) fn add_name<'a>(
-    names: &mut KnownNames<'a>,
-    most: usize,
-    name: &'a [u8],
-) -> Result<(), LineStop>
+pub fn add_name<'a>(names: &mut KnownNames<'a>, most: usize, name: &'a [u8]) -> Result<(), LineStop>
     ensures { MatchResult result (λ done. IsAdded most names.old name.now names.new) (λ stop. IsRefused most names.old name.now stop) }
 {
     if names.len() >= most {

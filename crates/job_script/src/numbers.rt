@@ -29,7 +29,7 @@ pub(crate) fn read_limited(word: &[u8], most: u64) -> Result<u64, LineStop>
 
 /// The number behind this word, alone on a line.
 #[tactic(auto, using(crate::proofs::Caps::other_tag))]
-pub(crate) fn read_sized(line: &[u8], tag: &[u8], most: u64) -> Result<u64, LineStop>
+pub fn read_sized(line: &[u8], tag: &[u8], most: u64) -> Result<u64, LineStop>
     requires { most ≤ 1099511627776 }
     ensures { MatchResult result (λ n. IsRead (number_behind tag.now line.now) (IsUpTo most) n)
         (λ stop. IsStopped (number_behind tag.now line.now) (IsUpTo most) stop) }

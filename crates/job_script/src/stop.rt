@@ -1,5 +1,5 @@
 /// Why a line isn't read.
-pub(crate) enum LineStop {
+pub enum LineStop {
     /// It has no form.
     Line,
     /// It has a form, but a number outside its limits, or a program or a job too many.

@@ -10,25 +10,25 @@ use crate::types::{Entry, Language, Script};
 use std::alloc::{AllocError, Global};
 use text_lines::push_number;
 
-// Writes a space and a text.
+/// Writes a space and a text. `AllocError` where memory runs out.
 #[tactic(auto, using(crate::proofs::Joining::spaced))]
-fn push_word(out: &mut Vec<u8>, word: &[u8]) -> Result<(), AllocError>
+pub fn push_word(out: &mut Vec<u8>, word: &[u8]) -> Result<(), AllocError>
     ensures { OnOk result (out.new.items ≡ out.old.items ++ 32 ∷ word.now) }
 {
     out.push(b' ')?;
     out.extend_from_slice(word)
 }
 
-// Writes a space and a number.
-fn push_count(out: &mut Vec<u8>, value: u64) -> Result<(), AllocError>
+/// Writes a space and a number. `AllocError` where memory runs out.
+pub fn push_count(out: &mut Vec<u8>, value: u64) -> Result<(), AllocError>
     ensures { OnOk result (out.new.items ≡ out.old.items ++ 32 ∷ number value) }
 {
     push_number(out, b" ", value)
 }
 
-// Writes a line of a word and a number.
+/// Writes a line of a word and a number. `AllocError` where memory runs out.
 #[tactic(auto, using(crate::proofs::Joining::sized_line))]
-fn push_sized(out: &mut Vec<u8>, word: &[u8], value: u64) -> Result<(), AllocError>
+pub fn push_sized(out: &mut Vec<u8>, word: &[u8], value: u64) -> Result<(), AllocError>
     ensures { OnOk result (out.new.items ≡ out.old.items ++ text_of_lines ((word.now ++ 32 ∷ number value) ∷ [])) }
 {
     out.extend_from_slice(word)?;
@@ -46,9 +46,9 @@ fn language_name(language: Language) -> &'static [u8]
     }
 }
 
-// Writes a program: its line, its text, and the line that ends it.
+/// Writes a program: its line, its text, and the line that ends it. `AllocError` where memory runs out.
 #[tactic(auto, using(crate::proofs::Joining::program_written))]
-fn push_program(
+pub fn push_program(
     out: &mut Vec<u8>,
     name: &[u8],
     language: Language,
@@ -64,8 +64,8 @@ fn push_program(
     out.extend_from_slice(b".\n")
 }
 
-// Writes the arguments behind a space, where there are any.
-fn push_args(out: &mut Vec<u8>, args: &[u8]) -> Result<(), AllocError>
+/// Writes the arguments behind a space, where there are any. `AllocError` where memory runs out.
+pub fn push_args(out: &mut Vec<u8>, args: &[u8]) -> Result<(), AllocError>
     ensures { OnOk result (out.new.items ≡ out.old.items ++ args_part args.now) }
 {
     if args.is_empty() {
@@ -117,7 +117,7 @@ fn push_entry(out: &mut Vec<u8>, entry: &Entry<'_>) -> Result<(), AllocError>
 }
 
 // Writes all entries.
-#[tactic(auto, using(crate::proofs::Joining::one_mapped, crate::proofs::Joining::all_mapped))]
+#[tactic(auto, using(crate::specs::WritingLaws::one_mapped, crate::specs::WritingLaws::all_mapped))]
 fn push_entries(out: &mut Vec<u8>, entries: &[Entry<'_>]) -> Result<(), AllocError>
     ensures { OnOk result (out.new.items ≡ out.old.items ++ flat_map entry_text (map entry_of entries.now)) }
 {
