@@ -4,3 +4,4 @@ pub mod FoundLaws
 pub mod Judged
 pub mod JudgedLaws
 pub mod KeptLaws
+pub mod Pausing

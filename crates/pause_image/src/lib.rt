@@ -2,3 +2,6 @@
 #![tactic(auto)]
 
 pub mod laws;
+mod pausing;
+
+pub use pausing::{Paused, pause};

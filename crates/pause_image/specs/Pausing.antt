@@ -1,0 +1,28 @@
+-- Cited by contracts.
+-- The image of what was kept of a state, and what a pause hands out.
+use Rattle.std.specs.Prelude.{◌≡◌, map, length, is_some, false}
+use Rattle.grail_code.specs.Code.{Code}
+use Rattle.machine_image.specs.Images.{Image, image_text}
+use Rattle.machine_image.specs.Words.{cell_of}
+use Rattle.cell_machine.specs.Saved.{Saved, kept}
+use Rattle.cell_machine.specs.Saving.{lender_from, oldest_first}
+use Rattle.cell_machine.specs.Views.{MachineView, IsStackFor, range_of}
+use Rattle.pause_image.specs.declared.pausing.Paused.{Paused}
+
+-- its text has the numbers of its cells
+abbrev pub image_of : Saved → Image
+image_of s = record {
+  counts = record { calls = s.calls; net = s.net; peak = s.peak; fuel = s.fuel; free = s.free; cells = length s.cells };
+  frames = s.frames;
+  cells = map cell_of s.cells;
+}
+
+-- no frame has a lent local that is ready
+abbrev pub LendsNothing : MachineView → Type 0
+LendsNothing m = is_some (lender_from m.code 0 (oldest_first m.state)) ≡ false
+
+-- the image of the machine's state, its range, and a stack for its code
+pub record IsPaused (m : MachineView) (p : Paused) : Type 0 where
+  pub image : p.image.items ≡ image_text (image_of (kept m.code m.state))
+  pub span : p.span ≡ range_of m
+  pub stack : IsStackFor m.code p.stack
