@@ -195,7 +195,7 @@ class Said:
 
     def __init__(self):
         self.codes, self.certs, self.text, self.types, self.systems = {}, {}, [], [], []
-        self.kinds, self.desk, self.open = [], None, []
+        self.kinds, self.desk, self.tenants, self.open = [], None, None, []
 
     def says(self, word, rest):
         if word in ('code', 'cert'):
@@ -608,6 +608,70 @@ def told_serve(code, certificate, function, values, fuel, copies, arena, workers
     beside = ' beside each other' if gate == 'hold' else ''
     return 'ended %s events %d cells %s%s' % (copies, 2 * int(copies), arena, beside)
 
+# The table `tenants`.
+class Tenant(scripts.Desk):
+    """A piece of an arena: its leases are (first, size), by the first cell in the piece."""
+
+    def __init__(self, budget):
+        super().__init__(budget, [])
+        self.budget, self.tags = budget, [0] * budget
+
+    def held(self):
+        return sum(self.leases.values())
+
+    def ask(self, length):
+        if self.held() + length > self.budget:
+            return 'over held %d size %d budget %d' % (self.held(), length, self.budget)
+        first = next((first for first, free in self.holes if free >= length), None)
+        if first is None:
+            return 'full need %d largest %d' % (length, self.largest())
+        self.cut(first, length)
+        self.leases[first] = length
+        return 'granted first %d size %d' % (first, length)
+
+    def give(self, first):
+        if first not in self.leases:
+            return 'no lease'
+        self.fill(first, self.leases.pop(first))
+        return ''
+
+    def mark(self, first, cell, tag):
+        if cell >= self.leases.get(first, 0):
+            return 'no lease'
+        self.tags[first + cell] = tag
+        return ''
+
+    def look(self, first, cell):
+        return str(self.tags[first + cell]) if cell < self.leases.get(first, 0) else 'no such cell'
+
+def told_tenants(said, rest):
+    front, _, budgets = rest.partition(':')
+    (arena, most), budgets = map(int, front.split()), list(map(int, budgets.split()))
+    good = 0 < len(budgets) <= 64 and min(budgets) and sum(budgets) <= arena
+    said.tenants = (list(map(Tenant, budgets)), most, arena - sum(budgets)) if good else None
+    return '' if good else 'no desk'
+
+def tenant_command(command, missing):
+    """A command about a tenant, and what is told where it isn't there."""
+    def told(said, rest):
+        if not said.tenants:
+            return 'no desk'
+        tenant, *numbers = map(int, rest.split())
+        tenants, most, _ = said.tenants
+        if tenant >= len(tenants):
+            return missing
+        if command is Tenant.ask and (len(tenants[tenant].leases) >= most or numbers == [0]):
+            return missing
+        return str(command(tenants[tenant], *numbers))
+    return told
+
+def told_tenants_end(said, _):
+    if not said.tenants:
+        return 'no desk'
+    (tenants, _, rest), said.tenants = said.tenants, None
+    tags = sum((tenant.tags for tenant in tenants), []) + [0] * rest
+    return 'leases are out' if any(tenant.leases for tenant in tenants) else ' '.join(map(str, ['tags'] + tags))
+
 LINES = {
     'codes': {'decode': told_decode, 'fronts': told_short, 'values': told_values, 'find': told_find,
               'types': told_types, 'check': told_well_formed, 'run': told_meaning},
@@ -622,5 +686,9 @@ LINES = {
     'licences': {'bound': licence_command(told_bound), 'run': licence_command(told_licensed),
                  'halt': licence_command(told_halt), 'serve': licence_command(told_serve)},
     'scripts': text_commands(script_read),
+    'tenants': {'desk': told_tenants, 'ask': tenant_command(Tenant.ask, "can't ask"),
+                'mark': tenant_command(Tenant.mark, 'no lease'), 'look': tenant_command(Tenant.look, 'no such cell'),
+                'give': tenant_command(Tenant.give, 'no lease'), 'held': tenant_command(Tenant.held, 'no tenant'),
+                'finish': told_tenants_end},
 }
 TABLES = {'texts': told_cases, 'compiled': told_cases, 'bundles of cases': told_bundles, 'systems': told_systems}

@@ -3,4 +3,5 @@ pub mod Covered
 pub mod Held
 pub mod Jobs
 pub mod Taken
+pub mod Tenanted
 pub mod Trees

@@ -7,6 +7,7 @@
 //! - `licences`: runs of code with certificates, in the cells of their leases.
 //! - `machines`: runs of code in cells.
 //! - `scripts`: texts of scripts.
+//! - `tenants`: desks of several tenants, and their leases.
 #![tactic(auto)]
 
 mod arenas;
@@ -14,6 +15,7 @@ mod desks;
 mod licences;
 mod machines;
 mod scripts;
+mod tenants;
 
 use case_lines::{Table, Tables};
 use std::io;
@@ -33,6 +35,7 @@ fn answer_table<R: Threads + Wait + Sync>(
         "licences" => licences::answer_lines(rt, threads, &table.lines),
         "machines" => machines::answer_lines(rt, &table.lines),
         "scripts" => scripts::answer_lines(rt, &table.lines),
+        "tenants" => tenants::answer_lines(rt, &table.lines),
         _ => println!(rt; "no such table"),
     }
 }
