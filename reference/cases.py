@@ -6,6 +6,7 @@ import certificates
 import commands
 import compiler
 import grail
+import images
 import inference
 import language
 import machine
@@ -389,7 +390,7 @@ def told_nest(said, rest):
     printed = len(scripts.value_text(values[0], grail.names_of(said.types)))
     return 'values %d nodes %d cells %d bytes %d' % (len(values), nodes, cells, printed)
 
-# The tables `bundles`, `certificates` and `scripts`.
+# The tables `bundles`, `certificates`, `images` and `scripts`.
 def bundle_read(text):
     data, certificate = certificates.read_bundle(text)
     same = ' same' if certificates.bundle_text(data, certificate) == text else ''
@@ -399,6 +400,10 @@ def certificate_read(text):
     certificate = certificates.read_certificate(text)
     same = ' same' if certificates.certificate_text(certificate) == text else ''
     return 'unit %d functions %d%s' % (certificate.unit, len(certificate.functions), same)
+
+def image_read(text):
+    same = '' if images.image_text(images.read_image(text)) == text else ', and written otherwise'
+    return 'image' + same
 
 def script_read(text):
     script = scripts.read_script(text)
@@ -418,8 +423,10 @@ def quoted(text):
 
 def told_text(reader, text):
     told = tried(reader, text)
-    words = told.split()
-    return {'certificate': words[1] + ' ' + words[-1], 'script': words[-1] + ' ' + words[2]}.get(words[0], told)
+    word, *others = told.split()
+    if word == 'certificate':
+        return others[0] + ' ' + others[-1]
+    return others[-1] + ' ' + others[1] if word == 'script' else told
 
 def text_commands(reader):
     """The commands of a table of texts, by their words."""
@@ -608,6 +615,48 @@ def told_serve(code, certificate, function, values, fuel, copies, arena, workers
     beside = ' beside each other' if gate == 'hold' else ''
     return 'ended %s events %d cells %s%s' % (copies, 2 * int(copies), arena, beside)
 
+# The tables `images` and `places`.
+@licence_command
+def told_paused(code, certificate, function, values, fuel, steps):
+    """The run behind so many steps: its image, or which frames lend, or how it ended."""
+    if int(fuel) > images.STEPS:
+        return 'no such run'
+    size = certificates.lease(code, certificate, function, values)
+    paused = images.loaded(code, function, values, int(fuel), size)
+    outcome = paused.go(int(steps))
+    if outcome:
+        return 'step %d %s' % (paused.steps, told_ending(code, outcome))
+    lenders = paused.lenders()
+    if any(lenders):
+        running = 'yes' if lenders[-1] else 'no'
+        return 'lending oldest %d waiting %d running %s' % (lenders.index(True), len(lenders) - 1, running)
+    return '\n  '.join([''] + images.image_text(paused.image()).decode().split('\n')[:-1])
+
+def place_command(answer):
+    """A command about a function and a block of a code, which may not be there."""
+    def command(said, rest):
+        name, function, block, *place = rest.split()
+        code = grail.decode(said.code_bytes(name))
+        for func in code.funcs[int(function):int(function) + 1]:
+            if int(block) < len(func.blocks):
+                return answer(images.Places(code, func), int(block), *map(int, place))
+        return answer(None)
+    return command
+
+def told_lends(places, *where):
+    return 'yes' if places and places.lends(*where) else 'no'
+
+def told_ready(places, *where):
+    return ' '.join(map(str, places.ready(*where) if places else [])) or 'none'
+
+def told_waits(places, *where):
+    return ' '.join(map(str, places.waits(*where) if places else [])) or 'none'
+
+def told_constructor(said, rest):
+    name, number = rest.split()
+    found = grail.constructors(grail.decode(said.code_bytes(name)).types)[int(number):int(number) + 1]
+    return ''.join('%s of type %d' % (con.name, kind) for kind, _, con in found) or 'no such constructor'
+
 # The table `tenants`.
 class Tenant(scripts.Desk):
     """A piece of an arena: its leases are (first, size), by the first cell in the piece."""
@@ -685,6 +734,9 @@ LINES = {
     'machines': {'run': told_machine, 'cells': lambda said, rest: told_machine(said, rest, True)},
     'licences': {'bound': licence_command(told_bound), 'run': licence_command(told_licensed),
                  'halt': licence_command(told_halt), 'serve': licence_command(told_serve)},
+    'images': {**text_commands(image_read), 'run': told_paused},
+    'places': {'ready': place_command(told_ready), 'waits': place_command(told_waits),
+               'lends': place_command(told_lends), 'constructor': told_constructor},
     'scripts': text_commands(script_read),
     'tenants': {'desk': told_tenants, 'ask': tenant_command(Tenant.ask, "can't ask"),
                 'mark': tenant_command(Tenant.mark, 'no lease'), 'look': tenant_command(Tenant.look, 'no such cell'),

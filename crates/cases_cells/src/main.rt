@@ -4,16 +4,20 @@
 //! A line `table NAME` begins a table, and names what its lines are about:
 //!
 //! - `desks`: desks, their leases and journals.
+//! - `images`: texts of images, and runs that are paused.
 //! - `licences`: runs of code with certificates, in the cells of their leases.
 //! - `machines`: runs of code in cells.
+//! - `places`: locals that are ready at places of code.
 //! - `scripts`: texts of scripts.
 //! - `tenants`: desks of several tenants, and their leases.
 #![tactic(auto)]
 
 mod arenas;
 mod desks;
+mod images;
 mod licences;
 mod machines;
+mod places;
 mod scripts;
 mod tenants;
 
@@ -32,8 +36,10 @@ fn answer_table<R: Threads + Wait + Sync>(
     println!(rt; "table {}", table.name)?;
     match table.name.as_str() {
         "desks" => desks::answer_lines(rt, &table.lines),
+        "images" => images::answer_lines(rt, &table.lines),
         "licences" => licences::answer_lines(rt, threads, &table.lines),
         "machines" => machines::answer_lines(rt, &table.lines),
+        "places" => places::answer_lines(rt, &table.lines),
         "scripts" => scripts::answer_lines(rt, &table.lines),
         "tenants" => tenants::answer_lines(rt, &table.lines),
         _ => println!(rt; "no such table"),

@@ -10,6 +10,7 @@ use crate::licences::jobs::Job;
 use camelot_values::Types;
 use cell_machine::{Ending, Halt, Halted, Ran, Room, Stack, cells_of, halt, run};
 use cell_span::Span;
+use std::alloc::Global;
 use std::io;
 use value_text::print;
 
@@ -21,8 +22,8 @@ fn bound_of(job: &Job) -> u64
     job.licence.bound(job.entry, &job.args)
 }
 
-// The lease of a run.
-fn lease_of(job: &Job) -> u64
+/// The lease of a run.
+pub(crate) fn lease_of(job: &Job) -> u64
     requires { IsReady job.now }
     ensures { result ≡ lease job.now.licence.code job.now.licence.cert job.now.entry job.now.args.items }
 {
@@ -76,15 +77,16 @@ fn print_halt(rt: &HostRuntime, ended: &Halt) -> io::Result<()> {
     }
 }
 
-fn print_ending(rt: &HostRuntime, types: &Types, ending: &Ending) -> io::Result<()> {
+/// How a run ends, as a text.
+pub(crate) fn ending_text(alloc: Global, types: &Types, ending: &Ending) -> io::Result<String> {
     match ending {
         Ending::Done { value, calls, peak } => {
-            let text = print(rt.alloc(), value, types)?;
-            print!(rt; " done {} calls {calls} peak {peak}", text.escape_ascii())
+            let text = print(alloc, value, types)?;
+            Ok(format!(in alloc; "done {} calls {calls} peak {peak}", text.escape_ascii())?)
         }
-        Ending::Fuel { peak } => print!(rt; " fuel peak {peak}"),
-        Ending::Deep { peak } => print!(rt; " deep peak {peak}"),
-        Ending::Trap { peak } => print!(rt; " trap peak {peak}"),
+        Ending::Fuel { peak } => Ok(format!(in alloc; "fuel peak {peak}")?),
+        Ending::Deep { peak } => Ok(format!(in alloc; "deep peak {peak}")?),
+        Ending::Trap { peak } => Ok(format!(in alloc; "trap peak {peak}")?),
     }
 }
 
@@ -104,7 +106,8 @@ fn answer_ending(rt: &HostRuntime, job: &Job, cells: u32) -> io::Result<()>
         stack: _,
     } = run_in(job, span, stack, room);
     span.end();
-    print_ending(rt, &job.licence.code().types, &ending)
+    let text = ending_text(alloc, &job.licence.code().types, &ending)?;
+    print!(rt; " {text}")
 }
 
 // The same where the run's value isn't asked for.
