@@ -4,4 +4,7 @@ pub mod FoundLaws
 pub mod Judged
 pub mod JudgedLaws
 pub mod KeptLaws
+pub mod MoveLaws
 pub mod Pausing
+pub mod SliceLaws
+pub mod Slicing

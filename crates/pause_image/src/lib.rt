@@ -3,5 +3,7 @@
 
 pub mod laws;
 mod pausing;
+mod slicing;
 
 pub use pausing::{Paused, pause};
+pub use slicing::slice;
