@@ -248,7 +248,7 @@ pub fewer_left : (cur new : MachineView) → IsRunning cur → step cur.code mos
 fewer_left cur new r is = (goes_further cur.code most_calls r.going.room r.going.outcome cur.state new.state r.going.well r.going.limits r.going.course is)
 
 pub over_ahead : (old cur new : MachineView) (count asked : ℕ) (ending : Ending) → IsAhead old cur count → IsEnding cur new ending
-    → ((n : ℕ) → asked ≤ n → n < count → LendsAfter old.code old.state n) → IsOverIn old new asked ending
+    → ((n : ℕ) → asked ≤ n → n < count + 1 → LendsAfter old.code old.state n) → IsOverIn old new asked ending
 over_ahead old cur new count asked ending a e least = record {
   final = e.final;
   count = count + 1;
@@ -256,7 +256,7 @@ over_ahead old cur new count asked ending a e least = record {
       ∙ ap (go_on (Running cur.state)) (subst (λ p. step p most_calls cur.state ≡ Some (Over e.final)) a.code e.is);
   cells = e.cells;
   right = λ room outcome c. e.right room outcome (subst (λ p. IsOnCourse p most_calls room outcome cur.state) (sym a.code) (a.course room outcome c));
-  least = λ n h k. least n h (omega (arith, k));
+  least = least;
 }
 
 -- stepping on while something is lent: the lender is found, or nothing lends any more
@@ -280,22 +280,27 @@ at_lends p s n true (inl l) h e = sym (lends_running p s (sym e))
 at_lends p s n false (inl l) h e = sym (unlent_at p s n l h (sym e))
 at_lends p s n b (inr q) h e = absurd (omega (arith, q.0, h))
 
+-- one state more that lends
+pub least_on : (old cur : MachineView) (n : ℕ) (l : IsLent old cur 0 n) → state_lends cur.code cur.state ≡ true
+    → (k : ℕ) → k < l.count + 1 → LendsAfter old.code old.state k
+least_on old cur n l lends k h = by_place (nat_lt k l.count) refl
+  where
+    by_place : (b : Bool) → nat_lt k l.count ≡ b → LendsAfter old.code old.state k
+    by_place true e = let less : k < l.count = grind (arith, nat_tests, e) in l.least k (omega arith) less
+    by_place false e =
+        let more : l.count ≤ k = grind (arith, nat_tests, e) in
+        let same : l.count ≡ k = omega (arith, more, h) in
+        subst (LendsAfter old.code old.state) same (record { state = cur.state; is = l.ahead.are; lends = subst (λ p. state_lends p cur.state ≡ true) l.ahead.code lends })
+
 pub lent_on : (old cur new : MachineView) (n : ℕ) → IsLent old cur 0 n → state_lends cur.code cur.state ≡ true → Lender cur.code cur.state n
     → (length cur.state.waiting ≡ n → frame_lends cur.code cur.state.frame ≡ true) → IsRunning new → new.code ≡ cur.code → step cur.code most_calls cur.state ≡ Some (Running new.state) → IsLent old new 0 n
 lent_on old cur new n l lends lender runs r code is = record {
   count = l.count + 1;
   ahead = one_ahead old cur new l.count l.ahead r code is;
   many = omega (arith, l.many);
-  least = λ k a b. by_place k (nat_lt k l.count) refl b;
+  least = λ k a b. least_on old cur n l lends k b;
   lender = subst (λ p. MayLend p new.state n) l.ahead.code (lender_moves cur.code cur.state new.state n lender runs (subst (Moves cur.state) is (step_moves cur.code most_calls cur.state)));
 }
-  where
-    by_place : (k : ℕ) (b : Bool) → nat_lt k l.count ≡ b → k < l.count + 1 → LendsAfter old.code old.state k
-    by_place k true e h = let less : k < l.count = grind (arith, nat_tests, e) in l.least k (omega arith) less
-    by_place k false e h =
-        let more : l.count ≤ k = grind (arith, nat_tests, e) in
-        let same : l.count ≡ k = omega (arith, more, h) in
-        subst (LendsAfter old.code old.state) same (record { state = cur.state; is = l.ahead.are; lends = subst (λ p. state_lends p cur.state ≡ true) l.ahead.code lends })
 
 -- ---- two parts of a slice
 

@@ -1,6 +1,6 @@
 -- Cited by contracts.
 -- A slice of a run: so many steps, and then as many as it takes until nothing is lent.
-use Rattle.std.specs.Prelude.{◌≡◌, ℕ, suc, ◌<◌, ◌≤◌, Bool, true, false, ◌||◌, List, [], ◌∷◌, Option, Some, None}
+use Rattle.std.specs.Prelude.{◌≡◌, ℕ, ◌<◌, ◌≤◌, Bool, true, false, ◌||◌, List, [], ◌∷◌, Option, Some, None}
 use Rattle.std.specs.List.{list_any}
 use Rattle.camelot_values.specs.Value.{Value}
 use Rattle.camelot_values.specs.Outcome.{Outcome}
@@ -37,12 +37,12 @@ pub record IsSliced (old new : MachineView) (asked : ℕ) : Type 0 where
   pub unlent : state_lends old.code new.state ≡ false
   pub least : (n : ℕ) → asked ≤ n → n < count → LendsAfter old.code old.state n
 
--- The run ended in the slice: its cells are those that are left, and the ending is that of each outcome to which it was
--- on its way. Between the steps asked for and the last one something was lent.
+-- The run ended in the slice, with its last step: its cells are those that are left, and the ending is that of each
+-- outcome to which it was on its way. After the steps asked for, something was lent before each step.
 pub record IsOverIn (old new : MachineView) (asked : ℕ) (ending : Ending) : Type 0 where
   pub final : Final
   pub count : ℕ
   pub are : steps old.code most_calls count (Running old.state) ≡ Over final
   pub cells : final.cells ≡ new.state.cells
   pub right : (room : ℕ) (outcome : Outcome Value) → IsOnCourse old.code most_calls room outcome old.state → EndsWith outcome ending
-  pub least : (n : ℕ) → asked ≤ n → suc n < count → LendsAfter old.code old.state n
+  pub least : (n : ℕ) → asked ≤ n → n < count → LendsAfter old.code old.state n
