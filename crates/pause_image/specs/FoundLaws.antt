@@ -16,7 +16,7 @@ use Rattle.grail_code.specs.Places.{Holds}
 use Rattle.licence.specs.Books.{Carried}
 use Rattle.licence.specs.Worth.{sum_below, value_units, status_units, local_units, total}
 use Rattle.cell_machine.specs.Sound.{LocalStands, held, owning, lending, Holding, holdings_of, owned_by, loans_of, cells_held, FrameStands}
-use Rattle.cell_machine.specs.Stands.{Stands, footprint, times, RepeatsNone}
+use Rattle.cell_machine.specs.Stands.{times, RepeatsNone}
 use Rattle.cell_machine.specs.theory.Counting.{none_all, one_of, same_all}
 use Rattle.pause_image.specs.Found.{FoundOne, Found, value_at, taken_one, taken, units_one, units}
 

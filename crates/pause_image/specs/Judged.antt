@@ -2,12 +2,11 @@
 -- What is judged of what was kept of a run, from its own data alone: each frame stands at its place, its ready words
 -- stand for values, no cell is in two of them or in one and the free list, and the free cells pay for what all ask for.
 use Rattle.std.specs.Prelude.{◌≡◌, ℕ, suc, ◌+◌, ◌-◌, ◌/◌, ◌≤◌, false, List, [], ◌∷◌, ◌++◌, length, slice_get, Option, Some, IsSomeAnd}
-use Rattle.std.specs.List.{AllByRecursion}
 use Rattle.cell_span.specs.declared.cell.Cell.{Cell}
 use Rattle.camelot_values.specs.Value.{Value}
 use Rattle.grail_code.specs.Code.{Call, Block, Func, Code}
 use Rattle.annotations.specs.Vectors.{AtLeast}
-use Rattle.licence.specs.Books.{Book, book_of}
+use Rattle.licence.specs.Books.{book_of}
 use Rattle.licence.specs.Licensed.{Licensed}
 use Rattle.licence.specs.Rules.{naturals, Account, account_before}
 use Rattle.frame_locals.specs.Lending.{lends_at}

@@ -1,7 +1,7 @@
 -- Laws, for the proofs of this crate and of those above it.
 -- What was judged can go on.
 use Rattle.std.proofs.Common.{◌≡◌, ℕ, zero, suc, ◌+◌, ◌-◌, ◌≤◌, ◌<◌, Bool, true, false, List, [], ◌∷◌, ◌++◌, map, length, take, Option, Some, None, refl, sym, ap, ◌∙◌, subst, arith, append_assoc}
-use Rattle.std.specs.Prelude.{◌/◌, ◌==◌, ◌&&◌, if◌then◌else◌, reverse, replicate, slice_get, slice_set, flat_map, IsSomeAnd}
+use Rattle.std.specs.Prelude.{◌/◌, ◌==◌, ◌&&◌, if◌then◌else◌, reverse, replicate, slice_get, slice_set, IsSomeAnd}
 use Rattle.std.specs.Option.{option_map_or}
 use Rattle.std.specs.List.{AllByRecursion}
 use Rattle.std.proofs.lemmas.Bool.Decides.{nat_tests}
@@ -15,18 +15,17 @@ use Rattle.grail_blocks.specs.States as states
 use Rattle.grail_blocks.specs.States.{Status, Unbound, Ready, Spent, nothing_bound, at_start, after_let, after_lets, state_at}
 use Rattle.grail_code.specs.Code.{Op, Lit, Flag, Copy, Prim, Make, Call, Let, Block, Func, Code}
 use Rattle.grail_code.specs.Limits.{IsWithinLimits}
-use Rattle.grail_code.specs.WellFormed.{kind_of, local_kinds, is_lent, is_owned, reads_of, LetFits, BlockFits, IsWellFormed}
-use Rattle.annotations.specs.Vectors.{AtLeast}
+use Rattle.grail_code.specs.WellFormed.{kind_of, local_kinds, is_owned, reads_of, LetFits, BlockFits, IsWellFormed}
 use Rattle.licence.specs.Books.{book_of}
 use Rattle.licence.specs.Licensed.{Licensed, IsLicensed}
-use Rattle.frame_locals.specs.Lending.{HasLoan, LendsWhere, lends_at}
+use Rattle.frame_locals.specs.Lending.{LendsWhere, lends_at}
 use Rattle.frame_locals.specs.LendingLaws as lending
 use Rattle.frame_locals.specs.Places.{ready_at, waits_at}
 use Rattle.licence.specs.Worth.{worth_at}
 use Rattle.machine_image.specs.Images.{Bound, Frame}
 use Rattle.cell_machine.specs.Bounds.{put_back}
 use Rattle.cell_machine.specs.Counted.{IsFit}
-use Rattle.cell_machine.specs.Demands.{waiting_demands, ResultsSuffice, demands, IsBalanced}
+use Rattle.cell_machine.specs.Demands.{waiting_demands, ResultsSuffice, demands}
 use Rattle.cell_machine.specs.Saved.{Saved, width_at, frame_back, frames_back, youngest, others, highest, below, HasItsLocals, configuration_of, CanGoOn}
 use Rattle.cell_machine.specs.Sound.{Holding, holdings_of, running_loans, WaitingFrame, WaitingFrames, waiting_holdings, running_holdings, cells_held, LoansApart, RunningFrame, IsSound}
 use Rattle.cell_machine.specs.Stands.{times, RepeatsNone}
@@ -34,7 +33,7 @@ use Rattle.cell_machine.specs.State.{Activation, Configuration, most_calls}
 use Rattle.cell_machine.specs.theory.Counting.{times_append}
 use Rattle.cell_machine.specs.theory.Course.{here}
 use Rattle.cell_machine.specs.theory.Living.{in_block, at_call}
-use Rattle.pause_image.specs.Found.{Found, value_at, taken, units}
+use Rattle.pause_image.specs.Found.{Found, value_at, taken}
 use Rattle.pause_image.specs.FoundLaws.{NoneLent, IsStood, stood}
 use Rattle.pause_image.specs.Judged.{words_of, account_of, RunsThere, WaitsThere, FramesThere, all_taken, running_asks, waiting_asks, all_asks, IsJudged}
 

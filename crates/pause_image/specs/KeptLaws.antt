@@ -1,7 +1,7 @@
 -- Laws, for the proofs of this crate and of those above it.
 -- What is kept of a sound state goes on as this state without its dead words.
-use Rattle.std.proofs.Common.{◌≡◌, ℕ, zero, suc, ◌+◌, ◌-◌, ◌≤◌, ◌<◌, List, [], ◌∷◌, ◌++◌, map, length, Option, Some, None, refl, sym, ap, ◌∙◌, subst, arith, length-append, append_assoc}
-use Rattle.std.specs.Prelude.{ℤ, pos, negsuc, ◌-ℤ◌, max, reverse, replicate, slice_get, get_or}
+use Rattle.std.proofs.Common.{◌≡◌, ℕ, suc, ◌+◌, ◌-◌, ◌≤◌, ◌<◌, List, [], ◌∷◌, ◌++◌, map, length, Option, Some, None, refl, sym, ap, ◌∙◌, subst, arith, length-append}
+use Rattle.std.specs.Prelude.{ℤ, pos, negsuc, ◌-ℤ◌, reverse, replicate, slice_get, get_or}
 use Rattle.std.specs.List.{AllByRecursion}
 use Rattle.std.specs.Option.{option_map_or}
 use Rattle.std.proofs.lemmas.Int.{ints}
@@ -20,8 +20,8 @@ use Rattle.cell_machine.specs.Ahead.{licensed_annotated}
 use Rattle.cell_machine.specs.Bounds.{bound_if, bounds, put_back}
 use Rattle.cell_machine.specs.Cells.{free_cell, no_cell}
 use Rattle.cell_machine.specs.Counted.{IsFit}
-use Rattle.cell_machine.specs.Dead.{ready_running, ready_waiting, live, live_frame, live_words, with_words}
-use Rattle.cell_machine.specs.Saved.{Saved, kept, waiting_kept, running_kept, frame_kept, frame_back, frames_back, width_at, youngest, others, highest, below, HasItsLocals, configuration_of, CanGoOn}
+use Rattle.cell_machine.specs.Dead.{ready_running, ready_waiting, live, live_frame, with_words}
+use Rattle.cell_machine.specs.Saved.{kept, waiting_kept, running_kept, frame_kept, frame_back, frames_back, width_at, youngest, others, highest, below, HasItsLocals, configuration_of, CanGoOn}
 use Rattle.cell_machine.specs.Sound.{WaitingFrames, IsSound}
 use Rattle.cell_machine.specs.Stands.{IsFreeList}
 use Rattle.cell_machine.specs.State.{Activation, Configuration, most_calls}
@@ -105,7 +105,7 @@ next_word None = 0
 next_word (Some c) = get_or c.words 0 0
 
 -- a free list is determined by its head
-free_same : (cells : List Cell) (head : ℕ) (xs ys : List ℕ) → length cells ≤ no_cell → IsFreeList cells head xs → IsFreeList cells head ys → length xs ≡ length ys
+pub free_same : (cells : List Cell) (head : ℕ) (xs ys : List ℕ) → length cells ≤ no_cell → IsFreeList cells head xs → IsFreeList cells head ys → length xs ≡ length ys
 free_same cells head [] [] few h k = refl
 free_same cells head [] (y ∷ ys) few h k = absurd (omega (arith, h, k.0, few, slice_get_within cells y (free_cell k.1.0) k.1.1))
 free_same cells head (x ∷ xs) [] few h k = absurd (omega (arith, k, h.0, few, slice_get_within cells x (free_cell h.1.0) h.1.1))

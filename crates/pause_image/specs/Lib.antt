@@ -3,6 +3,8 @@ pub mod Found
 pub mod FoundLaws
 pub mod Judged
 pub mod JudgedLaws
+pub mod Keeping
+pub mod KeepingLaws
 pub mod KeptLaws
 pub mod MoveLaws
 pub mod Pausing

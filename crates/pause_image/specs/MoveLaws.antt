@@ -1,8 +1,7 @@
 -- Laws, for the proofs of this crate and of those above it.
 -- What a step does to the frames that wait: they stay, or the frame that ran waits too, or the last one to wait runs.
-use Rattle.std.proofs.Common.{◌≡◌, ℕ, suc, Bool, true, false, List, [], ◌∷◌, Option, Some, None, refl, inl, inr, length}
+use Rattle.std.proofs.Common.{◌≡◌, ℕ, Bool, true, false, List, [], ◌∷◌, Option, Some, None, refl, inl, inr, length}
 use Rattle.std.specs.Prelude.{◌==◌, ◌-◌, ◌⊎◌, cond, if◌then◌else◌, slice_get, slice_set}
-use Rattle.cell_span.specs.declared.cell.Cell.{Cell}
 use Rattle.camelot_values.specs.Value.{Value, Int}
 use Rattle.camelot_values.specs.Kinds.{place_of}
 use Rattle.camelot_values.specs.Operator.{operate}
@@ -15,9 +14,9 @@ use Rattle.grail_blocks.specs.declared.blocks.Place.{Place}
 use Rattle.grail_blocks.specs.declared.blocks.Place.TheVariants as place
 use Rattle.grail_blocks.specs.Running.{arm_at}
 use Rattle.grail_code.specs.Code.{Op, Lit, Flag, Copy, Prim, Make, Call, Let, CaseArm, Term, Ret, Tail, Goto, If, Case, Block, Func, Code}
-use Rattle.cell_machine.specs.Cells.{word_int, is_inline_word, inline_base, inline_word, plain_word, built_cell, free_cell, first_word}
+use Rattle.cell_machine.specs.Cells.{word_int, is_inline_word, inline_base, built_cell, first_word}
 use Rattle.cell_machine.specs.State.{Activation, Configuration, OutOfFuel, TooDeep, Machine, Running, Over}
-use Rattle.cell_machine.specs.Steps.{if_there, words_of, with_cells, raised, lowered, next_let, jumped, over, entry_frame, entered, called, operated, made, let_step, let_at, advanced, returned, put_words, matched, cased, branched, term_step, place_step, step}
+use Rattle.cell_machine.specs.Steps.{if_there, words_of, with_cells, raised, next_let, jumped, over, entry_frame, entered, called, operated, made, let_step, let_at, advanced, returned, put_words, matched, cased, branched, term_step, place_step, step}
 
 -- the frame that ran waits now
 abbrev pub Pushed : (s t : Configuration) → Type 0

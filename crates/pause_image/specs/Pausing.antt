@@ -1,13 +1,12 @@
 -- Cited by contracts.
 -- The image of what was kept of a state, and what a pause hands out.
-use Rattle.std.specs.Prelude.{◌≡◌, map, length, is_some, false}
-use Rattle.grail_code.specs.Code.{Code}
+use Rattle.std.specs.Prelude.{◌≡◌, map, length, false}
 use Rattle.machine_image.specs.Images.{Image, image_text}
 use Rattle.machine_image.specs.Words.{cell_of}
 use Rattle.cell_machine.specs.Saved.{Saved, kept}
-use Rattle.cell_machine.specs.Saving.{lender_from, oldest_first}
 use Rattle.cell_machine.specs.Views.{MachineView, IsStackFor, range_of}
 use Rattle.pause_image.specs.declared.pausing.Paused.{Paused}
+use Rattle.pause_image.specs.Slicing.{state_lends}
 
 -- its text has the numbers of its cells
 abbrev pub image_of : Saved → Image
@@ -19,7 +18,7 @@ image_of s = record {
 
 -- no frame has a lent local that is ready
 abbrev pub LendsNothing : MachineView → Type 0
-LendsNothing m = is_some (lender_from m.code 0 (oldest_first m.state)) ≡ false
+LendsNothing m = state_lends m.code m.state ≡ false
 
 -- the image of the machine's state, its range, and a stack for its code
 pub record IsPaused (m : MachineView) (p : Paused) : Type 0 where

@@ -1,8 +1,8 @@
 -- Laws, for the proofs of this crate and of those above it.
 -- Stepping on while a frame lends: the oldest one that lends goes on lending until it runs and leaves its block, and no
 -- frame below it comes to lend.
-use Rattle.std.proofs.Common.{◌≡◌, ℕ, zero, suc, ◌+◌, ◌<◌, ◌≤◌, Bool, true, false, List, [], ◌∷◌, ◌++◌, length, Option, Some, None, refl, sym, ap, ◌∙◌, subst, arith, inl, inr, append_assoc, length-append}
-use Rattle.std.specs.Prelude.{◌-◌, ◌==◌, ◌⊎◌, ◌||◌, nat_lt, if◌then◌else◌, reverse, MatchOption}
+use Rattle.std.proofs.Common.{◌≡◌, ℕ, suc, ◌+◌, ◌<◌, ◌≤◌, Bool, true, false, List, [], ◌∷◌, ◌++◌, length, Option, Some, None, refl, sym, ap, ◌∙◌, subst, arith, inl, inr, length-append}
+use Rattle.std.specs.Prelude.{◌-◌, ◌⊎◌, ◌||◌, nat_lt, if◌then◌else◌, reverse, MatchOption, is_some}
 use Rattle.std.proofs.lemmas.Bool.Decides.{nat_tests}
 use Rattle.std.specs.List.{AllByRecursion, list_any}
 use Rattle.std.proofs.lemmas.List.{reverse-append, reverse-reverse, length-reverse}
@@ -17,13 +17,13 @@ use Rattle.cell_machine.specs.Coming.{IsOnCourse, steps_left}
 use Rattle.cell_machine.specs.Loading.{go_on, steps}
 use Rattle.cell_machine.specs.MachineLaws.{steps_more}
 use Rattle.cell_machine.specs.Running.{IsRunning, IsEnding}
-use Rattle.cell_machine.specs.State.{Activation, Configuration, Machine, Running, Over, most_calls}
+use Rattle.cell_machine.specs.State.{Activation, Configuration, Running, Over, most_calls}
 use Rattle.cell_machine.specs.Steps.{step}
 use Rattle.cell_machine.specs.Views.{MachineView}
 use Rattle.cell_machine.specs.declared.machine.Ending.{Ending}
 use Rattle.cell_machine.specs.theory.Stepping.{goes_on, goes_further}
 use Rattle.pause_image.specs.KeptLaws.{all_turned}
-use Rattle.pause_image.specs.MoveLaws.{Pushed, Popped, Moves, step_moves}
+use Rattle.pause_image.specs.MoveLaws.{Moves, step_moves}
 use Rattle.pause_image.specs.Slicing.{frame_lends, state_lends, LendsAfter, IsSliced, IsOverIn}
 
 -- ---- frames from a place on
@@ -364,3 +364,25 @@ none_lent old new asked a e = record {
 
 pub lent_first : (m : MachineView) (n : ℕ) → IsRunning m → Lender m.code m.state n → IsLent m m 0 n
 lent_first m n r l = record { count = 0; ahead = here_ahead m r; many = omega arith; least = λ k a b. absurd (omega (arith, b)); lender = inl l }
+
+-- ---- the number of the oldest frame that lends, and whether one does
+
+found_lends : (p : Code) (s : Configuration) (n : ℕ) → lender_from p 0 (oldest_first s) ≡ Some n → true ≡ state_lends p s
+found_lends p s n e = by_place (nat_lt n (length s.waiting)) refl
+  where
+    found : Lender p s n × (length s.waiting ≡ n → frame_lends p s.frame ≡ true)
+    found = lender_found p s n e
+
+    by_place : (b : Bool) → nat_lt n (length s.waiting) ≡ b → true ≡ state_lends p s
+    by_place true t = let less : n < length s.waiting = grind (arith, nat_tests, t) in above_lends p s n (inl found.0) less
+    by_place false t =
+        let more : length s.waiting ≤ n = grind (arith, nat_tests, t) in
+        let same : length s.waiting ≡ n = omega (arith, more, found.0.many, length-append found.0.tops found.0.olds, ap length found.0.is) in
+        sym (lends_running p s (found.1 same))
+
+lends_same_as : (p : Code) (s : Configuration) (o : Option ℕ) → lender_from p 0 (oldest_first s) ≡ o → is_some o ≡ state_lends p s
+lends_same_as p s None e = sym (no_lender p s e)
+lends_same_as p s (Some n) e = found_lends p s n e
+
+pub lends_same : (p : Code) (s : Configuration) → is_some (lender_from p 0 (oldest_first s)) ≡ state_lends p s
+lends_same p s = lends_same_as p s (lender_from p 0 (oldest_first s)) refl

@@ -1,6 +1,6 @@
 -- Cited by contracts.
 -- A slice of a run: so many steps, and then as many as it takes until nothing is lent.
-use Rattle.std.specs.Prelude.{◌≡◌, ℕ, ◌<◌, ◌≤◌, Bool, true, false, ◌||◌, List, [], ◌∷◌, Option, Some, None}
+use Rattle.std.specs.Prelude.{◌≡◌, ℕ, ◌<◌, ◌≤◌, Bool, true, false, ◌∷◌}
 use Rattle.std.specs.List.{list_any}
 use Rattle.camelot_values.specs.Value.{Value}
 use Rattle.camelot_values.specs.Outcome.{Outcome}
@@ -10,7 +10,7 @@ use Rattle.cell_machine.specs.Coming.{IsOnCourse}
 use Rattle.cell_machine.specs.Endings.{EndsWith}
 use Rattle.cell_machine.specs.Loading.{steps}
 use Rattle.cell_machine.specs.Running.{IsRunning}
-use Rattle.cell_machine.specs.State.{Activation, Configuration, Final, Machine, Running, Over, most_calls}
+use Rattle.cell_machine.specs.State.{Activation, Configuration, Final, Running, Over, most_calls}
 use Rattle.cell_machine.specs.Views.{MachineView}
 use Rattle.cell_machine.specs.declared.machine.Ending.{Ending}
 
@@ -27,8 +27,8 @@ pub record LendsAfter (p : Code) (s : Configuration) (n : ℕ) : Type 0 where
   pub is : steps p most_calls n (Running s) ≡ Running state
   pub lends : state_lends p state ≡ true
 
--- The slice ends in a state in which nothing is lent: after the least number of steps that is at least the one asked for
--- at which that is so.
+-- The slice ends in a state in which nothing is lent. Of the numbers of steps from the one asked for on behind which that
+-- is so, it is the least.
 pub record IsSliced (old new : MachineView) (asked : ℕ) : Type 0 where
   pub running : IsRunning new
   pub count : ℕ

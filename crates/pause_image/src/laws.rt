@@ -1,24 +1,55 @@
 //! Laws of what is kept of a run, as the contracts of functions that do nothing.
-ghost use Rattle.std.specs.Prelude.{◌≡◌, ℕ, ◌+◌, ◌≤◌, length};
+ghost use Rattle.std.specs.Prelude.{◌≡◌, ℕ, ◌+◌, ◌/◌, ◌≤◌, List, length, is_some, slice_get, Some};
+ghost use Rattle.camelot_values.specs.Value.{Value, parts};
+ghost use Rattle.camelot_values.specs.Typing.{ArgumentsFit};
+ghost use Rattle.grail_code.specs.Code.{Func, Code};
 ghost use Rattle.licence.specs.Books.{book_of};
+ghost use Rattle.licence.specs.Bound.{units_at};
 ghost use Rattle.licence.specs.Licensed.{Licensed, IsLicensed};
-ghost use Rattle.cell_machine.specs.State.{Configuration, most_calls};
+ghost use Rattle.cell_machine.specs.State.{Configuration, Running, most_calls};
+ghost use Rattle.cell_machine.specs.Loading.{cells_from, begun, steps};
 ghost use Rattle.cell_machine.specs.Sound.{IsSound};
-ghost use Rattle.cell_machine.specs.Counted.{IsFit};
-ghost use Rattle.cell_machine.specs.Dead.{live};
+ghost use Rattle.cell_machine.specs.Dead.{live, live_machine};
 ghost use Rattle.cell_machine.specs.Saved.{Saved, kept, configuration_of, CanGoOn};
+ghost use Rattle.cell_machine.specs.Saving.{lender_from, oldest_first};
 ghost use Rattle.pause_image.specs.Judged.{IsJudged};
+ghost use Rattle.pause_image.specs.Keeping.{IsKeepable};
+ghost use Rattle.pause_image.specs.Slicing.{state_lends};
+
+/// Whether a state lends is whether a machine in it tells a number of its oldest frame that lends.
+pub fn law_of_lenders()
+    ensures { (p : Code) (s : Configuration) → is_some (lender_from p 0 (oldest_first s)) ≡ state_lends p s }
+{}
+
+/// States that can be put aside. A run of licensed code, in a range with the cells of its arguments and of its bound,
+/// begins in one and comes to such states alone, however many steps it takes.
+pub fn law_of_keeping()
+    // A run on fitting arguments begins in one.
+    ensures begins { (l : Licensed) → IsLicensed l → (entry : ℕ) (f : Func) (args : List Value) (fuel size : ℕ)
+        → slice_get l.code.funcs entry ≡ Some f → ArgumentsFit l.code.types f.params args → 1 ≤ fuel → fuel ≤ 1099511627776
+        → length (cells_from l.code.types 0 (parts args)) + units_at l.code (book_of l.cert) entry args / l.cert.unit ≤ size
+        → size ≤ 2147483648 → IsKeepable l (begun l.code entry f args fuel size) }
+    // Behind so many steps from one there is another, unless the run is over.
+    ensures stays { (l : Licensed) (n : ℕ) (s t : Configuration) → IsLicensed l → IsKeepable l s
+        → steps l.code most_calls n (Running s) ≡ Running t → IsKeepable l t }
+    // What goes on from what was kept of one is one.
+    ensures again { (l : Licensed) (s : Configuration) → IsLicensed l → IsKeepable l s
+        → IsKeepable l (configuration_of l.code (kept l.code s)) }
+{}
 
 /// What is kept of a state goes on as the state: it is the same but for dead words, which no step reads. What is kept
-/// of a fit state can go on, in any range of as many cells.
+/// of a state that can be put aside can go on, in any range of as many cells, and comes to the same end.
 pub fn law_of_kept()
     // What goes on from what is kept of a sound state is this state with 0 in its dead words.
     ensures same { (l : Licensed) (s : Configuration) → IsSound l.code s
         → configuration_of l.code (kept l.code s) ≡ live l.code s }
-    // What is kept of a fit state whose counters are within their ranges can go on.
-    ensures goes_on { (l : Licensed) (s : Configuration) → IsLicensed l → (fit : IsFit l.code (book_of l.cert) most_calls s)
-        → s.peak ≤ 1099511627776 → s.calls + s.fuel ≤ 1099511627776 → length fit.sound.free + s.peak ≤ length s.cells + s.low
+    // What is kept can go on.
+    ensures goes_on { (l : Licensed) (s : Configuration) → IsLicensed l → IsKeepable l s
         → CanGoOn l (kept l.code s) (length s.cells) }
+    // After as many steps it is at the same state but for dead words, or at the same end with the same cells.
+    ensures agrees { (l : Licensed) (n : ℕ) (s : Configuration) → IsLicensed l → IsKeepable l s
+        → live_machine l.code (steps l.code most_calls n (Running (configuration_of l.code (kept l.code s))))
+        ≡ live_machine l.code (steps l.code most_calls n (Running s)) }
 {}
 
 /// What was judged from its own data alone can go on: each frame stands at its place, its ready words stand for values,

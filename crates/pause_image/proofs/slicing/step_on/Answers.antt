@@ -1,6 +1,5 @@
 use Rattle.std.proofs.Common.{rules, sym, ◌∙◌}
-use Rattle.cell_machine.specs.Laid.{SameRange}
-use Rattle.pause_image.specs.SliceLaws.{over_ahead, least_on, fewer_left, lent_on, lent_first, sliced_here}
+use Rattle.pause_image.specs.SliceLaws.{over_ahead, least_on, fewer_left, lent_on}
 use Rattle.pause_image.proofs.slicing.step_on.Goals as goal
 
 pub returns-in-Some-clause-gone : goal.returns-in-Some-clause-gone
