@@ -27,8 +27,8 @@ pub record LendsAfter (p : Code) (s : Configuration) (n : ℕ) : Type 0 where
   pub is : steps p most_calls n (Running s) ≡ Running state
   pub lends : state_lends p state ≡ true
 
--- The slice ends in a state in which nothing is lent. Of the numbers of steps from the one asked for on behind which that
--- is so, it is the least.
+-- The slice ends in a state in which nothing is lent. Of the numbers of steps from the one asked for on behind which
+-- that is so, it is the least.
 pub record IsSliced (old new : MachineView) (asked : ℕ) : Type 0 where
   pub running : IsRunning new
   pub count : ℕ
