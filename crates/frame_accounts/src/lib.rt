@@ -7,4 +7,5 @@ mod lookups;
 mod table;
 mod vectors;
 
+pub use lookups::{block_in, func_at, let_in, own_at};
 pub use table::AccountTable;

@@ -1,12 +1,23 @@
 -- What is kept of a run, and what goes on from it.
+pub mod BackLaws
+pub mod Faults
+pub mod FormLaws
 pub mod Found
 pub mod FoundLaws
 pub mod Judged
 pub mod JudgedLaws
+pub mod Judges
+pub mod Judging
 pub mod Keeping
 pub mod KeepingLaws
 pub mod KeptLaws
 pub mod MoveLaws
+pub mod OneFault
+pub mod Owning
 pub mod Pausing
+pub mod Resuming
+pub mod RightLaws
+pub mod Shapes
 pub mod SliceLaws
 pub mod Slicing
+pub mod Taking

@@ -1,5 +1,8 @@
 //! Laws of what is kept of a run, as the contracts of functions that do nothing.
-ghost use Rattle.std.specs.Prelude.{◌≡◌, ℕ, ◌+◌, ◌/◌, ◌≤◌, List, length, is_some, slice_get, Some};
+ghost use Rattle.std.specs.Prelude.{◌≡◌, ℕ, ◌+◌, ◌/◌, ◌≤◌, false, List, length, map, is_some, slice_get, Some};
+ghost use Rattle.std.specs.List.{AllByRecursion};
+ghost use Rattle.machine_image.specs.Images.{CellIsFormed, image_text};
+ghost use Rattle.machine_image.specs.Words.{cell_of};
 ghost use Rattle.camelot_values.specs.Value.{Value, parts};
 ghost use Rattle.camelot_values.specs.Typing.{ArgumentsFit};
 ghost use Rattle.grail_code.specs.Code.{Func, Code};
@@ -12,9 +15,12 @@ ghost use Rattle.cell_machine.specs.Sound.{IsSound};
 ghost use Rattle.cell_machine.specs.Dead.{live, live_machine};
 ghost use Rattle.cell_machine.specs.Saved.{Saved, kept, configuration_of, CanGoOn};
 ghost use Rattle.cell_machine.specs.Saving.{lender_from, oldest_first};
+ghost use Rattle.pause_image.specs.Faults.{IsFaultOf, IsImageOf, IsRight};
 ghost use Rattle.pause_image.specs.Judged.{IsJudged};
 ghost use Rattle.pause_image.specs.Keeping.{IsKeepable};
+ghost use Rattle.pause_image.specs.Pausing.{HasFourWords, image_of};
 ghost use Rattle.pause_image.specs.Slicing.{state_lends};
+ghost use Rattle.pause_image.specs.declared.fault.ImageFault.{ImageFault};
 
 /// Whether a state lends is whether a machine in it tells a number of its oldest frame that lends.
 pub fn law_of_lenders()
@@ -57,4 +63,29 @@ pub fn law_of_kept()
 /// ask for. It holds whoever wrote the data.
 pub fn law_of_judged()
     ensures { (l : Licensed) (s : Saved) (size : ℕ) → IsLicensed l → IsJudged l s size → CanGoOn l s size }
+{}
+
+/// What is wrong with a text. It has one fault at most, and none where it is right; and it is the image of one state at
+/// most. The range has at most 2147483648 cells, as each range.
+pub fn law_of_faults()
+    // Two faults of a text are the same one.
+    ensures one { (l : Licensed) (text : List ℕ) (size : ℕ) (f g : ImageFault) → IsLicensed l → size ≤ 2147483648
+        → IsFaultOf l text size f → IsFaultOf l text size g → f ≡ g }
+    // A text with which nothing is wrong has none.
+    ensures none { (l : Licensed) (text : List ℕ) (size : ℕ) (s : Saved) (f : ImageFault) → IsLicensed l → size ≤ 2147483648
+        → IsRight l text size s → IsFaultOf l text size f → ⊥ }
+    // A text is the image of one state at most.
+    ensures image { (text : List ℕ) (s t : Saved) → IsImageOf text s → IsImageOf text t → s ≡ t }
+{}
+
+/// What a pause writes is never refused: of a state that can be put aside, in which nothing is lent, the text is an
+/// image, and nothing is wrong with it, in any range of as many cells.
+pub fn law_of_resuming()
+    // The text of what is kept is an image.
+    ensures image { (l : Licensed) (text : List ℕ) (s : Configuration) → IsLicensed l → IsKeepable l s
+        → AllByRecursion HasFourWords s.cells → AllByRecursion CellIsFormed (map cell_of s.cells)
+        → text ≡ image_text (image_of (kept l.code s)) → IsImageOf text (kept l.code s) }
+    // Nothing is wrong with it.
+    ensures right { (l : Licensed) (text : List ℕ) (s : Configuration) → IsLicensed l → IsKeepable l s
+        → state_lends l.code s ≡ false → IsImageOf text (kept l.code s) → IsRight l text (length s.cells) (kept l.code s) }
 {}

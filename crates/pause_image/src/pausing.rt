@@ -1,9 +1,12 @@
-ghost use Rattle.std.specs.Prelude.{◌≡◌, IfOk, MatchResult};
-ghost use Rattle.machine_image.specs.Images.{image_text};
+ghost use Rattle.std.specs.Prelude.{◌≡◌, map, IfOk, MatchResult};
+ghost use Rattle.std.specs.List.{AllByRecursion};
+ghost use Rattle.machine_image.specs.Images.{CellIsFormed, image_text};
+ghost use Rattle.machine_image.specs.Words.{cell_of};
 ghost use Rattle.cell_machine.specs.Running.{IsRunning};
 ghost use Rattle.cell_machine.specs.Saved.{kept};
-ghost use Rattle.pause_image.specs.Pausing.{IsPaused, LendsNothing, image_of};
+ghost use Rattle.pause_image.specs.Pausing.{HasFourWords, IsPaused, LendsNothing, image_of};
 
+use crate::cells::are_cells;
 use cell_machine::{Machine, Stack};
 use cell_span::Span;
 use machine_image::write_image;
@@ -19,17 +22,25 @@ pub struct Paused {
     pub stack: Stack,
 }
 
+/// The longest text of an image, in bytes.
+pub(crate) const MOST_BYTES: usize = 4_294_967_295;
+
 // The text of the machine's state.
+#[tactic(auto, using(crate::proofs::Verdicts::four_kept, crate::proofs::Verdicts::formed_kept))]
 fn image_of(alloc: Global, machine: &Machine<'_>) -> Result<Vec<u8>, AllocError>
     requires running { IsRunning machine.now }
-    ensures { IfOk result (λ image. image.items ≡ image_text (image_of (kept machine.now.code machine.now.state))) }
+    ensures image { IfOk result (λ image. image.items ≡ image_text (image_of (kept machine.now.code machine.now.state))) }
+    ensures four { IfOk result (λ image. AllByRecursion HasFourWords machine.now.state.cells) }
+    ensures formed { IfOk result (λ image. AllByRecursion CellIsFormed (map cell_of machine.now.state.cells)) }
 {
     let state = machine.state(alloc)?;
+    are_cells(&state.cells);
     write_image(alloc, &state)
 }
 
-/// Puts a run aside between two steps, while nothing is lent. Its image is a text; the range and the stack are free for
-/// other runs. Where memory runs out, the machine comes back as it was.
+/// Puts a run aside between two steps, while nothing is lent. Its image is a text of fewer than 2^32 bytes; the range and
+/// the stack are free for other runs. By [`crate::laws::law_of_resuming`] nothing is wrong with the text where the state
+/// can be put aside. Where memory runs out, or the text would be longer, the machine comes back as it was.
 pub fn pause<'a>(alloc: Global, machine: Machine<'a>) -> Result<Paused, Machine<'a>>
     requires running { IsRunning machine }
     requires unlent { LendsNothing machine }
@@ -38,6 +49,9 @@ pub fn pause<'a>(alloc: Global, machine: Machine<'a>) -> Result<Paused, Machine<
 {
     match image_of(alloc, &machine) {
         Ok(image) => {
+            if image.len() > MOST_BYTES {
+                return Err(machine);
+            }
             let (span, stack) = machine.unload();
             Ok(Paused { image, span, stack })
         }

@@ -12,6 +12,7 @@ fn take_steps(machine: &mut Machine<'_>, steps: u64) -> Option<Ending>
     requires running { IsRunning machine.old }
     ensures taken { MatchOption result (IsAhead machine.old machine.new steps) (λ ending. IsOverIn machine.old machine.new steps ending) }
     ensures range { SameRange (range_of machine.old) (range_of machine.new) }
+    ensures code { machine.new.code ≡ machine.old.code }
 {
     'each: for _step in 0..steps {
         match machine.step() {
@@ -29,6 +30,7 @@ fn step_on(machine: &mut Machine<'_>, lender: u32) -> Option<Ending>
     requires runs { length machine.old.state.waiting ≡ lender → frame_lends machine.old.code machine.old.state.frame ≡ true }
     ensures gone { MatchOption result (IsSliced machine.old machine.new 0) (λ ending. IsOverIn machine.old machine.new 0 ending) }
     ensures range { SameRange (range_of machine.old) (range_of machine.new) }
+    ensures code { machine.new.code ≡ machine.old.code }
 {
     'each: while still_lends(machine, lender) {
         match machine.step() {
@@ -65,6 +67,8 @@ pub fn slice(machine: &mut Machine<'_>, steps: u64) -> Option<Ending>
     ensures sliced { MatchOption result (IsSliced machine.old machine.new steps) (λ ending. IsOverIn machine.old machine.new steps ending) }
     // The range stays.
     ensures range { SameRange (range_of machine.old) (range_of machine.new) }
+    // The code stays.
+    ensures code { machine.new.code ≡ machine.old.code }
 {
     match take_steps(machine, steps) {
         Some(ending) => return Some(ending),

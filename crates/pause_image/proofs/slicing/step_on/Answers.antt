@@ -14,4 +14,5 @@ each-preserved c = record {
   lent = lent_on c.args.machine.now c.each.machine c.step.new.self c.args.lender c.each.invariant.lent (sym c.still_lends.ensures.lends ∙ c.each-test.true) (c.still_lends.ensures.there c.each-test.true)
       (c.still_lends.ensures.runs c.each-test.true) c.in-None.ensures.next.0 c.in-None.ensures.code c.in-None.ensures.next.1;
   range = search rules;
+  code = search rules;
 }

@@ -10,4 +10,5 @@ pub each-preserved : goal.each-preserved
 each-preserved c = record {
   ahead = one_ahead c.args.machine.now c.each.machine c.step.new.self c.each._step c.each.invariant.ahead c.in-None.ensures.next.0 c.in-None.ensures.code c.in-None.ensures.next.1;
   range = search rules;
+  code = search rules;
 }

@@ -1,0 +1,3 @@
+pub mod Shaping
+pub mod Taking
+pub mod Verdicts
