@@ -197,6 +197,7 @@ class Said:
     def __init__(self):
         self.codes, self.certs, self.text, self.types, self.systems = {}, {}, [], [], []
         self.kinds, self.desk, self.tenants, self.open = [], None, None, []
+        self.reader = None              # of texts, where it isn't the table's
 
     def says(self, word, rest):
         if word in ('code', 'cert'):
@@ -428,22 +429,25 @@ def told_text(reader, text):
         return others[0] + ' ' + others[-1]
     return others[-1] + ' ' + others[1] if word == 'script' else told
 
-def text_commands(reader):
+def text_commands(usual):
     """The commands of a table of texts, by their words."""
+    def told(said, text):
+        return told_text(said.reader or usual, text)
+
     def changed(replaced):
         def command(said, rest):
             number, bar, line = rest.partition('|')
             lines, at = list(said.text), int(number) - 1
             lines[at:at + replaced] = [line] if bar else []
-            return told_text(reader, text_of(lines))
+            return told(said, text_of(lines))
         return command
 
     def fronts(said, _):
         text = text_of(said.text)
-        answers = [told_text(reader, text[:front]) for front in range(len(text) + 1)]
+        answers = [told(said, text[:front]) for front in range(len(text) + 1)]
         return ', '.join('%s x %d' % (answer, len(list(same))) for answer, same in groupby(answers))
-    return {'read': lambda said, _: told_text(reader, text_of(said.text)),
-            'ending': lambda said, rest: told_text(reader, text_of(said.text) + filled(rest[1:])),
+    return {'read': lambda said, _: told(said, text_of(said.text)),
+            'ending': lambda said, rest: told(said, text_of(said.text) + filled(rest[1:])),
             'with': changed(1), 'without': changed(1), 'before': changed(0), 'fronts': fronts}
 
 # The table `verdicts`.
@@ -632,6 +636,41 @@ def told_paused(code, certificate, function, values, fuel, steps):
         return 'lending oldest %d waiting %d running %s' % (lenders.index(True), len(lenders) - 1, running)
     return '\n  '.join([''] + images.image_text(paused.image()).decode().split('\n')[:-1])
 
+@licence_command
+def told_again(code, certificate, function, values, fuel, steps):
+    """In how many slices the run ends, and how; behind each it goes on from its image."""
+    if int(fuel) > images.STEPS:
+        return 'no such run'
+    size = certificates.lease(code, certificate, function, values)
+    paused = images.loaded(code, function, values, int(fuel), size)
+    for slices in range(1, 100001):
+        outcome = paused.go(int(steps))
+        while not outcome and any(paused.lenders()):
+            outcome = paused.go(1)
+        if outcome:
+            return 'slices %d %s' % (slices, told_ending(code, outcome))
+        text = images.image_text(paused.image())
+        paused = images.resumed(code, images.judged(code, certificate, size, text))
+    return 'slices 100000'
+
+def told_on(said, rest):
+    """Texts are judged by a licence from here on, and their runs go on."""
+    name, cert, cells, steps = rest.split()
+    licence = tried(certificates.granted, said.code_bytes(name), text_of(said.certs[cert]))
+    said.reader = None
+    if type(licence) is str:
+        return licence
+    said.reader = lambda text: told_resumed(*licence, int(cells), int(steps), text)
+    return ''
+
+def told_resumed(code, certificate, cells, steps, text):
+    """How the run that goes on from a text ends; a cause why none does is a refusal."""
+    if not 0 < cells <= machine.INLINE:
+        return 'no such cells'
+    paused = images.resumed(code, images.judged(code, certificate, cells, text))
+    outcome = paused.go(steps)
+    return 'step %d %s' % (paused.steps, told_ending(code, outcome)) if outcome else 'steps %d' % steps
+
 def place_command(answer):
     """A command about a function and a block of a code, which may not be there."""
     def command(said, rest):
@@ -734,7 +773,8 @@ LINES = {
     'machines': {'run': told_machine, 'cells': lambda said, rest: told_machine(said, rest, True)},
     'licences': {'bound': licence_command(told_bound), 'run': licence_command(told_licensed),
                  'halt': licence_command(told_halt), 'serve': licence_command(told_serve)},
-    'images': {**text_commands(image_read), 'run': told_paused},
+    'images': {**text_commands(image_read), 'run': told_paused, 'again': told_again,
+               'on': told_on},
     'places': {'ready': place_command(told_ready), 'waits': place_command(told_waits),
                'lends': place_command(told_lends), 'constructor': told_constructor},
     'scripts': text_commands(script_read),

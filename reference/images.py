@@ -2,6 +2,7 @@
 import re
 from collections import namedtuple
 
+import certificates
 import grail
 import machine
 from certificates import size
@@ -13,7 +14,7 @@ from refusals import Refused
 Image = namedtuple('Image', 'calls net peak fuel free frames cells')
 Frame = namedtuple('Frame', 'func block place live')
 
-STEPS, WORDS = 2 ** 40, 2 ** 32 - 1
+STEPS, WORDS, WAITING = 2 ** 40, 2 ** 32 - 1, 65536
 NUMBER = '(0|[1-9][0-9]*)'
 COUNTS = 'calls N net (-?)N peak N fuel N free N cells N'
 FORMS = {word: re.compile(form.replace('N', NUMBER).encode()) for word, form in {
@@ -141,3 +142,130 @@ def loaded(code, function, values, fuel, cells):
     run = machine.Machine(code, fuel, cells)
     run.enter(function, run.laid(values), True)
     return Paused(code, run)
+
+# ## How a run goes on
+def resumed(code, image):
+    """The run that goes on from an image. Where `net` is above `peak`, the peak is `net`."""
+    run = machine.Machine(code, image.calls + image.fuel, len(image.cells))
+    run.calls, run.net, run.peak, run.head = image.calls, image.net, max(image.peak, image.net), image.free
+    run.cells = [list(cell) for cell in image.cells]
+    for frame in image.frames:
+        func = code.funcs[frame.func]
+        bound = {**dict.fromkeys(range(len(grail.kinds_of(func))), 0), **dict(frame.live)}
+        run.waiting.append((func, frame.block, frame.place, bound))
+    run.func, run.block, place, run.bound = run.waiting.pop()
+    run.place = place - 1
+    return Paused(code, run)
+
+# ## What is judged of a text
+def judged(code, certificate, cells, text):
+    """The image of a text from which a run of licensed code goes on in so many cells; else the first cause."""
+    image = read_image(text)
+    if len(image.cells) != cells:
+        raise Refused('size cells %d len %d' % (len(image.cells), cells))
+    for f in range(len(image.frames)):
+        if not is_shaped(code, certificate, image.frames, f):
+            raise Refused('shape frame %d' % f)
+    values, taken = values_of(code, image)
+    free = free_cells(image, taken)
+    need = asked(code, certificate, image.frames, values) // certificate.unit
+    if free < need:
+        raise Refused('short free %d need %d' % (free, need))
+    if not 0 <= image.net + free <= cells:
+        raise Refused('net %d free %d' % (image.net, free))
+    return image
+
+# **Shape.**
+def is_shaped(code, certificate, frames, f):
+    """Whether a frame is as the code has it at its place."""
+    func, block, place, live = frames[f]
+    if f > WAITING or func >= len(code.funcs) or block >= len(code.funcs[func].blocks):
+        return False
+    lets, places = code.funcs[func].blocks[block].lets, Places(code, code.funcs[func])
+    if not 1 <= place <= len(lets) + 1:
+        return False
+    waits = f + 1 < len(frames)
+    wanted = places.waits(block, place) if waits else places.ready(block, place)
+    if [x for x, _ in live] != wanted or not places.lent.isdisjoint(wanted):
+        return False
+    return not waits or place <= len(lets) and returns(code, certificate, lets[place - 1][1], frames[f + 1].func)
+
+def returns(code, certificate, op, g):
+    """Whether a let is a call to which a frame of the function `g` may return."""
+    if op[0] != 'call' or g >= len(code.funcs) or code.funcs[g].result != code.funcs[op[1]].result:
+        return False
+    there, wanted = certificate.functions[g].result, certificate.functions[op[1]].result
+    return all(there.get(con, 0) >= units for con, units in wanted.items())
+
+# **Values.**
+def values_of(code, image):
+    """The constructors in the value of each word, by (frame, local), and the cells of all of them."""
+    values, taken = {}, set()
+    for f, frame in enumerate(image.frames):
+        kinds = grail.kinds_of(code.funcs[frame.func])
+        for x, word in frame.live:
+            values[f, x] = value_at(grail.constructors(code.types), image.cells, word, kinds[x], taken)
+            if values[f, x] is None:
+                raise Refused('value frame %d local %d' % (f, x))
+    return values, taken
+
+def value_at(cons, cells, word, kind, taken):
+    """The constructors of the value for which a word stands, or None. Its cells are taken."""
+    found, due = [], [(word, kind)]
+    while due:
+        word, kind = due.pop()
+        if kind in ('int', 'bool'):
+            if kind == 'bool' and word > 1:
+                return None
+            continue
+        inline = kind != '<>' and word >= machine.INLINE
+        if not inline and (word >= len(cells) or word in taken):
+            return None
+        if not inline:
+            taken.add(word)
+        if kind == '<>':
+            continue
+        con = word - machine.INLINE if inline else cells[word][0]
+        if con >= len(cons) or cons[con][0] != kind or cons[con][2].inline != inline:
+            return None
+        found.append(con)
+        if not inline:
+            due += zip(cells[word][1:], cons[con][2].fields)
+    return found
+
+# **Free cells.**
+def free_cells(image, taken):
+    """How many cells the free list has. None is a cell of a value, in `taken`."""
+    found, at = set(), image.free
+    while at != machine.NO_CELL:
+        cell = image.cells[at] if at < len(image.cells) else None
+        if at in taken or at in found or cell is None or cell != machine.free_cell(cell[1]):
+            raise Refused('free at %d' % at)
+        found.add(at)
+        at = cell[1]
+    return len(found)
+
+# **What frames ask for.**
+def asked(code, certificate, frames, values):
+    """The units that all frames ask for together."""
+    total = 0
+    for f, (func, block, place, live) in enumerate(frames):
+        left, carried = held(code, certificate, func, block, place)
+        total += sum(carried.get(x, {}).get(con, 0) for x, _ in live for con in values[f, x])
+        if f + 1 < len(frames):
+            called = certificate.functions[code.funcs[func].blocks[block].lets[place - 1][1][1]]
+            total += max(0, left - called.need)
+            total += max(0, called.back - certificate.functions[frames[f + 1].func].back)
+        else:
+            total += left
+    return total
+
+def held(code, certificate, f, block, place):
+    """What is left at a place, and what each local carries there."""
+    rules, said, func = certificates.Rules(code, certificate), certificate.functions[f], code.funcs[f]
+    rules.func, rules.kinds, rules.mine = func, grail.kinds_of(func), said
+    rules.left, carried = said.blocks[block] if block > 0 else (said.need, said.params)
+    rules.carried = dict(carried)
+    for number, let in enumerate(func.blocks[block].lets[:place - 1], 1):
+        list(rules.let((f, block, number), *let))
+    return rules.left, rules.carried

@@ -5,3 +5,4 @@ pub mod Jobs
 pub mod Taken
 pub mod Tenanted
 pub mod Trees
+pub mod Slices

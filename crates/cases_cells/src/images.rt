@@ -10,14 +10,22 @@
 //!
 //! - `run CODE CERT FUNCTION FUEL STEPS |ARGUMENTS|`: the image of the run behind so many steps, on the lines below; or
 //!   which frames lend then; or at which step the run ended, and how.
+//! - `again CODE CERT FUNCTION FUEL STEPS |ARGUMENTS|`: in how many slices of so many steps the run ends, and how. Behind
+//!   each slice it is put aside, and goes on from its image in another range.
+//! - `on CODE CERT CELLS STEPS`: from here on the commands on texts are of runs. The answer is why no run goes on from
+//!   the text by this licence in so many cells; or at which step it ended, within so many, and how; or how many it did.
 mod answers;
 mod pauses;
+mod resuming;
 mod running;
+mod slices;
 
-use crate::licences::job_of;
+use crate::licences::{job_of, licence_of};
 use answers::Images;
 use case_lines::{Text, Texts, answer};
+use resuming::Runs;
 use running::answer_job;
+use slices::answer_slices;
 use std::alloc::Global;
 use std::io;
 
@@ -28,6 +36,7 @@ struct Said {
     certs: Texts,
     text: Text,
     in_cert: bool,
+    runs: Option<Runs>,
 }
 
 impl Said {
@@ -37,6 +46,7 @@ impl Said {
             certs: Texts::new(alloc),
             text: Text::new(alloc),
             in_cert: false,
+            runs: None,
         }
     }
 
@@ -84,13 +94,14 @@ fn numbers_of(entry: &str, fuel: &str, steps: &str) -> Option<(u32, u64, u32)> {
 
 // Prints what is answered about the run of these words, with these arguments.
 fn answer_run(rt: &HostRuntime, said: &Said, words: &[&str], text: &[u8]) -> io::Result<()> {
-    let ["run", code, cert, entry, fuel, steps] = words else {
+    let [verb, code, cert, entry, fuel, steps] = words else {
         return print!(rt; " no such command");
     };
     let numbers = numbers_of(entry, fuel, steps);
     match (said.codes.find(code), said.certs.find(cert), numbers) {
         (Some(code), Some(cert), Some((entry, fuel, steps))) => {
             match job_of(rt, code, cert, entry, fuel, text)? {
+                Some(job) if *verb == "again" => answer_slices(rt, &job, steps),
                 Some(job) => answer_job(rt, &job, steps),
                 None => Ok(()),
             }
@@ -99,10 +110,45 @@ fn answer_run(rt: &HostRuntime, said: &Said, words: &[&str], text: &[u8]) -> io:
     }
 }
 
-fn answer_line(rt: &HostRuntime, said: &Said, line: &str) -> io::Result<()> {
+// Has the commands on texts be of runs by these words.
+fn begin_runs(rt: &HostRuntime, said: &mut Said, words: &[&str]) -> io::Result<()> {
+    let ["on", code, cert, cells, steps] = words else {
+        return print!(rt; " no such command");
+    };
+    match (
+        said.codes.find(code),
+        said.certs.find(cert),
+        cells.parse::<u32>().ok(),
+        steps.parse::<u32>().ok(),
+    ) {
+        (Some(code), Some(cert), Some(cells), Some(steps)) => {
+            if let Some(licence) = licence_of(rt, code, cert)? {
+                said.runs = Some(Runs {
+                    licence,
+                    cells,
+                    steps,
+                });
+            }
+            Ok(())
+        }
+        _ => print!(rt; " no such code, certificate or number"),
+    }
+}
+
+fn answer_line(rt: &HostRuntime, said: &mut Said, line: &str) -> io::Result<()> {
     let alloc = rt.alloc();
-    if !line.starts_with("run ") {
-        return println!(rt; "{line}:{}", answer(alloc, &Images, &said.text, line)?);
+    if line.starts_with("on ") {
+        print!(rt; "{line}:")?;
+        let words: Vec<&str> = line.split_whitespace().collect(alloc)?;
+        begin_runs(rt, said, &words)?;
+        return println!(rt; "");
+    }
+    if !line.starts_with("run ") && !line.starts_with("again ") {
+        let told = match &said.runs {
+            Some(runs) => answer(alloc, runs, &said.text, line)?,
+            None => answer(alloc, &Images, &said.text, line)?,
+        };
+        return println!(rt; "{line}:{told}");
     }
     print!(rt; "{line}:")?;
     let parts: Vec<&str> = line.split("|").collect(alloc)?;
@@ -122,7 +168,7 @@ pub(crate) fn answer_lines(rt: &HostRuntime, lines: &[String]) -> io::Result<()>
     for line in lines {
         let line = line.as_str();
         if !said.takes(rt.alloc(), line)? {
-            answer_line(rt, &said, line)?;
+            answer_line(rt, &mut said, line)?;
         }
     }
     Ok(())

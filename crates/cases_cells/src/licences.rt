@@ -20,7 +20,7 @@ mod running;
 mod serving;
 
 use case_lines::Texts;
-pub(crate) use jobs::{Job, job_of};
+pub(crate) use jobs::{Job, job_of, licence_of};
 pub(crate) use running::{ending_text, lease_of};
 use running::{Question, answer_job};
 use serving::{Call, answer_serve};

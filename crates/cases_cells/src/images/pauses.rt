@@ -26,6 +26,8 @@ pub(crate) fn begin(alloc: Global, job: &Job, cells: u32) -> Result<Machine<'_>,
     requires few { cells ≤ 2147483648 }
     // Its run isn't over.
     ensures running { IfOk result IsRunning }
+    // It runs the job's code.
+    ensures code { IfOk result (λ machine. machine.code ≡ job.now.licence.code) }
     // Its range is the whole arena.
     ensures whole { IfOk result (λ machine. IsWhole (range_of machine)) }
 {
