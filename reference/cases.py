@@ -644,9 +644,7 @@ def told_again(code, certificate, function, values, fuel, steps):
     size = certificates.lease(code, certificate, function, values)
     paused = images.loaded(code, function, values, int(fuel), size)
     for slices in range(1, 100001):
-        outcome = paused.go(int(steps))
-        while not outcome and any(paused.lenders()):
-            outcome = paused.go(1)
+        outcome = paused.slice(int(steps))
         if outcome:
             return 'slices %d %s' % (slices, told_ending(code, outcome))
         text = images.image_text(paused.image())

@@ -7,6 +7,7 @@ import grail
 import inference
 import language
 import scripts
+import tenants
 from refusals import Refused
 
 INPUT = 8388608
@@ -18,21 +19,28 @@ def compiled(source):
 def serve(text):
     return scripts.report(scripts.read_script(text))
 
-COMMANDS = {'serve': serve, 'compile': compiled, 'verify': certificates.verify, 'migrate': certificates.migrate}
+COMMANDS = {'serve': serve, 'compile': compiled, 'verify': certificates.verify, 'migrate': certificates.migrate,
+            'tenants': tenants.tenants}
 
 def answer(words, data):
     """The status and the output; a script is answered with the journal of one worker."""
     if words[:1] == ['drill']:
         jobs = drill_jobs(words[1:])
         return (0, scripts.drill(jobs)) if jobs else (2, b'')
-    if len(words) != 1 or words[0] not in COMMANDS:
+    steps = sliced_steps(words)
+    if not steps and (len(words) != 1 or words[0] not in COMMANDS):
         return 2, b''
     if len(data) > INPUT:
         return 6, b''
     try:
-        return 0, COMMANDS[words[0]](data)
+        return 0, scripts.sliced(scripts.read_script(data), steps) if steps else COMMANDS[words[0]](data)
     except Refused as refused:
         return 3, b'refused %s\n' % str(refused).encode()
+
+def sliced_steps(words):
+    """How many steps a slice has; 0 where these aren't the words `sliced N`."""
+    good = len(words) == 2 and words[0] == 'sliced' and re.fullmatch('[1-9][0-9]{0,9}', words[1], re.ASCII)
+    return int(words[1]) if good and int(words[1]) <= 1000000000 else 0
 
 def drill_jobs(words):
     """How many jobs a drill has; 0 where these aren't two numbers within their limits."""

@@ -5,9 +5,10 @@ import re
 import generate_codes
 import generate_scripts
 import generate_sources
+import generate_tenants
 from generate_draw import Draw
 
-# Images of paused jobs and scripts of tenants will be families; type parameters belong into generate_sources.Writer.
+# Images of paused jobs will be a family; type parameters belong into generate_sources.Writer.
 FAMILIES = {                            # the command, and what makes an input
     'sources': ('compile', generate_sources.source),
     'codes': ('verify', generate_codes.code),
@@ -17,6 +18,7 @@ FAMILIES = {                            # the command, and what makes an input
     'arguments': ('serve', generate_scripts.arguments),
     'scripts': ('serve', generate_scripts.script),
     'faults': ('serve', generate_scripts.script),               # scripts whose reports are altered by tools/compare
+    'tenants': ('tenants', generate_tenants.script),
     'drills': (None, generate_scripts.drill),
 }
 
@@ -39,19 +41,29 @@ def kind_of_line(words):
         return 'program accepted' if words[2] == 'accepted' else kind_of_cause(words[3:])
     return 'job ' + ' '.join(words[2:3 + (words[2] == 'refused')]) if words[:1] == ['job'] else ''
 
+def kind_of_reply(words):
+    """The kind of a line that tenants are told, or ''."""
+    if words[:1] in ([], ['program']):
+        return kind_of_line(words)
+    return 'tenant ' + ' '.join(words[:1] + words[3:4] * (words[0] in ('refused', 'finished')))
+
 def kinds_of(words, status, output):
     """The kinds of an answer: of a report those of its lines, each once."""
     told = output.decode('latin-1')
-    if status or words != ['serve']:
+    if status or words not in (['serve'], ['tenants']):
         done = 'status %d' % status if status else 'done ' + words[0]
         return [kind_of_cause(told.split()[1:]) if status == 3 else done]
-    return sorted({kind_of_line(line.split()) for line in told.split('\n')} - {''})
+    kind_of = kind_of_line if words == ['serve'] else kind_of_reply
+    return sorted({kind_of(line.split()) for line in told.split('\n')} - {''})
 
 # The family that has to meet the causes of a section of docs/REFUSALS.md; those of HOMES are another one's.
 SECTIONS = {'Scripts': 'scripts', 'Jobs': 'scripts', 'Bundles': 'certificates', **dict.fromkeys(
     ('Tokens', 'Grammar', 'Types', 'The rule of use', 'Size of code', 'Certificates'), 'sources')}
 HOMES = {'code': 'codes', 'bundle': 'bundles', 'job refused argument': 'arguments', 'job refused long': 'arguments'}
-STATUSES = {'drills': ['done drill', 'status 2'], 'scripts': ['status 6']}
+STATUSES = {'drills': ['done drill', 'status 2'], 'scripts': ['status 6'], 'tenants': [
+    'script line', 'script count', 'script repeat', 'script tenant', 'tenant end'] + ['tenant ' + reply for reply in (
+        'held', 'refused no-program', 'refused program-refused', 'refused no-entry', 'refused argument', 'over', 'full',
+        'started', 'absent', 'finished done', 'finished fuel', 'finished trap')]}
 
 def wanted(family):
     """The kinds that a family has to meet."""

@@ -120,6 +120,13 @@ class Paused:
             told, self.steps = self.run.advance(), self.steps + 1
         return told
 
+    def slice(self, steps):
+        """So many steps, and as many more as it takes until nothing is lent. The outcome, where the run is over."""
+        told = self.go(self.steps + steps)
+        while told is None and any(self.lenders()):
+            told = self.go(self.steps + 1)
+        return told
+
     def frames(self):
         """Function, block, place and bound locals, from the oldest frame on."""
         run = self.run

@@ -7,6 +7,7 @@ from functools import lru_cache
 import certificates
 import compiler
 import grail
+import images
 import inference
 import language
 import machine
@@ -48,13 +49,16 @@ def read_script(text):
         if what == 'job':
             entries.append(Job(name, found[3].decode(), found[4].decode(), fuel, found[6] or b''))
         else:
-            end = lines.index(b'.', at + 1, -1) if b'.' in lines[at + 1:-1] else len(lines) - 1
-            ask(end < len(lines) - 1, end, 'line')
-            body = b''.join(each + b'\n' for each in lines[at + 1:end])
+            at, body = program_body(lines, at)
             entries.append(ProgramEntry(name, found[3] == b'camelot', body))
-            at = end
         at += 1
     return Script(arena, workers, entries)
+
+def program_body(lines, at):
+    """The line that ends the program behind this one, and the text between them."""
+    end = lines.index(b'.', at + 1, -1) if b'.' in lines[at + 1:-1] else len(lines) - 1
+    ask(end < len(lines) - 1, end, 'line')
+    return end, b''.join(each + b'\n' for each in lines[at + 1:end])
 
 def line(lines, at, *forms):
     ask(at < len(lines) - 1, at, 'line')
@@ -213,36 +217,47 @@ class Program:
         return (value_text(outcome[1], self.names), *outcome[2:]) if outcome[0] == 'done' else outcome
 
 # **Why a job is refused.**
-def job_end(job, programs, arena):
-    """What is told of a job behind its name, and the size of its lease or None. A program that is refused is None."""
-    try:
+class Call:
+    """What a job asks for; else why it is refused. A program that is refused is None."""
+
+    def __init__(self, job, programs):
         if job.program not in programs:
             raise Refused('no-program')
-        program = programs[job.program]
-        if program is None:
+        self.program, self.fuel = programs[job.program], job.fuel
+        if self.program is None:
             raise Refused('program-refused')
-        if job.entry not in program.functions:
+        if job.entry not in self.program.functions:
             raise Refused('no-entry')
-        function = program.functions[job.entry]
-        read = Values(program.code.types, [kind for kind, _ in program.code.funcs[function].params], job.args)
+        self.function, code = self.program.functions[job.entry], self.program.code
+        read = Values(code.types, [kind for kind, _ in code.funcs[self.function].params], job.args)
         if read.nodes > NODES:
             raise Refused('long items %d' % read.nodes)
+        self.values = read.values
+        self.lease = certificates.lease(code, self.program.certificate, self.function, self.values)
+
+    def end(self):
+        """What is told of its run behind the job's name."""
+        end, *counts = self.program.run(self.function, self.values, self.fuel, self.lease)
+        if end == 'done':
+            told = 'done %s calls %d peak %d' % (value_text(counts[0], self.program.names), *counts[1:3])
+        else:
+            told = '%s peak %d' % ('fuel %d' % self.fuel if end == 'fuel' else end, counts[0])
+        return '%s bound %d' % (told, certificates.bound(self.program.certificate, self.function, self.values))
+
+def job_end(job, programs, arena):
+    """What is told of a job behind its name, and the size of its lease or None."""
+    try:
+        call = Call(job, programs)
     except Refused as refused:
         return 'refused %s' % refused, None
-    lease = certificates.lease(program.code, program.certificate, function, read.values)
-    if lease > arena:
-        return 'too-large needs %d arena %d' % (lease, arena), None
-    end, *counts = program.run(function, read.values, job.fuel, lease)
-    if end == 'done':
-        told = 'done %s calls %d peak %d' % (value_text(counts[0], program.names), *counts[1:3])
-    else:
-        told = '%s peak %d' % ('fuel %d' % job.fuel if end == 'fuel' else end, counts[0])
-    return '%s bound %d' % (told, certificates.bound(program.certificate, function, read.values)), lease
+    if call.lease > arena:
+        return 'too-large needs %d arena %d' % (call.lease, arena), None
+    return call.end(), call.lease
 
-def served(script):
-    """The lines of programs and jobs, and the leases as (job's name, size)."""
-    programs, lines, leases = {}, [], []
-    for entry in script.entries:
+def programs_of(entries):
+    """The programs by their names, and their lines."""
+    programs, lines = {}, []
+    for entry in entries:
         if type(entry) is ProgramEntry:
             try:
                 programs[entry.name] = Program(entry.camelot, entry.text)
@@ -251,12 +266,38 @@ def served(script):
                 programs[entry.name] = None
                 told = 'refused %s' % refused
             lines.append('program %s %s' % (entry.name, told))
+    return programs, lines
+
+def served(script):
+    """The lines of programs and jobs, and the leases as (job's name, size)."""
+    programs, lines = programs_of(script.entries)
+    leases = []
     for entry in script.entries:
         if type(entry) is Job:
             told, lease = job_end(entry, programs, script.arena)
             lines.append('job %s %s' % (entry.name, told))
             leases += [(entry.name, lease)] if lease else []
     return lines, leases
+
+def slices_of(script, steps):
+    """In how many slices of so many steps all jobs run that run. Pauses change nothing, and aren't made."""
+    programs, number = programs_of(script.entries)[0], 0
+    for entry in script.entries:
+        if type(entry) is Job:
+            try:
+                call = Call(entry, programs)
+            except Refused:
+                continue
+            if call.lease <= script.arena:
+                run = images.loaded(call.program.code, call.function, call.values, call.fuel, call.lease)
+                number += 1
+                while run.slice(steps) is None:
+                    number += 1
+    return number
+
+def sliced(script, steps):
+    lines = served(script)[0] + ['slices %d' % slices_of(script, steps), 'end free %d' % script.arena]
+    return ''.join(each + '\n' for each in lines).encode()
 
 def report(script):
     """The report with the journal of one worker."""

@@ -4,7 +4,7 @@ use camelot_host::Status;
 use std::io;
 
 /// The commands that read standard input, with what each reads and does.
-const READING: [(&str, &str, &str); 4] = [
+const READING: [(&str, &str, &str); 5] = [
     (
         "serve",
         "SCRIPT",
@@ -20,6 +20,11 @@ const READING: [(&str, &str, &str); 4] = [
         "migrate",
         "BUNDLE",
         "writes the code of a bundle in the newest format",
+    ),
+    (
+        "tenants",
+        "SCRIPT",
+        "tells the tenants of a script what their jobs come to",
     ),
 ];
 
@@ -77,7 +82,7 @@ fn say_reading(rt: &HostRuntime, command: &str, further: &[String]) -> io::Resul
         }
     }
     eprintln!(rt;
-        "sillwaroc: '{}' is no command; there are serve, compile, verify, migrate and drill N W",
+        "sillwaroc: '{}' is no command; there are serve, compile, verify, migrate, tenants and drill N W",
         command.escape_debug()
     )
 }

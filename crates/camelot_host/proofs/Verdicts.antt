@@ -14,9 +14,25 @@ use Rattle.camelot_compiler.specs.Compiled as compiler
 use Rattle.licence.specs.Licensed.{Licensed}
 use Rattle.bundle_licence.specs.Bundled.{HasLicence, IsRefusedFor}
 use Rattle.script_service.specs.Service.{IsScriptFault}
-use Rattle.camelot_host.specs.Commands.{Command, Serve, Compile, Verify, Migrate, Drill}
+use Rattle.tenant_script.specs.Tenants.{TenantScript}
+use Rattle.tenant_script.specs.Answers.{HasCause}
+use Rattle.tenant_script.specs.Text as tenants
+use Rattle.tenant_script.specs.declared.fault.TenantFault.{TenantFault}
+use Rattle.tenant_script.specs.declared.fault.TenantFault.TheVariants as tenant_fault
+use Rattle.camelot_host.specs.Commands.{Command, Serve, Compile, Verify, Migrate, Tenants, Drill}
 use Rattle.camelot_host.specs.Due.{Done, Refused, IsDue, IsMigrationOf, IsUnmigratedFor}
 use Rattle.camelot_host.proofs.Telling.{bound_told}
+
+-- a text that is a script of tenants has no fault of one
+pub no_tenant_fault : ((text : List ℕ) (s : TenantScript) (n : ℕ) → tenants.IsTenantsText text s → tenants.IsLineFault text n → ⊥)
+    → ((text : List ℕ) (s : TenantScript) (n : ℕ) → tenants.IsTenantsText text s → tenants.IsCountFault text n → ⊥)
+    → ((text : List ℕ) (s : TenantScript) (n : ℕ) → tenants.IsTenantsText text s → tenants.IsRepeatFault text n → ⊥)
+    → ((text : List ℕ) (s : TenantScript) (n : ℕ) → tenants.IsTenantsText text s → tenants.IsTenantFault text n → ⊥)
+    → (text : List ℕ) (s : TenantScript) → tenants.IsTenantsText text s → (x : TenantFault) → HasCause text x → ⊥
+no_tenant_fault line count repeat tenant text s h (tenant_fault.Line n) k = line text s n h k
+no_tenant_fault line count repeat tenant text s h (tenant_fault.Count n) k = count text s n h k
+no_tenant_fault line count repeat tenant text s h (tenant_fault.Repeat n) k = repeat text s n h k
+no_tenant_fault line count repeat tenant text s h (tenant_fault.Tenant n) k = tenant text s n h k
 
 pub one_verdict : ((text : List ℕ) (s : Script) (n : ℕ) → IsScriptText text s → IsLineFault text n → ⊥)
     → ((text : List ℕ) (s : Script) (n : ℕ) → IsScriptText text s → IsCountFault text n → ⊥)
@@ -24,17 +40,19 @@ pub one_verdict : ((text : List ℕ) (s : Script) (n : ℕ) → IsScriptText tex
     → ((text : List ℕ) (first second : Compiled) → IsCompiled text first → IsCompiled text second → first ≡ second)
     → ((text : List ℕ) (l : Licensed) (c : Cause) → HasLicence text l → IsRefusedFor text c → ⊥)
     → ((input output : List ℕ) → IsMigrationOf input output → (c : Cause) → IsUnmigratedFor input c → ⊥)
+    → ((text : List ℕ) (s : TenantScript) → tenants.IsTenantsText text s → (x : TenantFault) → HasCause text x → ⊥)
     → (command : Command) (input output other : List ℕ) → IsDue command input Done output → IsDue command input Refused other → ⊥
-one_verdict line count repeat one apart migrating Serve input output other done refused = by_fault refused.fault refused.cause
+one_verdict line count repeat one apart migrating shared Serve input output other done refused = by_fault refused.fault refused.cause
   where
     by_fault : (x : ScriptFault) → IsScriptFault input x → ⊥
     by_fault (fault.Line n) h = line input done.service.script n done.served.text h
     by_fault (fault.Count n) h = count input done.service.script n done.served.text h
     by_fault (fault.Repeat n) h = repeat input done.service.script n done.served.text h
-one_verdict line count repeat one apart migrating Compile input output other done refused = let e : Bundled done.code done.cert ≡ compiler.Refused refused.cause = one input (Bundled done.code done.cert) (compiler.Refused refused.cause) done.compiled refused.compiled in absurd cc
-one_verdict line count repeat one apart migrating Verify input output other done refused = apart input done.licence refused.cause done.has refused.refused
-one_verdict line count repeat one apart migrating Migrate input output other done refused = migrating input output done refused.cause refused.refused
-one_verdict line count repeat one apart migrating (Drill jobs workers) input output other done refused = refused
+one_verdict line count repeat one apart migrating shared Compile input output other done refused = let e : Bundled done.code done.cert ≡ compiler.Refused refused.cause = one input (Bundled done.code done.cert) (compiler.Refused refused.cause) done.compiled refused.compiled in absurd cc
+one_verdict line count repeat one apart migrating shared Verify input output other done refused = apart input done.licence refused.cause done.has refused.refused
+one_verdict line count repeat one apart migrating shared Migrate input output other done refused = migrating input output done refused.cause refused.refused
+one_verdict line count repeat one apart migrating shared Tenants input output other done refused = shared input done.served.script done.is_served.text refused.fault refused.cause
+one_verdict line count repeat one apart migrating shared (Drill jobs workers) input output other done refused = refused
 
 -- ---- what is told of a source
 

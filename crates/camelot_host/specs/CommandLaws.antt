@@ -5,7 +5,7 @@ use Rattle.std.specs.Prelude.{codes, decimal, if◌then◌else◌}
 use Rattle.std.specs.Str.{bytes_eq}
 use Rattle.std.specs.Str.Parse.{digits_value}
 use Rattle.std.proofs.lemmas.Fmt.{decimal_is_IsNumeral}
-use Rattle.camelot_host.specs.Commands.{Command, Serve, Compile, Verify, Migrate, Drill, IsCommand, IsNoCommand}
+use Rattle.camelot_host.specs.Commands.{Command, Serve, Compile, Verify, Migrate, Tenants, Drill, IsCommand, IsNoCommand}
 
 -- the number in the first word, and in the second
 abbrev pub first_number : List (List ℕ) → ℕ
@@ -22,6 +22,7 @@ names rest = (codes "serve", Serve)
     ∷ (codes "compile", Compile)
     ∷ (codes "verify", Verify)
     ∷ (codes "migrate", Migrate)
+    ∷ (codes "tenants", Tenants)
     ∷ (codes "drill", Drill (first_number rest) (second_number rest))
     ∷ []
 
@@ -49,6 +50,7 @@ spelled_is words Serve h = ap spelled h
 spelled_is words Compile h = ap spelled h
 spelled_is words Verify h = ap spelled h
 spelled_is words Migrate h = ap spelled h
+spelled_is words Tenants h = ap spelled h
 spelled_is words (Drill jobs workers) h =
     ap spelled h.are ∙ (λ i. Some (Drill (in_decimal jobs 4096 (omega arith) h.few_jobs.most i) (in_decimal workers 16 (omega arith) h.few_workers.most i)))
 

@@ -13,6 +13,8 @@ pub data Command : Type 0 where
   Verify : Command
   -- to write a bundle again, its code in the second format
   Migrate : Command
+  -- to tell the tenants of a script what their jobs come to
+  Tenants : Command
   -- to serve the drill's script with so many jobs, on so many workers
   Drill : (jobs workers : ℕ) → Command
 
@@ -28,6 +30,7 @@ IsCommand words Serve = words ≡ codes "serve" ∷ []
 IsCommand words Compile = words ≡ codes "compile" ∷ []
 IsCommand words Verify = words ≡ codes "verify" ∷ []
 IsCommand words Migrate = words ≡ codes "migrate" ∷ []
+IsCommand words Tenants = words ≡ codes "tenants" ∷ []
 IsCommand words (Drill jobs workers) = IsDrill words jobs workers
 
 -- the words spell no command
@@ -40,6 +43,7 @@ reads Serve = true
 reads Compile = true
 reads Verify = true
 reads Migrate = true
+reads Tenants = true
 reads (Drill jobs workers) = false
 
 -- this is the command's input, where the source tells the bytes that it has left

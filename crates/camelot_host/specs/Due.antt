@@ -15,7 +15,8 @@ use Rattle.licence.specs.Licensed.{Licensed}
 use Rattle.bundle_licence.specs.Bundled.{IsTextOf, HasLicence, IsRefusedFor}
 use Rattle.licence_text.specs.Texts.{bounds_text}
 use Rattle.script_service.specs.Service.{IsReport, IsRefusal, IsSummary}
-use Rattle.camelot_host.specs.Commands.{Command, Serve, Compile, Verify, Migrate, Drill}
+use Rattle.tenant_service.specs.Service as tenants
+use Rattle.camelot_host.specs.Commands.{Command, Serve, Compile, Verify, Migrate, Tenants, Drill}
 
 -- whether a command did what it was asked for, or refused its input
 pub data Verdict : Type 0 where
@@ -98,5 +99,7 @@ IsDue Verify input Done output = IsBoundsOf input output
 IsDue Verify input Refused output = IsUnlicensed input output
 IsDue Migrate input Done output = IsMigrationOf input output
 IsDue Migrate input Refused output = IsUnmigrated input output
+IsDue Tenants input Done output = tenants.IsReplied input output
+IsDue Tenants input Refused output = tenants.IsRefusal input output
 IsDue (Drill jobs workers) input Done output = IsSummary jobs workers output
 IsDue (Drill jobs workers) input Refused output = ⊥

@@ -21,6 +21,7 @@ command_named command.Serve = plain.Serve
 command_named command.Compile = plain.Compile
 command_named command.Verify = plain.Verify
 command_named command.Migrate = plain.Migrate
+command_named command.Tenants = plain.Tenants
 command_named (command.Drill jobs workers) = plain.Drill jobs workers
 
 -- what the words of a command keep of its numbers

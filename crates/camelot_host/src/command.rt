@@ -16,6 +16,8 @@ pub(crate) enum Command {
     Verify,
     /// To write a bundle again, its code in the second format.
     Migrate,
+    /// To tell the tenants of a script what their jobs come to.
+    Tenants,
     /// To serve the drill's script.
     Drill { jobs: u32, workers: u32 },
 }
@@ -29,6 +31,7 @@ pub(crate) fn reads(command: Command) -> bool
         Command::Compile => true,
         Command::Verify => true,
         Command::Migrate => true,
+        Command::Tenants => true,
         Command::Drill { .. } => false,
     }
 }
@@ -133,6 +136,9 @@ fn command_with(name: &str, rest: &[String]) -> Option<Command>
     }
     if name == "migrate" {
         return alone(rest, Command::Migrate);
+    }
+    if name == "tenants" {
+        return alone(rest, Command::Tenants);
     }
     if name == "drill" {
         return drill(rest);

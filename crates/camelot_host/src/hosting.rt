@@ -14,6 +14,7 @@ use super::serve::serve;
 use super::served::Served;
 use super::sources::compile_source;
 use super::status::Status;
+use super::tenants::serve_shared;
 use super::verify::verify_bundle;
 use cell_span::Span;
 use host_io::{ReadStop, Sink, Source, read_all, write_all};
@@ -49,6 +50,10 @@ fn work<R: Threads + Wait + Sync, G: Gate + Sync>(
         }),
         Command::Migrate => Ok(Work {
             reply: migrate_bundle(alloc, &input)?,
+            left: None,
+        }),
+        Command::Tenants => Ok(Work {
+            reply: serve_shared(rt, alloc, &input)?,
             left: None,
         }),
         Command::Drill { jobs, workers } => Ok(Work {
@@ -233,6 +238,10 @@ pub fn host_gated<R: Threads + Wait + Sync, S: Source, K: Sink, G: Gate + Sync>(
 ///   with a line that tells the cause.
 /// - `migrate` reads a bundle and writes it again, its code in the second format and its certificate as it was. A text
 ///   that is no bundle, and one whose bytes of code spell none, is refused with a line that tells the cause.
+/// - `tenants` reads a script of programs, of tenants with their budgets, and of the starts and finishes of their jobs. It
+///   tells each program's line, a reply to each start and each finish in order, and what is free of each budget at the
+///   end. What a tenant is told is what its own lines come to. An input that is no such script is refused with its
+///   first wrong line.
 /// - `drill N W` reads nothing. It serves a script that it makes, with N jobs, from 1 to 4,096, on W workers, from 1 to
 ///   16, and writes one line: how many jobs ended how, and the sums of their calls and peaks.
 ///

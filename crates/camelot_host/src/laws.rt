@@ -26,6 +26,7 @@ use grail_bundle::laws as texts_of_bundles;
 use grail_code::laws::one_meaning;
 use job_script::laws::law_of_scripts;
 use script_service::laws::law_of_left_arenas;
+use tenant_script::laws::law_of_tenant_scripts;
 
 /// Words spell at most one command.
 #[tactic(auto, using(crate::specs::CommandLaws::one_command))]
@@ -45,6 +46,7 @@ pub fn one_verdict()
     texts_of_bundles::law_of_bundles();
     texts_of_bundles::law_of_faults();
     one_meaning();
+    law_of_tenant_scripts();
 }
 
 /// What `compile` tells of a source, done or refused, in the words of the verifier and of certificates.

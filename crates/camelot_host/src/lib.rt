@@ -12,6 +12,7 @@ mod serve;
 mod served;
 mod sources;
 mod status;
+mod tenants;
 mod verify;
 
 pub use camelot_compiler::compile;

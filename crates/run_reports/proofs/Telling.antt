@@ -62,6 +62,11 @@ same_text licences (line.Refused cause) (Ended types o f b) h = absurd h
 same_text licences (line.Refused cause) (TooLarge n a) h = absurd h
 same_text licences (line.Refused cause) (Refused c) h = sym (λ i. told_text (Refused (h i)))
 
+-- so what is written of a line is what it tells
+pub told_is : (licences : List Licensed) (l : DeclaredLine Ending) (t : JobLine) (old new : List ℕ) → new ≡ old ++ told_text (line_of licences l) → IsLine EndsWith licences l t
+    → new ≡ old ++ told_text t
+told_is licences l t old new is h = is ∙ ap (λ text. old ++ text) (same_text licences l t h)
+
 -- and so have all lines
 same_lines : (licences : List Licensed) (entries : List Entry) (ls : List (DeclaredLine Ending)) (ts : List JobLine) → AreLines EndsWith licences ls ts
     → job_lines entries (map (line_of licences) ls) ≡ job_lines entries ts
@@ -74,6 +79,14 @@ same_lines licences (AJob j ∷ entries) (l ∷ ls) (t ∷ ts) h =
     let own = same_text licences l t h.0 in
     let more = same_lines licences entries ls ts h.1 in
     λ i. ((codes "job " ++ j.name) ++ own i ++ codes "\n") ++ more i
+
+-- What is written of programs and jobs is what an outcome tells of them.
+pub head_is : (licences : List Licensed) (o : Outcome Ending) (told : Told) (entries items : List Entry) (jobs : List (DeclaredLine Ending)) (n p : List ℕ) → items ≡ entries → jobs ≡ o.jobs.items
+    → p ≡ n ++ head_text items o.programs.now (map (line_of licences) jobs) → IsTold EndsWith licences o told → p ≡ n ++ head_text entries told.programs told.jobs
+head_is licences o told entries items jobs n p same alike is h =
+    is ∙ ap (λ (ls : List (DeclaredLine Ending)). n ++ head_text items o.programs.now (map (line_of licences) ls)) alike
+    ∙ (λ i. n ++ (program_lines items (sym h.programs i) ++ same_lines licences items o.jobs.items told.jobs h.jobs i))
+    ∙ (λ i. n ++ head_text (same i) told.programs told.jobs)
 
 -- The text that is written part by part of what an outcome has is the report of what it tells.
 pub report_is : (licences : List Licensed) (o : Outcome Ending) (told : Told) (entries items : List Entry) (jobs : List (DeclaredLine Ending)) (n p q output : List ℕ) → items ≡ entries

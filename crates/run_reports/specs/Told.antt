@@ -23,6 +23,19 @@ pub data JobLine : Type 0 where
   TooLarge : (needs arena : ℕ) → JobLine
   Refused : JobCause → JobLine
 
+-- a run that comes to something: no run of a typed program on fitting arguments is stuck
+abbrev pub IsMeant : plain.Outcome Value → Type 0
+IsMeant (plain.Done v calls peak low) = Unit {0}
+IsMeant (plain.Fuel calls peak) = Unit {0}
+IsMeant (plain.Deep peak) = Unit {0}
+IsMeant (plain.Trap peak) = Unit {0}
+IsMeant plain.Stuck = ⊥
+
+-- a line tells what has a meaning
+abbrev pub TellsMeaning : JobLine → Type 0
+TellsMeaning (Ended types o fuel bound) = IsMeant o
+TellsMeaning line = Unit {0}
+
 -- Of a script: each program and each job in order; the place among the script's entries of each job of the desk; the
 -- journal; and the free cells at the end.
 pub record Told : Type 0 where

@@ -2,10 +2,11 @@
 ghost use Rattle.std.specs.Prelude.{◌≡◌, ◌++◌, ℕ, List, slice_get, codes, decimal, OnOk};
 ghost use Rattle.lease_desk.specs.Journal.{job_of};
 ghost use Rattle.camelot_values.specs.Kinds.{constructor_name};
+ghost use Rattle.cell_machine.specs.Endings.{EndsWith};
 ghost use Rattle.value_text.specs.Text.{value_text};
 ghost use Rattle.run_reports.specs.Report.{ended_text, end_text, event_text, job_cause_text, job_text, program_text, told_text};
 ghost use Rattle.run_reports.specs.Lines.{line_of, outcome_of};
-ghost use Rattle.run_reports.specs.Told.{licence_types};
+ghost use Rattle.run_reports.specs.Told.{JobLine as Line, IsLine, licence_types};
 
 use super::pieces::{push_number, push_text};
 use crate::outcome::{JobCause, JobLine, ProgramLine};
@@ -43,13 +44,14 @@ fn push_refused(out: &mut Vec<u8>, name: &[u8], cause: &[u8]) -> Result<(), Allo
     out.extend_from_slice(b"\n")
 }
 
-/// Writes the line of a program.
-pub(crate) fn push_program(
+/// Writes the line of a program at the end. `AllocError` where memory runs out.
+pub fn push_program(
     alloc: Global,
     out: &mut Vec<u8>,
     name: &[u8],
     line: &ProgramLine,
 ) -> Result<(), AllocError>
+    // It stands behind what was there.
     ensures { OnOk result (out.new.items ≡ out.old.items ++ program_text name.now line.now) }
 {
     match line {
@@ -172,9 +174,10 @@ fn push_ended(
     }
 }
 
-// Why a job doesn't run.
+/// Writes why a job doesn't run at the end. `AllocError` where memory runs out.
 #[tactic(auto, unfolding(crate::specs::Report::job_cause_text))]
-fn push_cause(out: &mut Vec<u8>, cause: JobCause) -> Result<(), AllocError>
+pub fn push_cause(out: &mut Vec<u8>, cause: JobCause) -> Result<(), AllocError>
+    // It stands behind what was there.
     ensures { OnOk result (out.new.items ≡ out.old.items ++ job_cause_text cause) }
 {
     match cause {
@@ -221,6 +224,22 @@ fn push_told(
         ),
         JobLine::Refused { cause } => push_unfit(out, cause),
     }
+}
+
+/// Writes what is told of a job at the end, as it stands behind the job's name. A value has the types of the licence of
+/// the line's number. `room` is memory that one line leaves to the next. `AllocError` where memory runs out.
+pub fn push_line(
+    alloc: Global,
+    out: &mut Vec<u8>,
+    room: &mut Vec<u8>,
+    licences: &[Licence],
+    line: &JobLine<'_, Ending>,
+) -> Result<(), AllocError>
+    // It is the text of whatever the line tells, and stands behind what was there.
+    ensures { (told : Line) → IsLine EndsWith licences.now line.now told → OnOk result (out.new.items ≡ out.old.items ++ told_text told) }
+{
+    push_told(alloc, out, room, licences, line)?;
+    Ok(())
 }
 
 /// Writes the line of the job of this name. `room` is memory that one line leaves to the next.
@@ -297,9 +316,10 @@ pub(crate) fn push_event(out: &mut Vec<u8>, name: &[u8], event: &Event) -> Resul
     }
 }
 
-/// Writes the last line of a report, with the free cells at the end.
+/// Writes the last line of a report, with the free cells at the end. `AllocError` where memory runs out.
 #[tactic(auto, using(crate::proofs::Joining::two))]
-pub(crate) fn push_end(out: &mut Vec<u8>, free: u64) -> Result<(), AllocError>
+pub fn push_end(out: &mut Vec<u8>, free: u64) -> Result<(), AllocError>
+    // It stands behind what was there.
     ensures { OnOk result (out.new.items ≡ out.old.items ++ end_text free) }
 {
     push_number(out, b"end free ", free)?;

@@ -5,10 +5,12 @@ use itoa::Buffer;
 use std::alloc::AllocError;
 use value_text::push_small;
 
-// Writes a label and a text at the end. It stands in place, where the label's length is known.
+/// Writes a label and a text at the end. `AllocError` where memory runs out. It stands in place, where the label's length
+/// is known.
 #[inline(always)]
 #[tactic(auto, using(crate::proofs::Joining::two))]
-pub(crate) fn push_text(out: &mut Vec<u8>, label: &[u8], text: &[u8]) -> Result<(), AllocError>
+pub fn push_text(out: &mut Vec<u8>, label: &[u8], text: &[u8]) -> Result<(), AllocError>
+    // Both stand behind what was there.
     ensures { OnOk result (out.new.items ≡ out.old.items ++ (label.now ++ text.now)) }
 {
     out.extend_from_slice(label)?;
@@ -26,10 +28,12 @@ fn push_decimal(out: &mut Vec<u8>, number: u64) -> Result<(), AllocError>
     out.extend_from_slice(Buffer::new().format(number).as_bytes())
 }
 
-// Writes a label and a number in decimal at the end. It stands in place, as `push_text` does.
+/// Writes a label and a number in decimal at the end. `AllocError` where memory runs out. It stands in place, as
+/// [`push_text`] does.
 #[inline(always)]
 #[tactic(auto, using(crate::proofs::Joining::two))]
-pub(crate) fn push_number(out: &mut Vec<u8>, label: &[u8], number: u64) -> Result<(), AllocError>
+pub fn push_number(out: &mut Vec<u8>, label: &[u8], number: u64) -> Result<(), AllocError>
+    // Both stand behind what was there.
     ensures { OnOk result (out.new.items ≡ out.old.items ++ (label.now ++ decimal number)) }
 {
     out.extend_from_slice(label)?;
@@ -37,8 +41,9 @@ pub(crate) fn push_number(out: &mut Vec<u8>, label: &[u8], number: u64) -> Resul
     Ok(())
 }
 
-// Writes a label and a sum in decimal at the end.
-pub(crate) fn push_wide(out: &mut Vec<u8>, label: &[u8], number: u128) -> Result<(), AllocError>
+/// Writes a label and a sum in decimal at the end. `AllocError` where memory runs out.
+pub fn push_wide(out: &mut Vec<u8>, label: &[u8], number: u128) -> Result<(), AllocError>
+    // Both stand behind what was there.
     ensures { OnOk result (out.new.items ≡ out.old.items ++ (label.now ++ decimal number)) }
 {
     push_text(out, label, Buffer::new().format(number).as_bytes())

@@ -165,6 +165,30 @@ fn push_events(
     Ok(())
 }
 
+/// Writes a line for each program and then one for each job at the end, in the script's order. Types of values are those
+/// of the licences by number. `AllocError` where memory runs out.
+pub fn push_answers(
+    alloc: Global,
+    out: &mut Vec<u8>,
+    script: &Script<'_>,
+    licences: &[Licence],
+    outcome: &Outcome<'_, Ending>,
+) -> Result<(), AllocError>
+    // They are the lines of whatever this tells, with these licences, and stand behind what was there.
+    ensures { (told : Told) → IsTold EndsWith licences.now outcome.now told
+        → OnOk result (out.new.items ≡ out.old.items ++ head_text (script_of script.now).items told.programs told.jobs) }
+{
+    push_head(
+        alloc,
+        out,
+        &script.items,
+        licences,
+        outcome.programs,
+        &outcome.jobs,
+    )?;
+    Ok(())
+}
+
 // Room for a job's line and those of its lease, so that the text of many jobs is seldom moved.
 const LINE_ROOM: usize = 128;
 

@@ -1,4 +1,4 @@
--- Private: words for functions of this crate.
+-- Cited by contracts.
 -- What is answered of the programs of entries, in order, and what is then known of them.
 use Rattle.std.specs.Prelude.{◌≡◌, ℕ, suc, ◌≤◌, List, [], ◌∷◌, ◌++◌, length, map, Option, Result, Ok, Err}
 use Rattle.licence.specs.Licensed.{Licensed}
@@ -6,7 +6,7 @@ use Rattle.job_script.specs.Scripts.{Program, Entry, AProgram, AJob}
 use Rattle.cause_texts.specs.declared.cause.Cause.{Cause}
 use Rattle.run_reports.specs.declared.outcome.ProgramLine.{ProgramLine}
 use Rattle.script_plans.specs.declared.answering.Answered.{Answered}
-use Rattle.script_plans.specs.declared.licensing.Programs.{Programs}
+use Rattle.script_plans.specs.declared.licensing.LicensedPrograms.{LicensedPrograms}
 use Rattle.script_plans.specs.declared.rows.Known.{Known}
 use Rattle.script_plans.specs.Programs.{ProgramText, Meaning, IsLicenceOf, IsRefusedFor, text_in, program_of, program_named}
 use Rattle.script_plans.specs.Fates.{IsProgramLine}
@@ -55,7 +55,7 @@ pub record Licensing : Type 0 where
   pub licences : List Licensed
   pub lines : List ProgramLine
 
-abbrev pub licensing_of : Programs → Licensing
+abbrev pub licensing_of : LicensedPrograms → Licensing
 licensing_of p = record { rows = map row_of p.rows.items; licences = p.licences.items; lines = p.lines.items }
 
 -- One program more has its line, its row, and a licence where it isn't refused.

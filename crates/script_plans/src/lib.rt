@@ -12,6 +12,7 @@ mod types;
 mod wanting;
 
 pub use calling::call;
+pub use licensing::{LicensedPrograms, license_all};
 pub use planning::plan_script;
 pub use rows::{Known, Row};
 pub use types::{JobPlan, Plans};

@@ -16,18 +16,21 @@ use std::alloc::{AllocError, Global};
 use std::thread::Threads;
 use value_text::Inhabited;
 
-/// The programs of a script so far: their rows, the licences of those that aren't refused, and their lines.
+/// The programs of a script, in its order.
 #[derive(Drop)]
-pub(crate) struct Programs<'a> {
-    pub(crate) rows: Vec<Row<'a>>,
-    pub(crate) licences: Vec<Licence>,
-    pub(crate) lines: Vec<ProgramLine>,
+pub struct LicensedPrograms<'a> {
+    /// What is known of each, by its name.
+    pub rows: Vec<Row<'a>>,
+    /// The licences of those that aren't refused.
+    pub licences: Vec<Licence>,
+    /// One line for each.
+    pub lines: Vec<ProgramLine>,
 }
 
 // Adds a program that has a licence.
 #[tactic(auto, using(crate::proofs::Programs::accepted))]
 fn accept<'a>(
-    programs: &mut Programs<'a>,
+    programs: &mut LicensedPrograms<'a>,
     name: &'a [u8],
     language: Language,
     text: &'a [u8],
@@ -56,7 +59,7 @@ fn accept<'a>(
 // Adds a program that is refused.
 #[tactic(auto, using(crate::proofs::Programs::refused))]
 fn refuse<'a>(
-    programs: &mut Programs<'a>,
+    programs: &mut LicensedPrograms<'a>,
     name: &'a [u8],
     language: Language,
     text: &'a [u8],
@@ -76,7 +79,7 @@ fn refuse<'a>(
 }
 
 // Adds a program, by what was answered of it.
-fn add_program<'a>(programs: &mut Programs<'a>, answered: Answered<'a>) -> Result<(), AllocError>
+fn add_program<'a>(programs: &mut LicensedPrograms<'a>, answered: Answered<'a>) -> Result<(), AllocError>
     requires answer { IsAnswer (text_in answered.language answered.text.now) answered.licence }
     requires few { length programs.old.licences.items < 4294967295 }
     ensures { OnOk result (IsProgramAdded answered.entry.name.now (text_in answered.entry.language answered.entry.text.now)
@@ -100,13 +103,13 @@ fn add_all<'a>(
     alloc: Global,
     entries: &[Entry<'a>],
     answers: Vec<Answered<'a>>,
-) -> Result<Programs<'a>, AllocError>
+) -> Result<LicensedPrograms<'a>, AllocError>
     requires answers { AreAnswered (map entry_of entries.now) answers.items }
     requires few { length (map entry_of entries.now) ≤ 4160 }
     ensures { IfOk result (λ p. AreLicensed (map entry_of entries.now) (licensing_of p)) }
 {
     let _ = entries;
-    let mut programs = Programs {
+    let mut programs = LicensedPrograms {
         rows: Vec::new(alloc),
         licences: Vec::new(alloc),
         lines: Vec::new(alloc),
@@ -117,15 +120,17 @@ fn add_all<'a>(
     Ok(programs)
 }
 
-/// All programs of these entries. Their licences are asked for by so many parts side by side.
-pub(crate) fn license_all<'a, R: Threads + Sync>(
+/// All programs of these entries, at most 4,160. Their licences are asked for, once each, by so many parts side by side;
+/// one part starts no thread. Each text has fewer than 2^32 bytes. `AllocError` where memory runs out.
+pub fn license_all<'a, R: Threads + Sync>(
     rt: &R,
     alloc: Global,
     entries: &[Entry<'a>],
     parts: usize,
-) -> Result<Programs<'a>, AllocError>
+) -> Result<LicensedPrograms<'a>, AllocError>
     requires short { AllByRecursion (EntryIsShort 4294967295) (map entry_of entries.now) }
     requires few { length (map entry_of entries.now) ≤ 4160 }
+    // Each program has its own line, and is known by its name.
     ensures { IfOk result (λ p. AreLicensed (map entry_of entries.now) (licensing_of p)) }
 {
     let answers = answer_programs(rt, alloc, entries, parts)?;

@@ -9,12 +9,11 @@ use Rattle.job_script.specs.Scripts.{Script}
 use Rattle.job_world.specs.Plans.{Planned, job_run}
 use Rattle.job_workers.specs.Ended.{AllEnded, HasEnding}
 use Rattle.run_reports.specs.declared.outcome.JobLine.{JobLine as DeclaredLine}
-use Rattle.run_reports.specs.Told.{AreLines, IsLine}
+use Rattle.run_reports.specs.Told.{AreLines, IsLine, IsMeant, TellsMeaning}
 use Rattle.script_plans.specs.declared.types.JobPlan.{JobPlan}
 use Rattle.script_plans.specs.declared.types.JobPlan.TheVariants as plan
 use Rattle.script_plans.specs.Lines.{ArePlanned, lines_of, planned_line, planned_lines, run_numbers}
 use Rattle.script_plans.specs.ScriptLaws.{numbers_below}
-use Rattle.script_service.specs.Service.{IsMeant, TellsMeaning}
 use Rattle.script_service.specs.Filed.{HasOwn}
 
 -- ---- the endings of plans

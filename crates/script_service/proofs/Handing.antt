@@ -28,7 +28,8 @@ use Rattle.lease_desk.specs.Journal.{IsLegal}
 use Rattle.script_service.specs.declared.counting.Tallied.{Tallied}
 use Rattle.script_plans.specs.Lines.{AreProgramLines, ArePlanned, planned_cells, sizes_of, all_left}
 use Rattle.script_plans.specs.ScriptLaws.{numbers_below}
-use Rattle.script_service.specs.Service.{TellsMeaning, IsReportIn, IsSummary, report_of, summary_of}
+use Rattle.run_reports.specs.Told.{TellsMeaning}
+use Rattle.script_service.specs.Service.{IsReportIn, IsSummary, report_of, summary_of}
 use Rattle.script_service.specs.Counting.{Counts}
 use Rattle.script_service.specs.Handed.{service_of, IsHanded, IsHandedFor, IsRefused}
 use Rattle.script_service.specs.Steps.{IsOf, serve_fault}

@@ -2,8 +2,6 @@
 -- What comes of an input, and what `serve` writes for it.
 use Rattle.std.specs.Prelude.{◌≡◌, ℕ, ◌++◌, List, slice_get, codes, decimal}
 use Rattle.std.specs.List.{AllByRecursion}
-use Rattle.camelot_values.specs.Value.{Value}
-use Rattle.camelot_values.specs.Outcome.{Outcome, Done, Fuel, Deep, Trap, Stuck}
 use Rattle.job_script.specs.Scripts.{Script}
 use Rattle.job_script.specs.Text.{IsScriptText}
 use Rattle.job_script.specs.Made.{made_script}
@@ -15,7 +13,7 @@ use Rattle.lease_desk.specs.Journal.{IsLegal}
 use Rattle.lease_desk.specs.Filing.{FiledCells, HoldsFiled}
 use Rattle.cell_span.specs.Range.{Range, IsWhole}
 use Rattle.run_reports.specs.declared.outcome.ProgramLine.{ProgramLine}
-use Rattle.run_reports.specs.Told.{JobLine, Ended, Told}
+use Rattle.run_reports.specs.Told.{TellsMeaning, Told}
 use Rattle.run_reports.specs.Report.{report_text}
 use Rattle.run_reports.specs.Summary.{summary_text}
 use Rattle.script_plans.specs.Fates.{Fate}
@@ -31,19 +29,6 @@ pub record Service : Type 0 where
   pub fates : List Fate
   pub journal : List Event
   pub arena : Range
-
--- a run that comes to something: no run of a typed program on fitting arguments is stuck
-abbrev pub IsMeant : Outcome Value → Type 0
-IsMeant (Done v calls peak low) = Unit {0}
-IsMeant (Fuel calls peak) = Unit {0}
-IsMeant (Deep peak) = Unit {0}
-IsMeant (Trap peak) = Unit {0}
-IsMeant Stuck = ⊥
-
--- a line tells what has a meaning
-abbrev pub TellsMeaning : JobLine → Type 0
-TellsMeaning (Ended types o fuel bound) = IsMeant o
-TellsMeaning line = Unit {0}
 
 -- the cells that the machine leaves in the lease of the desk's job of this number, by the fates
 abbrev pub cells_by : Service → FiledCells

@@ -1,0 +1,13 @@
+pub mod Joining
+pub mod Telling
+pub mod Licensing
+pub mod Numbering
+pub mod Stepping
+pub mod Going
+pub mod Freeing
+pub mod Serving
+pub mod OneRoom
+pub mod AllRooms
+pub mod Starting
+pub mod Finishing
+pub mod Closing
