@@ -57,6 +57,9 @@ fn say_usage(rt: &HostRuntime, words: &[String]) -> io::Result<()> {
     if command == "drill" {
         return say_drill(rt, further);
     }
+    if command == "sliced" {
+        return say_sliced(rt, further);
+    }
     say_reading(rt, command, further)
 }
 
@@ -71,10 +74,13 @@ fn say_forms(rt: &HostRuntime) -> io::Result<()> {
     for (command, input, does) in &READING {
         eprintln!(rt; "    sillwaroc {command} < {input}    {does}")?;
     }
+    eprintln!(rt;
+        "    sillwaroc sliced N < SCRIPT    runs the jobs of a script in slices of N steps, 1 to 1000000000"
+    )?;
     eprintln!(rt; "    sillwaroc drill N W    runs N jobs, 1 to 4096, by W workers, 1 to 16")
 }
 
-// What is wrong where the first word isn't `drill`: it is no command, or a word stands behind it.
+// What is wrong where the first word is neither `drill` nor `sliced`: it is no command, or a word stands behind it.
 fn say_reading(rt: &HostRuntime, command: &str, further: &[String]) -> io::Result<()> {
     for (name, _, _) in &READING {
         if *name == command {
@@ -82,7 +88,7 @@ fn say_reading(rt: &HostRuntime, command: &str, further: &[String]) -> io::Resul
         }
     }
     eprintln!(rt;
-        "sillwaroc: '{}' is no command; there are serve, compile, verify, migrate, tenants and drill N W",
+        "sillwaroc: '{}' is no command; there are serve, compile, verify, migrate, tenants, sliced N and drill N W",
         command.escape_debug()
     )
 }
@@ -97,6 +103,14 @@ fn say_further(rt: &HostRuntime, command: &str, further: &[String]) -> io::Resul
         _ => eprintln!(rt;
             "sillwaroc: {command} has no word behind it; its input comes from standard input"
         ),
+    }
+}
+
+// That the number of steps is none.
+fn say_sliced(rt: &HostRuntime, numbers: &[String]) -> io::Result<()> {
+    match numbers {
+        [steps] => say_count(rt, "steps", steps, 1000000000),
+        _ => eprintln!(rt; "sillwaroc: sliced has one number behind it: steps, 1 to 1000000000"),
     }
 }
 

@@ -6,7 +6,7 @@ use Rattle.std.specs.Io.KnownBytes.{Consumes, IsAtEnd}
 use Rattle.cell_span.specs.Range.{Range, IsWhole}
 use Rattle.host_io.specs.Sink.{Tells}
 use Rattle.host_io.specs.Source.{Took}
-use Rattle.camelot_host.specs.Commands.{Command, Serve, Compile, Verify, Migrate, Tenants, Drill, IsCommand, reads}
+use Rattle.camelot_host.specs.Commands.{Command, Serve, Compile, Verify, Migrate, Tenants, Sliced, Drill, IsCommand, reads}
 use Rattle.camelot_host.specs.Answers.{input_limit, devices, Broken}
 use Rattle.camelot_host.specs.Served.{Leaves, ArenaBy}
 use Rattle.camelot_host.specs.Replies.{verdict_of, bytes_of, IsReply, Keeps, WholeIn, Writes, Responds, RespondsIn}
@@ -25,6 +25,7 @@ whole_left Compile input output arena h = subst (λ (o : Option Range). IfSome o
 whole_left Verify input output arena h = subst (λ (o : Option Range). IfSome o IsWhole) (sym h) tt
 whole_left Migrate input output arena h = subst (λ (o : Option Range). IfSome o IsWhole) (sym h) tt
 whole_left Tenants input output arena h = subst (λ (o : Option Range). IfSome o IsWhole) (sym h) tt
+whole_left (Sliced steps) input output arena h = subst (λ (o : Option Range). IfSome o IsWhole) (sym h) tt
 whole_left (Drill jobs workers) input output arena h = subst (λ (o : Option Range). IfSome o IsWhole) (sym h) tt
 
 pub leaves_whole : (command : Command) (input : List ℕ) (r : Reply) → IsReply command input r → WholeIn r

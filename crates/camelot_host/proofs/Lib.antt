@@ -11,3 +11,4 @@ pub mod Naming
 pub mod Numbers
 pub mod OneServing
 pub mod Running
+pub mod Slices

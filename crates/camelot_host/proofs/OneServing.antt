@@ -5,7 +5,7 @@ use Rattle.std.proofs.lemmas.List.{append_cancel_left, append_cancel_right}
 use Rattle.cell_span.specs.Range.{Range}
 use Rattle.host_io.specs.Sink.{Tells}
 use Rattle.script_service.specs.Service.{IsReportIn}
-use Rattle.camelot_host.specs.Commands.{Command, Serve, Compile, Verify, Migrate, Tenants, Drill, reads}
+use Rattle.camelot_host.specs.Commands.{Command, Serve, Compile, Verify, Migrate, Tenants, Sliced, Drill, reads}
 use Rattle.camelot_host.specs.CommandLaws.{one_command}
 use Rattle.camelot_host.specs.Due.{Done}
 use Rattle.camelot_host.specs.Answers.{Devices, HasRead, Answered}
@@ -19,6 +19,7 @@ leaves_serve Compile input output arena h = absurd cc
 leaves_serve Verify input output arena h = absurd cc
 leaves_serve Migrate input output arena h = absurd cc
 leaves_serve Tenants input output arena h = absurd cc
+leaves_serve (Sliced steps) input output arena h = absurd cc
 leaves_serve (Drill jobs workers) input output arena h = absurd cc
 
 one_input : (before after : Devices) → TellBytes before after → (first second : List ℕ) → Consumes before.left after.left first → Consumes before.left after.left second → first ≡ second

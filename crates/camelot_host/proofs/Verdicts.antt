@@ -19,7 +19,7 @@ use Rattle.tenant_script.specs.Answers.{HasCause}
 use Rattle.tenant_script.specs.Text as tenants
 use Rattle.tenant_script.specs.declared.fault.TenantFault.{TenantFault}
 use Rattle.tenant_script.specs.declared.fault.TenantFault.TheVariants as tenant_fault
-use Rattle.camelot_host.specs.Commands.{Command, Serve, Compile, Verify, Migrate, Tenants, Drill}
+use Rattle.camelot_host.specs.Commands.{Command, Serve, Compile, Verify, Migrate, Tenants, Sliced, Drill}
 use Rattle.camelot_host.specs.Due.{Done, Refused, IsDue, IsMigrationOf, IsUnmigratedFor}
 use Rattle.camelot_host.proofs.Telling.{bound_told}
 
@@ -52,6 +52,12 @@ one_verdict line count repeat one apart migrating shared Compile input output ot
 one_verdict line count repeat one apart migrating shared Verify input output other done refused = apart input done.licence refused.cause done.has refused.refused
 one_verdict line count repeat one apart migrating shared Migrate input output other done refused = migrating input output done refused.cause refused.refused
 one_verdict line count repeat one apart migrating shared Tenants input output other done refused = shared input done.served.script done.is_served.text refused.fault refused.cause
+one_verdict line count repeat one apart migrating shared (Sliced steps) input output other done refused = by_fault refused.fault refused.cause
+  where
+    by_fault : (x : ScriptFault) → IsScriptFault input x → ⊥
+    by_fault (fault.Line n) h = line input done.script n done.comes.text h
+    by_fault (fault.Count n) h = count input done.script n done.comes.text h
+    by_fault (fault.Repeat n) h = repeat input done.script n done.comes.text h
 one_verdict line count repeat one apart migrating shared (Drill jobs workers) input output other done refused = refused
 
 -- ---- what is told of a source

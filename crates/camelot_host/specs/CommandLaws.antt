@@ -5,7 +5,7 @@ use Rattle.std.specs.Prelude.{codes, decimal, if◌then◌else◌}
 use Rattle.std.specs.Str.{bytes_eq}
 use Rattle.std.specs.Str.Parse.{digits_value}
 use Rattle.std.proofs.lemmas.Fmt.{decimal_is_IsNumeral}
-use Rattle.camelot_host.specs.Commands.{Command, Serve, Compile, Verify, Migrate, Tenants, Drill, IsCommand, IsNoCommand}
+use Rattle.camelot_host.specs.Commands.{Command, Serve, Compile, Verify, Migrate, Tenants, Sliced, Drill, IsCommand, IsNoCommand}
 
 -- the number in the first word, and in the second
 abbrev pub first_number : List (List ℕ) → ℕ
@@ -23,6 +23,7 @@ names rest = (codes "serve", Serve)
     ∷ (codes "verify", Verify)
     ∷ (codes "migrate", Migrate)
     ∷ (codes "tenants", Tenants)
+    ∷ (codes "sliced", Sliced (first_number rest))
     ∷ (codes "drill", Drill (first_number rest) (second_number rest))
     ∷ []
 
@@ -41,7 +42,7 @@ abbrev pub spelled : List (List ℕ) → Option Command
 spelled [] = None
 spelled (name ∷ rest) = named name (names rest)
 
-in_decimal : (n limit : ℕ) → limit ≤ 4096 → n ≤ limit → digits_value 10 (decimal n) ≡ n
+in_decimal : (n limit : ℕ) → limit ≤ 1000000000 → n ≤ limit → digits_value 10 (decimal n) ≡ n
 in_decimal n limit few most = (decimal_is_IsNumeral n (omega (arith, few, most))).1
 
 -- one line for each command
@@ -51,6 +52,7 @@ spelled_is words Compile h = ap spelled h
 spelled_is words Verify h = ap spelled h
 spelled_is words Migrate h = ap spelled h
 spelled_is words Tenants h = ap spelled h
+spelled_is words (Sliced steps) h = ap spelled h.are ∙ (λ i. Some (Sliced (in_decimal steps 1000000000 (omega arith) h.few.most i)))
 spelled_is words (Drill jobs workers) h =
     ap spelled h.are ∙ (λ i. Some (Drill (in_decimal jobs 4096 (omega arith) h.few_jobs.most i) (in_decimal workers 16 (omega arith) h.few_workers.most i)))
 

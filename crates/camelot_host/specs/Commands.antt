@@ -15,8 +15,15 @@ pub data Command : Type 0 where
   Migrate : Command
   -- to tell the tenants of a script what their jobs come to
   Tenants : Command
+  -- to report on a script whose jobs run in slices of so many steps
+  Sliced : (steps : ℕ) → Command
   -- to serve the drill's script with so many jobs, on so many workers
   Drill : (jobs workers : ℕ) → Command
+
+-- `sliced N`, in decimal without leading zeros: at most 1,000,000,000 steps, and at least one
+pub record IsSliced (words : List (List ℕ)) (steps : ℕ) : Type 0 where
+  pub are : words ≡ codes "sliced" ∷ decimal steps ∷ []
+  pub few : IsUpTo 1000000000 steps
 
 -- `drill N W`, in decimal without leading zeros: at most 4,096 jobs and 16 workers, and at least one of each
 pub record IsDrill (words : List (List ℕ)) (jobs workers : ℕ) : Type 0 where
@@ -31,6 +38,7 @@ IsCommand words Compile = words ≡ codes "compile" ∷ []
 IsCommand words Verify = words ≡ codes "verify" ∷ []
 IsCommand words Migrate = words ≡ codes "migrate" ∷ []
 IsCommand words Tenants = words ≡ codes "tenants" ∷ []
+IsCommand words (Sliced steps) = IsSliced words steps
 IsCommand words (Drill jobs workers) = IsDrill words jobs workers
 
 -- the words spell no command
@@ -44,6 +52,7 @@ reads Compile = true
 reads Verify = true
 reads Migrate = true
 reads Tenants = true
+reads (Sliced steps) = true
 reads (Drill jobs workers) = false
 
 -- this is the command's input, where the source tells the bytes that it has left

@@ -15,8 +15,9 @@ use Rattle.licence.specs.Licensed.{Licensed}
 use Rattle.bundle_licence.specs.Bundled.{IsTextOf, HasLicence, IsRefusedFor}
 use Rattle.licence_text.specs.Texts.{bounds_text}
 use Rattle.script_service.specs.Service.{IsReport, IsRefusal, IsSummary}
+use Rattle.script_service.specs.Sliced.{IsSlicedReport}
 use Rattle.tenant_service.specs.Service as tenants
-use Rattle.camelot_host.specs.Commands.{Command, Serve, Compile, Verify, Migrate, Tenants, Drill}
+use Rattle.camelot_host.specs.Commands.{Command, Serve, Compile, Verify, Migrate, Tenants, Sliced, Drill}
 
 -- whether a command did what it was asked for, or refused its input
 pub data Verdict : Type 0 where
@@ -101,5 +102,7 @@ IsDue Migrate input Done output = IsMigrationOf input output
 IsDue Migrate input Refused output = IsUnmigrated input output
 IsDue Tenants input Done output = tenants.IsReplied input output
 IsDue Tenants input Refused output = tenants.IsRefusal input output
+IsDue (Sliced steps) input Done output = IsSlicedReport steps input output
+IsDue (Sliced steps) input Refused output = IsRefusal input output
 IsDue (Drill jobs workers) input Done output = IsSummary jobs workers output
 IsDue (Drill jobs workers) input Refused output = ⊥

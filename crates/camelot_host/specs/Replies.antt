@@ -22,10 +22,12 @@ command_named command.Compile = plain.Compile
 command_named command.Verify = plain.Verify
 command_named command.Migrate = plain.Migrate
 command_named command.Tenants = plain.Tenants
+command_named (command.Sliced steps) = plain.Sliced steps
 command_named (command.Drill jobs workers) = plain.Drill jobs workers
 
 -- what the words of a command keep of its numbers
 abbrev pub IsWithin : Command → Type 0
+IsWithin (command.Sliced steps) = IsUpTo 1000000000 steps
 IsWithin (command.Drill jobs workers) = IsUpTo 4096 jobs × IsUpTo 16 workers
 IsWithin c = Unit {0}
 

@@ -4,7 +4,7 @@ use Rattle.std.specs.Prelude.{◌≡◌, ℕ, List, Option, Some, None}
 use Rattle.cell_span.specs.Range.{Range}
 use Rattle.host_io.specs.Sink.{Tells}
 use Rattle.script_service.specs.Service.{IsReportIn}
-use Rattle.camelot_host.specs.Commands.{Command, Serve, Compile, Verify, Migrate, Tenants, Drill, IsCommand, reads}
+use Rattle.camelot_host.specs.Commands.{Command, Serve, Compile, Verify, Migrate, Tenants, Sliced, Drill, IsCommand, reads}
 use Rattle.camelot_host.specs.Answers.{Devices, HasRead}
 use Rattle.camelot_host.specs.declared.status.Status.{Status}
 use Rattle.camelot_host.specs.declared.status.Status.TheVariants as status
@@ -24,6 +24,7 @@ Leaves Compile input output arena = arena ≡ None
 Leaves Verify input output arena = arena ≡ None
 Leaves Migrate input output arena = arena ≡ None
 Leaves Tenants input output arena = arena ≡ None
+Leaves (Sliced steps) input output arena = arena ≡ None
 Leaves (Drill jobs workers) input output arena = arena ≡ None
 
 -- The command's input was read, an output for it was told whole, and this is the arena that it leaves.

@@ -1,6 +1,6 @@
 ghost use Rattle.std.specs.Prelude.{◌≡◌, ◌<◌, ◌^◌, ℕ, [], ◌∷◌, codes, decimal, map, string_bytes, IfSome, MatchOption};
 ghost use Rattle.job_script.specs.Scripts.{IsUpTo};
-ghost use Rattle.camelot_host.specs.Commands.{IsCommand, IsDrill, IsNoCommand, reads};
+ghost use Rattle.camelot_host.specs.Commands.{IsCommand, IsDrill, IsNoCommand, IsSliced, reads};
 ghost use Rattle.camelot_host.specs.Replies.{command_named, IsWithin};
 
 use itoa::Buffer;
@@ -18,6 +18,8 @@ pub(crate) enum Command {
     Migrate,
     /// To tell the tenants of a script what their jobs come to.
     Tenants,
+    /// To report on a script whose jobs run in slices.
+    Sliced { steps: u32 },
     /// To serve the drill's script.
     Drill { jobs: u32, workers: u32 },
 }
@@ -32,6 +34,7 @@ pub(crate) fn reads(command: Command) -> bool
         Command::Verify => true,
         Command::Migrate => true,
         Command::Tenants => true,
+        Command::Sliced { .. } => true,
         Command::Drill { .. } => false,
     }
 }
@@ -62,6 +65,31 @@ fn number_in(word: &str, most: u32) -> Option<u32>
     match word.parse::<u32>() {
         Ok(number) => number_as(word, number, most),
         Err(_) => None,
+    }
+}
+
+// The number of steps, where this word stands behind the name.
+fn sliced_with(word: &str) -> Option<Command>
+    ensures command { MatchOption result ((steps : ℕ) → IsSliced (codes "sliced" ∷ word.now ∷ []) steps → ⊥)
+        (λ command. IsCommand (codes "sliced" ∷ word.now ∷ []) (command_named command)) }
+    ensures within { IfSome result IsWithin }
+{
+    match number_in(word, 1000000000) {
+        Some(steps) => Some(Command::Sliced { steps }),
+        None => None,
+    }
+}
+
+// The same of all words behind the name.
+#[tactic(auto, using(crate::proofs::Slices::of_one, crate::proofs::Slices::not_one))]
+fn sliced(rest: &[String]) -> Option<Command>
+    ensures command { MatchOption result ((steps : ℕ) → IsSliced (codes "sliced" ∷ map string_bytes rest.now) steps → ⊥)
+        (λ command. IsCommand (codes "sliced" ∷ map string_bytes rest.now) (command_named command)) }
+    ensures within { IfSome result IsWithin }
+{
+    match rest {
+        [word] => sliced_with(word.as_str()),
+        _ => None,
     }
 }
 
@@ -118,7 +146,7 @@ fn alone(rest: &[String], command: Command) -> Option<Command>
 }
 
 // The command of this name, which is compared as a whole, with these words behind it.
-#[tactic(auto, using(crate::proofs::Naming::alone_is, crate::proofs::Naming::drill_is, crate::specs::CommandLaws::no_name))]
+#[tactic(auto, using(crate::proofs::Naming::alone_is, crate::proofs::Slices::sliced_is, crate::proofs::Naming::drill_is, crate::specs::CommandLaws::no_name))]
 fn command_with(name: &str, rest: &[String]) -> Option<Command>
     ensures command { MatchOption result
         (IsNoCommand (name.now ∷ map string_bytes rest.now))
@@ -139,6 +167,9 @@ fn command_with(name: &str, rest: &[String]) -> Option<Command>
     }
     if name == "tenants" {
         return alone(rest, Command::Tenants);
+    }
+    if name == "sliced" {
+        return sliced(rest);
     }
     if name == "drill" {
         return drill(rest);

@@ -12,6 +12,7 @@ use super::migration::migrate_bundle;
 use super::reply::{Reply, Work};
 use super::serve::serve;
 use super::served::Served;
+use super::slicing::serve_sliced;
 use super::sources::compile_source;
 use super::status::Status;
 use super::tenants::serve_shared;
@@ -54,6 +55,10 @@ fn work<R: Threads + Wait + Sync, G: Gate + Sync>(
         }),
         Command::Tenants => Ok(Work {
             reply: serve_shared(rt, alloc, &input)?,
+            left: None,
+        }),
+        Command::Sliced { steps } => Ok(Work {
+            reply: serve_sliced(rt, alloc, &input, steps)?,
             left: None,
         }),
         Command::Drill { jobs, workers } => Ok(Work {
@@ -238,6 +243,9 @@ pub fn host_gated<R: Threads + Wait + Sync, S: Source, K: Sink, G: Gate + Sync>(
 ///   with a line that tells the cause.
 /// - `migrate` reads a bundle and writes it again, its code in the second format and its certificate as it was. A text
 ///   that is no bundle, and one whose bytes of code spell none, is refused with a line that tells the cause.
+/// - `sliced N` reads a script as `serve` does, and runs its jobs on one thread in slices of N steps, from 1 to
+///   1,000,000,000. Between its slices each job is a text, and its cells may lie elsewhere. It writes the lines of
+///   programs and jobs that `serve` writes, and then how many slices were made.
 /// - `tenants` reads a script of programs, of tenants with their budgets, and of the starts and finishes of their jobs. It
 ///   tells each program's line, a reply to each start and each finish in order, and what is free of each budget at the
 ///   end. What a tenant is told is what its own lines come to. An input that is no such script is refused with its

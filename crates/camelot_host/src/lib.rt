@@ -10,6 +10,7 @@ mod refusal;
 mod reply;
 mod serve;
 mod served;
+mod slicing;
 mod sources;
 mod status;
 mod tenants;

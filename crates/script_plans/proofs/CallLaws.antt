@@ -24,8 +24,8 @@ use Rattle.job_world.specs.Plans as world
 use Rattle.script_plans.specs.Programs.{ProgramText, CamelotText, GrailText, Meaning, function_names, function_params, value_types, program_named, IsLicenceOf}
 use Rattle.script_plans.specs.Fates.{Call, Fate, Unfit, Calls, OfEntry, IsCall, IsFate, lease_of, left_by, leases_of, cells_left}
 use Rattle.script_plans.specs.Fates as fates
-use Rattle.script_plans.specs.Lines.{AreFates, sizes_of, all_left, planned_cells}
-use Rattle.script_plans.specs.CallPlans.{IsLicensedCall, JobRun, run_of_plan, run_of_call, all_runs, HavePlans}
+use Rattle.script_plans.specs.Lines.{JobRun, run_of_plan, run_of_call, all_runs, AreFates, sizes_of, all_left, planned_cells}
+use Rattle.script_plans.specs.CallPlans.{IsLicensedCall, HavePlans}
 use Rattle.script_plans.proofs.Naming.{MeansSame, Agrees, agrees}
 
 -- ---- licences

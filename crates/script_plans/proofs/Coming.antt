@@ -32,7 +32,7 @@ use Rattle.script_plans.specs.declared.types.JobPlan.{JobPlan}
 use Rattle.script_plans.specs.declared.types.JobPlan.TheVariants as plan
 use Rattle.script_plans.specs.Programs.{ProgramText, Meaning, value_types, IsLicenceOf}
 use Rattle.script_plans.specs.Fates.{Call, Unfit, Calls, HasNoEntry, IsCall, IsFate, outcome_of, bound_of, lease_of, left_by, cells_of, ended_line}
-use Rattle.script_plans.specs.Lines.{types_at, fuel_at, planned_line, places_with}
+use Rattle.script_plans.specs.Lines.{run_of_call, types_at, fuel_at, planned_line, places_with}
 use Rattle.script_plans.specs.Rows.{Holds, Row, row_among, IsRow, AreRows}
 use Rattle.script_plans.specs.Asked.{IsCalled, IsAsked}
 use Rattle.script_plans.specs.Turns.{IsBoundOf, IsOfArgs, IsAdded, IsUsable, Comes, plan_for}
@@ -169,6 +169,7 @@ comes_refused p entry args fuel arena old new cause h e = record {
   more = [];
   plans = none_added old new e;
   leases = refl;
+  runs = refl;
   cells = refl;
   numbers = refl;
   places = λ place. refl;
@@ -237,6 +238,7 @@ by_plan p name text fuel arena old new call (plan.TooLarge cells) h k =
       more = [];
       plans = none_added old new k.2;
       leases = sym (ap (λ b. if b then [] else lease_of c ∷ []) large);
+      runs = sym (ap (λ b. if b then [] else run_of_call fuel c ∷ []) large);
       cells = sym (ap (λ b. if b then [] else cells_of c fuel ∷ []) large);
       numbers = refl;
       places = λ place. ap (λ b. places_with (if b then [] else lease_of c ∷ []) place) large;
@@ -254,6 +256,9 @@ by_plan p name text fuel arena old new call (plan.Runs job most) h k =
       more = added ∷ [];
       plans = k.4;
       leases = sym (ap (λ b. if b then [] else lease_of c ∷ []) fits);
+      runs =
+          ap (λ (o : Option Licensed). record { licence = o; entry = c.entry; args = c.args; fuel = fuel; lease = lease_of c } ∷ []) h.licence
+          ∙ sym (ap (λ b. if b then [] else run_of_call fuel c ∷ []) fits);
       cells =
           ap (λ (o : Option Licensed). cells_with o added ∷ []) h.licence
           ∙ ap (λ cells. cells ∷ []) (same_left c call.licence fuel (slice_get c.licence.code.funcs c.entry))

@@ -1,5 +1,5 @@
 -- Jobs one by one: their fates, and what is planned of them.
-use Rattle.std.proofs.Common.{◌≡◌, ℕ, suc, ◌+◌, ◌≤◌, Bool, true, false, List, [], ◌∷◌, ◌++◌, length, refl, sym, ap, ◌∙◌, subst, append_assoc, append-nil, arith, length-append}
+use Rattle.std.proofs.Common.{◌≡◌, ℕ, suc, ◌+◌, ◌≤◌, Bool, true, false, List, [], ◌∷◌, ◌++◌, length, map, refl, sym, ap, ◌∙◌, subst, append_assoc, append-nil, arith, length-append}
 use Rattle.std.specs.Prelude.{nat_lt, if◌then◌else◌, Option, slice_get}
 use Rattle.std.specs.List.{AllByRecursion, range_with_len}
 use Rattle.std.proofs.lemmas.List.{map-append, length-map}
@@ -14,7 +14,7 @@ use Rattle.run_reports.specs.Told.{JobLine}
 use Rattle.script_plans.specs.declared.types.JobPlan.{JobPlan}
 use Rattle.script_plans.specs.Programs.{ProgramText, program_named}
 use Rattle.script_plans.specs.Fates.{Fate, Unfit, Calls, lease_of, leases_of, line_of}
-use Rattle.script_plans.specs.Lines.{AreFates, lines_of, sizes_of, places_of, all_left, planned_cells, planned_line, planned_lines, run_number, run_numbers, ArePlanned}
+use Rattle.script_plans.specs.Lines.{AreFates, run_of_plan, all_runs, lines_of, sizes_of, places_of, all_left, planned_cells, planned_line, planned_lines, run_number, run_numbers, ArePlanned}
 use Rattle.script_plans.specs.Rows.{Row, AreRows, row_among, row_program}
 use Rattle.script_plans.specs.ScriptLaws.{numbers_below}
 use Rattle.script_plans.specs.Turns.{Planning, IsJobTaken, IsEntryTaken, places_by}
@@ -25,6 +25,7 @@ pub record UpTo (arena : ℕ) (script rest : List Entry) (place : ℕ) (t : Plan
   pub fates : List Fate
   pub are : (more : List Fate) → AreFates script rest more → AreFates script script (fates ++ more)
   pub leases : world.leases_of t.jobs.plans ≡ sizes_of arena fates
+  pub runs : (more : List Fate) → map (run_of_plan t.jobs.licences) t.jobs.plans ++ all_runs arena rest more ≡ all_runs arena script (fates ++ more)
   pub cells : (more : List Fate) → planned_cells t.jobs.licences t.jobs.plans ++ all_left arena rest more ≡ all_left arena script (fates ++ more)
   pub places : (more : List Fate) → t.asked ++ places_of arena place rest more ≡ places_of arena 0 script (fates ++ more)
   pub lines : (more : List Fate) → planned_lines t.jobs arena t.plans ++ lines_of arena rest more ≡ lines_of arena script (fates ++ more)
@@ -35,6 +36,7 @@ none_taken arena script ps e = record {
   fates = [];
   are = λ more h. h;
   leases = ap world.leases_of e;
+  runs = λ more. ap (λ (plans : List Plan). map (run_of_plan ps.licences) plans ++ all_runs arena script more) e;
   cells = λ more. ap (λ (plans : List Plan). planned_cells ps.licences plans ++ all_left arena script more) e;
   places = λ more. refl;
   lines = λ more. refl;
@@ -47,7 +49,7 @@ sizes_end arena (g ∷ fates) f = ap (λ l. leases_of arena g ++ l) (sizes_end a
 
 program_taken : (arena : ℕ) (script rest : List Entry) (p : Program) (place : ℕ) (t : Planning) → UpTo arena script (AProgram p ∷ rest) place t
     → UpTo arena script rest (suc place) t
-program_taken arena script rest p place t u = record { fates = u.fates; are = u.are; leases = u.leases; cells = u.cells; places = u.places; lines = u.lines; numbers = u.numbers }
+program_taken arena script rest p place t u = record { fates = u.fates; are = u.are; leases = u.leases; runs = u.runs; cells = u.cells; places = u.places; lines = u.lines; numbers = u.numbers }
 
 grown : (old new : Planned) (more : List Plan) → new.licences ≡ old.licences → new.plans ≡ old.plans ++ more → new ≡ record { licences = old.licences; plans = old.plans ++ more }
 grown old new more e f = λ i. record { licences = e i; plans = f i }
@@ -77,6 +79,14 @@ job_taken arena script rest j place old new u t =
           ∙ ap (λ l. l ++ world.leases_of c.more) u.leases
           ∙ ap (λ l. sizes_of arena u.fates ++ l) c.leases
           ∙ sym (sizes_end arena u.fates f);
+      runs = λ more.
+          ap (λ (ls : List Licensed). map (run_of_plan ls) new.jobs.plans ++ all_runs arena rest more) c.licences
+          ∙ ap (λ (ps : List Plan). map (run_of_plan old.jobs.licences) ps ++ all_runs arena rest more) c.plans
+          ∙ ap (λ l. l ++ all_runs arena rest more) (map-append (run_of_plan old.jobs.licences) old.jobs.plans c.more)
+          ∙ append_assoc (map (run_of_plan old.jobs.licences) old.jobs.plans) (map (run_of_plan old.jobs.licences) c.more) (all_runs arena rest more)
+          ∙ ap (λ l. map (run_of_plan old.jobs.licences) old.jobs.plans ++ (l ++ all_runs arena rest more)) c.runs
+          ∙ u.runs (f ∷ more)
+          ∙ ap (all_runs arena script) (sym (append_assoc u.fates (f ∷ []) more));
       cells = λ more.
           ap (λ (ls : List Licensed). planned_cells ls new.jobs.plans ++ all_left arena rest more) c.licences
           ∙ ap (λ (ps : List Plan). planned_cells old.jobs.licences ps ++ all_left arena rest more) c.plans
@@ -146,6 +156,7 @@ going_done arena script rows place t g =
       fates = u.fates;
       are = subst (AreFates script script) (append-nil u.fates) (u.are [] tt);
       leases = u.leases;
+      runs = sym (append-nil (map (run_of_plan t.jobs.licences) t.jobs.plans)) ∙ u.runs [] ∙ ap (all_runs arena script) (append-nil u.fates);
       cells = sym (append-nil (planned_cells t.jobs.licences t.jobs.plans)) ∙ u.cells [] ∙ ap (all_left arena script) (append-nil u.fates);
       places = sym (append-nil t.asked) ∙ u.places [] ∙ ap (places_of arena 0 script) (append-nil u.fates);
       lines = sym (append-nil (planned_lines t.jobs arena t.plans)) ∙ u.lines [] ∙ ap (lines_of arena script) (append-nil u.fates);

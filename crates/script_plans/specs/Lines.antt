@@ -1,8 +1,9 @@
 -- Cited by contracts.
 -- All programs and all jobs of a script.
-use Rattle.std.specs.Prelude.{◌≡◌, ◌⊎◌, ℕ, suc, List, [], ◌∷◌, ◌++◌, length, map, slice_get, Option, Some, None}
+use Rattle.std.specs.Prelude.{◌≡◌, ◌⊎◌, ℕ, suc, nat_lt, if◌then◌else◌, List, [], ◌∷◌, ◌++◌, length, map, slice_get, Option, Some, None}
 use Rattle.std.specs.List.{range_with_len}
 use Rattle.camelot_values.specs.Kinds.{DataType}
+use Rattle.camelot_values.specs.Value.{Value}
 use Rattle.cell_span.specs.declared.cell.Cell.{Cell}
 use Rattle.licence.specs.Licensed.{Licensed}
 use Rattle.job_script.specs.Scripts.{Job, Entry, AProgram, AJob, Script}
@@ -13,7 +14,7 @@ use Rattle.job_world.specs.Plans as world
 use Rattle.script_plans.specs.declared.types.JobPlan.{JobPlan}
 use Rattle.script_plans.specs.declared.types.JobPlan.TheVariants as plan
 use Rattle.script_plans.specs.Programs.{program_of, program_named}
-use Rattle.script_plans.specs.Fates.{Fate, IsProgramLine, IsFate, IsWithinBound, line_of, leases_of, cells_left}
+use Rattle.script_plans.specs.Fates.{Call, Fate, Unfit, Calls, IsProgramLine, IsFate, IsWithinBound, lease_of, line_of, leases_of, cells_left}
 
 -- each program of these entries has its own line
 abbrev pub AreProgramLines : List Entry → List ProgramLine → Type 0
@@ -114,13 +115,46 @@ run_numbers (p ∷ plans) = run_number p ++ run_numbers plans
 abbrev pub planned_cells : List Licensed → List Plan → List (List Cell)
 planned_cells licences plans = map (λ (p : Plan). cells_with (slice_get licences p.licence) p) plans
 
--- What is planned of the jobs of these entries is what comes of them. Each has a fate, and the leases, the cells that
--- are left in them, the places and the lines of what is planned are those of the fates. The numbers of those that run
+-- ---- runs
+
+-- what runs: an entry of a licence's code, on these arguments, with so much fuel, in so many cells
+pub record JobRun : Type 0 where
+  pub licence : Option Licensed
+  pub entry : ℕ
+  pub args : List Value
+  pub fuel : ℕ
+  pub lease : ℕ
+
+-- by a plan, whose licence has a number among these
+abbrev pub run_of_plan : List Licensed → Plan → JobRun
+run_of_plan licences p = record { licence = slice_get licences p.licence; entry = p.entry; args = p.args; fuel = p.fuel; lease = p.lease }
+
+-- by a call
+abbrev pub run_of_call : (fuel : ℕ) → Call → JobRun
+run_of_call fuel c = record { licence = Some c.licence; entry = c.entry; args = c.args; fuel = fuel; lease = lease_of c }
+
+-- the job goes to the desk, and what runs
+abbrev pub runs_of : (arena fuel : ℕ) → Fate → List JobRun
+runs_of arena fuel (Unfit cause) = []
+runs_of arena fuel (Calls c) = if nat_lt arena (lease_of c) then [] else run_of_call fuel c ∷ []
+
+-- of all jobs, in order
+abbrev pub all_runs : (arena : ℕ) → List Entry → List Fate → List JobRun
+all_runs arena [] fates = []
+all_runs arena (AProgram p ∷ entries) fates = all_runs arena entries fates
+all_runs arena (AJob j ∷ entries) [] = []
+all_runs arena (AJob j ∷ entries) (fate ∷ fates) = runs_of arena j.fuel fate ++ all_runs arena entries fates
+
+-- ---- all that is planned
+
+-- What is planned of the jobs of these entries is what comes of them. Each has a fate, and the leases, what runs in
+-- them, the cells that are left there, the places and the lines of what is planned are those of the fates. The numbers of those that run
 -- are 0, 1, 2 and so on in order, one for each job of the desk.
 pub record ArePlanned (arena : ℕ) (script : List Entry) (ps : Planned) (plans : List JobPlan) (asked : List ℕ) : Type 0 where
   pub fates : List Fate
   pub are : AreFates script script fates
   pub leases : world.leases_of ps.plans ≡ sizes_of arena fates
+  pub runs : map (run_of_plan ps.licences) ps.plans ≡ all_runs arena script fates
   pub cells : planned_cells ps.licences ps.plans ≡ all_left arena script fates
   pub places : asked ≡ places_of arena 0 script fates
   pub lines : planned_lines ps arena plans ≡ lines_of arena script fates

@@ -1,6 +1,6 @@
 -- Private: words for functions of this crate.
 -- One job: what its licence says of its call, what is planned, and what that adds to what was planned before.
-use Rattle.std.specs.Prelude.{◌≡◌, ℕ, ◌<◌, ◌≤◌, List, [], ◌∷◌, ◌++◌, length, slice_get, Option, Some, Result, Ok, Err}
+use Rattle.std.specs.Prelude.{◌≡◌, ℕ, ◌<◌, ◌≤◌, List, [], ◌∷◌, ◌++◌, length, map, slice_get, Option, Some, Result, Ok, Err}
 use Rattle.std.specs.List.{range_with_len}
 use Rattle.camelot_values.specs.Value.{Value}
 use Rattle.camelot_values.specs.Outcome.{peak_of}
@@ -24,7 +24,7 @@ use Rattle.script_plans.specs.declared.types.JobPlan.{JobPlan}
 use Rattle.script_plans.specs.declared.types.JobPlan.TheVariants as plan
 use Rattle.script_plans.specs.Programs.{ProgramText}
 use Rattle.script_plans.specs.Fates.{Fate, IsFate, IsWithinBound, line_of, leases_of, cells_left}
-use Rattle.script_plans.specs.Lines.{planned_line, planned_cells, run_number, places_with}
+use Rattle.script_plans.specs.Lines.{planned_line, planned_cells, run_of_plan, runs_of, run_number, places_with}
 use Rattle.script_plans.specs.Rows.{Row, row_program, row_among}
 
 -- ---- what a licence says of a call
@@ -80,6 +80,7 @@ pub record Comes (program : Option ProgramText) (entry args : List ℕ) (fuel ar
   pub more : List Plan
   pub plans : new.plans ≡ old.plans ++ more
   pub leases : world.leases_of more ≡ leases_of arena fate
+  pub runs : map (run_of_plan old.licences) more ≡ runs_of arena fuel fate
   pub cells : planned_cells old.licences more ≡ cells_left arena fuel fate
   pub numbers : run_number p ≡ range_with_len (length old.plans) (length more)
   pub places : (place : ℕ) → places_with (leases_of arena fate) place ≡ places_by p place

@@ -79,7 +79,10 @@ fn refuse<'a>(
 }
 
 // Adds a program, by what was answered of it.
-fn add_program<'a>(programs: &mut LicensedPrograms<'a>, answered: Answered<'a>) -> Result<(), AllocError>
+fn add_program<'a>(
+    programs: &mut LicensedPrograms<'a>,
+    answered: Answered<'a>,
+) -> Result<(), AllocError>
     requires answer { IsAnswer (text_in answered.language answered.text.now) answered.licence }
     requires few { length programs.old.licences.items < 4294967295 }
     ensures { OnOk result (IsProgramAdded answered.entry.name.now (text_in answered.entry.language answered.entry.text.now)

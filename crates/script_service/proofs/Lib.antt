@@ -5,3 +5,4 @@ pub mod JobNames
 pub mod OneJournal
 pub mod OneWorld
 pub mod OneSummary
+pub mod InSlices

@@ -1,5 +1,7 @@
 -- Scripts that are served.
 pub mod Service
+pub mod Sliced
+pub mod SlicedSteps
 pub mod Worlds
 pub mod Handed
 pub mod Steps

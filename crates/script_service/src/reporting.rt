@@ -55,7 +55,7 @@ pub struct ReportedScript {
 
 // What came of a script with an arena of so many cells, from its plans, the journal and what is kept of the endings of
 // its runs.
-fn outcome_of<'a, K: Kept>(
+pub(crate) fn outcome_of<'a, K: Kept>(
     alloc: Global,
     arena: u32,
     plans: &'a Plans,

@@ -50,7 +50,7 @@ pub enum ServeFault {
 }
 
 // Want of memory is one wherever it is met.
-fn serve_fault(stop: Stop<ScriptFault>) -> ServeFault
+pub(crate) fn serve_fault(stop: Stop<ScriptFault>) -> ServeFault
     ensures { result ≡ serve_fault stop }
 {
     match stop {

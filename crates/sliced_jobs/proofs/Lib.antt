@@ -1,0 +1,9 @@
+pub mod Filing
+pub mod Going
+pub mod Kitting
+pub mod OneNumber
+pub mod Pieces
+pub mod Ready
+pub mod Served
+pub mod SomeNumber
+pub mod Tables
